@@ -1,0 +1,38 @@
+//! Files that are read whole.
+
+ghost use Rattle.std.specs.Prelude.{◌≡◌, ℕ, List, Option, Some};
+ghost use Rattle.sg_outside.specs.Files.{CountsLoad, LoadsIfTold};
+
+use crate::bytes::Bytes;
+use std::alloc::{AllocError, Global};
+
+/// The bytes that a loaded file may have.
+pub const LARGEST_FILE: usize = 1_073_741_824;
+
+/// How loading went.
+#[derive(Clone, Copy, Debug, PartialEq, Eq)]
+pub enum Loaded {
+    /// The whole file was appended.
+    Whole,
+    /// The file has more than 1,073,741,824 bytes.
+    Longer,
+    /// A fault, or no such file.
+    Failed,
+    /// Want of memory.
+    Memory,
+}
+
+/// Files by name.
+pub trait Files: Drop {
+    /// How often it failed so far.
+    ghost faults: { Self → ℕ };
+
+    /// The bytes under each name that has a file, where it tells them.
+    ghost told: { Self → Option (List ℕ → Option (List ℕ)) };
+
+    /// Appends the whole file to `into`; every answer but `Whole` leaves `into` as it was.
+    fn load(&mut self, name: &str, into: &mut Bytes) -> Loaded
+        ensures counted { CountsLoad (faults self.old) result (faults self.new) }
+        ensures kept { told self.new ≡ told self.old }
+        ensures loaded { LoadsIfTold (told self.old) name.now result into.old into.new };
+}
