@@ -1,0 +1,70 @@
+//! Lists of channels.
+
+ghost use Rattle.std.specs.Prelude.{◌≡◌, ◌++◌, ◌∷◌, [], IfOk, OnOk, OnErr};
+
+use crate::channel_name::ChannelName;
+use std::alloc::{AllocError, Global};
+use std::marker::Model;
+
+/// A list of channels.
+#[derive(Drop)]
+pub struct Channels {
+    items: Vec<ChannelName>,
+}
+
+impl Model for Channels {
+    ghost use Rattle.std.specs.Prelude.{List, ℕ};
+
+    ghost Value = { List (List ℕ) };
+
+    ghost view = { λ l. l.items.items };
+}
+
+impl Channels {
+    /// None. Takes no memory.
+    pub fn new(alloc: Global) -> Channels
+        ensures { result ≡ [] }
+    {
+        Channels {
+            items: Vec::new(alloc),
+        }
+    }
+
+    /// The list of a vector's items. Takes no memory.
+    pub fn from_vec(items: Vec<ChannelName>) -> Channels
+        ensures { result ≡ items.items }
+    {
+        Channels { items }
+    }
+
+    /// The vector of the items. Takes no memory.
+    pub fn into_vec(self) -> Vec<ChannelName>
+        ensures { result.items ≡ self }
+    {
+        self.items
+    }
+
+    pub fn as_slice(&self) -> &[ChannelName]
+        ensures { result.now ≡ self.now }
+    {
+        self.items.as_slice()
+    }
+
+    pub fn push(&mut self, item: ChannelName) -> Result<(), AllocError>
+        ensures ok { OnOk result (self.new ≡ self.old ++ item ∷ []) }
+        ensures err { OnErr result (self.new ≡ self.old) }
+    {
+        self.items.push(item)?;
+        Ok(())
+    }
+
+    pub fn copy(&self, alloc: Global) -> Result<Channels, AllocError>
+        ensures { IfOk result (λ l. l ≡ self.now) }
+    {
+        let mut items = Vec::new(alloc);
+        for item in self.items.as_slice() {
+            items.push(item.copy(alloc)?)?;
+        }
+        Ok(Channels { items })
+    }
+}

@@ -1,0 +1,70 @@
+//! Lists of names.
+
+ghost use Rattle.std.specs.Prelude.{◌≡◌, ◌++◌, ◌∷◌, [], IfOk, OnOk, OnErr};
+
+use crate::name::Name;
+use std::alloc::{AllocError, Global};
+use std::marker::Model;
+
+/// A list of names.
+#[derive(Drop)]
+pub struct Names {
+    items: Vec<Name>,
+}
+
+impl Model for Names {
+    ghost use Rattle.std.specs.Prelude.{List, ℕ};
+
+    ghost Value = { List (List ℕ) };
+
+    ghost view = { λ l. l.items.items };
+}
+
+impl Names {
+    /// None. Takes no memory.
+    pub fn new(alloc: Global) -> Names
+        ensures { result ≡ [] }
+    {
+        Names {
+            items: Vec::new(alloc),
+        }
+    }
+
+    /// The list of a vector's items. Takes no memory.
+    pub fn from_vec(items: Vec<Name>) -> Names
+        ensures { result ≡ items.items }
+    {
+        Names { items }
+    }
+
+    /// The vector of the items. Takes no memory.
+    pub fn into_vec(self) -> Vec<Name>
+        ensures { result.items ≡ self }
+    {
+        self.items
+    }
+
+    pub fn as_slice(&self) -> &[Name]
+        ensures { result.now ≡ self.now }
+    {
+        self.items.as_slice()
+    }
+
+    pub fn push(&mut self, item: Name) -> Result<(), AllocError>
+        ensures ok { OnOk result (self.new ≡ self.old ++ item ∷ []) }
+        ensures err { OnErr result (self.new ≡ self.old) }
+    {
+        self.items.push(item)?;
+        Ok(())
+    }
+
+    pub fn copy(&self, alloc: Global) -> Result<Names, AllocError>
+        ensures { IfOk result (λ l. l ≡ self.now) }
+    {
+        let mut items = Vec::new(alloc);
+        for item in self.items.as_slice() {
+            items.push(item.copy(alloc)?)?;
+        }
+        Ok(Names { items })
+    }
+}

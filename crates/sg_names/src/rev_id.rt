@@ -1,0 +1,99 @@
+//! Revisions and lists of them.
+
+ghost use Rattle.std.specs.Prelude.{◌≡◌, ◌++◌, ◌∷◌, [], ◌↔◌, IsTrue, IfOk, OnOk, OnErr};
+
+use crate::digest::Digest;
+use std::alloc::{AllocError, Global};
+use std::marker::Model;
+
+/// A revision: a generation from 1 upward, and a digest. Its text is `GENERATION-DIGEST`.
+#[derive(Drop)]
+pub struct RevId {
+    pub generation: u32,
+    pub digest: Digest,
+}
+
+impl RevId {
+    ghost use Rattle.sg_names.specs.RevId.{same_rev};
+
+    /// Whether both are the same revision.
+    pub fn equals(&self, other: &RevId) -> bool
+        ensures value { result ≡ same_rev self.now other.now }
+        ensures same { IsTrue result ↔ (self.now ≡ other.now) }
+    {
+        self.generation == other.generation && self.digest.equals(&other.digest)
+    }
+
+    pub fn copy(&self, alloc: Global) -> Result<RevId, AllocError>
+        ensures { IfOk result (λ r. r ≡ self.now) }
+    {
+        Ok(RevId {
+            generation: self.generation,
+            digest: self.digest.copy(alloc)?,
+        })
+    }
+}
+
+/// A list of revisions.
+#[derive(Drop)]
+pub struct Revs {
+    items: Vec<RevId>,
+}
+
+impl Model for Revs {
+    ghost use Rattle.std.specs.Prelude.{List};
+    ghost use Rattle.sg_names.specs.declared.rev_id.RevId.{RevId};
+
+    ghost Value = { List RevId };
+
+    ghost view = { λ l. l.items.items };
+}
+
+impl Revs {
+    /// None. Takes no memory.
+    pub fn new(alloc: Global) -> Revs
+        ensures { result ≡ [] }
+    {
+        Revs {
+            items: Vec::new(alloc),
+        }
+    }
+
+    /// The list of a vector's items. Takes no memory.
+    pub fn from_vec(items: Vec<RevId>) -> Revs
+        ensures { result ≡ items.items }
+    {
+        Revs { items }
+    }
+
+    /// The vector of the items. Takes no memory.
+    pub fn into_vec(self) -> Vec<RevId>
+        ensures { result.items ≡ self }
+    {
+        self.items
+    }
+
+    pub fn as_slice(&self) -> &[RevId]
+        ensures { result.now ≡ self.now }
+    {
+        self.items.as_slice()
+    }
+
+    pub fn push(&mut self, item: RevId) -> Result<(), AllocError>
+        ensures ok { OnOk result (self.new ≡ self.old ++ item ∷ []) }
+        ensures err { OnErr result (self.new ≡ self.old) }
+    {
+        self.items.push(item)?;
+        Ok(())
+    }
+
+    pub fn copy(&self, alloc: Global) -> Result<Revs, AllocError>
+        ensures { IfOk result (λ l. l ≡ self.now) }
+    {
+        let mut items = Vec::new(alloc);
+        for item in self.items.as_slice() {
+            items.push(item.copy(alloc)?)?;
+        }
+        Ok(Revs { items })
+    }
+}

@@ -1,0 +1,89 @@
+//! Roles that documents give to users.
+
+ghost use Rattle.std.specs.Prelude.{◌≡◌, ◌++◌, ◌∷◌, [], IfOk, OnOk, OnErr};
+
+use crate::name::Name;
+use std::alloc::{AllocError, Global};
+use std::marker::Model;
+
+/// A role that a document gives to a user.
+#[derive(Drop)]
+pub struct RoleGrant {
+    pub user: Name,
+    pub role: Name,
+}
+
+impl RoleGrant {
+    pub fn copy(&self, alloc: Global) -> Result<RoleGrant, AllocError>
+        ensures { IfOk result (λ g. g ≡ self.now) }
+    {
+        Ok(RoleGrant {
+            user: self.user.copy(alloc)?,
+            role: self.role.copy(alloc)?,
+        })
+    }
+}
+
+/// A list of role grants.
+#[derive(Drop)]
+pub struct RoleGrants {
+    items: Vec<RoleGrant>,
+}
+
+impl Model for RoleGrants {
+    ghost use Rattle.std.specs.Prelude.{List};
+    ghost use Rattle.sg_names.specs.declared.role_grants.RoleGrant.{RoleGrant};
+
+    ghost Value = { List RoleGrant };
+
+    ghost view = { λ l. l.items.items };
+}
+
+impl RoleGrants {
+    /// None. Takes no memory.
+    pub fn new(alloc: Global) -> RoleGrants
+        ensures { result ≡ [] }
+    {
+        RoleGrants {
+            items: Vec::new(alloc),
+        }
+    }
+
+    /// The list of a vector's items. Takes no memory.
+    pub fn from_vec(items: Vec<RoleGrant>) -> RoleGrants
+        ensures { result ≡ items.items }
+    {
+        RoleGrants { items }
+    }
+
+    /// The vector of the items. Takes no memory.
+    pub fn into_vec(self) -> Vec<RoleGrant>
+        ensures { result.items ≡ self }
+    {
+        self.items
+    }
+
+    pub fn as_slice(&self) -> &[RoleGrant]
+        ensures { result.now ≡ self.now }
+    {
+        self.items.as_slice()
+    }
+
+    pub fn push(&mut self, item: RoleGrant) -> Result<(), AllocError>
+        ensures ok { OnOk result (self.new ≡ self.old ++ item ∷ []) }
+        ensures err { OnErr result (self.new ≡ self.old) }
+    {
+        self.items.push(item)?;
+        Ok(())
+    }
+
+    pub fn copy(&self, alloc: Global) -> Result<RoleGrants, AllocError>
+        ensures { IfOk result (λ l. l ≡ self.now) }
+    {
+        let mut items = Vec::new(alloc);
+        for item in self.items.as_slice() {
+            items.push(item.copy(alloc)?)?;
+        }
+        Ok(RoleGrants { items })
+    }
+}
