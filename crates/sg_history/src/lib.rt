@@ -1,0 +1,13 @@
+//! The history of the gateway: entries, the log that keeps them in order, and what the history says of
+//! users, documents and feeds.
+#![tactic(auto)]
+
+pub mod entries;
+pub mod row;
+
+pub use entries::{Entries, Entry, Log, Write};
+pub use row::{Options, Row, Rows};
+pub use sg_names::{
+    ChannelName, Channels, Client, Digest, DocId, Grant, Grantee, Grants, Key, Name, Names, RevId,
+    Revs, RoleGrant, RoleGrants, TextFault,
+};
