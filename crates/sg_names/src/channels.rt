@@ -1,8 +1,11 @@
 //! Lists of channels.
 
 ghost use Rattle.std.specs.Prelude.{◌≡◌, ◌++◌, ◌∷◌, [], IfOk, OnOk, OnErr};
+ghost use Rattle.sg_names.specs.Channels.{channels_text};
 
 use crate::channel_name::ChannelName;
+use crate::item_list::{self, Item};
+use sg_outside::{Bytes, Memory};
 use std::alloc::{AllocError, Global};
 use std::marker::Model;
 
@@ -66,5 +69,13 @@ impl Channels {
             items.push(item.copy(alloc)?)?;
         }
         Ok(Channels { items })
+    }
+
+    /// Puts the text at the end. An error leaves the bytes as they were.
+    pub fn write(&self, out: &mut Bytes) -> Result<(), Memory>
+        ensures ok { OnOk result (out.new ≡ out.old ++ channels_text self.now) }
+        ensures err { OnErr result (out.new ≡ out.old) }
+    {
+        item_list::write_list(self.items.as_slice(), out)
     }
 }

@@ -3,7 +3,10 @@
 ghost use Rattle.std.specs.Prelude.{◌≡◌, ◌++◌, ◌∷◌, [], IfOk, OnOk, OnErr};
 
 use crate::channel_name::ChannelName;
+use crate::item_list::{self, Item};
 use crate::name::Name;
+use crate::pieces;
+use sg_outside::{Bytes, Memory};
 use std::alloc::{AllocError, Global};
 use std::marker::Model;
 
@@ -33,6 +36,8 @@ pub struct Grant {
 }
 
 impl Grant {
+    ghost use Rattle.sg_names.specs.Grants.{grant_text};
+
     pub fn copy(&self, alloc: Global) -> Result<Grant, AllocError>
         ensures { IfOk result (λ g. g ≡ self.now) }
     {
@@ -40,6 +45,30 @@ impl Grant {
             to: self.to.copy(alloc)?,
             channel: self.channel.copy(alloc)?,
         })
+    }
+
+    /// Puts the text at the end. An error leaves the bytes as they were.
+    pub fn write(&self, out: &mut Bytes) -> Result<(), Memory>
+        ensures ok { OnOk result (out.new ≡ out.old ++ grant_text self.now) }
+        ensures err { OnErr result (out.new ≡ out.old) }
+    {
+        let channel = self.channel.as_bytes();
+        match &self.to {
+            Grantee::User(name) => pieces::append(&[name.as_bytes(), b"=", channel], out),
+            Grantee::Role(name) => {
+                pieces::append(&[b"role:", name.as_bytes(), b"=", channel], out)
+            }
+        }
+    }
+}
+
+impl Item for Grant {
+    ghost use Rattle.sg_names.specs.Grants.{grant_text};
+
+    ghost text = { λ g. grant_text g };
+
+    fn print(&self, out: &mut Bytes) -> Result<(), Memory> {
+        self.write(out)
     }
 }
 
@@ -59,6 +88,8 @@ impl Model for Grants {
 }
 
 impl Grants {
+    ghost use Rattle.sg_names.specs.Grants.{grants_text};
+
     /// None. Takes no memory.
     pub fn new(alloc: Global) -> Grants
         ensures { result ≡ [] }
@@ -104,5 +135,13 @@ impl Grants {
             items.push(item.copy(alloc)?)?;
         }
         Ok(Grants { items })
+    }
+
+    /// Puts the text at the end. An error leaves the bytes as they were.
+    pub fn write(&self, out: &mut Bytes) -> Result<(), Memory>
+        ensures ok { OnOk result (out.new ≡ out.old ++ grants_text self.now) }
+        ensures err { OnErr result (out.new ≡ out.old) }
+    {
+        item_list::write_list(self.items.as_slice(), out)
     }
 }

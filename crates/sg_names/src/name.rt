@@ -1,6 +1,6 @@
 //! Names of users and roles.
 
-ghost use Rattle.std.specs.Prelude.{◌≡◌, ◌↔◌, IsTrue, IfOk};
+ghost use Rattle.std.specs.Prelude.{◌≡◌, ◌↔◌, ◌++◌, IsTrue, IfOk, OnOk, OnErr};
 ghost use Rattle.std.specs.Str.{bytes_eq};
 ghost use Rattle.std.specs.Ordering.{nat_cmp};
 ghost use Rattle.std.specs.Cmp.Lexicographic.{slice_cmp};
@@ -8,6 +8,8 @@ ghost use Rattle.sg_names.specs.Grammar.{is_name};
 
 use crate::fault::TextFault;
 use crate::grammar;
+use crate::item_list::Item;
+use sg_outside::{Bytes, Memory};
 use std::alloc::{AllocError, Global};
 use std::cmp::Ordering;
 use std::marker::Model;
@@ -78,5 +80,13 @@ impl Name {
         Ok(Name {
             text: String::from_str(alloc, self.text.as_str())?,
         })
+    }
+}
+
+impl Item for Name {
+    ghost text = { λ n. n };
+
+    fn print(&self, out: &mut Bytes) -> Result<(), Memory> {
+        out.extend_from_slice(self.text.as_bytes())
     }
 }

@@ -1,8 +1,11 @@
 //! Lists of names.
 
 ghost use Rattle.std.specs.Prelude.{◌≡◌, ◌++◌, ◌∷◌, [], IfOk, OnOk, OnErr};
+ghost use Rattle.sg_names.specs.Names.{names_text};
 
+use crate::item_list::{self, Item};
 use crate::name::Name;
+use sg_outside::{Bytes, Memory};
 use std::alloc::{AllocError, Global};
 use std::marker::Model;
 
@@ -66,5 +69,13 @@ impl Names {
             items.push(item.copy(alloc)?)?;
         }
         Ok(Names { items })
+    }
+
+    /// Puts the text at the end. An error leaves the bytes as they were.
+    pub fn write(&self, out: &mut Bytes) -> Result<(), Memory>
+        ensures ok { OnOk result (out.new ≡ out.old ++ names_text self.now) }
+        ensures err { OnErr result (out.new ≡ out.old) }
+    {
+        item_list::write_list(self.items.as_slice(), out)
     }
 }

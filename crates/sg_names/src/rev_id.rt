@@ -3,6 +3,10 @@
 ghost use Rattle.std.specs.Prelude.{◌≡◌, ◌++◌, ◌∷◌, [], ◌↔◌, IsTrue, IfOk, OnOk, OnErr};
 
 use crate::digest::Digest;
+use crate::item_list::{self, Item};
+use crate::pieces;
+use itoa::Buffer;
+use sg_outside::{Bytes, Memory};
 use std::alloc::{AllocError, Global};
 use std::marker::Model;
 
@@ -14,7 +18,7 @@ pub struct RevId {
 }
 
 impl RevId {
-    ghost use Rattle.sg_names.specs.RevId.{same_rev};
+    ghost use Rattle.sg_names.specs.RevId.{same_rev, rev_text};
 
     /// Whether both are the same revision.
     pub fn equals(&self, other: &RevId) -> bool
@@ -31,6 +35,26 @@ impl RevId {
             generation: self.generation,
             digest: self.digest.copy(alloc)?,
         })
+    }
+
+    /// Puts the text at the end. An error leaves the bytes as they were.
+    pub fn write(&self, out: &mut Bytes) -> Result<(), Memory>
+        ensures ok { OnOk result (out.new ≡ out.old ++ rev_text self.now) }
+        ensures err { OnErr result (out.new ≡ out.old) }
+    {
+        let mut buffer = Buffer::new();
+        let generation = buffer.format(self.generation).as_bytes();
+        pieces::append(&[generation, b"-", self.digest.as_bytes()], out)
+    }
+}
+
+impl Item for RevId {
+    ghost use Rattle.sg_names.specs.RevId.{rev_text};
+
+    ghost text = { λ r. rev_text r };
+
+    fn print(&self, out: &mut Bytes) -> Result<(), Memory> {
+        self.write(out)
     }
 }
 
@@ -50,6 +74,8 @@ impl Model for Revs {
 }
 
 impl Revs {
+    ghost use Rattle.sg_names.specs.Revs.{revs_text};
+
     /// None. Takes no memory.
     pub fn new(alloc: Global) -> Revs
         ensures { result ≡ [] }
@@ -95,5 +121,13 @@ impl Revs {
             items.push(item.copy(alloc)?)?;
         }
         Ok(Revs { items })
+    }
+
+    /// Puts the text at the end. An error leaves the bytes as they were.
+    pub fn write(&self, out: &mut Bytes) -> Result<(), Memory>
+        ensures ok { OnOk result (out.new ≡ out.old ++ revs_text self.now) }
+        ensures err { OnErr result (out.new ≡ out.old) }
+    {
+        item_list::write_list(self.items.as_slice(), out)
     }
 }

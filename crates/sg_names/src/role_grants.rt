@@ -2,7 +2,10 @@
 
 ghost use Rattle.std.specs.Prelude.{◌≡◌, ◌++◌, ◌∷◌, [], IfOk, OnOk, OnErr};
 
+use crate::item_list::{self, Item};
 use crate::name::Name;
+use crate::pieces;
+use sg_outside::{Bytes, Memory};
 use std::alloc::{AllocError, Global};
 use std::marker::Model;
 
@@ -14,6 +17,8 @@ pub struct RoleGrant {
 }
 
 impl RoleGrant {
+    ghost use Rattle.sg_names.specs.RoleGrants.{role_grant_text};
+
     pub fn copy(&self, alloc: Global) -> Result<RoleGrant, AllocError>
         ensures { IfOk result (λ g. g ≡ self.now) }
     {
@@ -21,6 +26,24 @@ impl RoleGrant {
             user: self.user.copy(alloc)?,
             role: self.role.copy(alloc)?,
         })
+    }
+
+    /// Puts the text at the end. An error leaves the bytes as they were.
+    pub fn write(&self, out: &mut Bytes) -> Result<(), Memory>
+        ensures ok { OnOk result (out.new ≡ out.old ++ role_grant_text self.now) }
+        ensures err { OnErr result (out.new ≡ out.old) }
+    {
+        pieces::append(&[self.user.as_bytes(), b"=", self.role.as_bytes()], out)
+    }
+}
+
+impl Item for RoleGrant {
+    ghost use Rattle.sg_names.specs.RoleGrants.{role_grant_text};
+
+    ghost text = { λ g. role_grant_text g };
+
+    fn print(&self, out: &mut Bytes) -> Result<(), Memory> {
+        self.write(out)
     }
 }
 
@@ -40,6 +63,8 @@ impl Model for RoleGrants {
 }
 
 impl RoleGrants {
+    ghost use Rattle.sg_names.specs.RoleGrants.{role_grants_text};
+
     /// None. Takes no memory.
     pub fn new(alloc: Global) -> RoleGrants
         ensures { result ≡ [] }
@@ -85,5 +110,13 @@ impl RoleGrants {
             items.push(item.copy(alloc)?)?;
         }
         Ok(RoleGrants { items })
+    }
+
+    /// Puts the text at the end. An error leaves the bytes as they were.
+    pub fn write(&self, out: &mut Bytes) -> Result<(), Memory>
+        ensures ok { OnOk result (out.new ≡ out.old ++ role_grants_text self.now) }
+        ensures err { OnErr result (out.new ≡ out.old) }
+    {
+        item_list::write_list(self.items.as_slice(), out)
     }
 }

@@ -1,0 +1,30 @@
+//! Pieces of a text.
+
+ghost use Rattle.std.specs.Prelude.{◌≡◌, ◌++◌, length, take, OnOk, OnErr};
+ghost use Rattle.std.specs.List.{flat_map};
+
+use sg_outside::{Bytes, Memory};
+
+/// Puts the pieces at the end, up to one for which there is no memory.
+fn append_while(pieces: &[&[u8]], out: &mut Bytes) -> Result<(), Memory>
+    ensures ok { OnOk result (out.new ≡ out.old ++ flat_map (λ p. p.now) pieces.now) }
+    ensures err { OnErr result (take (length out.old) out.new ≡ out.old) }
+{
+    for piece in pieces {
+        out.extend_from_slice(piece)?;
+    }
+    Ok(())
+}
+
+/// Puts the pieces at the end, one after another: all of them, or at an error none.
+pub fn append(pieces: &[&[u8]], out: &mut Bytes) -> Result<(), Memory>
+    ensures ok { OnOk result (out.new ≡ out.old ++ flat_map (λ p. p.now) pieces.now) }
+    ensures err { OnErr result (out.new ≡ out.old) }
+{
+    let start = out.len();
+    let appended = append_while(pieces, out);
+    if appended.is_err() {
+        out.truncate(start);
+    }
+    appended
+}
