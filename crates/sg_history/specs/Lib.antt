@@ -8,3 +8,5 @@ pub mod Principals
 pub mod View
 pub mod Feed
 pub mod Device
+pub mod Journal
+pub mod Pieces

@@ -3,9 +3,12 @@
 #![tactic(auto)]
 
 pub mod entries;
+pub mod fault;
+pub mod fields;
 pub mod row;
 
 pub use entries::{Entries, Entry, Log, Write};
+pub use fault::{BadLine, ReadLog, Why};
 pub use row::{Options, Row, Rows};
 pub use sg_names::{
     ChannelName, Channels, Client, Digest, DocId, Grant, Grantee, Grants, Key, Name, Names, RevId,
