@@ -25,12 +25,14 @@ key_text k = if nat_eq k.by k.seq then decimal k.seq else pair_text k
 abbrev pub ReadsKey : List ℕ → Key → Type 0
 ReadsKey text k = IsTrue (is_key k) × ((text ≡ key_text k) ⊎ (IsTrue (nat_le 1 k.seq) × (text ≡ pair_text k)))
 
+-- decimals of any length, of which the middle one may be absent
+abbrev pub are_low_parts : List ℕ → List ℕ → List ℕ → Bool
+are_low_parts low by seq = is_decimal low && (is_empty by || is_decimal by) && is_decimal seq
+
 -- the text is `L::S` or `L:T:S`, of decimals of any length
 pub record IsLowForm (text : List ℕ) : Type 0 where
   pub low : List ℕ
   pub by : List ℕ
   pub seq : List ℕ
-  pub low_decimal : IsTrue (is_decimal low)
-  pub by_decimal : IsTrue (is_empty by || is_decimal by)
-  pub seq_decimal : IsTrue (is_decimal seq)
+  pub decimals : IsTrue (are_low_parts low by seq)
   pub spelled : text ≡ low ++ 58 ∷ by ++ 58 ∷ seq

@@ -1,7 +1,8 @@
 //! Pieces of a text.
 
-ghost use Rattle.std.specs.Prelude.{◌≡◌, ◌++◌, length, take, OnOk, OnErr};
+ghost use Rattle.std.specs.Prelude.{◌≡◌, ◌<◌, ◌++◌, ◌∷◌, length, take, IsTrue, IfSome, IfNone, OnOk, OnErr};
 ghost use Rattle.std.specs.List.{flat_map};
+ghost use Rattle.sg_names.specs.Grammar.{lacks};
 
 use sg_outside::{Bytes, Memory};
 
@@ -27,4 +28,13 @@ pub fn append(pieces: &[&[u8]], out: &mut Bytes) -> Result<(), Memory>
         out.truncate(start);
     }
     appended
+}
+
+/// What stands before and after the first `at`, which is an ASCII character.
+pub fn cut(text: &str, at: char) -> Option<(&str, &str)>
+    requires { at < 128 }
+    ensures some { IfSome result (λ p. (text.now ≡ p.0.now ++ at ∷ p.1.now) × IsTrue (lacks at p.0.now)) }
+    ensures none { IfNone result (IsTrue (lacks at text.now)) }
+{
+    text.split_once(at)
 }

@@ -1,8 +1,10 @@
 //! Revisions and lists of them.
 
-ghost use Rattle.std.specs.Prelude.{◌≡◌, ◌++◌, ◌∷◌, [], ◌↔◌, IsTrue, IfOk, OnOk, OnErr};
+ghost use Rattle.std.specs.Prelude.{◌≡◌, ◌≢◌, ◌++◌, ◌∷◌, ◌<◌, ◌≤◌, ◌^◌, ℕ, [], ◌↔◌, IsTrue, IfOk, OnOk, OnErr, IfSome, IfNone, decimal};
 
+use crate::decimal::read_decimal;
 use crate::digest::Digest;
+use crate::fault::TextFault;
 use crate::item_list::{self, Item};
 use crate::pieces;
 use itoa::Buffer;
@@ -18,7 +20,25 @@ pub struct RevId {
 }
 
 impl RevId {
-    ghost use Rattle.sg_names.specs.RevId.{same_rev, rev_text};
+    ghost use Rattle.sg_names.specs.RevId.{same_rev, rev_text, is_rev};
+    ghost use Rattle.sg_names.specs.declared.rev_id.RevId.{RevId};
+
+    /// Reads one: `Bad` where the text is outside the grammar.
+    pub fn parse(alloc: Global, text: &str) -> Result<RevId, TextFault>
+        ensures ok { IfOk result (λ r. (text.now ≡ rev_text r) × IsTrue (is_rev r)) }
+        ensures bad { result ≡ Err TextFault.Bad → (r : RevId) → IsTrue (is_rev r) → text.now ≢ rev_text r }
+    {
+        let Some((front, back)) = pieces::cut(text, '-') else {
+            return Err(TextFault::Bad);
+        };
+        let Some(generation) = read_generation(front) else {
+            return Err(TextFault::Bad);
+        };
+        Ok(RevId {
+            generation,
+            digest: Digest::parse(alloc, back)?,
+        })
+    }
 
     /// Whether both are the same revision.
     pub fn equals(&self, other: &RevId) -> bool
@@ -55,6 +75,17 @@ impl Item for RevId {
 
     fn print(&self, out: &mut Bytes) -> Result<(), Memory> {
         self.write(out)
+    }
+}
+
+/// The generation from 1 to 4,294,967,295 of which the text is the decimal.
+fn read_generation(text: &str) -> Option<u32>
+    ensures some { IfSome result (λ n. (text.now ≡ decimal n) × (1 ≤ n)) }
+    ensures none { IfNone result ((n : ℕ) → 1 ≤ n → n < 2 ^ 32 → text.now ≢ decimal n) }
+{
+    match read_decimal(text) {
+        Some(n) if n >= 1 && n <= u32::MAX as u64 => Some(n as u32),
+        _ => None,
     }
 }
 
