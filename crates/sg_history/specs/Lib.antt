@@ -10,3 +10,4 @@ pub mod Feed
 pub mod Device
 pub mod Journal
 pub mod Pieces
+pub mod Refusal

@@ -20,7 +20,12 @@ pub fn cut(text: &[u8], at: u8) -> Option<(&[u8], &[u8])>
 }
 
 /// The pieces between such bytes, at most `most` of them.
-pub fn pieces_of(alloc: Global, text: &[u8], at: u8, most: usize) -> Result<Option<Vec<&[u8]>>, AllocError>
+pub fn pieces_of(
+    alloc: Global,
+    text: &[u8],
+    at: u8,
+    most: usize,
+) -> Result<Option<Vec<&[u8]>>, AllocError>
     ensures all { IfOk result (λ found. IfSome found (λ v. map (λ p. p.now) v.items ≡ pieces at text.now)) }
     ensures more { IfOk result (λ found. IfNone found (most < length (pieces at text.now))) }
 {

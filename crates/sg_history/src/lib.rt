@@ -4,6 +4,7 @@
 
 pub mod entries;
 pub mod fault;
+pub mod field;
 pub mod fields;
 pub mod row;
 
@@ -11,6 +12,7 @@ pub use entries::{Entries, Entry, Log, Write};
 pub use fault::{BadLine, ReadLog, Why};
 pub use row::{Options, Row, Rows};
 pub use sg_names::{
-    ChannelName, Channels, Client, Digest, DocId, Grant, Grantee, Grants, Key, Name, Names, RevId,
-    Revs, RoleGrant, RoleGrants, TextFault,
+    ChannelName, Channels, Client, Digest, DocId, Grant, Grantee, Grants, Key, KeyFault, Name,
+    Names, RevId, Revs, RoleGrant, RoleGrants, TextFault, from_hex, is_decimal, read_decimal,
+    write_decimal, write_hex,
 };
