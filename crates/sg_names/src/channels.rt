@@ -1,10 +1,11 @@
 //! Lists of channels.
 
-ghost use Rattle.std.specs.Prelude.{◌≡◌, ◌++◌, ◌∷◌, [], IfOk, OnOk, OnErr};
-ghost use Rattle.sg_names.specs.Channels.{channels_text};
+ghost use Rattle.std.specs.Prelude.{◌≡◌, ◌≢◌, ◌++◌, ◌∷◌, List, ℕ, [], IsTrue, IfOk, OnOk, OnErr};
+ghost use Rattle.sg_names.specs.Channels.{channels_text, is_channels};
 
 use crate::channel_name::ChannelName;
-use crate::item_list::{self, Item};
+use crate::fault::TextFault;
+use crate::item_list;
 use sg_outside::{Bytes, Memory};
 use std::alloc::{AllocError, Global};
 use std::marker::Model;
@@ -45,6 +46,18 @@ impl Channels {
         ensures { result.items ≡ self }
     {
         self.items
+    }
+
+    /// Reads the text of a list: `Bad` where it is outside the grammar, or does not rise.
+    pub fn parse(alloc: Global, text: &str) -> Result<Channels, TextFault>
+        ensures ok { IfOk result (λ l. (text.now ≡ channels_text l) × IsTrue (is_channels l)) }
+        ensures bad { result ≡ Err TextFault.Bad → (l : List (List ℕ)) → IsTrue (is_channels l) → text.now ≢ channels_text l }
+    {
+        let items = item_list::read_list(alloc, text)?;
+        if !item_list::rises(items.as_slice()) {
+            return Err(TextFault::Bad);
+        }
+        Ok(Channels { items })
     }
 
     pub fn as_slice(&self) -> &[ChannelName]

@@ -1,13 +1,17 @@
 //! Grants of channels.
 
-ghost use Rattle.std.specs.Prelude.{◌≡◌, ◌++◌, ◌∷◌, [], IfOk, OnOk, OnErr};
+ghost use Rattle.std.specs.Prelude.{◌≡◌, ◌≢◌, ◌++◌, ◌∷◌, List, [], IsTrue, IfOk, OnOk, OnErr};
+ghost use Rattle.std.specs.Ordering.{nat_cmp};
+ghost use Rattle.std.specs.Cmp.Lexicographic.{slice_cmp};
 
 use crate::channel_name::ChannelName;
-use crate::item_list::{self, Item};
+use crate::fault::TextFault;
+use crate::item_list::{self, Item, Rising};
 use crate::name::Name;
 use crate::pieces;
 use sg_outside::{Bytes, Memory};
 use std::alloc::{AllocError, Global};
+use std::cmp::Ordering;
 use std::marker::Model;
 
 /// Whom a grant is to.
@@ -18,6 +22,37 @@ pub enum Grantee {
 }
 
 impl Grantee {
+    ghost use Rattle.sg_names.specs.Grants.{grantee_text, is_grantee};
+    ghost use Rattle.sg_names.specs.declared.grants.Grantee.{Grantee};
+
+    /// Reads one: `Bad` where the text is outside the grammar.
+    pub fn parse(alloc: Global, text: &str) -> Result<Grantee, TextFault>
+        ensures ok { IfOk result (λ g. (text.now ≡ grantee_text g) × IsTrue (is_grantee g)) }
+        ensures bad { result ≡ Err TextFault.Bad → (g : Grantee) → IsTrue (is_grantee g) → text.now ≢ grantee_text g }
+    {
+        match pieces::cut(text, ':') {
+            None => Ok(Grantee::User(Name::parse(alloc, text)?)),
+            Some((front, back)) => {
+                if front != "role" {
+                    return Err(TextFault::Bad);
+                }
+                Ok(Grantee::Role(Name::parse(alloc, back)?))
+            }
+        }
+    }
+
+    /// The order by texts.
+    fn order(&self, other: &Grantee) -> Ordering
+        ensures { result ≡ slice_cmp nat_cmp (grantee_text self.now) (grantee_text other.now) }
+    {
+        match (self, other) {
+            (Grantee::User(a), Grantee::User(b)) => a.order(b),
+            (Grantee::Role(a), Grantee::Role(b)) => a.order(b),
+            (Grantee::User(a), Grantee::Role(_)) => a.as_bytes().cmp(b"role:".as_slice()),
+            (Grantee::Role(_), Grantee::User(b)) => b"role:".as_slice().cmp(b.as_bytes()),
+        }
+    }
+
     pub fn copy(&self, alloc: Global) -> Result<Grantee, AllocError>
         ensures { IfOk result (λ g. g ≡ self.now) }
     {
@@ -36,7 +71,31 @@ pub struct Grant {
 }
 
 impl Grant {
-    ghost use Rattle.sg_names.specs.Grants.{grant_text};
+    ghost use Rattle.sg_names.specs.Grants.{grant_text, is_grant, grant_cmp};
+    ghost use Rattle.sg_names.specs.declared.grants.Grant.{Grant};
+
+    /// Reads one: `Bad` where the text is outside the grammar.
+    pub fn parse(alloc: Global, text: &str) -> Result<Grant, TextFault>
+        ensures ok { IfOk result (λ g. (text.now ≡ grant_text g) × IsTrue (is_grant g)) }
+        ensures bad { result ≡ Err TextFault.Bad → (g : Grant) → IsTrue (is_grant g) → text.now ≢ grant_text g }
+    {
+        let Some((front, back)) = pieces::cut(text, '=') else {
+            return Err(TextFault::Bad);
+        };
+        Ok(Grant {
+            to: Grantee::parse(alloc, front)?,
+            channel: ChannelName::parse(alloc, back)?,
+        })
+    }
+
+    /// The order by the text before the first `=`, then by the channel.
+    pub fn order(&self, other: &Grant) -> Ordering
+        ensures { result ≡ grant_cmp self.now other.now }
+    {
+        self.to
+            .order(&other.to)
+            .then(self.channel.order(&other.channel))
+    }
 
     pub fn copy(&self, alloc: Global) -> Result<Grant, AllocError>
         ensures { IfOk result (λ g. g ≡ self.now) }
@@ -63,12 +122,28 @@ impl Grant {
 }
 
 impl Item for Grant {
-    ghost use Rattle.sg_names.specs.Grants.{grant_text};
+    ghost use Rattle.sg_names.specs.Grants.{grant_text, is_grant};
 
     ghost text = { λ g. grant_text g };
 
+    ghost admits = { λ g. is_grant g };
+
+    fn read(alloc: Global, piece: &str) -> Result<Grant, TextFault> {
+        Grant::parse(alloc, piece)
+    }
+
     fn print(&self, out: &mut Bytes) -> Result<(), Memory> {
         self.write(out)
+    }
+}
+
+impl Rising for Grant {
+    ghost use Rattle.sg_names.specs.Grants.{grant_cmp};
+
+    ghost order = { λ a b. grant_cmp a b };
+
+    fn compare(&self, other: &Grant) -> Ordering {
+        self.order(other)
     }
 }
 
@@ -88,7 +163,8 @@ impl Model for Grants {
 }
 
 impl Grants {
-    ghost use Rattle.sg_names.specs.Grants.{grants_text};
+    ghost use Rattle.sg_names.specs.Grants.{grants_text, is_grants};
+    ghost use Rattle.sg_names.specs.declared.grants.Grant.{Grant};
 
     /// None. Takes no memory.
     pub fn new(alloc: Global) -> Grants
@@ -111,6 +187,18 @@ impl Grants {
         ensures { result.items ≡ self }
     {
         self.items
+    }
+
+    /// Reads the text of a list: `Bad` where it is outside the grammar, or does not rise.
+    pub fn parse(alloc: Global, text: &str) -> Result<Grants, TextFault>
+        ensures ok { IfOk result (λ l. (text.now ≡ grants_text l) × IsTrue (is_grants l)) }
+        ensures bad { result ≡ Err TextFault.Bad → (l : List Grant) → IsTrue (is_grants l) → text.now ≢ grants_text l }
+    {
+        let items = item_list::read_list(alloc, text)?;
+        if !item_list::rises(items.as_slice()) {
+            return Err(TextFault::Bad);
+        }
+        Ok(Grants { items })
     }
 
     pub fn as_slice(&self) -> &[Grant]

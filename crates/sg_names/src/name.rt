@@ -8,7 +8,7 @@ ghost use Rattle.sg_names.specs.Grammar.{is_name};
 
 use crate::fault::TextFault;
 use crate::grammar;
-use crate::item_list::Item;
+use crate::item_list::{Item, Rising};
 use sg_outside::{Bytes, Memory};
 use std::alloc::{AllocError, Global};
 use std::cmp::Ordering;
@@ -86,7 +86,21 @@ impl Name {
 impl Item for Name {
     ghost text = { λ n. n };
 
+    ghost admits = { λ n. is_name n };
+
+    fn read(alloc: Global, piece: &str) -> Result<Name, TextFault> {
+        Name::parse(alloc, piece)
+    }
+
     fn print(&self, out: &mut Bytes) -> Result<(), Memory> {
         out.extend_from_slice(self.text.as_bytes())
+    }
+}
+
+impl Rising for Name {
+    ghost order = { slice_cmp nat_cmp };
+
+    fn compare(&self, other: &Name) -> Ordering {
+        self.order(other)
     }
 }

@@ -1,9 +1,10 @@
 //! Lists of names.
 
-ghost use Rattle.std.specs.Prelude.{◌≡◌, ◌++◌, ◌∷◌, [], IfOk, OnOk, OnErr};
-ghost use Rattle.sg_names.specs.Names.{names_text};
+ghost use Rattle.std.specs.Prelude.{◌≡◌, ◌≢◌, ◌++◌, ◌∷◌, List, ℕ, [], IsTrue, IfOk, OnOk, OnErr};
+ghost use Rattle.sg_names.specs.Names.{names_text, is_names};
 
-use crate::item_list::{self, Item};
+use crate::fault::TextFault;
+use crate::item_list;
 use crate::name::Name;
 use sg_outside::{Bytes, Memory};
 use std::alloc::{AllocError, Global};
@@ -45,6 +46,18 @@ impl Names {
         ensures { result.items ≡ self }
     {
         self.items
+    }
+
+    /// Reads the text of a list: `Bad` where it is outside the grammar, or does not rise.
+    pub fn parse(alloc: Global, text: &str) -> Result<Names, TextFault>
+        ensures ok { IfOk result (λ l. (text.now ≡ names_text l) × IsTrue (is_names l)) }
+        ensures bad { result ≡ Err TextFault.Bad → (l : List (List ℕ)) → IsTrue (is_names l) → text.now ≢ names_text l }
+    {
+        let items = item_list::read_list(alloc, text)?;
+        if !item_list::rises(items.as_slice()) {
+            return Err(TextFault::Bad);
+        }
+        Ok(Names { items })
     }
 
     pub fn as_slice(&self) -> &[Name]

@@ -1,6 +1,6 @@
 //! Revisions and lists of them.
 
-ghost use Rattle.std.specs.Prelude.{◌≡◌, ◌≢◌, ◌++◌, ◌∷◌, ◌<◌, ◌≤◌, ◌^◌, ℕ, [], ◌↔◌, IsTrue, IfOk, OnOk, OnErr, IfSome, IfNone, decimal};
+ghost use Rattle.std.specs.Prelude.{◌≡◌, ◌≢◌, ◌++◌, ◌∷◌, ◌<◌, ◌≤◌, ◌^◌, List, ℕ, [], ◌↔◌, IsTrue, IfOk, OnOk, OnErr, IfSome, IfNone, decimal};
 
 use crate::decimal::read_decimal;
 use crate::digest::Digest;
@@ -69,9 +69,15 @@ impl RevId {
 }
 
 impl Item for RevId {
-    ghost use Rattle.sg_names.specs.RevId.{rev_text};
+    ghost use Rattle.sg_names.specs.RevId.{rev_text, is_rev};
 
     ghost text = { λ r. rev_text r };
+
+    ghost admits = { λ r. is_rev r };
+
+    fn read(alloc: Global, piece: &str) -> Result<RevId, TextFault> {
+        RevId::parse(alloc, piece)
+    }
 
     fn print(&self, out: &mut Bytes) -> Result<(), Memory> {
         self.write(out)
@@ -105,7 +111,8 @@ impl Model for Revs {
 }
 
 impl Revs {
-    ghost use Rattle.sg_names.specs.Revs.{revs_text};
+    ghost use Rattle.sg_names.specs.Revs.{revs_text, is_revs};
+    ghost use Rattle.sg_names.specs.declared.rev_id.RevId.{RevId};
 
     /// None. Takes no memory.
     pub fn new(alloc: Global) -> Revs
@@ -128,6 +135,15 @@ impl Revs {
         ensures { result.items ≡ self }
     {
         self.items
+    }
+
+    /// Reads the text of a list: `Bad` where it is outside the grammar.
+    pub fn parse(alloc: Global, text: &str) -> Result<Revs, TextFault>
+        ensures ok { IfOk result (λ l. (text.now ≡ revs_text l) × IsTrue (is_revs l)) }
+        ensures bad { result ≡ Err TextFault.Bad → (l : List RevId) → IsTrue (is_revs l) → text.now ≢ revs_text l }
+    {
+        let items = item_list::read_list(alloc, text)?;
+        Ok(Revs { items })
     }
 
     pub fn as_slice(&self) -> &[RevId]

@@ -1,12 +1,14 @@
 //! Roles that documents give to users.
 
-ghost use Rattle.std.specs.Prelude.{◌≡◌, ◌++◌, ◌∷◌, [], IfOk, OnOk, OnErr};
+ghost use Rattle.std.specs.Prelude.{◌≡◌, ◌≢◌, ◌++◌, ◌∷◌, List, [], IsTrue, IfOk, OnOk, OnErr};
 
-use crate::item_list::{self, Item};
+use crate::fault::TextFault;
+use crate::item_list::{self, Item, Rising};
 use crate::name::Name;
 use crate::pieces;
 use sg_outside::{Bytes, Memory};
 use std::alloc::{AllocError, Global};
+use std::cmp::Ordering;
 use std::marker::Model;
 
 /// A role that a document gives to a user.
@@ -17,7 +19,31 @@ pub struct RoleGrant {
 }
 
 impl RoleGrant {
-    ghost use Rattle.sg_names.specs.RoleGrants.{role_grant_text};
+    ghost use Rattle.sg_names.specs.RoleGrants.{role_grant_text, is_role_grant, role_grant_cmp};
+    ghost use Rattle.sg_names.specs.declared.role_grants.RoleGrant.{RoleGrant};
+
+    /// Reads one: `Bad` where the text is outside the grammar.
+    pub fn parse(alloc: Global, text: &str) -> Result<RoleGrant, TextFault>
+        ensures ok { IfOk result (λ g. (text.now ≡ role_grant_text g) × IsTrue (is_role_grant g)) }
+        ensures bad { result ≡ Err TextFault.Bad → (g : RoleGrant) → IsTrue (is_role_grant g) → text.now ≢ role_grant_text g }
+    {
+        let Some((front, back)) = pieces::cut(text, '=') else {
+            return Err(TextFault::Bad);
+        };
+        Ok(RoleGrant {
+            user: Name::parse(alloc, front)?,
+            role: Name::parse(alloc, back)?,
+        })
+    }
+
+    /// The order by the user, then by the role.
+    pub fn order(&self, other: &RoleGrant) -> Ordering
+        ensures { result ≡ role_grant_cmp self.now other.now }
+    {
+        self.user
+            .order(&other.user)
+            .then(self.role.order(&other.role))
+    }
 
     pub fn copy(&self, alloc: Global) -> Result<RoleGrant, AllocError>
         ensures { IfOk result (λ g. g ≡ self.now) }
@@ -38,12 +64,28 @@ impl RoleGrant {
 }
 
 impl Item for RoleGrant {
-    ghost use Rattle.sg_names.specs.RoleGrants.{role_grant_text};
+    ghost use Rattle.sg_names.specs.RoleGrants.{role_grant_text, is_role_grant};
 
     ghost text = { λ g. role_grant_text g };
 
+    ghost admits = { λ g. is_role_grant g };
+
+    fn read(alloc: Global, piece: &str) -> Result<RoleGrant, TextFault> {
+        RoleGrant::parse(alloc, piece)
+    }
+
     fn print(&self, out: &mut Bytes) -> Result<(), Memory> {
         self.write(out)
+    }
+}
+
+impl Rising for RoleGrant {
+    ghost use Rattle.sg_names.specs.RoleGrants.{role_grant_cmp};
+
+    ghost order = { λ a b. role_grant_cmp a b };
+
+    fn compare(&self, other: &RoleGrant) -> Ordering {
+        self.order(other)
     }
 }
 
@@ -63,7 +105,8 @@ impl Model for RoleGrants {
 }
 
 impl RoleGrants {
-    ghost use Rattle.sg_names.specs.RoleGrants.{role_grants_text};
+    ghost use Rattle.sg_names.specs.RoleGrants.{role_grants_text, is_role_grants};
+    ghost use Rattle.sg_names.specs.declared.role_grants.RoleGrant.{RoleGrant};
 
     /// None. Takes no memory.
     pub fn new(alloc: Global) -> RoleGrants
@@ -86,6 +129,18 @@ impl RoleGrants {
         ensures { result.items ≡ self }
     {
         self.items
+    }
+
+    /// Reads the text of a list: `Bad` where it is outside the grammar, or does not rise.
+    pub fn parse(alloc: Global, text: &str) -> Result<RoleGrants, TextFault>
+        ensures ok { IfOk result (λ l. (text.now ≡ role_grants_text l) × IsTrue (is_role_grants l)) }
+        ensures bad { result ≡ Err TextFault.Bad → (l : List RoleGrant) → IsTrue (is_role_grants l) → text.now ≢ role_grants_text l }
+    {
+        let items = item_list::read_list(alloc, text)?;
+        if !item_list::rises(items.as_slice()) {
+            return Err(TextFault::Bad);
+        }
+        Ok(RoleGrants { items })
     }
 
     pub fn as_slice(&self) -> &[RoleGrant]
