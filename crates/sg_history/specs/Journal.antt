@@ -80,6 +80,10 @@ is_entry entry.Unused = true
 abbrev pub IsEntry : Entry → Type 0
 IsEntry e = IsTrue (is_entry e) × AllByRecursion IsUtf8 (fields_of e)
 
+-- a write in its grammar: each field after the kind is, and each is UTF-8
+abbrev pub IsWrite : Write → Type 0
+IsWrite w = IsTrue (is_write w) × AllByRecursion IsUtf8 (write_fields w)
+
 -- the generations fall strictly from this one on
 abbrev pub falls_from : ℕ → List RevId → Bool
 falls_from generation [] = true

@@ -9,5 +9,6 @@ pub mod View
 pub mod Feed
 pub mod Device
 pub mod Journal
+pub mod Line
 pub mod Pieces
 pub mod Refusal

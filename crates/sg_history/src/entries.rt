@@ -1,11 +1,11 @@
 //! Entries of a history, and the log that keeps them in order.
 
-ghost use Rattle.std.specs.Prelude.{◌≡◌, ◌++◌, ◌∷◌, ◌+◌, ◌≤◌, ◌<◌, [], length, OnOk, OnErr, IfErr};
+ghost use Rattle.std.specs.Prelude.{◌≡◌, ◌++◌, ◌∷◌, ◌+◌, ◌≤◌, ◌<◌, [], length, OnOk, OnErr};
 ghost use Rattle.sg_history.specs.Kept.{Kept};
 
 use sg_names::{Channels, DocId, Grants, Name, Names, RevId, Revs, RoleGrants};
 use sg_outside::Bytes;
-use std::alloc::{AllocError, AllocFailed, Global};
+use std::alloc::{AllocError, Global};
 use std::marker::Model;
 
 /// A revision that was written, with what the sync function made of it.
@@ -83,12 +83,12 @@ impl Entries {
     }
 
     /// Puts an entry at the end.
-    pub fn push(&mut self, entry: Entry) -> Result<(), AllocFailed<Entry>>
+    pub fn push(&mut self, entry: Entry) -> Result<(), AllocError>
         ensures ok { OnOk result (self.new.list ≡ self.old.list ++ entry ∷ []) }
         ensures err { OnErr result (self.new.list ≡ self.old.list) }
-        ensures back { IfErr result (λ f. f.value ≡ entry) }
     {
-        self.items.push(entry)
+        self.items.push(entry)?;
+        Ok(())
     }
 
     /// Makes room for `more` further entries, counted from the ones that are there.

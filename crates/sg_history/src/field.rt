@@ -124,3 +124,68 @@ pub fn number_of(field: &[u8], number: u64) -> Result<Option<u64>, LineFault>
     }
     Ok(read_decimal(text))
 }
+
+/// A list of revisions.
+pub fn revs(alloc: Global, field: &[u8], number: u64) -> Result<Revs, LineFault>
+    ensures ok { IfOk result (λ v. (field.now ≡ revs_text v) × IsTrue (is_revs v) × IsUtf8 field.now) }
+    ensures bad { IfErr result (λ e. Refuses e (IsUtf8 field.now → (v : List RevId) → IsTrue (is_revs v) → field.now ≢ revs_text v)) }
+{
+    let text = text_of(field, number)?;
+    match Revs::parse(alloc, text) {
+        Ok(value) => Ok(value),
+        Err(TextFault::Bad) => Err(LineFault::Bad(Why::Field(number))),
+        Err(TextFault::Memory) => Err(LineFault::Memory),
+    }
+}
+
+/// A list of channels.
+pub fn channels(alloc: Global, field: &[u8], number: u64) -> Result<Channels, LineFault>
+    ensures ok { IfOk result (λ v. (field.now ≡ channels_text v) × IsTrue (is_channels v) × IsUtf8 field.now) }
+    ensures bad { IfErr result (λ e. Refuses e (IsUtf8 field.now → (v : List (List ℕ)) → IsTrue (is_channels v) → field.now ≢ channels_text v)) }
+{
+    let text = text_of(field, number)?;
+    match Channels::parse(alloc, text) {
+        Ok(value) => Ok(value),
+        Err(TextFault::Bad) => Err(LineFault::Bad(Why::Field(number))),
+        Err(TextFault::Memory) => Err(LineFault::Memory),
+    }
+}
+
+/// A list of names.
+pub fn names(alloc: Global, field: &[u8], number: u64) -> Result<Names, LineFault>
+    ensures ok { IfOk result (λ v. (field.now ≡ names_text v) × IsTrue (is_names v) × IsUtf8 field.now) }
+    ensures bad { IfErr result (λ e. Refuses e (IsUtf8 field.now → (v : List (List ℕ)) → IsTrue (is_names v) → field.now ≢ names_text v)) }
+{
+    let text = text_of(field, number)?;
+    match Names::parse(alloc, text) {
+        Ok(value) => Ok(value),
+        Err(TextFault::Bad) => Err(LineFault::Bad(Why::Field(number))),
+        Err(TextFault::Memory) => Err(LineFault::Memory),
+    }
+}
+
+/// A list of grants.
+pub fn grants(alloc: Global, field: &[u8], number: u64) -> Result<Grants, LineFault>
+    ensures ok { IfOk result (λ v. (field.now ≡ grants_text v) × IsTrue (is_grants v) × IsUtf8 field.now) }
+    ensures bad { IfErr result (λ e. Refuses e (IsUtf8 field.now → (v : List Grant) → IsTrue (is_grants v) → field.now ≢ grants_text v)) }
+{
+    let text = text_of(field, number)?;
+    match Grants::parse(alloc, text) {
+        Ok(value) => Ok(value),
+        Err(TextFault::Bad) => Err(LineFault::Bad(Why::Field(number))),
+        Err(TextFault::Memory) => Err(LineFault::Memory),
+    }
+}
+
+/// A list of role grants.
+pub fn role_grants(alloc: Global, field: &[u8], number: u64) -> Result<RoleGrants, LineFault>
+    ensures ok { IfOk result (λ v. (field.now ≡ role_grants_text v) × IsTrue (is_role_grants v) × IsUtf8 field.now) }
+    ensures bad { IfErr result (λ e. Refuses e (IsUtf8 field.now → (v : List RoleGrant) → IsTrue (is_role_grants v) → field.now ≢ role_grants_text v)) }
+{
+    let text = text_of(field, number)?;
+    match RoleGrants::parse(alloc, text) {
+        Ok(value) => Ok(value),
+        Err(TextFault::Bad) => Err(LineFault::Bad(Why::Field(number))),
+        Err(TextFault::Memory) => Err(LineFault::Memory),
+    }
+}

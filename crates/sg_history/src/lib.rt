@@ -6,10 +6,13 @@ pub mod entries;
 pub mod fault;
 pub mod field;
 pub mod fields;
+pub mod journal;
+pub mod line;
 pub mod row;
 
 pub use entries::{Entries, Entry, Log, Write};
 pub use fault::{BadLine, ReadLog, Why};
+pub use journal::read_journal;
 pub use row::{Options, Row, Rows};
 pub use sg_names::{
     ChannelName, Channels, Client, Digest, DocId, Grant, Grantee, Grants, Key, KeyFault, Name,

@@ -1,6 +1,5 @@
 use Rattle.std.proofs.Common.{arith, length, ap, List, ℕ, Bor, length-append}
 use Rattle.std.proofs.lemmas.List.{length-map}
-use Rattle.sg_history.specs.Pieces.{pieces}
 use Rattle.sg_history.proofs.PieceLemmas.{pieces-end, pieces-next, pieces-some}
 use Rattle.sg_history.proofs.fields.pieces_of.Goals as goal
 
