@@ -53,3 +53,18 @@ fn tell(rt: &impl Eprint, status: Status) -> io::Result<u8> {
         }
     }
 }
+
+fn main(rt: HostRuntime) -> ExitCode {
+    let status = match words_of(&rt) {
+        Ok(words) => {
+            let mut files = RealFiles::new(&rt);
+            let mut out = StdoutSink::new(&rt);
+            run(rt.alloc(), words.as_slice(), &mut files, &mut out)
+        }
+        Err(status) => status,
+    };
+    match tell(&rt, status) {
+        Ok(number) => ExitCode::from(number),
+        Err(_) => ExitCode::FAILURE,
+    }
+}
