@@ -1,7 +1,8 @@
 -- Nodes level by level, and a map beside the members that it stands for.
-use Rattle.std.proofs.Common.{◌≡◌, ℕ, ◌+◌, List, [], ◌∷◌, ◌++◌, length, take, get_or, ◌<◌, map, Option, Some, None, option_map, String, BTreeMap, Vec, Global, Ordering, Less, Equal, Greater, string_bytes, string_cmp, nat_cmp, is_eq, cond, Bor, refl, sym, ap, ◌∙◌, arith, rules}
+use Rattle.std.proofs.Common.{◌≡◌, ℕ, ◌+◌, List, [], ◌∷◌, ◌++◌, length, take, get_or, ◌<◌, map, Option, Some, None, option_map, String, BTreeMap, Vec, Global, Ordering, Less, Equal, Greater, string_bytes, string_cmp, nat_cmp, cond, Bool, true, false, bytes_eq, Bor, refl, sym, ap, ◌∙◌, arith, rules}
 use Rattle.std.proofs.lemmas.List.{take_more}
 use Rattle.std.proofs.lemmas.Cmp.{nat_list_cmp_total}
+use Rattle.std.proofs.lemmas.Map.Text.{is_eq-slice_cmp}
 use Rattle.std.specs.Cmp.Lexicographic.{slice_cmp}
 use Rattle.std.specs.List.{AllByRecursion}
 use Rattle.std.specs.List.Sorted.{IsStrictlySortedBy}
@@ -72,14 +73,13 @@ put_last g (first ∷ done) e more h =
     nat_list_cmp_total.antisymm (string_bytes e.0) (string_bytes first.0) ∙ ap ordering_reverse (below_middle first done e more h.0) in
     rw above (ap (field (string_bytes first.0) (g first.1)) (put_last g done e more h.1))
 
-found_or : (o : Ordering) (n : Node) (rest : Option Node) (t : Option Tree) → option_map node_tree rest ≡ t → option_map node_tree (cond (is_eq o) (Some n) rest) ≡ match_ordering o t (Some (node_tree n)) t
-found_or Less n rest t e = e
-found_or Equal n rest t e = refl
-found_or Greater n rest t e = e
+found_or : (b : Bool) (n : Node) (rest : Option Node) (t : Option Tree) → option_map node_tree rest ≡ t → option_map node_tree (cond b (Some n) rest) ≡ cond b (Some (node_tree n)) t
+found_or true n rest t e = refl
+found_or false n rest t e = e
 
 pub trees-lookup : (name : List ℕ) (es : List Entry) → option_map node_tree (lookup (is_at (λ k. slice_cmp nat_cmp name (string_bytes k))) es) ≡ get_field name (entry_fields es)
 trees-lookup name [] = refl
-trees-lookup name (e ∷ es) = found_or (slice_cmp nat_cmp name (string_bytes e.0)) e.1 _ _ (trees-lookup name es)
+trees-lookup name (e ∷ es) = rw (is_eq-slice_cmp name (string_bytes e.0)) (found_or (bytes_eq name (string_bytes e.0)) e.1 _ _ (trees-lookup name es))
 
 pub tree_of_ref : (r : Option (Bor Node)) → option_map (λ n. node_tree n.now) r ≡ option_map node_tree (option_map (λ n. n.now) r)
 tree_of_ref None = refl

@@ -12,11 +12,11 @@ abbrev pub ReadsAs : List ℕ → json.Data → Type 0
 ReadsAs [] d = d ≡ json.object json.no_members
 ReadsAs (b ∷ bs) d = IsUtf8 (b ∷ bs) × (read (b ∷ bs) ≡ Some d)
 
--- whether an integer is among those that a float holds exactly
+-- whether an integer is between -9007199254740991 and 9007199254740991, where each is a float of its own
 abbrev pub is_safe : ℤ → Bool
 is_safe z = int_le (negsuc 9007199254740990) z && int_le z (pos 9007199254740991)
 
--- an integer where it is a safe one, else opaque
+-- a number whose reading as an integer of 64 bits is this one: an integer where it is safe, else opaque
 abbrev pub integer_or_opaque : Option ℤ → Tree
 integer_or_opaque None = opaque
 integer_or_opaque (Some z) = if is_safe z then integer z else opaque

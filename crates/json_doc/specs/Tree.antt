@@ -1,10 +1,11 @@
 -- Document trees, as plain data: what a document means, whatever holds it.
-use Rattle.std.specs.Prelude.{ℕ, ℤ, Bool, true, false, List, Option, Some, None}
+use Rattle.std.specs.Prelude.{ℕ, ◌+◌, ℤ, Bool, true, false, if◌then◌else◌, List, Option, Some, None}
+use Rattle.std.specs.Str.{bytes_eq}
 use Rattle.std.specs.Ordering.{nat_cmp, match_ordering}
 use Rattle.std.specs.Cmp.Lexicographic.{slice_cmp}
 
 mutual
-  -- a value: a number is an integer of 53 bits and a sign, or opaque
+  -- a value; a number is an integer, or opaque: nothing is known of it but that it is a number
   pub data Tree : Type 0 where
     null : Tree
     boolean : Bool → Tree
@@ -27,8 +28,7 @@ mutual
 -- the value of the member with this name, if there is one
 abbrev pub get_field : List ℕ → Fields → Option Tree
 get_field name no_fields = None
-get_field name (field other t rest) =
-    match_ordering (slice_cmp nat_cmp name other) (get_field name rest) (Some t) (get_field name rest)
+get_field name (field other t rest) = if bytes_eq name other then Some t else get_field name rest
 
 -- the members with this value at this name: in the place of the old one, else in the order of the names' bytes
 abbrev pub put_field : List ℕ → Tree → Fields → Fields
@@ -42,12 +42,12 @@ put_field name t (field other u rest) =
 -- how many values a list has
 abbrev pub tree_count : Trees → ℕ
 tree_count no_trees = 0
-tree_count (tree t rest) = Prim.Native.Nat.◌+◌ 1 (tree_count rest)
+tree_count (tree t rest) = 1 + tree_count rest
 
 -- how many members an object has
 abbrev pub field_count : Fields → ℕ
 field_count no_fields = 0
-field_count (field name t rest) = Prim.Native.Nat.◌+◌ 1 (field_count rest)
+field_count (field name t rest) = 1 + field_count rest
 
 -- the values with one more at the end
 abbrev pub add_tree : Trees → Tree → Trees

@@ -11,8 +11,8 @@ use crate::text::DocText;
 use serde_json::{Map, Number, Value};
 use std::alloc::Global;
 
-/// The greatest of the integers that a float holds exactly, each with its neighbours.
-const SAFE: i64 = 9007199254740991;
+/// The greatest integer up to which each is a float of its own, ECMAScript's `MAX_SAFE_INTEGER`.
+const MAX_SAFE_INTEGER: i64 = 9007199254740991;
 
 /// Whether the gateway keeps the name to itself.
 fn is_reserved(name: &str) -> bool
@@ -45,7 +45,7 @@ fn number_node(number: &Number) -> Node
 fn integer_node(integer: i64) -> Node
     ensures { node_tree result ≡ integer_or_opaque (Some integer) }
 {
-    if -SAFE <= integer && integer <= SAFE {
+    if -MAX_SAFE_INTEGER <= integer && integer <= MAX_SAFE_INTEGER {
         Node::Int(integer)
     } else {
         Node::Opaque

@@ -1,22 +1,25 @@
-ghost use Rattle.std.specs.Prelude.{◌≡◌, ◌≢◌, ◌↔◌, Option, option_map, IfOk, OnOk, IfErr, IsTrue};
+ghost use Rattle.std.specs.Prelude.{◌≡◌, ◌≢◌, ◌↔◌, Option, option_map, IfOk, OnOk, IfErr, IsOkAnd, IsTrue};
 ghost use Rattle.serde_json.specs.View.{view};
-ghost use Rattle.json_doc.specs.Tree.{is_object, get_member};
+ghost use Rattle.json_doc.specs.Tree.{Tree, object, is_object, get_member};
 ghost use Rattle.json_doc.specs.Reading.{ReadsAs, IsNotJson, IsNotObject, IsReserved, IsDocument};
-ghost use Rattle.json_doc.specs.View.{node_tree};
+ghost use Rattle.json_doc.specs.View.{node_tree, members_fields};
 ghost use Rattle.json_doc.specs.Verdict.{IsVerdict};
 
 use crate::Memory;
 use crate::convert::{has_reserved, members_of};
-use crate::node::Node;
+use crate::node::{Members, Node};
 use serde_json::{Map, Value};
 use std::alloc::{AllocError, Global};
 use std::marker::Model;
 
 /// Why bytes are no document. `Memory` is want of memory, which may come at any bytes.
-#[derive(Debug, Drop)]
+#[derive(Clone, Copy, Debug, PartialEq, Eq)]
 pub enum DocFault {
+    /// The bytes are no JSON, or nest deeper than 127.
     NotJson,
+    /// They are JSON, and no object.
     NotObject,
+    /// A top member has a name that begins with `_` and is not `_attachments`.
     Reserved,
     Memory,
 }
@@ -65,6 +68,16 @@ impl Doc {
         &self.object
     }
 
+    /// The document's top members.
+    pub fn members(&self) -> &Members
+        ensures { node_tree self.now ≡ object (members_fields result.now) }
+    {
+        match &self.object {
+            Node::Object(members) => members,
+            _ => unreachable!(),
+        }
+    }
+
     /// The value of the top member with this name.
     pub fn get(&self, name: &str) -> Option<&Node>
         ensures { option_map (λ n. node_tree n.now) result ≡ get_member name.now (node_tree self.now) }
@@ -85,6 +98,8 @@ impl Doc {
 /// bytes at all are read as the object with no members.
 pub fn read_doc(alloc: Global, bytes: &[u8]) -> Result<Doc, DocFault>
     ensures ok { IfOk result (λ doc. IsDocument bytes.now (node_tree doc)) }
+    ensures accepts { (t : Tree) → IsDocument bytes.now t → result ≢ Err DocFault.Memory
+        → IsOkAnd result (λ doc. node_tree doc ≡ t) }
 
     // Want of memory apart, each refusal comes exactly where it is due.
     ensures not_json { result ≢ Err DocFault.Memory

@@ -12,3 +12,6 @@ pub use text::DocText;
 
 /// Want of memory.
 pub type Memory = std::alloc::AllocError;
+
+#[cfg(test)]
+mod tests;

@@ -39,6 +39,28 @@ pub struct Members {
     map: BTreeMap<String, Node>,
 }
 
+impl From<Vec<Node>> for Nodes {
+    ghost use Rattle.std.specs.Prelude.{◌≡◌};
+    ghost use Rattle.json_doc.specs.View.{nodes_trees, row_trees};
+
+    ghost from_gives = { λ items made. nodes_trees made ≡ row_trees items.items };
+
+    fn from(items: Vec<Node>) -> Nodes {
+        Nodes { items }
+    }
+}
+
+impl From<BTreeMap<String, Node>> for Members {
+    ghost use Rattle.std.specs.Prelude.{◌≡◌};
+    ghost use Rattle.json_doc.specs.View.{members_fields, entry_fields};
+
+    ghost from_gives = { λ map made. members_fields made ≡ entry_fields map.entries };
+
+    fn from(map: BTreeMap<String, Node>) -> Members {
+        Members { map }
+    }
+}
+
 impl Node {
     /// Whether the node is an object.
     pub fn is_object(&self) -> bool
@@ -74,6 +96,13 @@ impl Node {
 }
 
 impl Nodes {
+    /// Gives the nodes back, which takes no memory.
+    pub fn into_vec(self) -> Vec<Node>
+        ensures { row_trees result.items ≡ nodes_trees self }
+    {
+        self.items
+    }
+
     /// The empty list, which takes no memory.
     pub fn new(alloc: Global) -> Nodes
         ensures { nodes_trees result ≡ no_trees }
@@ -124,6 +153,13 @@ impl Nodes {
 }
 
 impl Members {
+    /// Gives the members back as a map, which takes no memory.
+    pub fn into_map(self) -> BTreeMap<String, Node>
+        ensures { entry_fields result.entries ≡ members_fields self }
+    {
+        self.map
+    }
+
     /// No members, which takes no memory.
     pub fn new(alloc: Global) -> Members
         ensures { members_fields result ≡ no_fields }

@@ -1,4 +1,4 @@
-ghost use Rattle.std.specs.Prelude.{◌≡◌, List, [], ◌++◌, length, IfOk, OnOk, OnErr, string_bytes};
+ghost use Rattle.std.specs.Prelude.{◌≡◌, ◌↔◌, IsTrue, List, [], ◌++◌, length, IfOk, OnOk, OnErr, string_bytes};
 
 use crate::Memory;
 use std::alloc::Global;
@@ -56,6 +56,12 @@ impl DocText {
         ensures { result ≡ length self.now }
     {
         self.text.len()
+    }
+
+    pub fn is_empty(&self) -> bool
+        ensures { IsTrue result ↔ (self.now ≡ []) }
+    {
+        self.text.is_empty()
     }
 
     /// Writes more at the end; at want of memory the text is as before.
