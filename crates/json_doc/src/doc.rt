@@ -1,4 +1,4 @@
-ghost use Rattle.std.specs.Prelude.{◌≡◌, ◌≢◌, ◌↔◌, Option, option_map, IfOk, OnOk, IfErr, IsOkAnd, IsTrue};
+ghost use Rattle.std.specs.Prelude.{◌≡◌, ◌≢◌, ◌↔◌, option_map, IfOk, IfErr, IsOkAnd, IsTrue};
 ghost use Rattle.serde_json.specs.View.{view};
 ghost use Rattle.json_doc.specs.Tree.{Tree, object, is_object, get_member};
 ghost use Rattle.json_doc.specs.Reading.{ReadsAs, IsNotJson, IsNotObject, IsReserved, IsDocument};
@@ -62,7 +62,7 @@ impl Model for Doc {
 impl Doc {
     /// The document as a node, which is an object.
     pub fn as_node(&self) -> &Node
-        ensures same { node_tree result.now ≡ node_tree self.now }
+        ensures value { result.now ≡ self.now }
         ensures object { IsTrue (is_object (node_tree result.now)) }
     {
         &self.object
@@ -94,8 +94,10 @@ impl Doc {
     }
 }
 
-/// Reads a document from JSON (RFC 8259, with at most 127 arrays and objects open at a place). No
-/// bytes at all are read as the object with no members.
+/// Reads a document from JSON (RFC 8259, with at most 127 arrays and objects open at a place, and
+/// each number within the range of a binary64 float). No bytes at all are read as the object with
+/// no members. Of two members of one name the last stays. `NotJson` comes before `NotObject`, and
+/// that before `Reserved`; `Memory` may come in the place of any answer.
 pub fn read_doc(alloc: Global, bytes: &[u8]) -> Result<Doc, DocFault>
     ensures ok { IfOk result (λ doc. IsDocument bytes.now (node_tree doc)) }
     ensures accepts { (t : Tree) → IsDocument bytes.now t → result ≢ Err DocFault.Memory

@@ -1,8 +1,8 @@
-ghost use Rattle.std.specs.Prelude.{◌≡◌, List, [], ◌∷◌, ◌==◌, Option, option_map, IfOk, OnOk, OnErr, string_bytes};
+ghost use Rattle.std.specs.Prelude.{◌≡◌, ◌==◌, option_map, IfOk, OnOk, OnErr, string_bytes};
 ghost use Rattle.std.specs.List.Sorted.{IsStrictlySortedBy};
 ghost use Rattle.std.specs.Map.{keys_of};
 ghost use Rattle.std.specs.String.{string_cmp};
-ghost use Rattle.json_doc.specs.Tree.{is_object, get_member, add_tree, null, boolean, no_trees, no_fields, tree, get_field, put_field, tree_count, field_count, list, object};
+ghost use Rattle.json_doc.specs.Tree.{no_trees, add_tree, tree_count, no_fields, get_field, put_field, field_count, is_object, get_member};
 ghost use Rattle.json_doc.specs.View.{node_tree, nodes_trees, members_fields, row_trees, entry_fields};
 
 use crate::Memory;
@@ -11,8 +11,9 @@ use std::alloc::Global;
 use std::collections::BTreeMap;
 use std::collections::btree_map::Iter;
 
-/// A value of a document. `Opaque` is a number that is no integer between -9007199254740991 and
-/// 9007199254740991.
+/// A value of a document, which `node_tree` shows as a tree. `Opaque` is a number that is no
+/// integer between -9007199254740991 and 9007199254740991: one written with a fraction or an
+/// exponent, `-0`, or a greater one.
 #[cycle(node)]
 #[derive(Debug, Drop)]
 pub enum Node {
@@ -25,14 +26,15 @@ pub enum Node {
     Object(Members),
 }
 
-/// A list of nodes.
+/// A list of nodes, which `nodes_trees` shows as trees.
 #[cycle(node)]
 #[derive(Debug, Drop)]
 pub struct Nodes {
     items: Vec<Node>,
 }
 
-/// The members of an object, each name once, in the order of the names' bytes.
+/// The members of an object, which `members_fields` shows: each name once, in the order of the
+/// names' bytes.
 #[cycle(node)]
 #[derive(Debug, Drop)]
 pub struct Members {
