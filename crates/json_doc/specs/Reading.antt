@@ -21,7 +21,7 @@ abbrev pub integer_or_opaque : Option ℤ → Tree
 integer_or_opaque None = opaque
 integer_or_opaque (Some z) = if is_safe z then integer z else opaque
 
--- a document's value as a tree
+-- what a JSON value means
 abbrev mutual
   pub tree_of : json.Data → Tree
   tree_of json.null = null
@@ -31,10 +31,12 @@ abbrev mutual
   tree_of (json.array ds) = list (trees_of ds)
   tree_of (json.object ms) = object (fields_of ms)
 
+  -- what the items of an array mean, in order
   pub trees_of : json.Items → Trees
   trees_of json.no_items = no_trees
   trees_of (json.item d ds) = tree (tree_of d) (trees_of ds)
 
+  -- what the members of an object mean, under their names
   pub fields_of : json.Members → Fields
   fields_of json.no_members = no_fields
   fields_of (json.member name d ms) = field name (tree_of d) (fields_of ms)

@@ -27,9 +27,11 @@ node_step (Node-F.Text s) = text s
 node_step (Node-F.List ts) = list ts
 node_step (Node-F.Object fs) = object fs
 
+-- one level of an object's members
 abbrev pub members_step : Members-F Tree Fields Trees → Fields
 members_step ms = under_names ms.map.entries
 
+-- one level of a list of nodes
 abbrev pub nodes_step : Nodes-F Tree Fields Trees → Trees
 nodes_step ns = in_a_row ns.items.items
 
