@@ -12,11 +12,11 @@ sequenced_in (Some latest) = Some (record { seq = latest.seq; write = latest.wri
 -- the winner's write, with the sequence of the last write
 abbrev pub current_in : Option Latest → Option Current
 current_in None = None
-current_in (Some latest) = current_of latest.seq (Some latest.write.now)
+current_in (Some latest) = Some (current_of latest.seq latest.write.now)
 
 -- the winner, with the sequence of the last write
 abbrev pub winner_in : Latest → Current
-winner_in latest = record { seq = latest.seq; rev = latest.write.now.rev; deleted = latest.write.now.deleted; channels = latest.write.now.channels; grants = latest.write.now.grants; roles = latest.write.now.roles }
+winner_in latest = current_of latest.seq latest.write.now
 
 -- what is shown of it
 abbrev pub shown_in : Option Latest → Option Shown

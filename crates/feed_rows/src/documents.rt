@@ -80,7 +80,7 @@ pub fn current<'a>(entries: &'a [Entry], doc: &DocId) -> Option<Latest<'a>>
     ensures { current_in result ≡ Rattle.sg_history.specs.Current.current (reverse entries.now) doc.now }
 {
     let last = last_write(entries, doc)?;
-    let write = write_of_rev(entries, doc, &last.write.winner)?;
+    let write = write_of_rev(entries, doc, &last.write.winner).unwrap_or(last.write);
     Some(Latest {
         seq: last.seq,
         write,

@@ -7,3 +7,6 @@ pub mod scan;
 pub mod views;
 
 pub use scan::rows;
+
+#[cfg(test)]
+mod tests;

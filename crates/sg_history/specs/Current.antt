@@ -42,14 +42,20 @@ pub record Current : Type 0 where
   pub grants : List Grant
   pub roles : List RoleGrant
 
-abbrev pub current_of : ℕ → Option Write → Option Current
-current_of seq None = None
-current_of seq (Some w) = Some (record { seq = seq; rev = w.rev; deleted = w.deleted; channels = w.channels; grants = w.grants; roles = w.roles })
+-- a write where there is one, else the other
+abbrev pub write_or : Option Write → Write → Write
+write_or None other = other
+write_or (Some w) other = w
+
+-- the sequence of the last write, with what the winner's write has
+abbrev pub current_of : ℕ → Write → Current
+current_of seq w = record { seq = seq; rev = w.rev; deleted = w.deleted; channels = w.channels; grants = w.grants; roles = w.roles }
 
 abbrev pub current_after : List Entry → List ℕ → Option Sequenced → Option Current
 current_after es doc None = None
-current_after es doc (Some last) = current_of last.seq (write_of_rev es doc last.write.winner)
+current_after es doc (Some last) = Some (current_of last.seq (write_or (write_of_rev es doc last.write.winner) last.write))
 
--- the current state of a document: that of the winner that its last write names; none where nothing was written
+-- the current state of a document: none where nothing was written; else its last write's sequence with the
+-- winner that this write names (or, in a log that names one which was never written, that write itself)
 abbrev pub current : List Entry → List ℕ → Option Current
 current es doc = current_after es doc (last_write es doc)
