@@ -18,3 +18,6 @@ pub use sink::{Gave, MemSink, Sink};
 
 /// Want of memory.
 pub type Memory = std::alloc::AllocError;
+
+#[cfg(test)]
+mod tests;
