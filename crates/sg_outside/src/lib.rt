@@ -9,7 +9,6 @@ pub mod sink;
 
 pub use bytes::Bytes;
 pub use files::{Files, Loaded};
-
 pub use sink::{Gave, MemSink, Sink};
 
 /// Want of memory.
