@@ -6,4 +6,6 @@ pub mod ItemTexts
 pub mod KeyTexts
 pub mod ListTexts
 pub mod Lists
+pub mod OneText
+pub mod PlainTexts
 pub mod RevTexts

@@ -13,6 +13,7 @@ pub mod grants;
 pub mod hex;
 pub mod item_list;
 pub mod key;
+pub mod laws;
 pub mod name;
 pub mod names;
 pub mod pieces;
@@ -33,3 +34,6 @@ pub use name::Name;
 pub use names::Names;
 pub use rev_id::{RevId, Revs};
 pub use role_grants::{RoleGrant, RoleGrants};
+
+#[cfg(test)]
+mod tests;
