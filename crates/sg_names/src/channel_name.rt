@@ -37,6 +37,7 @@ impl ChannelName {
     pub fn parse(alloc: Global, text: &str) -> Result<ChannelName, TextFault>
         ensures ok { IfOk result (λ n. (n ≡ text.now) × IsTrue (is_channel_name text.now)) }
         ensures bad { result ≡ Err TextFault.Bad → ¬ IsTrue (is_channel_name text.now) }
+        ensures outside { ¬ IsTrue (is_channel_name text.now) → result ≡ Err TextFault.Bad }
     {
         if !grammar::is_channel_name(text.as_bytes()) {
             return Err(TextFault::Bad);

@@ -34,6 +34,7 @@ impl Client {
     pub fn parse(alloc: Global, text: &str) -> Result<Client, TextFault>
         ensures ok { IfOk result (λ n. (n ≡ text.now) × IsTrue (is_client text.now)) }
         ensures bad { result ≡ Err TextFault.Bad → ¬ IsTrue (is_client text.now) }
+        ensures outside { ¬ IsTrue (is_client text.now) → result ≡ Err TextFault.Bad }
     {
         if !grammar::is_client(text.as_bytes()) {
             return Err(TextFault::Bad);

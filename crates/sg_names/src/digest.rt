@@ -34,6 +34,7 @@ impl Digest {
     pub fn parse(alloc: Global, text: &str) -> Result<Digest, TextFault>
         ensures ok { IfOk result (λ n. (n ≡ text.now) × IsTrue (is_digest text.now)) }
         ensures bad { result ≡ Err TextFault.Bad → ¬ IsTrue (is_digest text.now) }
+        ensures outside { ¬ IsTrue (is_digest text.now) → result ≡ Err TextFault.Bad }
     {
         if !grammar::is_digest(text.as_bytes()) {
             return Err(TextFault::Bad);

@@ -34,6 +34,7 @@ impl DocId {
     pub fn parse(alloc: Global, text: &str) -> Result<DocId, TextFault>
         ensures ok { IfOk result (λ n. (n ≡ text.now) × IsTrue (is_doc_id text.now)) }
         ensures bad { result ≡ Err TextFault.Bad → ¬ IsTrue (is_doc_id text.now) }
+        ensures outside { ¬ IsTrue (is_doc_id text.now) → result ≡ Err TextFault.Bad }
     {
         if !grammar::is_doc_id(text.as_bytes()) {
             return Err(TextFault::Bad);

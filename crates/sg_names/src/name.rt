@@ -36,6 +36,7 @@ impl Name {
     pub fn parse(alloc: Global, text: &str) -> Result<Name, TextFault>
         ensures ok { IfOk result (λ n. (n ≡ text.now) × IsTrue (is_name text.now)) }
         ensures bad { result ≡ Err TextFault.Bad → ¬ IsTrue (is_name text.now) }
+        ensures outside { ¬ IsTrue (is_name text.now) → result ≡ Err TextFault.Bad }
     {
         if !grammar::is_name(text.as_bytes()) {
             return Err(TextFault::Bad);
