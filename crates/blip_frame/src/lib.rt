@@ -2,5 +2,7 @@
 #![tactic(auto)]
 
 pub mod crc;
+pub mod varint;
 
 pub use crc::Crc;
+pub use varint::{VarintFault, read_varint, write_varint};
