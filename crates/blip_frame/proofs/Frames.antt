@@ -12,10 +12,10 @@ use Rattle.blip_frame.specs.declared.frame.FrameFault.{FrameFault}
 use Rattle.blip_frame.specs.declared.frame.FrameFault.TheVariants as faults
 use Rattle.blip_frame.specs.declared.varint.VarintFault.{VarintFault}
 use Rattle.blip_frame.specs.Checksum.{polynomial, all_ones, after_bit, after_bits, bits_of, checksum, checksum_after}
-use Rattle.blip_frame.specs.Varint.{IsRead, number_at}
-use Rattle.blip_frame.specs.Frame.{FrameParts, kind_number, has_checksum, flags_of, trailer, largest_read, IsFrame, IsFrameFrom, IsFrameAfter, sent_after, value_after, ◌>>=◌, fault_of, header, kind_at, is_set, content_at, kept_at, checked_at, frame_at}
+use Rattle.blip_frame.specs.Varint.{IsRead, IsShortest, number_at, varint}
+use Rattle.blip_frame.specs.Frame.{FrameParts, kind_number, has_checksum, flags_of, trailer, largest_read, largest_written, IsMarkedAsKind, IsWritten, spelling, IsFrame, IsFrameFrom, IsFrameAfter, sent_after, value_after, ◌>>=◌, fault_of, header, kind_at, is_set, content_at, kept_at, checked_at, frame_at}
 use Rattle.blip_frame.proofs.Register.{checksum_after-checksum}
-use Rattle.blip_frame.proofs.Varints.{IsBytes, number_taken, number_again}
+use Rattle.blip_frame.proofs.Varints.{IsBytes, number_taken, number_again, varint_shortest, shortest_one, varint_read}
 
 -- ---- the value of a step that did not fail
 
@@ -241,36 +241,40 @@ frame_at-steps : (value : ℕ) (bytes : List ℕ) → frame_at value bytes ≡ (
 unfolding frame_at
 frame_at-steps value bytes = refl
 
+whole_is : (x y : Whole) → whole x ≡ whole y → x ≡ y
+whole_is x y e = cc
+
+joined : (value : ℕ) (bytes rest_1 rest : List ℕ) (number n : ℕ) (kind : Kind) (x : Content) (after : ℕ) → IsBytes bytes → number_at bytes ≡ Ok (number, rest_1) → number_at rest_1 ≡ Ok (n, rest) → kind_at n ≡ Ok kind → is_set n 3 ≡ false
+    → content_at kind rest ≡ Ok x → checked_at value x.0 x.1 ≡ Ok after → IsFrameFrom value bytes (made number n kind x.0) × (after ≡ value_after value (made number n kind x.0))
+joined value bytes rest_1 rest number n kind x after fits e_1 e_2 e_3 plain e_4 e_5 =
+    let first = number_taken bytes number rest_1 fits e_1 in
+    let fits_1 = IsBytes-after first.0 rest_1 bytes first.2 fits in
+    let second = number_taken rest_1 n rest fits_1 e_2 in
+    let fits_2 = IsBytes-after second.0 rest rest_1 second.2 fits_1 in
+    let t = content_taken (has_checksum kind) value rest x after fits_2 e_4 e_5 in
+    let flagged = flags_taken n kind e_3 plain in
+    let last = x.0 ++ behind (has_checksum kind) value x.0 in
+    (record {
+      number = first.0;
+      flags = second.0;
+      number_read = first.1;
+      flags_read = subst (IsRead second.0) {y = flags_of (made number n kind x.0)} (sym flagged) second.1;
+      size = t.size;
+      spelled = first.2 ∙ ap (λ (w : List ℕ). first.0 ++ w) {y = second.0 ++ last} (second.2 ∙ ap (λ (w : List ℕ). second.0 ++ w) t.parts);
+    }, t.after_is)
+
 -- what is read is a frame
 pub frame_taken : (value : ℕ) (bytes : List ℕ) (f : FrameParts) (after : ℕ) → IsBytes bytes → frame_at value bytes ≡ Ok (f, after) → IsFrameFrom value bytes f × (after ≡ value_after value f)
 frame_taken value bytes f after fits e =
     let a = bind_ok (header (number_at bytes)) (from_number value) (f, after) (sym (frame_at-steps value bytes) ∙ e) in
-    let number = a.0.0 in
-    let b = bind_ok (header (number_at a.0.1)) (from_flags value number) (f, after) a.2 in
-    let n = b.0.0 in
-    let rest = b.0.1 in
-    let k = bind_ok (kind_at n) (λ kind. plain_content n rest kind >>= from_content value number n kind) (f, after) b.2 in
-    let kind = k.0 in
-    let x = bind_ok (plain_content n rest kind) (from_content value number n kind) (f, after) k.2 in
-    let p = guard_ok (is_set n 3) faults.Compressed (content_at kind rest) x.0 x.1 in
-    let y = bind_ok (checked_at value x.0.0 x.0.1) (λ after. whole (made number n kind x.0.0, after)) (f, after) x.2 in
-    let first = number_taken bytes number a.0.1 fits (header_ok (number_at bytes) number a.0.1 a.1) in
-    let fits_1 = IsBytes-after first.0 a.0.1 bytes first.2 fits in
-    let second = number_taken a.0.1 n rest fits_1 (header_ok (number_at a.0.1) n rest b.1) in
-    let fits_2 = IsBytes-after second.0 rest a.0.1 second.2 fits_1 in
-    let t = content_taken (has_checksum kind) value rest x.0 y.0 fits_2 p.1 y.1 in
-    let g = made number n kind x.0.0 in
-    let flagged : flags_of g ≡ n = flags_taken n kind k.1 p.0 in
-    let is : IsFrameFrom value bytes g = record {
-      number = first.0;
-      flags = second.0;
-      number_read = first.1;
-      flags_read = subst (IsRead second.0) {y = flags_of g} (sym flagged) second.1;
-      size = t.size;
-      spelled = first.2 ∙ ap (λ (w : List ℕ). first.0 ++ w) (second.2 ∙ ap (λ (w : List ℕ). second.0 ++ w) t.parts);
-    } in
-    let q : ◌≡◌ {A = Whole} (g, y.0) (f, after) = let r = y.2 in cc in
-    subst (λ (w : Whole). IsFrameFrom value bytes w.0 × (w.1 ≡ value_after value w.0)) {x = (g, y.0)} q (is, t.after_is)
+    let b = bind_ok (header (number_at a.0.1)) (from_flags value a.0.0) (f, after) a.2 in
+    let k = bind_ok (kind_at b.0.0) (λ kind. plain_content b.0.0 b.0.1 kind >>= from_content value a.0.0 b.0.0 kind) (f, after) b.2 in
+    let x = bind_ok (plain_content b.0.0 b.0.1 k.0) (from_content value a.0.0 b.0.0 k.0) (f, after) k.2 in
+    let p = guard_ok (is_set b.0.0 3) faults.Compressed (content_at k.0 b.0.1) x.0 x.1 in
+    let y = bind_ok (checked_at value x.0.0 x.0.1) (λ after. whole (made a.0.0 b.0.0 k.0 x.0.0, after)) (f, after) x.2 in
+    let is = joined value bytes a.0.1 b.0.1 a.0.0 b.0.0 k.0 x.0 y.0 fits (header_ok (number_at bytes) a.0.0 a.0.1 a.1) (header_ok (number_at a.0.1) b.0.0 b.0.1 b.1) k.1 p.0 p.1 y.1 in
+    let made_1 = made a.0.0 b.0.0 k.0 x.0.0 in
+    subst (λ (w : Whole). IsFrameFrom value bytes w.0 × (w.1 ≡ value_after value w.0)) {x = (made_1, y.0)} (whole_is (made_1, y.0) (f, after) y.2) is
 
 -- what is a frame is read
 pub frame_again : (value : ℕ) (bytes : List ℕ) (f : FrameParts) → value < 2 ^ 32 → IsFrameFrom value bytes f → frame_at value bytes ≡ Ok (f, value_after value f)
@@ -305,3 +309,40 @@ value_after-checksum sent f = by (has_checksum f.kind) where
 
 pub frame_from : (sent : List ℕ) (value : ℕ) (bytes : List ℕ) (f : FrameParts) → value ≡ checksum sent → IsFrameFrom value bytes f → IsFrameAfter sent bytes f
 frame_from sent value bytes f e is = subst (λ (v : ℕ). IsFrame v bytes f) (ap (λ (v : ℕ). value_after v f) e ∙ value_after-checksum sent f) is
+
+-- ---- what is written
+
+pub flags_below : (f : FrameParts) → flags_of f < 2 ^ 64
+flags_below f = omega (arith, (kind_taken (flags_of f) f.kind (flags_back f.kind f.urgent f.no_reply f.more).0).0)
+
+-- the spelling is a written frame
+pub spelling_written : (kept : ℕ) (f : FrameParts) → f.number < 2 ^ 64 → length f.payload ≤ largest_written → IsMarkedAsKind f → IsWritten kept (spelling kept f) f
+spelling_written kept f below size marked = record {
+  number = varint f.number;
+  flags = varint (flags_of f);
+  number_shortest = varint_shortest f.number below;
+  number_below = below;
+  flags_shortest = varint_shortest (flags_of f) (flags_below f);
+  size = size;
+  marked = marked;
+  spelled = refl;
+}
+
+-- and there is no other
+pub written_spelling : (kept : ℕ) (bytes : List ℕ) (f : FrameParts) → IsWritten kept bytes f → bytes ≡ spelling kept f
+written_spelling kept bytes f w =
+    let last = f.payload ++ trailer f.kind kept in
+    let number = shortest_one w.number f.number w.number_below w.number_shortest in
+    let flagged = shortest_one w.flags (flags_of f) (flags_below f) w.flags_shortest in
+    w.spelled ∙ ap (λ (x : List ℕ). x ++ (w.flags ++ last)) number ∙ ap (λ (x : List ℕ). varint f.number ++ (x ++ last)) flagged
+
+-- a written frame is a frame
+pub written_frame : (kept : ℕ) (bytes : List ℕ) (f : FrameParts) → IsWritten kept bytes f → IsFrame kept bytes f
+written_frame kept bytes f w = record {
+  number = varint f.number;
+  flags = varint (flags_of f);
+  number_read = varint_read f.number w.number_below;
+  flags_read = varint_read (flags_of f) (flags_below f);
+  size = omega (arith, w.size);
+  spelled = written_spelling kept bytes f w;
+}

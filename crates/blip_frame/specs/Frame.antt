@@ -159,3 +159,7 @@ frame_at value bytes = do
 -- the one spelling of a frame, where the checksum is this
 abbrev pub spelling : ℕ → FrameParts → List ℕ
 spelling kept f = varint f.number ++ (varint (flags_of f) ++ (f.payload ++ trailer f.kind kept))
+
+-- the written frame is put at the end, in a direction in which these payload bytes were sent so far
+abbrev pub WritesAfter : List ℕ → List ℕ → List ℕ → FrameParts → Type 0
+WritesAfter sent old new f = (bytes : List ℕ) × IsWrittenAfter sent bytes f × (new ≡ old ++ bytes)

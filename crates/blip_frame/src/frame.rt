@@ -1,14 +1,13 @@
 //! Frames: a number, a kind with marks, a payload, and the checksum of the direction so far.
 
-ghost use Rattle.std.specs.Prelude.{◌≡◌, ◌≤◌, ◌<◌, ◌++◌, length, true, false, List, ℕ, Ok, Err, MatchResult, IfOk, IfErr, OnOk, OnErr, IsOkAnd};
+ghost use Rattle.std.specs.Prelude.{◌≡◌, ◌≤◌, ◌<◌, ◌^◌, ◌++◌, length, true, false, List, ℕ, Ok, Err, MatchResult, IfOk, IfErr, OnOk, OnErr, IsOkAnd};
 ghost use Rattle.blip_frame.specs.Checksum.{checksum};
 ghost use Rattle.blip_frame.specs.Varint.{AddsSome};
-ghost use Rattle.blip_frame.specs.Frame.{FrameParts, parts_of, has_checksum, flags_of, trailer, largest_written, IsMarkedAsKind, IsFrameAfter, IsFrameFrom, IsWrittenAfter, sent_after, value_after, kind_at, is_set, content_at, checked_at, frame_at, spelling};
+ghost use Rattle.blip_frame.specs.Frame.{FrameParts, parts_of, has_checksum, flags_of, trailer, largest_written, IsMarkedAsKind, IsFrameAfter, IsFrameFrom, WritesAfter, kind_number, sent_after, value_after, kind_at, is_set, content_at, checked_at, frame_at, spelling};
 
 use crate::crc::Crc;
 use crate::varint::{VarintFault, push_varint, read_varint};
 use sg_outside::{Bytes, Memory};
-use std::alloc::AllocError;
 
 /// What a frame carries: a request, a reply or an error reply, or an acknowledgement of one of these.
 #[derive(Clone, Copy, Debug, PartialEq, Eq)]
@@ -163,6 +162,20 @@ impl Kind {
             Kind::AckMsg | Kind::AckRpy => false,
         }
     }
+
+    /// The low three bits of the flags.
+    fn number(self) -> u64
+        ensures value { result ≡ kind_number self }
+        ensures small { result < 8 }
+    {
+        match self {
+            Kind::Msg => 0,
+            Kind::Rpy => 1,
+            Kind::Err => 2,
+            Kind::AckMsg => 4,
+            Kind::AckRpy => 5,
+        }
+    }
 }
 
 fn content_of(kind: Kind, rest: &[u8]) -> Result<(&[u8], Option<u32>), FrameFault>
@@ -205,4 +218,65 @@ fn checked(crc: Crc, payload: &[u8], kept: Option<u32>) -> Result<Crc, FrameFaul
             computed: after.value,
         })
     }
+}
+
+/// Puts a frame at the end of `out`, in its one spelling, and takes its payload into the checksum of
+/// the direction. At want of memory both stay as they were.
+pub fn write_frame(crc: &mut Crc, frame: &Frame<'_>, out: &mut Bytes) -> Result<(), Memory>
+    requires size { length frame.now.payload.now ≤ largest_written }
+    requires marked { IsMarkedAsKind (parts_of frame.now) }
+    ensures ok { OnOk result (out.new ≡ out.old ++ spelling (value_after crc.old.value (parts_of frame.now)) (parts_of frame.now)) }
+    ensures value { OnOk result (crc.new.value ≡ value_after crc.old.value (parts_of frame.now)) }
+
+    // In a direction in which these bytes were sent.
+    ensures sent { (sent : List ℕ) → crc.old.value ≡ checksum sent → OnOk result (WritesAfter sent out.old out.new (parts_of frame.now)
+        × (crc.new.value ≡ checksum (sent_after sent (parts_of frame.now)))) }
+    ensures err { OnErr result ((out.new ≡ out.old) × (crc.new ≡ crc.old)) }
+{
+    let after = crc_after(*crc, frame);
+    let start = out.len();
+    match push_frame(after.value, frame, out) {
+        Ok(()) => {
+            *crc = after;
+            Ok(())
+        }
+        Err(refused) => {
+            out.truncate(start);
+            Err(refused)
+        }
+    }
+}
+
+fn crc_after(mut crc: Crc, frame: &Frame<'_>) -> Crc
+    ensures { result.value ≡ value_after crc.value (parts_of frame.now) }
+{
+    if frame.kind.has_checksum() {
+        crc.add(frame.payload);
+    }
+    crc
+}
+
+/// The same for the checksum of the direction up to the frame's end; at want of memory it may leave
+/// some bytes there.
+fn push_frame(kept: u32, frame: &Frame<'_>, out: &mut Bytes) -> Result<(), Memory>
+    ensures ok { OnOk result (out.new ≡ out.old ++ spelling kept (parts_of frame.now)) }
+    ensures err { OnErr result (AddsSome out.old out.new) }
+    ensures number { frame.now.number < 2 ^ 64 }
+{
+    push_varint(frame.number, out)?;
+    push_varint(flags_of(frame), out)?;
+    out.extend_from_slice(frame.payload)?;
+    if frame.kind.has_checksum() {
+        out.extend_from_slice(&kept.to_be_bytes())?;
+    }
+    Ok(())
+}
+
+fn flags_of(frame: &Frame<'_>) -> u64
+    ensures { result ≡ flags_of (parts_of frame.now) }
+{
+    frame.kind.number()
+        + if frame.urgent { 1 << URGENT } else { 0 }
+        + if frame.no_reply { 1 << NO_REPLY } else { 0 }
+        + if frame.more { 1 << MORE_COMING } else { 0 }
 }

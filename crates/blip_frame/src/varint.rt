@@ -4,7 +4,6 @@ ghost use Rattle.std.specs.Prelude.{◌≡◌, ◌++◌, ◌∷◌, [], ◌↔�
 ghost use Rattle.blip_frame.specs.Varint.{number_at, IsRead, EndsInside, varint, varint_within, AddsSome};
 
 use sg_outside::{Bytes, Memory};
-use std::alloc::AllocError;
 
 /// Why no number is read.
 #[derive(Clone, Copy, Debug, PartialEq, Eq)]
@@ -53,11 +52,13 @@ pub fn write_varint(n: u64, out: &mut Bytes) -> Result<(), Memory>
     ensures err { OnErr result (out.new ≡ out.old) }
 {
     let start = out.len();
-    if push_varint(n, out).is_err() {
-        out.truncate(start);
-        return Err(AllocError);
+    match push_varint(n, out) {
+        Ok(()) => Ok(()),
+        Err(refused) => {
+            out.truncate(start);
+            Err(refused)
+        }
     }
-    Ok(())
 }
 
 /// The same, which at want of memory may leave some bytes there.
