@@ -1,3 +1,4 @@
 pub mod Register
 pub mod Varints
 pub mod Frames
+pub mod Blocks

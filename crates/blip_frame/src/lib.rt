@@ -3,8 +3,12 @@
 
 pub mod crc;
 pub mod frame;
+pub mod payload;
+pub mod props;
 pub mod varint;
 
 pub use crc::Crc;
 pub use frame::{Frame, FrameFault, Kind, read_frame, write_frame};
+pub use payload::{Payload, PayloadFault, read_payload};
+pub use props::{Prop, Props};
 pub use varint::{VarintFault, read_varint, write_varint};

@@ -1,0 +1,180 @@
+//! Payloads of messages: the length of the property block, the block, and the body.
+
+ghost use Rattle.std.specs.Prelude.{◌≡◌, ◌≢◌, ◌<◌, ◌++◌, ◌∷◌, ◌%◌, true, false, [], length, count_by, ◌==◌, List, ℕ, Ok, Err, MatchResult, IfOk, IfErr, OnOk, OnErr, IsOkAnd, IfSome};
+ghost use Rattle.std.specs.List.{list_all};
+ghost use Rattle.std.specs.Str.{is_utf8};
+ghost use Rattle.std.specs.String.{string_bytes};
+ghost use Rattle.blip_frame.specs.Varint.{AddsSome};
+ghost use Rattle.blip_frame.specs.Props.{Pair, pairs_of, pair_of};
+ghost use Rattle.blip_frame.specs.Payload.{IsPayload, payload_at, block_at, is_closed, texts_of, paired, text_len, block_of, closed, closed_pair, payload_text};
+
+use crate::props::{Prop, Props, has_twice};
+use crate::varint::{VarintFault, push_varint, read_varint};
+use sg_outside::{Bytes, Memory};
+use std::alloc::{AllocError, AllocFailed, Global};
+
+/// A message's properties and body.
+#[derive(Drop)]
+pub struct Payload {
+    pub props: Props,
+    pub body: Bytes,
+}
+
+/// Why bytes are no payload.
+#[derive(Clone, Copy, Debug, PartialEq, Eq)]
+pub enum PayloadFault {
+    /// The bytes end inside the length, or before the block does.
+    Short,
+    /// The length has no value below 2^64 in ten bytes.
+    BadVarint,
+    /// The block has bytes, and the last is no NUL.
+    NotClosed,
+    /// The texts are odd in number.
+    Odd,
+    /// A text is not UTF-8.
+    NotText,
+    /// A key stands twice.
+    Twice,
+    /// Want of memory.
+    Memory,
+}
+
+impl From<VarintFault> for PayloadFault {
+    ghost use Rattle.std.specs.Prelude.{◌≡◌};
+    ghost use Rattle.blip_frame.specs.Payload.{fault_of};
+
+    ghost from_gives = { λ fault r. r ≡ fault_of fault };
+
+    fn from(fault: VarintFault) -> PayloadFault {
+        match fault {
+            VarintFault::Short => PayloadFault::Short,
+            VarintFault::BadVarint => PayloadFault::BadVarint,
+        }
+    }
+}
+
+impl From<AllocError> for PayloadFault {
+    ghost use Rattle.std.specs.Prelude.{◌≡◌};
+    ghost use Rattle.blip_frame.specs.declared.payload.PayloadFault.TheVariants.{Memory};
+
+    ghost from_gives = { λ _ r. r ≡ Memory };
+
+    fn from(_refused: AllocError) -> PayloadFault {
+        PayloadFault::Memory
+    }
+}
+
+impl<T: Drop> From<AllocFailed<T>> for PayloadFault {
+    ghost use Rattle.std.specs.Prelude.{◌≡◌};
+    ghost use Rattle.blip_frame.specs.declared.payload.PayloadFault.TheVariants.{Memory};
+
+    ghost from_gives = { λ _ r. r ≡ Memory };
+
+    fn from(_refused: AllocFailed<T>) -> PayloadFault {
+        PayloadFault::Memory
+    }
+}
+
+/// Reads the properties and the body of a message.
+#[tactic(auto, unfolding(crate::specs::Payload::payload_at))]
+pub fn read_payload(alloc: Global, bytes: &[u8]) -> Result<Payload, PayloadFault>
+    ensures ok { IfOk result (λ p. payload_at bytes.now ≡ Ok (p.props, p.body)) }
+    ensures err { IfErr result (λ fault. fault ≢ PayloadFault.Memory → payload_at bytes.now ≡ Err fault) }
+{
+    let (size, rest) = read_varint(bytes)?;
+    if size > rest.len() as u64 {
+        return Err(PayloadFault::Short);
+    }
+    let (block, body) = rest.split_at(size as usize);
+    let props = props_of(alloc, block)?;
+    let body = Bytes::from_slice(alloc, body)?;
+    Ok(Payload { props, body })
+}
+
+#[tactic(auto, unfolding(crate::specs::Payload::block_at))]
+fn props_of(alloc: Global, block: &[u8]) -> Result<Props, PayloadFault>
+    ensures ok { IfOk result (λ p. block_at block.now ≡ Ok p) }
+    ensures err { IfErr result (λ fault. fault ≢ PayloadFault.Memory → block_at block.now ≡ Err fault) }
+{
+    if !is_closed(block) {
+        return Err(PayloadFault::NotClosed);
+    }
+    if count_texts(block) % 2 != 0 {
+        return Err(PayloadFault::Odd);
+    }
+    let props = pairs(alloc, block)?;
+    if has_twice(alloc, props.as_slice())? {
+        return Err(PayloadFault::Twice);
+    }
+    Ok(Props::from_vec(props))
+}
+
+fn is_closed(block: &[u8]) -> bool
+    ensures { result ≡ is_closed block.now }
+{
+    match block {
+        [] => true,
+        [.., last] => *last == 0,
+    }
+}
+
+fn count_texts(block: &[u8]) -> usize
+    ensures { result ≡ length (texts_of block.now) }
+{
+    count_nuls(block)
+}
+
+fn count_nuls(block: &[u8]) -> usize
+    ensures { result ≡ count_by (λ b. b == 0) block.now }
+{
+    block.iter().filter(|b| **b == 0).count()
+}
+
+/// The keys and values of a block in turn.
+fn pairs(alloc: Global, block: &[u8]) -> Result<Vec<Prop>, PayloadFault>
+    requires closed { is_closed block.now ≡ true }
+    requires even { length (texts_of block.now) % 2 ≡ 0 }
+    ensures ok { IfOk result (λ v. (list_all is_utf8 (texts_of block.now) ≡ true) × (pairs_of v.items ≡ paired (texts_of block.now))) }
+    ensures err { IfErr result (λ fault. fault ≢ PayloadFault.Memory
+        → (fault ≡ PayloadFault.NotText) × (list_all is_utf8 (texts_of block.now) ≡ false)) }
+{
+    let mut props = Vec::new(alloc);
+    let mut rest = block;
+    while !rest.is_empty() {
+        let (key, after_key) = first_text(alloc, rest)?;
+        let (value, after) = first_text(alloc, after_key)?;
+        props.push(Prop { key, value })?;
+        rest = after;
+    }
+    Ok(props)
+}
+
+/// The first text of a block, and what follows its NUL.
+fn first_text(alloc: Global, block: &[u8]) -> Result<(String, &[u8]), PayloadFault>
+    requires closed { is_closed block.now ≡ true }
+    requires some { 0 < length block.now }
+    ensures ok { IfOk result (λ x. (texts_of block.now ≡ string_bytes x.0 ∷ texts_of x.1.now) × (is_utf8 (string_bytes x.0) ≡ true)
+        × (is_closed x.1.now ≡ true) × (length x.1.now < length block.now)) }
+    ensures err { IfErr result (λ fault. fault ≢ PayloadFault.Memory
+        → (fault ≡ PayloadFault.NotText) × (list_all is_utf8 (texts_of block.now) ≡ false)) }
+{
+    let len = text_len(block);
+    let (text, _) = block.split_at(len);
+    let (_, rest) = block.split_at(len + 1);
+    match str::from_utf8(text) {
+        Ok(text) => Ok((String::from_str(alloc, text)?, rest)),
+        Err(_) => Err(PayloadFault::NotText),
+    }
+}
+
+/// How many bytes stand before the first NUL.
+fn text_len(block: &[u8]) -> usize
+    ensures { result ≡ text_len block.now }
+{
+    for (i, b) in block.iter().enumerate() {
+        if *b == 0 {
+            return i;
+        }
+    }
+    block.len()
+}
