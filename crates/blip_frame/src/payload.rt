@@ -178,3 +178,79 @@ fn text_len(block: &[u8]) -> usize
     }
     block.len()
 }
+
+/// Puts a payload at the end of `out`: the length of the property block, the block, and the body. At
+/// want of memory `out` stays as it was.
+pub fn write_payload(payload: &Payload, out: &mut Bytes) -> Result<(), Memory>
+    ensures ok { OnOk result (out.new ≡ out.old ++ payload_text payload.now.props payload.now.body) }
+    ensures err { OnErr result (out.new ≡ out.old) }
+{
+    let start = out.len();
+    match push_payload(payload, out) {
+        Ok(()) => Ok(()),
+        Err(refused) => {
+            out.truncate(start);
+            Err(refused)
+        }
+    }
+}
+
+/// The same, which at want of memory may leave some bytes there.
+fn push_payload(payload: &Payload, out: &mut Bytes) -> Result<(), Memory>
+    ensures ok { OnOk result (out.new ≡ out.old ++ payload_text payload.now.props payload.now.body) }
+    ensures err { OnErr result (AddsSome out.old out.new) }
+{
+    let props = payload.props.as_slice();
+    // A block past 2^64 bytes does not fit memory.
+    let Some(len) = block_len(props) else {
+        return Err(AllocError);
+    };
+    push_varint(len, out)?;
+    push_block(props, out)?;
+    out.extend_from_slice(payload.body.as_slice())
+}
+
+/// How many bytes the block has, where that is below 2^64.
+fn block_len(props: &[Prop]) -> Option<u64>
+    ensures { IfSome result (λ len. len ≡ length (block_of (pairs_of props.now))) }
+{
+    let mut len: u64 = 0;
+    for prop in props {
+        len = len.checked_add(pair_len(prop)?)?;
+    }
+    Some(len)
+}
+
+fn pair_len(prop: &Prop) -> Option<u64>
+    ensures { IfSome result (λ len. len ≡ length (closed_pair (pair_of prop.now))) }
+{
+    let key = (prop.key.len() as u64).checked_add(1)?;
+    let value = (prop.value.len() as u64).checked_add(1)?;
+    key.checked_add(value)
+}
+
+fn push_block(props: &[Prop], out: &mut Bytes) -> Result<(), Memory>
+    ensures ok { OnOk result (out.new ≡ out.old ++ block_of (pairs_of props.now)) }
+    ensures err { OnErr result (AddsSome out.old out.new) }
+{
+    for prop in props {
+        push_pair(prop, out)?;
+    }
+    Ok(())
+}
+
+fn push_pair(prop: &Prop, out: &mut Bytes) -> Result<(), Memory>
+    ensures ok { OnOk result (out.new ≡ out.old ++ closed_pair (pair_of prop.now)) }
+    ensures err { OnErr result (AddsSome out.old out.new) }
+{
+    push_text(prop.key.as_str(), out)?;
+    push_text(prop.value.as_str(), out)
+}
+
+fn push_text(text: &str, out: &mut Bytes) -> Result<(), Memory>
+    ensures ok { OnOk result (out.new ≡ out.old ++ closed text.now) }
+    ensures err { OnErr result (AddsSome out.old out.new) }
+{
+    out.extend_from_slice(text.as_bytes())?;
+    out.push(0)
+}
