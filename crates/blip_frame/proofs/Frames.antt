@@ -15,7 +15,7 @@ use Rattle.blip_frame.specs.Checksum.{polynomial, all_ones, after_bit, after_bit
 use Rattle.blip_frame.specs.Varint.{IsRead, IsShortest, number_at, varint}
 use Rattle.blip_frame.specs.Frame.{FrameParts, kind_number, has_checksum, flags_of, trailer, largest_read, largest_written, IsMarkedAsKind, IsWritten, spelling, IsFrame, IsFrameFrom, IsFrameAfter, sent_after, value_after, ◌>>=◌, fault_of, header, kind_at, is_set, content_at, kept_at, checked_at, frame_at}
 use Rattle.blip_frame.proofs.Register.{checksum_after-checksum}
-use Rattle.blip_frame.proofs.Varints.{IsBytes, number_taken, number_again, varint_shortest, shortest_one, varint_read}
+use Rattle.blip_frame.proofs.Varints.{IsBytes, IsBytes-drop, IsBytes-after, number_taken, number_again, varint_shortest, shortest_one, varint_read}
 
 -- ---- the value of a step that did not fail
 
@@ -128,12 +128,6 @@ flags_taken n k e plain =
     omega (arith, t.0, t.1, b3, b4, b5, b6)
 
 -- ---- the payload and what is behind it
-
-IsBytes-drop : (n : ℕ) (bytes : List ℕ) → IsBytes bytes → IsBytes (drop n bytes)
-IsBytes-drop n bytes h i = rw get_or-drop (h (n + i))
-
-IsBytes-after : (front rest bytes : List ℕ) → bytes ≡ front ++ rest → IsBytes bytes → IsBytes rest
-IsBytes-after front rest bytes e h = subst IsBytes (ap (drop (length front)) e ∙ drop_at front rest (length front) refl) (IsBytes-drop (length front) bytes h)
 
 abbrev Content : Type 0
 Content = List ℕ × Option ℕ

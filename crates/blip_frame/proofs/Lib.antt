@@ -2,3 +2,4 @@ pub mod Register
 pub mod Varints
 pub mod Frames
 pub mod Blocks
+pub mod Payloads

@@ -76,8 +76,21 @@ impl<T: Drop> From<AllocFailed<T>> for PayloadFault {
 }
 
 /// Reads the properties and the body of a message.
-#[tactic(auto, unfolding(crate::specs::Payload::payload_at))]
 pub fn read_payload(alloc: Global, bytes: &[u8]) -> Result<Payload, PayloadFault>
+    // The payloads of the grammar are read, unless memory runs out, and nothing else.
+    ensures found { IfOk result (λ p. IsPayload bytes.now p.props p.body) }
+    ensures only { (props : List Pair) (body : List ℕ) → IsPayload bytes.now props body
+        → MatchResult result (λ p. (p.props ≡ props) × (p.body ≡ body)) (λ fault. fault ≡ PayloadFault.Memory) }
+
+    // A fault is the first one.
+    ensures ok { IfOk result (λ p. payload_at bytes.now ≡ Ok (p.props, p.body)) }
+    ensures err { IfErr result (λ fault. fault ≢ PayloadFault.Memory → payload_at bytes.now ≡ Err fault) }
+{
+    payload_of(alloc, bytes)
+}
+
+#[tactic(auto, unfolding(crate::specs::Payload::payload_at))]
+fn payload_of(alloc: Global, bytes: &[u8]) -> Result<Payload, PayloadFault>
     ensures ok { IfOk result (λ p. payload_at bytes.now ≡ Ok (p.props, p.body)) }
     ensures err { IfErr result (λ fault. fault ≢ PayloadFault.Memory → payload_at bytes.now ≡ Err fault) }
 {
