@@ -13,9 +13,9 @@ use Rattle.blip_frame.specs.declared.frame.FrameFault.TheVariants as faults
 use Rattle.blip_frame.specs.declared.varint.VarintFault.{VarintFault}
 use Rattle.blip_frame.specs.Checksum.{polynomial, all_ones, after_bit, after_bits, bits_of, checksum, checksum_after}
 use Rattle.blip_frame.specs.Varint.{IsRead, IsShortest, number_at, varint}
-use Rattle.blip_frame.specs.Frame.{FrameParts, kind_number, has_checksum, flags_of, trailer, largest_read, largest_written, IsMarkedAsKind, IsWritten, spelling, IsFrame, IsFrameFrom, IsFrameAfter, sent_after, value_after, ◌>>=◌, fault_of, header, kind_at, is_set, content_at, kept_at, checked_at, frame_at}
+use Rattle.blip_frame.specs.Frame.{FrameParts, kind_number, has_checksum, flags_of, trailer, largest_read, largest_written, IsMarkedAsKind, IsWritten, spelling, IsFrame, IsFrameFrom, IsFrameAfter, sent_after, value_after, ◌>>=◌, fault_of, header, kind_at, is_set, content_at, kept_at, checked_at, frame_at, AreWrittenAfter, all_sent, with_first, with_front, frames_at}
 use Rattle.blip_frame.proofs.Register.{checksum_after-checksum}
-use Rattle.blip_frame.proofs.Varints.{IsBytes, IsBytes-drop, IsBytes-after, number_taken, number_again, varint_shortest, shortest_one, varint_read}
+use Rattle.blip_frame.proofs.Varints.{IsBytes, IsBytes-drop, IsBytes-after, number_taken, number_again, varint_shortest, shortest_one, varint_read, numbers_apart}
 
 -- ---- the value of a step that did not fail
 
@@ -340,3 +340,33 @@ written_frame kept bytes f w = record {
   size = omega (arith, w.size);
   spelled = written_spelling kept bytes f w;
 }
+
+-- ---- laws
+
+pub read_again : (sent bytes : List ℕ) (f : FrameParts) → IsFrameAfter sent bytes f → frame_at (checksum sent) bytes ≡ Ok (f, checksum (sent_after sent f))
+read_again sent bytes f is =
+    let from : IsFrameFrom (checksum sent) bytes f = subst (λ (v : ℕ). IsFrame v bytes f) (sym (value_after-checksum sent f)) is in
+    frame_again (checksum sent) bytes f (checksum-below sent) from ∙ ap (λ (v : ℕ). whole (f, v)) (value_after-checksum sent f)
+
+pub one_frame : (sent bytes : List ℕ) (f g : FrameParts) → IsFrameAfter sent bytes f → IsFrameAfter sent bytes g → f ≡ g
+one_frame sent bytes f g p q =
+    ap (λ (w : Whole). w.0) (whole_is (f, checksum (sent_after sent f)) (g, checksum (sent_after sent g)) (sym (read_again sent bytes f p) ∙ read_again sent bytes g q))
+
+pub prefix_alike : (j k : ℕ) (a b more : List ℕ) (f g : FrameParts) → IsFrame j a f → IsFrame k b g → a ++ more ≡ b → (f.number ≡ g.number) × (flags_of f ≡ flags_of g)
+prefix_alike j k a b more f g p q e =
+    let p_last = f.payload ++ trailer f.kind j in
+    let q_last = g.payload ++ trailer g.kind k in
+    let parts : p.number ++ (p.flags ++ (p_last ++ more)) ≡ q.number ++ (q.flags ++ q_last) =
+        ap (λ (w : List ℕ). p.number ++ w) (sym (append_assoc p.flags p_last more)) ∙ sym (append_assoc p.number (p.flags ++ p_last) more) ∙ ap (λ (w : List ℕ). w ++ more) (sym p.spelled) ∙ e ∙ q.spelled in
+    let first = numbers_apart p.number q.number (p.flags ++ (p_last ++ more)) (q.flags ++ q_last) f.number g.number p.number_read q.number_read parts in
+    let second = numbers_apart p.flags q.flags (p_last ++ more) q_last (flags_of f) (flags_of g) p.flags_read q.flags_read first.1 in
+    (first.0, second.0)
+
+pub direction_again : (sent : List ℕ) (texts rest : List (List ℕ)) (frames : List FrameParts) → AreWrittenAfter sent texts frames → frames_at (checksum sent) (texts ++ rest) ≡ with_front frames (frames_at (checksum (all_sent sent frames)) rest)
+direction_again sent [] rest [] h = refl
+direction_again sent [] rest (f ∷ frames) h = absurd h
+direction_again sent (bytes ∷ texts) rest [] h = absurd h
+direction_again sent (bytes ∷ texts) rest (f ∷ frames) h =
+    let here = read_again sent bytes f (written_frame (checksum (sent_after sent f)) bytes f h.0) in
+    ap (λ (r : Result Whole FrameFault). r >>= λ found. with_first found.0 (frames_at found.1 (texts ++ rest))) here
+    ∙ ap (with_first f) (direction_again (sent_after sent f) texts rest frames h.1)

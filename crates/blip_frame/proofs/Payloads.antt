@@ -255,3 +255,8 @@ answer_only (Ok p) bytes e f props body is =
     (ap (λ (w : Whole). w.0) q, ap (λ (w : Whole). w.1) q)
 answer_only (Err fault) bytes e f props body is =
     memory_is fault (λ ne. let q : ◌≡◌ {A = Result Whole PayloadFault} (Err fault) (Ok (props, body)) = sym (f ne) ∙ payload_again bytes props body is in absurd cc)
+
+pub one_payload : (bytes : List ℕ) (props others : List Pair) (body other : List ℕ) → IsPayload bytes props body → IsPayload bytes others other → (props ≡ others) × (body ≡ other)
+one_payload bytes props others body other p q =
+    let same = whole_is (props, body) (others, other) (sym (payload_again bytes props body p) ∙ payload_again bytes others other q) in
+    (ap (λ (w : Whole). w.0) same, ap (λ (w : Whole). w.1) same)

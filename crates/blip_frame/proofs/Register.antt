@@ -195,3 +195,7 @@ unfolding after_bits
 none_left r bytes i total le so_far =
     let nothing : drop i bytes ≡ [] = drop_all i bytes le in
     sym (ap (λ (bs : List ℕ). after_bits r (flat_map bits_of bs)) nothing) ∙ so_far
+
+pub checksum-nil : checksum [] ≡ 0
+unfolding checksum after_bits
+checksum-nil = refl

@@ -363,3 +363,11 @@ size_within (suc k) n =
 pub varint_read : (n : ℕ) → n < 2 ^ 64 → IsRead (varint n) n
 unfolding varint
 varint_read n lt = record { varint = (varint_shortest n lt).varint; size = size_within 9 n; below = lt }
+
+-- ---- no varint begins another
+
+pub numbers_apart : (a b x y : List ℕ) (m n : ℕ) → IsRead a m → IsRead b n → a ++ x ≡ b ++ y → (m ≡ n) × (x ≡ y)
+numbers_apart a b x y m n p q e =
+    let same : done (m, x) ≡ done (n, y) = sym (number_again a m x p) ∙ ap number_at e ∙ number_again b n y q in
+    let r : ◌≡◌ {A = ℕ × List ℕ} (m, x) (n, y) = cc in
+    (ap (λ (w : ℕ × List ℕ). w.0) r, ap (λ (w : ℕ × List ℕ). w.1) r)

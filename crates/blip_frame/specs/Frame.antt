@@ -1,5 +1,5 @@
 -- The grammar of a frame, where it stands in a direction.
-use Rattle.std.specs.Prelude.{◌≡◌, ℕ, ◌+◌, ◌-◌, ◌%◌, ◌^◌, ◌<◌, ◌≤◌, Bool, true, false, List, [], ◌++◌, length, take, drop, Option, Some, None, Result, Ok, Err, nat_lt, ◌==◌, if◌then◌else◌}
+use Rattle.std.specs.Prelude.{◌≡◌, ℕ, ◌+◌, ◌-◌, ◌%◌, ◌^◌, ◌<◌, ◌≤◌, Bool, true, false, List, [], ◌∷◌, ◌++◌, length, take, drop, Option, Some, None, Result, Ok, Err, nat_lt, ◌==◌, if◌then◌else◌}
 use Rattle.std.specs.Bool.{OnFalse}
 use Rattle.std.specs.Int.{w32, bit_at, to_be_bytes, from_be_bytes}
 use Rattle.blip_frame.specs.declared.frame.Frame.{Frame}
@@ -163,3 +163,32 @@ spelling kept f = varint f.number ++ (varint (flags_of f) ++ (f.payload ++ trail
 -- the written frame is put at the end, in a direction in which these payload bytes were sent so far
 abbrev pub WritesAfter : List ℕ → List ℕ → List ℕ → FrameParts → Type 0
 WritesAfter sent old new f = (bytes : List ℕ) × IsWrittenAfter sent bytes f × (new ≡ old ++ bytes)
+
+-- ---- a direction, frame by frame
+
+-- these frames are written one after another, after these payload bytes
+abbrev pub AreWrittenAfter : List ℕ → List (List ℕ) → List FrameParts → Type 0
+AreWrittenAfter sent [] [] = Unit {0}
+AreWrittenAfter sent (bytes ∷ texts) (f ∷ frames) = IsWrittenAfter sent bytes f × AreWrittenAfter (sent_after sent f) texts frames
+AreWrittenAfter sent [] (f ∷ frames) = ⊥
+AreWrittenAfter sent (bytes ∷ texts) [] = ⊥
+
+-- the payload bytes of a direction once all frames have gone
+abbrev pub all_sent : List ℕ → List FrameParts → List ℕ
+all_sent sent [] = sent
+all_sent sent (f ∷ frames) = all_sent (sent_after sent f) frames
+
+-- a frame before those that were read after it
+abbrev pub with_first : FrameParts → Result (List FrameParts) FrameFault → Result (List FrameParts) FrameFault
+with_first f (Ok frames) = Ok (f ∷ frames)
+with_first f (Err fault) = Err fault
+
+-- the frames of a direction whose checksum so far is this, or the first fault
+abbrev pub frames_at : ℕ → List (List ℕ) → Result (List FrameParts) FrameFault
+frames_at value [] = Ok []
+frames_at value (bytes ∷ texts) = frame_at value bytes >>= λ found. with_first found.0 (frames_at found.1 texts)
+
+-- frames before those that were read after them
+abbrev pub with_front : List FrameParts → Result (List FrameParts) FrameFault → Result (List FrameParts) FrameFault
+with_front [] read = read
+with_front (f ∷ frames) read = with_first f (with_front frames read)

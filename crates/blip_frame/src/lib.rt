@@ -3,6 +3,7 @@
 
 pub mod crc;
 pub mod frame;
+pub mod laws;
 pub mod payload;
 pub mod props;
 pub mod varint;
