@@ -1,19 +1,20 @@
 -- Property blocks read.
 use Rattle.std.proofs.Common.{◌≡◌, ◌≢◌, ℕ, zero, suc, ◌+◌, ◌-◌, ◌%◌, ◌<◌, ◌≤◌, Bool, true, false, not, ◌&&◌, ◌||◌, cond, eqb, List, [], ◌∷◌, ◌++◌, map, length, get_or, take, drop, refl, sym, ap, subst, ◌∙◌, append_assoc, add-one, arith, inl, inr, Decides, Bor}
-use Rattle.std.specs.Prelude.{IsUtf8, count_by}
-use Rattle.std.specs.List.{list_any, list_all}
+use Rattle.std.specs.Prelude.{IsUtf8, All, count_by}
+use Rattle.std.specs.List.{list_any, list_all, AllByRecursion}
 use Rattle.std.specs.Str.{bytes_eq, is_utf8}
 use Rattle.std.specs.String.{string_bytes}
 use Rattle.std.proofs.lemmas.Bool.{cases_eq, cases_Bool, eqb-true, eq-eqb, ne_eqb, or_cases, and_left}
 use Rattle.std.proofs.lemmas.Bool.Decides.{same_from_decides}
 use Rattle.std.proofs.lemmas.List.{take_more, map_push, map-append, take-append-drop}
 use Rattle.std.proofs.lemmas.List.Folds.{list_any-append}
+use Rattle.std.proofs.lemmas.List.Elements.{All-from_recursion}
 use Rattle.std.proofs.lemmas.List.Recursion.{is_count_by}
 use Rattle.std.proofs.lemmas.Slice.Eq.{bytes_eq-Decides}
-use Rattle.std.proofs.lemmas.Str.{IsUtf8-from_is_utf8, is_utf8-from_IsUtf8}
+use Rattle.std.proofs.lemmas.Str.{IsUtf8-from_is_utf8, is_utf8-from_IsUtf8, IsUtf8-string_bytes}
 use Rattle.std.proofs.Math.Seq.{drop-cons}
 use Rattle.blip_frame.specs.declared.props.Prop.{Prop}
-use Rattle.blip_frame.specs.Props.{Pair, pair_of, pairs_of, keys_of, stands_twice}
+use Rattle.blip_frame.specs.Props.{Pair, pair_of, pairs_of, keys_of, stands_twice, AreUtf8}
 use Rattle.blip_frame.specs.Payload.{is_closed, begun, texts_of, text_len}
 
 -- ---- the end of a block
@@ -66,10 +67,10 @@ past_byte b bs off f =
     record {
       within = omega (arith, n, f.within);
       texts =
-        rw off refl
-        ∙ ap (begun b) f.texts
-        ∙ ap (λ (i : ℕ). take i (b ∷ bs) ∷ texts_of (drop (text_len bs + 1) bs)) (sym n)
-        ∙ ap (λ (i : ℕ). take (text_len (b ∷ bs)) (b ∷ bs) ∷ texts_of (drop i (b ∷ bs))) (sym m);
+          rw off refl
+          ∙ ap (begun b) f.texts
+          ∙ ap (λ (i : ℕ). take i (b ∷ bs) ∷ texts_of (drop (text_len bs + 1) bs)) (sym n)
+          ∙ ap (λ (i : ℕ). take (text_len (b ∷ bs)) (b ∷ bs) ∷ texts_of (drop i (b ∷ bs))) (sym m);
       rest = ap (λ (i : ℕ). is_closed (drop i (b ∷ bs))) m ∙ f.rest;
     }
 
@@ -121,9 +122,9 @@ is_twice key [] rest h = absurd cc
 is_twice key (k ∷ keys) rest h =
     elim (or_cases (bytes_eq key k) (list_any (bytes_eq key) keys) h) [
       | inl here ↦
-        let first : bytes_eq k key ≡ true = bytes_eq_symm k key ∙ here in
-        let any : list_any (bytes_eq k) (keys ++ key ∷ rest) ≡ true = list_any-append (bytes_eq k) keys (key ∷ rest) ∙ rw first (or_true (list_any (bytes_eq k) keys)) in
-        rw any refl
+          let first : bytes_eq k key ≡ true = bytes_eq_symm k key ∙ here in
+          let any : list_any (bytes_eq k) (keys ++ key ∷ rest) ≡ true = list_any-append (bytes_eq k) keys (key ∷ rest) ∙ rw first (or_true (list_any (bytes_eq k) keys)) in
+          rw any refl
       | inr later ↦ rw (is_twice key keys rest later) (or_true (list_any (bytes_eq k) (keys ++ key ∷ rest)))
     ]
 
@@ -168,3 +169,12 @@ module _ (props : List Prop) (i : ℕ) (item : Prop) (key : List ℕ) (lt : i < 
 
   pub member_next : (q : List ℕ) → cond (bytes_eq key q) true (list_any (bytes_eq q) (keys_of (pairs_of (take i props)))) ≡ list_any (bytes_eq q) (keys_of (pairs_of (take (i + 1) props)))
   member_next q = sym (ap (list_any (bytes_eq q)) more_keys ∙ member_more q key (keys_of (pairs_of (take i props))))
+
+-- keys and values of properties are texts
+utf8_props : (props : List Prop) → AllByRecursion AreUtf8 (pairs_of props)
+utf8_props [] = tt
+utf8_props (p ∷ props) = ((IsUtf8-string_bytes p.key, IsUtf8-string_bytes p.value), utf8_props props)
+
+pub are_utf8 : (props : List Prop) → All AreUtf8 (pairs_of props)
+are_utf8 props = All-from_recursion AreUtf8 (pairs_of props) (utf8_props props)
+

@@ -247,15 +247,17 @@ joined value bytes rest_1 rest number n kind x after fits e_1 e_2 e_3 plain e_4 
     let fits_2 = IsBytes-after second.0 rest rest_1 second.2 fits_1 in
     let t = content_taken (has_checksum kind) value rest x after fits_2 e_4 e_5 in
     let flagged = flags_taken n kind e_3 plain in
-    let last = x.0 ++ behind (has_checksum kind) value x.0 in
-    (record {
-      number = first.0;
-      flags = second.0;
-      number_read = first.1;
-      flags_read = subst (IsRead second.0) {y = flags_of (made number n kind x.0)} (sym flagged) second.1;
-      size = t.size;
-      spelled = first.2 ∙ ap (λ (w : List ℕ). first.0 ++ w) {y = second.0 ++ last} (second.2 ∙ ap (λ (w : List ℕ). second.0 ++ w) t.parts);
-    }, t.after_is)
+    let last = x.0 ++ behind (has_checksum kind) value x.0 in (
+      record {
+        number = first.0;
+        flags = second.0;
+        number_read = first.1;
+        flags_read = subst (IsRead second.0) {y = flags_of (made number n kind x.0)} (sym flagged) second.1;
+        size = t.size;
+        spelled = first.2 ∙ ap (λ (w : List ℕ). first.0 ++ w) {y = second.0 ++ last} (second.2 ∙ ap (λ (w : List ℕ). second.0 ++ w) t.parts);
+      },
+      t.after_is,
+    )
 
 -- what is read is a frame
 pub frame_taken : (value : ℕ) (bytes : List ℕ) (f : FrameParts) (after : ℕ) → IsBytes bytes → frame_at value bytes ≡ Ok (f, after) → IsFrameFrom value bytes f × (after ≡ value_after value f)
@@ -357,7 +359,7 @@ prefix_alike j k a b more f g p q e =
     let p_last = f.payload ++ trailer f.kind j in
     let q_last = g.payload ++ trailer g.kind k in
     let parts : p.number ++ (p.flags ++ (p_last ++ more)) ≡ q.number ++ (q.flags ++ q_last) =
-        ap (λ (w : List ℕ). p.number ++ w) (sym (append_assoc p.flags p_last more)) ∙ sym (append_assoc p.number (p.flags ++ p_last) more) ∙ ap (λ (w : List ℕ). w ++ more) (sym p.spelled) ∙ e ∙ q.spelled in
+    ap (λ (w : List ℕ). p.number ++ w) (sym (append_assoc p.flags p_last more)) ∙ sym (append_assoc p.number (p.flags ++ p_last) more) ∙ ap (λ (w : List ℕ). w ++ more) (sym p.spelled) ∙ e ∙ q.spelled in
     let first = numbers_apart p.number q.number (p.flags ++ (p_last ++ more)) (q.flags ++ q_last) f.number g.number p.number_read q.number_read parts in
     let second = numbers_apart p.flags q.flags (p_last ++ more) q_last (flags_of f) (flags_of g) p.flags_read q.flags_read first.1 in
     (first.0, second.0)

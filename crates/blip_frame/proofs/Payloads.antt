@@ -8,13 +8,14 @@ use Rattle.std.proofs.lemmas.Bool.{cases_Bool, eqb-true, ne_eqb, and_parts, ltb-
 use Rattle.std.proofs.lemmas.List.{take_at, drop_at, take-append-drop, length-append, length-take}
 use Rattle.std.proofs.lemmas.List.Concat.{flat_map-cons}
 use Rattle.std.proofs.lemmas.List.Elements.{All-from_recursion, recursion_from_All}
-use Rattle.std.proofs.lemmas.Str.{IsUtf8-from_is_utf8, is_utf8-from_IsUtf8}
+use Rattle.std.proofs.lemmas.Str.{IsUtf8-from_is_utf8, is_utf8-from_IsUtf8, IsUtf8-string_bytes}
 use Rattle.blip_frame.specs.declared.payload.PayloadFault.{PayloadFault}
 use Rattle.blip_frame.specs.declared.payload.PayloadFault.TheVariants as faults
 use Rattle.blip_frame.specs.declared.varint.VarintFault.{VarintFault}
 use Rattle.blip_frame.specs.Varint.{IsRead, number_at, varint}
-use Rattle.blip_frame.specs.Props.{Pair, keys_of, stands_twice}
-use Rattle.blip_frame.specs.Payload.{closed, closed_pair, block_of, IsText, AreTexts, AreProps, IsPayload, ◌>>=◌, header, is_closed, begun, texts_of, paired, once_at, texts_at, block_at, payload_at, payload_text}
+use Rattle.blip_frame.specs.Props.{Pair, pairs_of, keys_of, stands_twice, AreUtf8}
+use Rattle.blip_frame.specs.declared.props.Prop.{Prop}
+use Rattle.blip_frame.specs.Payload.{closed, closed_pair, block_of, HasNoNul, AreProps, IsPayload, ◌>>=◌, header, is_closed, begun, texts_of, paired, once_at, texts_at, block_at, payload_at, payload_text}
 use Rattle.blip_frame.proofs.Varints.{IsBytes, IsBytes-after, number_taken, number_again, varint_read}
 
 -- ---- the value of a step that did not fail
@@ -86,16 +87,18 @@ pairs_closed (key ∷ value ∷ texts) even =
     ∙ ap (λ (bs : List ℕ). closed key ++ (closed value ++ bs)) (pairs_closed texts (omega arith))
     ∙ sym (flat_map-cons closed key (value ∷ texts) ∙ ap (λ (bs : List ℕ). closed key ++ bs) (flat_map-cons closed value texts))
 
-text_is : (text : List ℕ) → Plain text → is_utf8 text ≡ true → IsText text
-text_is text plain utf8 = (All-from_recursion (λ b. b ≢ 0) text plain, IsUtf8-from_is_utf8 text utf8)
+pairs_plain : (texts : List (List ℕ)) → AllByRecursion Plain texts → AllByRecursion HasNoNul (paired texts)
+pairs_plain [] plain = tt
+pairs_plain (key ∷ []) plain = tt
+pairs_plain (key ∷ value ∷ texts) plain = ((All-from_recursion (λ b. b ≢ 0) key plain.0, All-from_recursion (λ b. b ≢ 0) value plain.1.0), pairs_plain texts plain.1.1)
 
-pairs_texts : (texts : List (List ℕ)) → AllByRecursion Plain texts → list_all is_utf8 texts ≡ true → AllByRecursion AreTexts (paired texts)
-pairs_texts [] plain utf8 = tt
-pairs_texts (key ∷ []) plain utf8 = tt
-pairs_texts (key ∷ value ∷ texts) plain utf8 =
+pairs_utf8 : (texts : List (List ℕ)) → list_all is_utf8 texts ≡ true → AllByRecursion AreUtf8 (paired texts)
+pairs_utf8 [] utf8 = tt
+pairs_utf8 (key ∷ []) utf8 = tt
+pairs_utf8 (key ∷ value ∷ texts) utf8 =
     let a = and_parts (is_utf8 key) (is_utf8 value && list_all is_utf8 texts) utf8 in
     let b = and_parts (is_utf8 value) (list_all is_utf8 texts) a.1 in
-    ((text_is key plain.0 a.0, text_is value plain.1.0 b.0), pairs_texts texts plain.1.1 b.1)
+    ((IsUtf8-from_is_utf8 key a.0, IsUtf8-from_is_utf8 value b.0), pairs_utf8 texts b.1)
 
 abbrev given : List Pair → Result (List Pair) PayloadFault
 given props = Ok props
@@ -113,7 +116,7 @@ block_taken block props e =
     let c = passed_ok (list_all is_utf8 texts) faults.NotText (once_at (paired texts)) props b.1 in
     let d = guard_ok (stands_twice (keys_of (paired texts))) faults.Twice (given (paired texts)) props c.1 in
     let is = given_is (paired texts) props d.1 in
-    let fit : AreProps (paired texts) = record { texts = All-from_recursion AreTexts (paired texts) (pairs_texts texts (texts_plain block) c.0); once = d.0 } in
+    let fit : AreProps (paired texts) = record { closable = All-from_recursion HasNoNul (paired texts) (pairs_plain texts (texts_plain block)); texts = All-from_recursion AreUtf8 (paired texts) (pairs_utf8 texts c.0); once = d.0 } in
     (subst AreProps is fit, sym (texts_closed block a.0) ∙ sym (pairs_closed texts (eqb-true (length texts % 2) 0 b.0)) ∙ ap block_of is)
 
 -- ---- properties and their block
@@ -140,12 +143,12 @@ unpaired_even : (props : List Pair) → length (unpaired props) % 2 ≡ 0
 unpaired_even [] = refl
 unpaired_even (p ∷ props) = omega (arith, unpaired_even props)
 
-plain : (text : List ℕ) → IsText text → Plain text
-plain text is = recursion_from_All (λ b. b ≢ 0) text is.0
+plain : (text : List ℕ) → All (λ b. b ≢ 0) text → Plain text
+plain text is = recursion_from_All (λ b. b ≢ 0) text is
 
-unpaired_utf8 : (props : List Pair) → AllByRecursion AreTexts props → list_all is_utf8 (unpaired props) ≡ true
+unpaired_utf8 : (props : List Pair) → AllByRecursion AreUtf8 props → list_all is_utf8 (unpaired props) ≡ true
 unpaired_utf8 [] h = refl
-unpaired_utf8 (p ∷ props) h = rw (is_utf8-from_IsUtf8 p.0 h.0.0.1, is_utf8-from_IsUtf8 p.1 h.0.1.1) (unpaired_utf8 props h.1)
+unpaired_utf8 (p ∷ props) h = rw (is_utf8-from_IsUtf8 p.0 h.0.0, is_utf8-from_IsUtf8 p.1 h.0.1) (unpaired_utf8 props h.1)
 
 block_cons : (p : Pair) (props : List Pair) → block_of (p ∷ props) ≡ closed p.0 ++ (closed p.1 ++ block_of props)
 block_cons p props = flat_map-cons closed_pair p props ∙ append_assoc (closed p.0) (closed p.1) (block_of props)
@@ -154,7 +157,7 @@ block_closed : (props : List Pair) → is_closed (block_of props) ≡ true
 block_closed [] = refl
 block_closed (p ∷ props) = ap is_closed (block_cons p props) ∙ closed_cons p.0 (closed p.1 ++ block_of props) (closed_cons p.1 (block_of props) (block_closed props))
 
-block_texts : (props : List Pair) → AllByRecursion AreTexts props → texts_of (block_of props) ≡ unpaired props
+block_texts : (props : List Pair) → AllByRecursion HasNoNul props → texts_of (block_of props) ≡ unpaired props
 block_texts [] h = refl
 block_texts (p ∷ props) h =
     ap texts_of (block_cons p props)
@@ -165,8 +168,9 @@ block_texts (p ∷ props) h =
 block_again : (props : List Pair) → AreProps props → block_at (block_of props) ≡ Ok props
 unfolding block_at
 block_again props fit =
-    let texts = recursion_from_All AreTexts props fit.texts in
-    rw (block_closed props, block_texts props texts, unpaired_even props, unpaired_utf8 props texts, paired-unpaired props, fit.once) refl
+    let plain = recursion_from_All HasNoNul props fit.closable in
+    let texts = recursion_from_All AreUtf8 props fit.texts in
+    rw (block_closed props, block_texts props plain, unpaired_even props, unpaired_utf8 props texts, paired-unpaired props, fit.once) refl
 
 -- ---- the whole payload
 
@@ -260,3 +264,6 @@ pub one_payload : (bytes : List ℕ) (props others : List Pair) (body other : Li
 one_payload bytes props others body other p q =
     let same = whole_is (props, body) (others, other) (sym (payload_again bytes props body p) ∙ payload_again bytes others other q) in
     (ap (λ (w : Whole). w.0) same, ap (λ (w : Whole). w.1) same)
+
+pub text_again : (props : List Pair) (body : List ℕ) → length (block_of props) < 2 ^ 64 → All AreUtf8 props → All HasNoNul props → stands_twice (keys_of props) ≡ false → payload_at (payload_text props body) ≡ Ok (props, body)
+text_again props body below texts closable once = payload_again (payload_text props body) props body (text_payload props body below (record { closable = closable; texts = texts; once = once }))

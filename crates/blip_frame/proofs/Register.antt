@@ -131,7 +131,7 @@ after_byte_is r b h =
 steps_split : (x : ℕ) → steps 8 x ≡ bit_xor (x / 256) (steps 8 (x % 256))
 steps_split x =
     let parts : x ≡ bit_xor (doubled 8 (x / 256)) (x % 256) =
-        rw (eight_doubled (x / 256)) (rw (xor_shifted (x / 256) 8 (x % 256) (omega arith)) (omega arith)) in
+    rw (eight_doubled (x / 256)) (rw (xor_shifted (x / 256) 8 (x % 256) (omega arith)) (omega arith)) in
     ap (steps 8) parts ∙ steps_high 8 (x / 256) (x % 256)
 
 table_is : TABLE ≡ map (steps 8) (range_with_len 0 256)
@@ -165,9 +165,9 @@ unfolding checksum_after
 checksum_after-append value xs ys =
     let start = bit_xor all_ones value in
     ap (bit_xor all_ones)
-      (ap (λ (r : ℕ). after_bits r (flat_map bits_of ys)) (xor_twice all_ones (after_bits start (flat_map bits_of xs)))
-       ∙ sym (after_bits-append start (flat_map bits_of xs) (flat_map bits_of ys))
-       ∙ ap (after_bits start) (sym (flat_map-append bits_of xs ys)))
+    (ap (λ (r : ℕ). after_bits r (flat_map bits_of ys)) (xor_twice all_ones (after_bits start (flat_map bits_of xs)))
+    ∙ sym (after_bits-append start (flat_map bits_of xs) (flat_map bits_of ys))
+    ∙ ap (after_bits start) (sym (flat_map-append bits_of xs ys)))
 
 pub checksum_after-nil : (value : ℕ) → checksum_after value [] ≡ value
 unfolding checksum_after after_bits

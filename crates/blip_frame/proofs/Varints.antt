@@ -48,14 +48,14 @@ pub value_fits : (value scale i low : ℕ) → i ≤ 9 → scale ≡ 2 ^ (7 * i)
 value_fits value scale i low within e h l last =
     elim (cases_lt i 9) [
       | inl lt ↦
-        let s = scale_fits scale i e (omega arith) in
-        let n : low * scale ≤ 127 * scale = mul-le-mul_right scale (omega arith) in
-        omega (arith, n, s)
+          let s = scale_fits scale i e (omega arith) in
+          let n : low * scale ≤ 127 * scale = mul-le-mul_right scale (omega arith) in
+          omega (arith, n, s)
       | inr le ↦
-        let s = scale_last scale i e (omega arith) in
-        let o : low ≤ 1 = last (omega arith) in
-        let n : low * scale ≤ 1 * scale = mul-le-mul_right scale o in
-        omega (arith, n, s)
+          let s = scale_last scale i e (omega arith) in
+          let o : low ≤ 1 = last (omega arith) in
+          let n : low * scale ≤ 1 * scale = mul-le-mul_right scale o in
+          omega (arith, n, s)
     ]
 
 module _ (value scale i : ℕ) (bytes : List ℕ) (so_far : scaled value scale (varint_at (10 - i) (drop i bytes)) ≡ varint_at 10 bytes) where
@@ -95,12 +95,12 @@ module _ (value scale i : ℕ) (bytes : List ℕ) (so_far : scaled value scale (
       let k : 10 - (i + 1) ≡ 0 = omega arith in
       elim (cases_lt (get_or bytes i 0) 128) [
         | inl small ↦
-          let is : varint_at 10 bytes ≡ Ok (value + scale * get_or bytes i 0, drop (i + 1) bytes) = here (omega arith) lt ∙ rw (lt-ltb (get_or bytes i 0) 128 small) refl in
-          let n : scale * 2 ≤ scale * get_or bytes i 0 = mul-le-mul_left scale above in
-          ap fitting is ∙ rw (le-ltb (value + scale * get_or bytes i 0) (2 ^ 64) (omega (arith, n, s))) refl
+            let is : varint_at 10 bytes ≡ Ok (value + scale * get_or bytes i 0, drop (i + 1) bytes) = here (omega arith) lt ∙ rw (lt-ltb (get_or bytes i 0) 128 small) refl in
+            let n : scale * 2 ≤ scale * get_or bytes i 0 = mul-le-mul_left scale above in
+            ap fitting is ∙ rw (le-ltb (value + scale * get_or bytes i 0) (2 ^ 64) (omega (arith, n, s))) refl
         | inr large ↦
-          let is : varint_at 10 bytes ≡ scaled value scale (with_low (get_or bytes i 0 - 128) (varint_at (10 - (i + 1)) (drop (i + 1) bytes))) = here (omega arith) lt ∙ rw (le-ltb (get_or bytes i 0) 128 large) refl in
-          ap fitting (is ∙ ap (λ (m : ℕ). scaled value scale (with_low (get_or bytes i 0 - 128) (varint_at m (drop (i + 1) bytes)))) k)
+            let is : varint_at 10 bytes ≡ scaled value scale (with_low (get_or bytes i 0 - 128) (varint_at (10 - (i + 1)) (drop (i + 1) bytes))) = here (omega arith) lt ∙ rw (le-ltb (get_or bytes i 0) 128 large) refl in
+            ap fitting (is ∙ ap (λ (m : ℕ). scaled value scale (with_low (get_or bytes i 0 - 128) (varint_at m (drop (i + 1) bytes)))) k)
       ]
 
 -- ---- what is read is a varint, and each varint is read
@@ -155,8 +155,8 @@ varint_taken (suc k) (b ∷ bs) n rest fits e =
     elim (cases_lt b 128) [
       | inl lt ↦ one_byte b bs k n rest lt (rw (lt-ltb b 128 lt) at e)
       | inr le ↦
-        let more = low_ok (b - 128) n rest (varint_at k bs) (rw (le-ltb b 128 le) at e) in
-        subst (λ (m : ℕ). Begins (suc k) (b ∷ bs) m rest) more.2 (more_bytes b k more.0 bs rest le (IsBytes-head b bs fits) (varint_taken k bs more.0 rest (IsBytes-rest b bs fits) more.1))
+          let more = low_ok (b - 128) n rest (varint_at k bs) (rw (le-ltb b 128 le) at e) in
+          subst (λ (m : ℕ). Begins (suc k) (b ∷ bs) m rest) more.2 (more_bytes b k more.0 bs rest le (IsBytes-head b bs fits) (varint_taken k bs more.0 rest (IsBytes-rest b bs fits) more.1))
     ]
 
 pub varint_again : (k : ℕ) (front : List ℕ) (n : ℕ) (rest : List ℕ) → IsVarint front n → length front ≤ k → varint_at k (front ++ rest) ≡ Ok (n, rest)
@@ -181,9 +181,9 @@ number_taken bytes n rest fits e =
     fitting_ok (Ok x) n rest e =
         elim (cases_lt x.0 (2 ^ 64)) [
           | inl lt ↦
-            let is : done x ≡ done (n, rest) = rw (lt-ltb x.0 (2 ^ 64) lt) at e in
-            let p : ◌≡◌ {A = ℕ × List ℕ} x (n, rest) = cc in
-            (is, subst (λ (y : ℕ × List ℕ). y.0 < 2 ^ 64) p lt)
+              let is : done x ≡ done (n, rest) = rw (lt-ltb x.0 (2 ^ 64) lt) at e in
+              let p : ◌≡◌ {A = ℕ × List ℕ} x (n, rest) = cc in
+              (is, subst (λ (y : ℕ × List ℕ). y.0 < 2 ^ 64) p lt)
           | inr le ↦ let no : ◌≡◌ {A = Result (ℕ × List ℕ) VarintFault} (Err BadVarint) (Ok (n, rest)) = rw (le-ltb x.0 (2 ^ 64) le) at e in absurd cc
         ]
     fitting_ok (Err fault) n rest e = absurd cc
@@ -206,8 +206,8 @@ short_taken (suc k) (b ∷ bs) e =
     elim (cases_lt b 128) [
       | inl lt ↦ let no : done (b, bs) ≡ Err Short = rw (lt-ltb b 128 lt) at e in absurd cc
       | inr le ↦
-        let more = short_taken k bs (low_short (b - 128) (varint_at k bs) (rw (le-ltb b 128 le) at e)) in
-        (All-cons (λ b. 128 ≤ b) b bs le more.0, omega (arith, more.1))
+          let more = short_taken k bs (low_short (b - 128) (varint_at k bs) (rw (le-ltb b 128 le) at e)) in
+          (All-cons (λ b. 128 ≤ b) b bs le more.0, omega (arith, more.1))
     ]
 
 short_again : (k : ℕ) (bytes : List ℕ) → All (λ b. 128 ≤ b) bytes → length bytes < k → varint_at k bytes ≡ Err Short
@@ -216,7 +216,7 @@ short_again zero bytes high lt = absurd (omega arith)
 short_again (suc k) [] high lt = refl
 short_again (suc k) (b ∷ bs) high lt =
     rw (le-ltb b 128 (All-head (λ b. 128 ≤ b) b bs high))
-      (ap (with_low (b - 128)) (short_again k bs (All-tail (λ b. 128 ≤ b) b bs high) (omega arith)))
+    (ap (with_low (b - 128)) (short_again k bs (All-tail (λ b. 128 ≤ b) b bs high) (omega arith)))
 
 pub number_short : (bytes : List ℕ) → number_at bytes ≡ Err Short → EndsInside bytes
 unfolding number_at
@@ -254,6 +254,7 @@ answer_short (Ok x) bytes e = (λ h. absurd cc, λ h. let q : done (x.0, x.1.now
 answer_short (Err fault) bytes e = (λ h. number_short bytes (e ∙ ap (λ (f : VarintFault). Err f) (fault_is fault Short h)), λ h. ap (λ (f : VarintFault). Err f) (same_fault fault Short (sym e ∙ number_ends bytes h))) where
   fault_is : (f g : VarintFault) → ◌≡◌ {A = Result (ℕ × Bor (List ℕ)) VarintFault} (Err f) (Err g) → f ≡ g
   fault_is f g h = cc
+
   same_fault : (f g : VarintFault) → ◌≡◌ {A = Result (ℕ × List ℕ) VarintFault} (Err f) (Err g) → f ≡ g
   same_fault f g h = cc
 
@@ -267,11 +268,13 @@ writes_more (suc k) rest out mid whole large below added so_far =
     let scale : 2 ^ (7 * (k + 1)) * 128 ≡ 2 ^ (7 * (k + 1 + 1)) = scale_next (2 ^ (7 * (k + 1))) (k + 1) refl in
     let same : suc k + 1 ≡ k + 1 + 1 = omega arith in
     let below' : rest < 2 ^ (7 * (k + 1 + 1)) = subst (λ (n : ℕ). rest < 2 ^ (7 * n)) same below in
-    let is : varint_within (suc k) rest ≡ (rest % 128 + 128) ∷ varint_within k (rest / 128) = rw (le-ltb rest 128 large) refl in
-    (k, omega (arith, scale, below'),
+    let is : varint_within (suc k) rest ≡ (rest % 128 + 128) ∷ varint_within k (rest / 128) = rw (le-ltb rest 128 large) refl in (
+      k,
+      omega (arith, scale, below'),
       ap (λ (x : List ℕ). x ++ varint_within k (rest / 128)) added
-      ∙ append_assoc out ((rest % 128 + 128) ∷ []) (varint_within k (rest / 128))
-      ∙ ap (λ (x : List ℕ). out ++ x) (sym is) ∙ so_far)
+          ∙ append_assoc out ((rest % 128 + 128) ∷ []) (varint_within k (rest / 128))
+          ∙ ap (λ (x : List ℕ). out ++ x) (sym is) ∙ so_far,
+    )
 
 pub writes_last : (k rest : ℕ) → rest < 128 → varint_within k rest ≡ rest ∷ []
 unfolding varint_within
@@ -317,10 +320,10 @@ tight_within (suc k) n lt =
     elim (cases_lt n 128) [
       | inl small ↦ rw (lt-ltb n 128 small) (small, refl)
       | inr large ↦
-        let scale : 2 ^ (7 * (k + 1)) * 128 ≡ 2 ^ (7 * (k + 1 + 1)) = scale_next (2 ^ (7 * (k + 1))) (k + 1) refl in
-        let same : suc k + 1 ≡ k + 1 + 1 = omega arith in
-        let lt' : n < 2 ^ (7 * (k + 1 + 1)) = subst (λ (m : ℕ). n < 2 ^ (7 * m)) same lt in
-        rw (le-ltb n 128 large) (tight_more (n % 128 + 128) n (varint_within k (n / 128)) (n / 128) (omega arith) (omega arith) (omega arith) (omega arith) (tight_within k (n / 128) (omega (arith, scale, lt'))))
+          let scale : 2 ^ (7 * (k + 1)) * 128 ≡ 2 ^ (7 * (k + 1 + 1)) = scale_next (2 ^ (7 * (k + 1))) (k + 1) refl in
+          let same : suc k + 1 ≡ k + 1 + 1 = omega arith in
+          let lt' : n < 2 ^ (7 * (k + 1 + 1)) = subst (λ (m : ℕ). n < 2 ^ (7 * m)) same lt in
+          rw (le-ltb n 128 large) (tight_more (n % 128 + 128) n (varint_within k (n / 128)) (n / 128) (omega arith) (omega arith) (omega arith) (omega arith) (tight_within k (n / 128) (omega (arith, scale, lt'))))
     ]
 
 tight : (n : ℕ) → n < 2 ^ 64 → IsTight (varint n) n

@@ -1,5 +1,5 @@
 -- The payload of a message: a varint length, the property block of that length, and the body.
-use Rattle.std.specs.Prelude.{◌≡◌, ◌≢◌, ℕ, ◌+◌, ◌%◌, Bool, true, false, List, [], ◌∷◌, ◌++◌, length, take, drop, All, Result, Ok, Err, nat_lt, ◌==◌, IsUtf8, if◌then◌else◌}
+use Rattle.std.specs.Prelude.{◌≡◌, ◌≢◌, ℕ, ◌+◌, ◌%◌, Bool, true, false, List, [], ◌∷◌, ◌++◌, length, take, drop, All, Result, Ok, Err, nat_lt, ◌==◌, if◌then◌else◌}
 use Rattle.std.specs.List.{flat_map, list_all}
 use Rattle.std.specs.Str.{is_utf8}
 use Rattle.blip_frame.specs.declared.payload.PayloadFault.{PayloadFault}
@@ -7,7 +7,7 @@ use Rattle.blip_frame.specs.declared.payload.PayloadFault.TheVariants as faults
 use Rattle.blip_frame.specs.declared.varint.VarintFault.{VarintFault}
 use Rattle.blip_frame.specs.declared.varint.VarintFault.TheVariants as varint_faults
 use Rattle.blip_frame.specs.Varint.{IsRead, number_at, varint}
-use Rattle.blip_frame.specs.Props.{Pair, keys_of, stands_twice}
+use Rattle.blip_frame.specs.Props.{Pair, keys_of, stands_twice, AreUtf8}
 
 -- a text and the NUL that closes it
 abbrev pub closed : List ℕ → List ℕ
@@ -20,16 +20,14 @@ closed_pair p = closed p.0 ++ closed p.1
 abbrev pub block_of : List Pair → List ℕ
 block_of props = flat_map closed_pair props
 
--- a text that a NUL closes: it has none of its own, and is UTF-8
-abbrev pub IsText : List ℕ → Type 0
-IsText text = All (λ b. b ≢ 0) text × IsUtf8 text
+-- texts that a NUL may close have none of their own
+abbrev pub HasNoNul : Pair → Type 0
+HasNoNul p = All (λ b. b ≢ 0) p.0 × All (λ b. b ≢ 0) p.1
 
-abbrev pub AreTexts : Pair → Type 0
-AreTexts p = IsText p.0 × IsText p.1
-
--- what a block can have: texts, and no key twice
+-- what a block can have: texts of UTF-8 with no NUL, and no key twice
 pub record AreProps (props : List Pair) : Type 0 where
-  pub texts : All AreTexts props
+  pub closable : All HasNoNul props
+  pub texts : All AreUtf8 props
   pub once : stands_twice (keys_of props) ≡ false
 
 -- the bytes are these properties and this body

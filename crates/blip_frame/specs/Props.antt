@@ -1,5 +1,5 @@
 -- Properties: keys and values, in order.
-use Rattle.std.specs.Prelude.{ℕ, Bool, true, false, ◌||◌, List, [], ◌∷◌, map, Option, Some, None, if◌then◌else◌}
+use Rattle.std.specs.Prelude.{ℕ, Bool, true, false, ◌||◌, List, [], ◌∷◌, map, Option, Some, None, IsUtf8, if◌then◌else◌}
 use Rattle.std.specs.List.{list_any}
 use Rattle.std.specs.Str.{bytes_eq}
 use Rattle.std.specs.String.{string_bytes}
@@ -27,3 +27,7 @@ keys_of props = map (λ p. p.0) props
 abbrev pub stands_twice : List (List ℕ) → Bool
 stands_twice [] = false
 stands_twice (key ∷ keys) = list_any (bytes_eq key) keys || stands_twice keys
+
+-- key and value are UTF-8
+abbrev pub AreUtf8 : Pair → Type 0
+AreUtf8 p = IsUtf8 p.0 × IsUtf8 p.1

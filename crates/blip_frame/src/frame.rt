@@ -70,8 +70,11 @@ impl From<VarintFault> for FrameFault {
 
 /// The place of the bit of the flags that says that the payload is compressed.
 const COMPRESSED: u32 = 3;
+
 const URGENT: u32 = 4;
+
 const NO_REPLY: u32 = 5;
+
 const MORE_COMING: u32 = 6;
 
 /// The most bytes of a payload that is read.

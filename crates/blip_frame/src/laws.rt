@@ -14,8 +14,7 @@ pub fn running_checksum()
     ensures start { checksum [] ≡ 0 }
     ensures nothing { (value : ℕ) → checksum_after value [] ≡ value }
     ensures fits { (xs : List ℕ) → checksum xs < 2 ^ 32 }
-{
-}
+{}
 
 /// A number has one shortest varint, which is read again whatever follows it, and no varint begins
 /// another.
@@ -24,8 +23,7 @@ pub fn varints()
     ensures one { (bytes : List ℕ) (n : ℕ) → n < 2 ^ 64 → IsShortest bytes n → bytes ≡ varint n }
     ensures again { (n : ℕ) (rest : List ℕ) → n < 2 ^ 64 → number_at (varint n ++ rest) ≡ Ok (n, rest) }
     ensures apart { (a b x y : List ℕ) (m n : ℕ) → IsRead a m → IsRead b n → a ++ x ≡ b ++ y → (m ≡ n) × (x ≡ y) }
-{
-}
+{}
 
 /// Each frame that may be written has one spelling. It is a frame, and is read again. Bytes are at
 /// most one frame. Where one frame begins another, both have one number and the same flags; more is
@@ -41,16 +39,14 @@ pub fn frames()
     ensures one_frame { (sent bytes : List ℕ) (f g : FrameParts) → IsFrameAfter sent bytes f → IsFrameAfter sent bytes g → f ≡ g }
     ensures prefix { (j k : ℕ) (a b more : List ℕ) (f g : FrameParts) → IsFrame j a f → IsFrame k b g → a ++ more ≡ b
         → (f.number ≡ g.number) × (flags_of f ≡ flags_of g) }
-{
-}
+{}
 
 /// The frames that were written in a direction are read again one after another, whatever follows
 /// them.
 pub fn direction()
     ensures { (sent : List ℕ) (texts rest : List (List ℕ)) (frames : List FrameParts) → AreWrittenAfter sent texts frames
         → frames_at (checksum sent) (texts ++ rest) ≡ with_front frames (frames_at (checksum (all_sent sent frames)) rest) }
-{
-}
+{}
 
 /// What is written of properties with no key twice and no NUL in a key or a value is read again, and
 /// bytes are at most one payload.
@@ -59,5 +55,4 @@ pub fn payloads()
         → payload_at (payload_text props body) ≡ Ok (props, body) }
     ensures one { (bytes : List ℕ) (props others : List Pair) (body other : List ℕ) → IsPayload bytes props body → IsPayload bytes others other
         → (props ≡ others) × (body ≡ other) }
-{
-}
+{}

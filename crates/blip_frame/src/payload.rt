@@ -1,12 +1,12 @@
 //! Payloads of messages: the length of the property block, the block, and the body.
 
-ghost use Rattle.std.specs.Prelude.{◌≡◌, ◌≢◌, ◌<◌, ◌++◌, ◌∷◌, ◌%◌, true, false, [], length, count_by, ◌==◌, List, ℕ, Ok, Err, MatchResult, IfOk, IfErr, OnOk, OnErr, IsOkAnd, IfSome};
+ghost use Rattle.std.specs.Prelude.{◌≡◌, ◌≢◌, ◌<◌, ◌^◌, ◌++◌, ◌∷◌, ◌%◌, true, false, [], length, count_by, ◌==◌, List, ℕ, Ok, Err, MatchResult, IfOk, IfErr, OnOk, OnErr, IsOkAnd, IfSome, All};
 ghost use Rattle.std.specs.List.{list_all};
 ghost use Rattle.std.specs.Str.{is_utf8};
 ghost use Rattle.std.specs.String.{string_bytes};
 ghost use Rattle.blip_frame.specs.Varint.{AddsSome};
-ghost use Rattle.blip_frame.specs.Props.{Pair, pairs_of, pair_of};
-ghost use Rattle.blip_frame.specs.Payload.{IsPayload, payload_at, block_at, is_closed, texts_of, paired, text_len, block_of, closed, closed_pair, payload_text};
+ghost use Rattle.blip_frame.specs.Props.{Pair, pairs_of, pair_of, keys_of, stands_twice};
+ghost use Rattle.blip_frame.specs.Payload.{HasNoNul, IsPayload, payload_at, block_at, is_closed, texts_of, paired, text_len, block_of, closed, closed_pair, payload_text};
 
 use crate::props::{Prop, Props, has_twice};
 use crate::varint::{VarintFault, push_varint, read_varint};
@@ -196,10 +196,12 @@ fn text_len(block: &[u8]) -> usize
 /// want of memory `out` stays as it was.
 pub fn write_payload(payload: &Payload, out: &mut Bytes) -> Result<(), Memory>
     ensures ok { OnOk result (out.new ≡ out.old ++ payload_text payload.now.props payload.now.body) }
+    ensures again { All HasNoNul payload.now.props → stands_twice (keys_of payload.now.props) ≡ false
+        → OnOk result (payload_at (payload_text payload.now.props payload.now.body) ≡ Ok (payload.now.props, payload.now.body)) }
     ensures err { OnErr result (out.new ≡ out.old) }
 {
     let start = out.len();
-    match push_payload(payload, out) {
+    match push_payload(payload.props.as_slice(), payload.body.as_slice(), out) {
         Ok(()) => Ok(()),
         Err(refused) => {
             out.truncate(start);
@@ -209,23 +211,24 @@ pub fn write_payload(payload: &Payload, out: &mut Bytes) -> Result<(), Memory>
 }
 
 /// The same, which at want of memory may leave some bytes there.
-fn push_payload(payload: &Payload, out: &mut Bytes) -> Result<(), Memory>
-    ensures ok { OnOk result (out.new ≡ out.old ++ payload_text payload.now.props payload.now.body) }
+fn push_payload(props: &[Prop], body: &[u8], out: &mut Bytes) -> Result<(), Memory>
+    ensures ok { OnOk result (out.new ≡ out.old ++ payload_text (pairs_of props.now) body.now) }
     ensures err { OnErr result (AddsSome out.old out.new) }
+    ensures below { OnOk result (length (block_of (pairs_of props.now)) < 2 ^ 64) }
 {
-    let props = payload.props.as_slice();
     // A block past 2^64 bytes does not fit memory.
     let Some(len) = block_len(props) else {
         return Err(AllocError);
     };
     push_varint(len, out)?;
     push_block(props, out)?;
-    out.extend_from_slice(payload.body.as_slice())
+    out.extend_from_slice(body)
 }
 
 /// How many bytes the block has, where that is below 2^64.
 fn block_len(props: &[Prop]) -> Option<u64>
-    ensures { IfSome result (λ len. len ≡ length (block_of (pairs_of props.now))) }
+    ensures len { IfSome result (λ len. len ≡ length (block_of (pairs_of props.now))) }
+    ensures below { IfSome result (λ len. len < 2 ^ 64) }
 {
     let mut len: u64 = 0;
     for prop in props {

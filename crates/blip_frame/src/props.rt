@@ -1,8 +1,8 @@
 //! Properties of a message: keys and values, in order.
 
-ghost use Rattle.std.specs.Prelude.{◌≡◌, [], ◌↔◌, IsTrue, IfOk, length};
+ghost use Rattle.std.specs.Prelude.{◌≡◌, [], ◌↔◌, IsTrue, IfOk, length, All};
 ghost use Rattle.std.specs.Option.{option_copied};
-ghost use Rattle.blip_frame.specs.Props.{pairs_of, value_at, keys_of, stands_twice};
+ghost use Rattle.blip_frame.specs.Props.{pairs_of, value_at, keys_of, stands_twice, AreUtf8};
 
 use std::alloc::{AllocError, Global};
 use std::collections::BTreeSet;
@@ -56,7 +56,8 @@ impl Props {
     }
 
     pub fn as_slice(&self) -> &[Prop]
-        ensures { pairs_of result.now ≡ self.now }
+        ensures value { pairs_of result.now ≡ self.now }
+        ensures texts { All AreUtf8 self.now }
     {
         self.items.as_slice()
     }

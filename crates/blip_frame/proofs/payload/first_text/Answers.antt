@@ -25,11 +25,12 @@ returns-in_ok-from_str-in-Ok-clause-ok c =
     let len = c.text_len-len.ensures in
     let text : c.split_at.result.0.now ≡ take (text_len block) block = c.split_at.ensures.front ∙ ap (λ (n : ℕ). take n block) len in
     let rest : c.split_at-2.result.1.now ≡ drop (text_len block + 1) block = c.split_at-2.ensures.back ∙ ap (λ (n : ℕ). drop (n + 1) block) len in
-    let made : string_bytes c.in_ok-from_str-in-Ok.field-0 ≡ c.split_at.result.0.now = c.in_ok-from_str-in-Ok.ensures.ok ∙ c.in-Ok.ensures.cases.0 in
-    (f.texts ∙ ap (λ (t : List ℕ). t ∷ texts_of (drop (text_len block + 1) block)) (sym (made ∙ text)) ∙ ap (λ (r : List ℕ). string_bytes c.in_ok-from_str-in-Ok.field-0 ∷ texts_of r) (sym rest),
+    let made : string_bytes c.in_ok-from_str-in-Ok.field-0 ≡ c.split_at.result.0.now = c.in_ok-from_str-in-Ok.ensures.ok ∙ c.in-Ok.ensures.cases.0 in (
+      f.texts ∙ ap (λ (t : List ℕ). t ∷ texts_of (drop (text_len block + 1) block)) (sym (made ∙ text)) ∙ ap (λ (r : List ℕ). string_bytes c.in_ok-from_str-in-Ok.field-0 ∷ texts_of r) (sym rest),
       ap is_utf8 made ∙ is_utf8-from_IsUtf8 c.split_at.result.0.now c.in-Ok.ensures.cases.1,
       ap is_closed rest ∙ f.rest,
-      omega (arith, f.within, len, c.split_at-2.ensures.back_len))
+      omega (arith, f.within, len, c.split_at-2.ensures.back_len),
+    )
 
 pub returns-in-Err-clause-err : goal.returns-in-Err-clause-err
 returns-in-Err-clause-err c = λ _.

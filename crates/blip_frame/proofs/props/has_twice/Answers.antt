@@ -23,9 +23,9 @@ loop-prop-preserved c =
     let absent : contains_by (λ k. slice_cmp nat_cmp key k.now) c.loop-prop.seen ≡ false = not-true _ (sym c.in_ok-insert.ensures.added ∙ c.if-not-branch.false) in
     record {
       member = λ q.
-        c.in_ok-insert.ensures.updates.0 q
-        ∙ ap (λ (b : Bool). cond b true (contains_by (λ k. slice_cmp nat_cmp q.now k.now) c.loop-prop.seen)) (is_eq-slice_cmp key q.now)
-        ∙ ap (cond (bytes_eq key q.now) true) (c.loop-prop.invariant.member q)
-        ∙ member_next props i c.prop-item.result key c.loop-prop-test.true c.prop-item.is c.as_str.ensures.value q.now;
+          c.in_ok-insert.ensures.updates.0 q
+          ∙ ap (λ (b : Bool). cond b true (contains_by (λ k. slice_cmp nat_cmp q.now k.now) c.loop-prop.seen)) (is_eq-slice_cmp key q.now)
+          ∙ ap (cond (bytes_eq key q.now) true) (c.loop-prop.invariant.member q)
+          ∙ member_next props i c.prop-item.result key c.loop-prop-test.true c.prop-item.is c.as_str.ensures.value q.now;
       once = still_once props i c.prop-item.result key c.loop-prop-test.true c.prop-item.is c.as_str.ensures.value (sym (c.loop-prop.invariant.member c.as_str.result) ∙ absent) c.loop-prop.invariant.once;
     }

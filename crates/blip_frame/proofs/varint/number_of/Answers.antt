@@ -15,10 +15,10 @@ returns-then-byte-lt128 c =
     let byte = get_or bytes i 0 in
     let low : c.from.result ≡ byte = c.from.ensures ∙ and_mask byte 7 ∙ omega arith in
     let small : (i ≡ 9 → c.from.result ≤ 1) =
-        elim c.else-i-eq9.branch [ else-i-eq9-via-then-i-eq9+else-byte-gt1 w ↦ λ _. omega arith | else-i-eq9-via-else-i-eq9 w ↦ λ e. absurd (w.if-i-eq9.false e) ] in
+    elim c.else-i-eq9.branch [ else-i-eq9-via-then-i-eq9+else-byte-gt1 w ↦ λ _. omega arith | else-i-eq9-via-else-i-eq9 w ↦ λ e. absurd (w.if-i-eq9.false e) ] in
     let fits = value_fits c.loop-i.value c.loop-i.scale i c.from.result c.loop-i.invariant.within c.loop-i.invariant.scale c.loop-i.invariant.value (omega arith) small in
     rw (take_all (length bytes - (i + 1)) (drop (i + 1) bytes) (omega (arith, length-drop (i + 1) bytes)))
-      (last c.loop-i.value c.loop-i.scale i bytes c.loop-i.invariant.so_far c.from.result c.loop-i.invariant.within c.loop-i-test.true c.if-byte-lt128.true low fits)
+    (last c.loop-i.value c.loop-i.scale i bytes c.loop-i.invariant.so_far c.from.result c.loop-i.invariant.within c.loop-i-test.true c.if-byte-lt128.true low fits)
 
 pub loop-i-preserved : goal.loop-i-preserved
 loop-i-preserved c =
@@ -28,7 +28,7 @@ loop-i-preserved c =
     let below : byte < 256 = omega (arith, c.type_inv.bytes i) in
     let low : c.from.result ≡ byte - 128 = c.from.ensures ∙ and_mask byte 7 ∙ omega arith in
     let within : i + 1 ≤ 9 =
-        elim c.else-i-eq9.branch [ else-i-eq9-via-then-i-eq9+else-byte-gt1 w ↦ omega arith | else-i-eq9-via-else-i-eq9 w ↦ omega arith ] in
+    elim c.else-i-eq9.branch [ else-i-eq9-via-then-i-eq9+else-byte-gt1 w ↦ omega arith | else-i-eq9-via-else-i-eq9 w ↦ omega arith ] in
     record {
       within = within;
       scale = scale_next c.loop-i.scale i c.loop-i.invariant.scale;
