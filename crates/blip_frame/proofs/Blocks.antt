@@ -177,4 +177,3 @@ utf8_props (p ∷ props) = ((IsUtf8-string_bytes p.key, IsUtf8-string_bytes p.va
 
 pub are_utf8 : (props : List Prop) → All AreUtf8 (pairs_of props)
 are_utf8 props = All-from_recursion AreUtf8 (pairs_of props) (utf8_props props)
-

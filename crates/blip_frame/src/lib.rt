@@ -13,3 +13,6 @@ pub use frame::{Frame, FrameFault, Kind, read_frame, write_frame};
 pub use payload::{Payload, PayloadFault, read_payload, write_payload};
 pub use props::{Prop, Props};
 pub use varint::{VarintFault, read_varint, write_varint};
+
+#[cfg(test)]
+mod tests;
