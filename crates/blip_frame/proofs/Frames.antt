@@ -1,10 +1,10 @@
 -- Frames read and written.
-use Rattle.std.proofs.Common.{◌≡◌, ℕ, zero, suc, ◌+◌, ◌-◌, ◌*◌, ◌/◌, ◌%◌, ◌^◌, ◌<◌, ◌≤◌, Bool, true, false, cond, ltb, eqb, List, [], ◌∷◌, ◌++◌, length, get_or, take, drop, Option, Some, None, Result, Ok, Err, refl, sym, ap, subst, ◌∙◌, append_assoc, arith, inl, inr, ◌⊎◌}
+use Rattle.std.proofs.Common.{◌≡◌, ℕ, zero, suc, ◌+◌, ◌-◌, ◌*◌, ◌/◌, ◌%◌, ◌^◌, ◌<◌, ◌≤◌, Bool, true, false, cond, ltb, eqb, List, [], ◌∷◌, ◌++◌, length, take, drop, Option, Some, None, Result, Ok, Err, refl, sym, ap, subst, ◌∙◌, append_assoc, arith, inl, inr, ◌⊎◌}
 use Rattle.std.specs.Int.{w32, bit_at, to_be_bytes, from_be_bytes}
 use Rattle.std.specs.Int.Bits.{bit_xor, xor_lt}
 use Rattle.std.specs.List.{flat_map}
-use Rattle.std.proofs.lemmas.Bool.{cases_lt, cases_eq, ltb-false, le-ltb, lt-ltb, eqb-true, eq-eqb, ne_eqb}
-use Rattle.std.proofs.lemmas.List.{take_at, drop_at, take-append-drop, length-append, length-drop, get_or-drop, append-nil}
+use Rattle.std.proofs.lemmas.Bool.{ltb-false, le-ltb, eqb-true, eq-eqb, ne_eqb}
+use Rattle.std.proofs.lemmas.List.{take_at, drop_at, take-append-drop, length-append, length-drop, append-nil}
 use Rattle.std.proofs.lemmas.Nat.{be_bytes_4, from_be_bytes-to_be_bytes_4}
 use Rattle.blip_frame.specs.declared.frame.Kind.{Kind}
 use Rattle.blip_frame.specs.declared.frame.Kind.TheVariants as kinds
@@ -12,8 +12,8 @@ use Rattle.blip_frame.specs.declared.frame.FrameFault.{FrameFault}
 use Rattle.blip_frame.specs.declared.frame.FrameFault.TheVariants as faults
 use Rattle.blip_frame.specs.declared.varint.VarintFault.{VarintFault}
 use Rattle.blip_frame.specs.Checksum.{polynomial, all_ones, after_bit, after_bits, bits_of, checksum, checksum_after}
-use Rattle.blip_frame.specs.Varint.{IsRead, IsShortest, number_at, varint}
-use Rattle.blip_frame.specs.Frame.{FrameParts, kind_number, has_checksum, flags_of, trailer, largest_read, largest_written, IsMarkedAsKind, IsWritten, spelling, IsFrame, IsFrameFrom, IsFrameAfter, sent_after, value_after, ◌>>=◌, fault_of, header, kind_at, is_set, content_at, kept_at, checked_at, frame_at, AreWrittenAfter, all_sent, with_first, with_front, frames_at}
+use Rattle.blip_frame.specs.Varint.{IsRead, number_at, varint}
+use Rattle.blip_frame.specs.Frame.{FrameParts, kind_number, has_checksum, flags_of, trailer, largest_read, largest_written, IsMarkedAsKind, IsWritten, spelling, IsFrame, IsFrameFrom, IsFrameAfter, sent_after, value_after, ◌>>=◌, header, kind_at, is_set, content_at, kept_at, checked_at, frame_at, AreWrittenAfter, all_sent, with_first, with_front, frames_at}
 use Rattle.blip_frame.proofs.Register.{checksum_after-checksum}
 use Rattle.blip_frame.proofs.Varints.{IsBytes, IsBytes-drop, IsBytes-after, number_taken, number_again, varint_shortest, shortest_one, varint_read, numbers_apart}
 

@@ -1,6 +1,6 @@
 -- Payloads read and written.
-use Rattle.std.proofs.Common.{◌≡◌, ◌≢◌, ℕ, zero, suc, ◌+◌, ◌-◌, ◌%◌, ◌^◌, ◌<◌, ◌≤◌, Bool, true, false, ◌&&◌, cond, eqb, ltb, List, [], ◌∷◌, ◌++◌, length, take, drop, All, Result, Ok, Err, refl, sym, ap, subst, ◌∙◌, append_assoc, arith, inl, inr, Bor}
-use Rattle.std.specs.Prelude.{IsUtf8, IfOk, IfErr, MatchResult}
+use Rattle.std.proofs.Common.{◌≡◌, ◌≢◌, ℕ, ◌%◌, ◌^◌, ◌<◌, ◌≤◌, Bool, true, false, ◌&&◌, cond, eqb, ltb, List, [], ◌∷◌, ◌++◌, length, take, drop, All, Result, Ok, Err, refl, sym, ap, subst, ◌∙◌, append_assoc, arith, inl, inr}
+use Rattle.std.specs.Prelude.{IfOk, IfErr, MatchResult}
 use Rattle.blip_frame.specs.declared.payload.Payload.{Payload}
 use Rattle.std.specs.List.{flat_map, list_all, AllByRecursion}
 use Rattle.std.specs.Str.{is_utf8}
@@ -8,15 +8,14 @@ use Rattle.std.proofs.lemmas.Bool.{cases_Bool, eqb-true, ne_eqb, and_parts, ltb-
 use Rattle.std.proofs.lemmas.List.{take_at, drop_at, take-append-drop, length-append, length-take}
 use Rattle.std.proofs.lemmas.List.Concat.{flat_map-cons}
 use Rattle.std.proofs.lemmas.List.Elements.{All-from_recursion, recursion_from_All}
-use Rattle.std.proofs.lemmas.Str.{IsUtf8-from_is_utf8, is_utf8-from_IsUtf8, IsUtf8-string_bytes}
+use Rattle.std.proofs.lemmas.Str.{IsUtf8-from_is_utf8, is_utf8-from_IsUtf8}
 use Rattle.blip_frame.specs.declared.payload.PayloadFault.{PayloadFault}
 use Rattle.blip_frame.specs.declared.payload.PayloadFault.TheVariants as faults
 use Rattle.blip_frame.specs.declared.varint.VarintFault.{VarintFault}
 use Rattle.blip_frame.specs.Varint.{IsRead, number_at, varint}
-use Rattle.blip_frame.specs.Props.{Pair, pairs_of, keys_of, stands_twice, AreUtf8}
-use Rattle.blip_frame.specs.declared.props.Prop.{Prop}
+use Rattle.blip_frame.specs.Props.{Pair, keys_of, stands_twice, AreUtf8}
 use Rattle.blip_frame.specs.Payload.{closed, closed_pair, block_of, HasNoNul, AreProps, IsPayload, ◌>>=◌, header, is_closed, begun, texts_of, paired, once_at, texts_at, block_at, payload_at, payload_text}
-use Rattle.blip_frame.proofs.Varints.{IsBytes, IsBytes-after, number_taken, number_again, varint_read}
+use Rattle.blip_frame.proofs.Varints.{IsBytes, number_taken, number_again, varint_read}
 
 -- ---- the value of a step that did not fail
 

@@ -1,6 +1,5 @@
 -- The table of the checksum against its bits.
-use Rattle.std.proofs.Common.{◌≡◌, ℕ, zero, suc, ◌+◌, ◌*◌, ◌/◌, ◌%◌, ◌^◌, ◌<◌, List, [], ◌∷◌, ◌++◌, map, get_or, refl, sym, ap, ◌∙◌, arith, append_assoc, length, drop, add-one, ◌≤◌}
-use Rattle.std.specs.Int.{bit_at}
+use Rattle.std.proofs.Common.{◌≡◌, ℕ, zero, suc, ◌+◌, ◌*◌, ◌/◌, ◌%◌, ◌^◌, ◌<◌, List, [], ◌∷◌, ◌++◌, map, get_or, refl, sym, ap, ◌∙◌, arith, length, drop, add-one, ◌≤◌}
 use Rattle.std.specs.Int.Bits.{bit_xor, bit_and, xor_assoc, xor_shr, xor_mod, xor_zero_r, xor_self, xor_shifted}
 use Rattle.std.specs.List.{flat_map, range_with_len}
 use Rattle.std.proofs.lemmas.Nat.{xor_comm, and_mask}

@@ -1,6 +1,5 @@
 use Rattle.std.proofs.Common.{◌≡◌, ℕ, ◌<◌, ◌^◌, Result, Ok, Err, sym, ap, ◌∙◌, arith}
 use Rattle.blip_frame.specs.Frame.{FrameParts, parts_of, value_after}
-use Rattle.blip_frame.specs.Checksum.{checksum}
 use Rattle.blip_frame.specs.declared.frame.FrameFault.{FrameFault}
 use Rattle.blip_frame.proofs.Frames.{frame_taken, frame_again, frame_from, value_after-checksum}
 use Rattle.blip_frame.proofs.frame.read_frame.Goals as goal

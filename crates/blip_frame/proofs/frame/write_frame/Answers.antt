@@ -1,4 +1,4 @@
-use Rattle.std.proofs.Common.{ℕ, List, ap, ◌∙◌, arith, ◌++◌}
+use Rattle.std.proofs.Common.{ℕ, ap, ◌∙◌, ◌++◌}
 use Rattle.blip_frame.specs.Frame.{parts_of, sent_after, value_after, spelling}
 use Rattle.blip_frame.specs.Checksum.{checksum}
 use Rattle.blip_frame.proofs.Frames.{spelling_written, value_after-checksum}

@@ -1,4 +1,4 @@
-use Rattle.std.proofs.Common.{ℕ, List, ◌<◌, ◌^◌, length, subst}
+use Rattle.std.proofs.Common.{List, ◌<◌, ◌^◌, length, subst}
 use Rattle.blip_frame.specs.Props.{Pair}
 use Rattle.blip_frame.specs.Payload.{block_of}
 use Rattle.blip_frame.proofs.Payloads.{text_again}

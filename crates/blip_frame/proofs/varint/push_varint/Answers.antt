@@ -1,4 +1,4 @@
-use Rattle.std.proofs.Common.{arith, refl, sym, ap, ◌∙◌, List, ℕ, [], ◌∷◌, ◌++◌, ◌+◌, ◌%◌, append_assoc}
+use Rattle.std.proofs.Common.{arith, sym, ap, ◌∙◌, List, ℕ, [], ◌∷◌, ◌++◌, ◌+◌, ◌%◌, append_assoc}
 use Rattle.std.proofs.lemmas.List.{append-nil}
 use Rattle.std.proofs.lemmas.Result.{IfOk-equal}
 use Rattle.blip_frame.specs.Varint.{varint}

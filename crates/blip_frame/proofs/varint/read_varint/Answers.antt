@@ -1,4 +1,4 @@
-use Rattle.std.proofs.Common.{arith, subst, List, ℕ, sym}
+use Rattle.std.proofs.Common.{arith, subst, List, ℕ}
 use Rattle.blip_frame.proofs.Varints.{Reads, answer_found, answer_only, answer_short}
 use Rattle.blip_frame.proofs.varint.read_varint.Goals as goal
 
