@@ -1,9 +1,9 @@
 //! Frames: a number, a kind with marks, a payload, and the checksum of the direction so far.
 
-ghost use Rattle.std.specs.Prelude.{◌≡◌, ◌≤◌, ◌<◌, ◌^◌, ◌++◌, length, true, false, List, ℕ, Ok, Err, MatchResult, IfOk, IfErr, OnOk, OnErr, IsOkAnd};
+ghost use Rattle.std.specs.Prelude.{◌≡◌, ◌≤◌, ◌<◌, ◌^◌, ◌++◌, length, true, false, List, ℕ, Ok, Err, MatchResult, IfOk, OnOk, OnErr, IsOkAnd};
 ghost use Rattle.blip_frame.specs.Checksum.{checksum};
 ghost use Rattle.blip_frame.specs.Varint.{AddsSome};
-ghost use Rattle.blip_frame.specs.Frame.{FrameParts, parts_of, has_checksum, flags_of, trailer, largest_written, IsMarkedAsKind, IsFrameAfter, IsFrameFrom, WritesAfter, kind_number, sent_after, value_after, kind_at, is_set, content_at, checked_at, frame_at, spelling};
+ghost use Rattle.blip_frame.specs.Frame.{FrameParts, parts_of, has_checksum, flags_of, largest_written, IsMarkedAsKind, IsFrameAfter, IsFrameFrom, WritesAfter, kind_number, sent_after, value_after, kind_at, is_set, content_at, checked_at, frame_at, spelling};
 
 use crate::crc::Crc;
 use crate::varint::{VarintFault, push_varint, read_varint};

@@ -1,9 +1,9 @@
 //! Laws of checksums, varints, frames and payloads. Each function says one, and does nothing.
 
-ghost use Rattle.std.specs.Prelude.{◌≡◌, ◌++◌, ◌<◌, ◌^◌, ◌≤◌, [], length, List, ℕ, Ok, Bool};
+ghost use Rattle.std.specs.Prelude.{◌≡◌, ◌++◌, ◌<◌, ◌^◌, ◌≤◌, [], length, List, ℕ, Ok};
 ghost use Rattle.blip_frame.specs.Checksum.{checksum, checksum_after};
 ghost use Rattle.blip_frame.specs.Varint.{IsRead, IsShortest, number_at, varint};
-ghost use Rattle.blip_frame.specs.Frame.{FrameParts, flags_of, largest_written, IsMarkedAsKind, IsFrame, IsFrameFrom, IsFrameAfter, IsWritten, IsWrittenAfter, AreWrittenAfter, all_sent, sent_after, value_after, frame_at, frames_at, with_front, spelling};
+ghost use Rattle.blip_frame.specs.Frame.{FrameParts, flags_of, largest_written, IsMarkedAsKind, IsFrame, IsFrameAfter, IsWritten, IsWrittenAfter, AreWrittenAfter, all_sent, sent_after, value_after, frame_at, frames_at, with_front, spelling};
 ghost use Rattle.blip_frame.specs.Props.{Pair};
 ghost use Rattle.blip_frame.specs.Payload.{AreProps, IsPayload, block_of, payload_at, payload_text};
 

@@ -1,6 +1,6 @@
 //! Payloads of messages: the length of the property block, the block, and the body.
 
-ghost use Rattle.std.specs.Prelude.{◌≡◌, ◌≢◌, ◌<◌, ◌^◌, ◌++◌, ◌∷◌, ◌%◌, true, false, [], length, count_by, ◌==◌, List, ℕ, Ok, Err, MatchResult, IfOk, IfErr, OnOk, OnErr, IsOkAnd, IfSome, All};
+ghost use Rattle.std.specs.Prelude.{◌≡◌, ◌≢◌, ◌<◌, ◌^◌, ◌++◌, ◌∷◌, ◌%◌, true, false, length, count_by, ◌==◌, List, ℕ, Ok, Err, MatchResult, IfOk, IfErr, OnOk, OnErr, IfSome, All};
 ghost use Rattle.std.specs.List.{list_all};
 ghost use Rattle.std.specs.Str.{is_utf8};
 ghost use Rattle.std.specs.String.{string_bytes};

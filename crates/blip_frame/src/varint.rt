@@ -1,7 +1,7 @@
 //! Varints: numbers as bytes of seven bits each, the lowest first.
 
-ghost use Rattle.std.specs.Prelude.{◌≡◌, ◌++◌, ◌∷◌, [], ◌↔◌, List, ℕ, Ok, Err, MatchResult, IfOk, OnOk, OnErr, IsOkAnd};
-ghost use Rattle.blip_frame.specs.Varint.{number_at, IsRead, EndsInside, varint, varint_within, AddsSome};
+ghost use Rattle.std.specs.Prelude.{◌≡◌, ◌++◌, ◌↔◌, List, ℕ, Ok, Err, MatchResult, IfOk, OnOk, OnErr, IsOkAnd};
+ghost use Rattle.blip_frame.specs.Varint.{number_at, IsRead, EndsInside, varint, AddsSome};
 
 use sg_outside::{Bytes, Memory};
 
