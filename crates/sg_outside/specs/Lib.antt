@@ -1,2 +1,3 @@
 pub mod Files
+pub mod MemFiles
 pub mod Sink

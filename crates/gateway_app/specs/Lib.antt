@@ -1,0 +1,2 @@
+pub mod FeedText
+pub mod Words

@@ -1,0 +1,19 @@
+//! How a command ends.
+
+use sg_history::Why;
+
+/// How a command ends.
+#[derive(Clone, Copy, Debug, PartialEq, Eq)]
+pub enum Status {
+    Ok,
+    /// The words are in no command's form.
+    BadWords,
+    /// A file is outside its grammar: its number among the command's words, the line of the fault, and why.
+    BadInput { file: u64, place: u64, why: Why },
+    /// A file could not be read.
+    ReadFault,
+    /// The output could not be written.
+    WriteFault,
+    /// Want of memory.
+    Memory,
+}

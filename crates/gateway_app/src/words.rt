@@ -1,0 +1,50 @@
+//! The words of the command `feed`.
+
+ghost use Rattle.std.specs.Prelude.{◌≡◌, ◌∷◌, [], ℕ, List, IsTrue, IfOk, map, codes, string_bytes, IsUtf8};
+ghost use Rattle.sg_names.specs.Key.{ReadsKey};
+ghost use Rattle.sg_names.specs.Grammar.{is_name};
+ghost use Rattle.gateway_app.specs.Words.{IsFeed, FeedWords};
+
+use sg_history::{Key, Name, TextFault};
+use std::alloc::Global;
+
+/// What `feed` is asked for.
+#[derive(Drop)]
+pub struct FeedRequest<'a> {
+    pub journal: &'a str,
+    pub user: Name,
+    pub since: Key,
+}
+
+/// Why words are refused.
+#[derive(Clone, Copy, Debug, PartialEq, Eq)]
+pub enum WordsFault {
+    BadWords,
+    /// Want of memory.
+    Memory,
+}
+
+/// Reads the words: `feed`, the journal's path, the user's name, and the since key.
+pub fn read_words(alloc: Global, words: &[String]) -> Result<FeedRequest<'_>, WordsFault>
+    ensures ok { IfOk result (λ r. IsFeed (map (λ w. string_bytes w) words.now) (record { journal = r.journal.now; user = r.user; since = r.since })) }
+    ensures bad { result ≡ Err WordsFault.BadWords → (f : FeedWords) → ¬ IsFeed (map (λ w. string_bytes w) words.now) f }
+{
+    let [command, journal, user, since] = words else {
+        return Err(WordsFault::BadWords);
+    };
+    if command.as_str() != "feed" {
+        return Err(WordsFault::BadWords);
+    }
+    let Ok(since) = Key::parse(since.as_str()) else {
+        return Err(WordsFault::BadWords);
+    };
+    match Name::parse(alloc, user.as_str()) {
+        Ok(user) => Ok(FeedRequest {
+            journal: journal.as_str(),
+            user,
+            since,
+        }),
+        Err(TextFault::Bad) => Err(WordsFault::BadWords),
+        Err(TextFault::Memory) => Err(WordsFault::Memory),
+    }
+}

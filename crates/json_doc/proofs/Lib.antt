@@ -1,0 +1,2 @@
+pub mod NodeTrees
+pub mod ValueTrees

@@ -1,0 +1,4 @@
+pub mod Tree
+pub mod Reading
+pub mod View
+pub mod Verdict

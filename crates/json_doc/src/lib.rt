@@ -1,0 +1,17 @@
+//! Documents read from JSON, exactly.
+#![tactic(auto)]
+
+mod convert;
+pub mod doc;
+pub mod node;
+pub mod text;
+
+pub use doc::{Doc, DocFault, read_doc};
+pub use node::{Members, Node, Nodes};
+pub use text::DocText;
+
+/// Want of memory.
+pub type Memory = std::alloc::AllocError;
+
+#[cfg(test)]
+mod tests;

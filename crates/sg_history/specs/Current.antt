@@ -1,0 +1,61 @@
+-- What a document is at a place of a history, given the entries up to it, the newest first.
+use Rattle.std.specs.Prelude.{ℕ, ◌+◌, Bool, List, [], ◌∷◌, length, Option, Some, None, if◌then◌else◌}
+use Rattle.sg_names.specs.declared.rev_id.RevId.{RevId}
+use Rattle.sg_names.specs.declared.grants.Grant.{Grant}
+use Rattle.sg_names.specs.declared.role_grants.RoleGrant.{RoleGrant}
+use Rattle.sg_names.specs.RevId.{same_rev}
+use Rattle.sg_history.specs.declared.entries.Entry.{Entry}
+use Rattle.sg_history.specs.declared.entries.Write.{Write}
+use Rattle.sg_history.specs.History.{write_to}
+
+-- a write, with its sequence
+pub record Sequenced : Type 0 where
+  pub seq : ℕ
+  pub write : Write
+
+-- the first choice where there is one, else the other
+abbrev pub sequenced_or : Option Write → ℕ → Option Sequenced → Option Sequenced
+sequenced_or None seq other = other
+sequenced_or (Some w) seq other = Some (record { seq = seq; write = w })
+
+-- the last write of a document
+abbrev pub last_write : List Entry → List ℕ → Option Sequenced
+last_write [] doc = None
+last_write (e ∷ older) doc = sequenced_or (write_to e doc) (length older + 1) (last_write older doc)
+
+-- a write where it has this revision, else the other
+abbrev pub with_rev_or : Option Write → RevId → Option Write → Option Write
+with_rev_or None rev other = other
+with_rev_or (Some w) rev other = if same_rev w.rev rev then Some w else other
+
+-- the write of a document that has this revision
+abbrev pub write_of_rev : List Entry → List ℕ → RevId → Option Write
+write_of_rev [] doc rev = None
+write_of_rev (e ∷ older) doc rev = with_rev_or (write_to e doc) rev (write_of_rev older doc rev)
+
+-- a document as it is: the sequence of its last write, with the winner's revision, deleted mark and effects
+pub record Current : Type 0 where
+  pub seq : ℕ
+  pub rev : RevId
+  pub deleted : Bool
+  pub channels : List (List ℕ)
+  pub grants : List Grant
+  pub roles : List RoleGrant
+
+-- a write where there is one, else the other
+abbrev pub write_or : Option Write → Write → Write
+write_or None other = other
+write_or (Some w) other = w
+
+-- the sequence of the last write, with what the winner's write has
+abbrev pub current_of : ℕ → Write → Current
+current_of seq w = record { seq = seq; rev = w.rev; deleted = w.deleted; channels = w.channels; grants = w.grants; roles = w.roles }
+
+abbrev pub current_after : List Entry → List ℕ → Option Sequenced → Option Current
+current_after es doc None = None
+current_after es doc (Some last) = Some (current_of last.seq (write_or (write_of_rev es doc last.write.winner) last.write))
+
+-- the current state of a document: none where nothing was written; else its last write's sequence with the
+-- winner that this write names (or, in a log that names one which was never written, that write itself)
+abbrev pub current : List Entry → List ℕ → Option Current
+current es doc = current_after es doc (last_write es doc)

@@ -1,0 +1,126 @@
+-- The journal: the text of a history. The first line is `sgjournal 1`; line k + 1 is entry k. Fields are
+-- parted by one TAB, and each line ends with a line feed.
+use Rattle.std.specs.Prelude.{◌≡◌, ℕ, ◌+◌, Bool, true, false, ◌&&◌, ◌||◌, not, nat_lt, List, [], ◌∷◌, ◌++◌, length, reverse, is_some, Option, Some, None, codes, decimal, IsTrue, IsUtf8}
+use Rattle.std.specs.List.{flat_map, join_with_byte, list_all, AllByRecursion}
+use Rattle.sg_names.specs.declared.rev_id.RevId.{RevId}
+use Rattle.sg_names.specs.Grammar.{is_doc_id, is_name}
+use Rattle.sg_names.specs.RevId.{rev_text, is_rev, same_rev}
+use Rattle.sg_names.specs.Revs.{revs_text, is_revs}
+use Rattle.sg_names.specs.Channels.{channels_text, is_channels}
+use Rattle.sg_names.specs.Names.{names_text, is_names}
+use Rattle.sg_names.specs.Grants.{grants_text, is_grants}
+use Rattle.sg_names.specs.RoleGrants.{role_grants_text, is_role_grants}
+use Rattle.sg_names.specs.Hex.{hex_text}
+use Rattle.sg_history.specs.declared.entries.Entry.{Entry}
+use Rattle.sg_history.specs.declared.entries.Entry.TheVariants as entry
+use Rattle.sg_history.specs.declared.entries.Write.{Write}
+use Rattle.sg_history.specs.Current.{write_of_rev}
+
+-- the first line
+abbrev pub header : List ℕ
+header = codes "sgjournal 1\n"
+
+-- `0` or `1`
+abbrev pub mark_text : Bool → List ℕ
+mark_text false = 48 ∷ []
+mark_text true = 49 ∷ []
+
+-- a name, or `-` for the administrator
+abbrev pub by_text : Option (List ℕ) → List ℕ
+by_text None = 45 ∷ []
+by_text (Some name) = name
+
+-- the fields of a write after its kind
+abbrev pub write_fields : Write → List (List ℕ)
+write_fields w =
+    w.doc ∷ rev_text w.rev ∷ revs_text w.ancestors ∷ mark_text w.deleted ∷ hex_text w.body ∷ by_text w.by
+    ∷ decimal w.at ∷ rev_text w.winner ∷ channels_text w.channels ∷ grants_text w.grants ∷ role_grants_text w.roles ∷ []
+
+-- the fields of an entry's line
+abbrev pub fields_of : Entry → List (List ℕ)
+fields_of (entry.Write w) = codes "W" ∷ write_fields w
+fields_of (entry.PutUser name channels roles) = codes "U" ∷ name ∷ channels_text channels ∷ names_text roles ∷ []
+fields_of (entry.PutRole name channels) = codes "R" ∷ name ∷ channels_text channels ∷ []
+fields_of (entry.DropUser name) = codes "DU" ∷ name ∷ []
+fields_of (entry.DropRole name) = codes "DR" ∷ name ∷ []
+fields_of entry.Unused = codes "X" ∷ []
+
+-- an entry's line, without its line feed
+abbrev pub line_of : Entry → List ℕ
+line_of e = join_with_byte 9 (fields_of e)
+
+-- the lines of entries
+abbrev pub lines_of : List Entry → List ℕ
+lines_of es = flat_map (λ e. line_of e ++ 10 ∷ []) es
+
+-- the text of a history
+abbrev pub journal_text : List Entry → List ℕ
+journal_text es = header ++ lines_of es
+
+abbrev pub is_by : Option (List ℕ) → Bool
+is_by None = true
+is_by (Some name) = is_name name
+
+-- the fields of a write are in their grammars
+abbrev pub is_write : Write → Bool
+is_write w =
+    is_doc_id w.doc && is_rev w.rev && is_revs w.ancestors && nat_lt 0 (length w.body) && list_all (λ b. nat_lt b 256) w.body
+    && is_by w.by && is_rev w.winner && is_channels w.channels && is_grants w.grants && is_role_grants w.roles
+
+-- the fields of an entry are in their grammars
+abbrev pub is_entry : Entry → Bool
+is_entry (entry.Write w) = is_write w
+is_entry (entry.PutUser name channels roles) = is_name name && is_channels channels && is_names roles
+is_entry (entry.PutRole name channels) = is_name name && is_channels channels
+is_entry (entry.DropUser name) = is_name name
+is_entry (entry.DropRole name) = is_name name
+is_entry entry.Unused = true
+
+-- an entry in its grammar: each field is, and each is UTF-8
+abbrev pub IsEntry : Entry → Type 0
+IsEntry e = IsTrue (is_entry e) × AllByRecursion IsUtf8 (fields_of e)
+
+-- a write in its grammar: each field after the kind is, and each is UTF-8
+abbrev pub IsWrite : Write → Type 0
+IsWrite w = IsTrue (is_write w) × AllByRecursion IsUtf8 (write_fields w)
+
+-- the generations fall strictly from this one on
+abbrev pub falls_from : ℕ → List RevId → Bool
+falls_from generation [] = true
+falls_from generation (rev ∷ revs) = nat_lt rev.generation generation && falls_from rev.generation revs
+
+-- whether an earlier write of the document has this revision
+abbrev pub has_rev : List Entry → List ℕ → RevId → Bool
+has_rev older doc rev = is_some (write_of_rev older doc rev)
+
+-- a write follows the rules: its revision is new, its history falls, it was judged before it was written, and its winner was written
+abbrev pub follows_rules : List Entry → Write → Bool
+follows_rules older w =
+    not (has_rev older w.doc w.rev) && falls_from w.rev.generation w.ancestors && nat_lt w.at (length older + 1)
+    && (same_rev w.winner w.rev || has_rev older w.doc w.winner)
+
+abbrev pub may_follow : List Entry → Entry → Bool
+may_follow older (entry.Write w) = follows_rules older w
+may_follow older (entry.PutUser name channels roles) = true
+may_follow older (entry.PutRole name channels) = true
+may_follow older (entry.DropUser name) = true
+may_follow older (entry.DropRole name) = true
+may_follow older entry.Unused = true
+
+-- the kinds of entry that a journal has: writes and puts of users
+abbrev pub is_recorded : Entry → Bool
+is_recorded (entry.Write w) = true
+is_recorded (entry.PutUser name channels roles) = true
+is_recorded (entry.PutRole name channels) = false
+is_recorded (entry.DropUser name) = false
+is_recorded (entry.DropRole name) = false
+is_recorded entry.Unused = false
+
+-- entries, the newest first, of which each is in its grammar, is recorded, and follows the rules
+abbrev pub IsRecord : List Entry → Type 0
+IsRecord [] = Unit {0}
+IsRecord (e ∷ older) = IsEntry e × IsTrue (is_recorded e) × IsTrue (may_follow older e) × IsRecord older
+
+-- the bytes are the journal of this history
+abbrev pub Spells : List ℕ → List Entry → Type 0
+Spells bytes es = IsRecord (reverse es) × (bytes ≡ journal_text es)

@@ -1,0 +1,7 @@
+-- a list of entries, with the spare room that was reserved for more
+use Rattle.std.specs.Prelude.{ℕ, List}
+use Rattle.sg_history.specs.declared.entries.Entry.{Entry}
+
+pub record Kept : Type 0 where
+  pub list : List Entry
+  pub spare : ℕ

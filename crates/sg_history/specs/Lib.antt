@@ -1,0 +1,14 @@
+pub use Rattle.sg_names.specs.Key
+pub use Rattle.sg_names.specs.RevId
+pub use Rattle.sg_names.specs.Grammar
+pub mod Kept
+pub mod History
+pub mod Current
+pub mod Principals
+pub mod View
+pub mod Feed
+pub mod Device
+pub mod Journal
+pub mod Line
+pub mod Pieces
+pub mod Refusal

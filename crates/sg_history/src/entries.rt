@@ -1,0 +1,129 @@
+//! Entries of a history, and the log that keeps them in order.
+
+ghost use Rattle.std.specs.Prelude.{◌≡◌, ◌++◌, ◌∷◌, ◌+◌, ◌≤◌, ◌<◌, [], length, OnOk, OnErr};
+ghost use Rattle.sg_history.specs.Kept.{Kept};
+
+use sg_names::{Channels, DocId, Grants, Name, Names, RevId, Revs, RoleGrants};
+use sg_outside::Bytes;
+use std::alloc::{AllocError, Global};
+use std::marker::Model;
+
+/// A revision that was written, with what the sync function made of it.
+#[derive(Drop)]
+pub struct Write {
+    pub doc: DocId,
+    pub rev: RevId,
+    /// The ancestors that it names, from the nearest; the first one is its parent.
+    pub ancestors: Revs,
+    pub deleted: bool,
+    pub body: Bytes,
+    /// Who wrote it; none for the administrator.
+    pub by: Option<Name>,
+    /// The front at which it was judged, below its own sequence.
+    pub at: u64,
+    /// The winner of the document's revisions after this one.
+    pub winner: RevId,
+    /// The channels of this revision.
+    pub channels: Channels,
+    /// The channels that this revision grants.
+    pub grants: Grants,
+    /// The roles that this revision gives.
+    pub roles: RoleGrants,
+}
+
+/// One entry of a history. Its place, counted from 1, is its sequence.
+#[derive(Drop)]
+pub enum Entry {
+    Write(Write),
+    /// A user, with channels and roles in place of those before.
+    PutUser(Name, Channels, Names),
+    /// A role, with channels in place of those before.
+    PutRole(Name, Channels),
+    DropUser(Name),
+    DropRole(Name),
+    /// A sequence that was drawn and given up.
+    Unused,
+}
+
+/// A list of entries with spare room: contracts see the list, and how many entries fit without memory.
+#[derive(Drop)]
+pub struct Entries {
+    items: Vec<Entry>,
+}
+
+impl Model for Entries {
+    ghost use Rattle.std.specs.Prelude.{◌-◌, vec_len, vec_capacity};
+    ghost use Rattle.sg_history.specs.Kept.{Kept};
+
+    ghost Value = { Kept };
+
+    ghost view = { λ e. record { list = e.items.items; spare = vec_capacity e.items - vec_len e.items } };
+}
+
+impl Entries {
+    /// No entries. Takes no memory.
+    pub fn new(alloc: Global) -> Entries
+        ensures { result.list ≡ [] }
+    {
+        Entries {
+            items: Vec::new(alloc),
+        }
+    }
+
+    pub fn as_slice(&self) -> &[Entry]
+        ensures { result.now ≡ self.now.list }
+    {
+        self.items.as_slice()
+    }
+
+    pub fn len(&self) -> usize
+        ensures { result ≡ length self.now.list }
+    {
+        self.items.len()
+    }
+
+    /// Puts an entry at the end.
+    pub fn push(&mut self, entry: Entry) -> Result<(), AllocError>
+        ensures ok { OnOk result (self.new.list ≡ self.old.list ++ entry ∷ []) }
+        ensures err { OnErr result (self.new.list ≡ self.old.list) }
+    {
+        self.items.push(entry)?;
+        Ok(())
+    }
+
+    /// Makes room for `more` further entries, counted from the ones that are there.
+    pub fn reserve(&mut self, more: usize) -> Result<(), AllocError>
+        ensures ok { OnOk result (more ≤ self.new.spare) }
+        ensures kept { self.new.list ≡ self.old.list }
+        ensures err { OnErr result (self.new.spare ≡ self.old.spare) }
+    {
+        self.items.reserve(more)?;
+        Ok(())
+    }
+
+    /// Puts an entry into reserved room at the end. Takes no memory.
+    pub fn put(&mut self, entry: Entry)
+        requires { 0 < self.old.spare }
+        ensures list { self.new.list ≡ self.old.list ++ entry ∷ [] }
+        ensures spare { self.new.spare + 1 ≡ self.old.spare }
+    {
+        self.items.push_reserved(entry);
+    }
+}
+
+/// A log: the entry at place k, counted from 1, has sequence k.
+#[derive(Drop)]
+pub struct Log {
+    pub entries: Entries,
+}
+
+impl Log {
+    /// An empty log. Takes no memory.
+    pub fn new(alloc: Global) -> Log
+        ensures { result.entries.list ≡ [] }
+    {
+        Log {
+            entries: Entries::new(alloc),
+        }
+    }
+}

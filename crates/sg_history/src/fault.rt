@@ -1,0 +1,69 @@
+//! Why a journal is refused.
+
+use std::alloc::AllocError;
+
+/// What is wrong with a line.
+#[derive(Clone, Copy, Debug, PartialEq, Eq)]
+pub enum Why {
+    /// The first line isn't the header.
+    Head,
+    /// The line has no line feed.
+    Ending,
+    /// Its first field is no kind of line.
+    Kind,
+    /// It has another number of fields.
+    Fields,
+    /// This field, counted from 1, is outside its grammar.
+    Field(u64),
+    /// The line breaks the rule of this field.
+    Rule(u64),
+    /// The file is longer than a file may be.
+    Long,
+}
+
+/// The first bad line, counted from 1 with the header as line 1; 0 stands for a whole file.
+#[derive(Clone, Copy, Debug, PartialEq, Eq)]
+pub struct BadLine {
+    pub place: u64,
+    pub why: Why,
+}
+
+/// Why a file of lines is refused.
+#[derive(Clone, Copy, Debug, PartialEq, Eq)]
+pub enum ReadLog {
+    Bad(BadLine),
+    /// Want of memory.
+    Memory,
+}
+
+impl From<AllocError> for ReadLog {
+    ghost use Rattle.std.specs.Prelude.{◌≡◌};
+    ghost use Rattle.sg_history.specs.declared.fault.ReadLog.{ReadLog};
+    ghost use Rattle.sg_history.specs.declared.fault.ReadLog.TheVariants.{Memory};
+
+    ghost from_gives = { λ _ r. r ≡ Memory };
+
+    fn from(_: AllocError) -> ReadLog {
+        ReadLog::Memory
+    }
+}
+
+/// Why one line is refused.
+#[derive(Clone, Copy, Debug, PartialEq, Eq)]
+pub enum LineFault {
+    Bad(Why),
+    /// Want of memory.
+    Memory,
+}
+
+impl From<AllocError> for LineFault {
+    ghost use Rattle.std.specs.Prelude.{◌≡◌};
+    ghost use Rattle.sg_history.specs.declared.fault.LineFault.{LineFault};
+    ghost use Rattle.sg_history.specs.declared.fault.LineFault.TheVariants.{Memory};
+
+    ghost from_gives = { λ _ r. r ≡ Memory };
+
+    fn from(_: AllocError) -> LineFault {
+        LineFault::Memory
+    }
+}

@@ -1,0 +1,21 @@
+//! The history of the gateway: entries, the log that keeps them in order, and what the history says of
+//! users, documents and feeds.
+#![tactic(auto)]
+
+pub mod entries;
+pub mod fault;
+pub mod field;
+pub mod fields;
+pub mod journal;
+pub mod line;
+pub mod row;
+
+pub use entries::{Entries, Entry, Log, Write};
+pub use fault::{BadLine, ReadLog, Why};
+pub use journal::read_journal;
+pub use row::{Options, Row, Rows};
+pub use sg_names::{
+    ChannelName, Channels, Client, Digest, DocId, Grant, Grantee, Grants, Key, KeyFault, Name,
+    Names, RevId, Revs, RoleGrant, RoleGrants, TextFault, from_hex, is_decimal, read_decimal,
+    write_decimal, write_hex,
+};

@@ -1,0 +1,9 @@
+pub mod Cuts
+pub mod Decimals
+pub mod GranteeOrder
+pub mod HexTexts
+pub mod ItemTexts
+pub mod KeyTexts
+pub mod ListTexts
+pub mod Lists
+pub mod RevTexts

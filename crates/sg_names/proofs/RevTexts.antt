@@ -1,0 +1,33 @@
+-- texts of revisions
+use Rattle.std.proofs.Common.{◌≡◌, ◌≢◌, ℕ, ◌<◌, ◌≤◌, ◌^◌, true, ◌&&◌, List, ◌∷◌, ◌++◌, refl, sym, ◌∙◌, arith}
+use Rattle.std.specs.Prelude.{decimal, nat_le, nat_lt}
+use Rattle.std.proofs.lemmas.Bool.{and_parts, leb-true}
+use borrow.Author.Tests.{ltb-true}
+use Rattle.sg_names.proofs.Cuts.{cut_same, lacks_seam}
+use Rattle.sg_names.proofs.Decimals.{lacks-decimal}
+use Rattle.sg_names.specs.Grammar.{is_digest, lacks}
+use Rattle.sg_names.specs.RevId.{is_rev, rev_text}
+use Rattle.sg_names.specs.declared.rev_id.RevId.{RevId}
+
+-- the parts of the test
+pub record HasRevParts (r : RevId) : Type 0 where
+  pub low : 1 ≤ r.generation
+  pub high : r.generation < 2 ^ 32
+  pub digest : is_digest r.digest ≡ true
+
+pub rev_parts : (r : RevId) → is_rev r ≡ true → HasRevParts r
+rev_parts r h =
+    let outer = and_parts (nat_le 1 r.generation && nat_lt r.generation 4294967296) (is_digest r.digest) h in
+    let range = and_parts (nat_le 1 r.generation) (nat_lt r.generation 4294967296) outer.0 in
+    record { low = leb-true 1 r.generation range.0; high = ltb-true r.generation 4294967296 range.1; digest = outer.1 }
+
+-- a text without `-` is no revision's
+pub rev_whole : (text : List ℕ) (r : RevId) → lacks 45 text ≡ true → text ≢ rev_text r
+rev_whole text r none = lacks_seam 45 text (decimal r.generation) r.digest none
+
+-- a revision's text is cut behind the generation
+pub rev_cut : (text front back : List ℕ) (r : RevId) → text ≡ front ++ 45 ∷ back → lacks 45 front ≡ true → is_rev r ≡ true
+    → text ≡ rev_text r → (front ≡ decimal r.generation) × (back ≡ r.digest)
+rev_cut text front back r cut first h e =
+    cut_same 45 front back (decimal r.generation) r.digest first
+    (lacks-decimal 45 r.generation refl (omega (arith, (rev_parts r h).high))) (sym cut ∙ e)

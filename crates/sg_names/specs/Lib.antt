@@ -1,0 +1,11 @@
+pub mod Channels
+pub mod Decimal
+pub mod Grammar
+pub mod Grants
+pub mod Hex
+pub mod ItemList
+pub mod Key
+pub mod Names
+pub mod RevId
+pub mod Revs
+pub mod RoleGrants

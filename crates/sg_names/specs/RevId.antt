@@ -1,0 +1,17 @@
+-- revisions
+use Rattle.std.specs.Prelude.{Bool, ◌&&◌, nat_eq, nat_le, nat_lt, ℕ, List, ◌∷◌, ◌++◌, decimal}
+use Rattle.std.specs.Str.{bytes_eq}
+use Rattle.sg_names.specs.Grammar.{is_digest}
+use Rattle.sg_names.specs.declared.rev_id.RevId.{RevId}
+
+-- the same generation and the same digest
+abbrev pub same_rev : RevId → RevId → Bool
+same_rev a b = nat_eq a.generation b.generation && bytes_eq a.digest b.digest
+
+-- the text `GENERATION-DIGEST`
+abbrev pub rev_text : RevId → List ℕ
+rev_text r = decimal r.generation ++ 45 ∷ r.digest
+
+-- a revision in the grammar: the generation is from 1 to 4,294,967,295
+abbrev pub is_rev : RevId → Bool
+is_rev r = nat_le 1 r.generation && nat_lt r.generation 4294967296 && is_digest r.digest

@@ -1,0 +1,235 @@
+//! Grants of channels.
+
+ghost use Rattle.std.specs.Prelude.{◌≡◌, ◌≢◌, ◌++◌, ◌∷◌, List, [], IsTrue, IfOk, OnOk, OnErr};
+ghost use Rattle.std.specs.Ordering.{nat_cmp};
+ghost use Rattle.std.specs.Cmp.Lexicographic.{slice_cmp};
+
+use crate::channel_name::ChannelName;
+use crate::fault::TextFault;
+use crate::item_list::{self, Item, Rising};
+use crate::name::Name;
+use crate::pieces;
+use sg_outside::{Bytes, Memory};
+use std::alloc::{AllocError, Global};
+use std::cmp::Ordering;
+use std::marker::Model;
+
+/// Whom a grant is to.
+#[derive(Drop)]
+pub enum Grantee {
+    User(Name),
+    Role(Name),
+}
+
+impl Grantee {
+    ghost use Rattle.sg_names.specs.Grants.{grantee_text, is_grantee};
+    ghost use Rattle.sg_names.specs.declared.grants.Grantee.{Grantee};
+
+    /// Reads one: `Bad` where the text is outside the grammar.
+    pub fn parse(alloc: Global, text: &str) -> Result<Grantee, TextFault>
+        ensures ok { IfOk result (λ g. (text.now ≡ grantee_text g) × IsTrue (is_grantee g)) }
+        ensures bad { result ≡ Err TextFault.Bad → (g : Grantee) → IsTrue (is_grantee g) → text.now ≢ grantee_text g }
+    {
+        match pieces::cut(text, ':') {
+            None => Ok(Grantee::User(Name::parse(alloc, text)?)),
+            Some((front, back)) => {
+                if front != "role" {
+                    return Err(TextFault::Bad);
+                }
+                Ok(Grantee::Role(Name::parse(alloc, back)?))
+            }
+        }
+    }
+
+    /// The order by texts.
+    fn order(&self, other: &Grantee) -> Ordering
+        ensures { result ≡ slice_cmp nat_cmp (grantee_text self.now) (grantee_text other.now) }
+    {
+        match (self, other) {
+            (Grantee::User(a), Grantee::User(b)) => a.order(b),
+            (Grantee::Role(a), Grantee::Role(b)) => a.order(b),
+            (Grantee::User(a), Grantee::Role(_)) => a.as_bytes().cmp(b"role:".as_slice()),
+            (Grantee::Role(_), Grantee::User(b)) => b"role:".as_slice().cmp(b.as_bytes()),
+        }
+    }
+
+    pub fn copy(&self, alloc: Global) -> Result<Grantee, AllocError>
+        ensures { IfOk result (λ g. g ≡ self.now) }
+    {
+        match self {
+            Grantee::User(name) => Ok(Grantee::User(name.copy(alloc)?)),
+            Grantee::Role(name) => Ok(Grantee::Role(name.copy(alloc)?)),
+        }
+    }
+}
+
+/// A channel that a document grants to a user or a role.
+#[derive(Drop)]
+pub struct Grant {
+    pub to: Grantee,
+    pub channel: ChannelName,
+}
+
+impl Grant {
+    ghost use Rattle.sg_names.specs.Grants.{grant_text, is_grant, grant_cmp};
+    ghost use Rattle.sg_names.specs.declared.grants.Grant.{Grant};
+
+    /// Reads one: `Bad` where the text is outside the grammar.
+    pub fn parse(alloc: Global, text: &str) -> Result<Grant, TextFault>
+        ensures ok { IfOk result (λ g. (text.now ≡ grant_text g) × IsTrue (is_grant g)) }
+        ensures bad { result ≡ Err TextFault.Bad → (g : Grant) → IsTrue (is_grant g) → text.now ≢ grant_text g }
+    {
+        let Some((front, back)) = pieces::cut(text, '=') else {
+            return Err(TextFault::Bad);
+        };
+        Ok(Grant {
+            to: Grantee::parse(alloc, front)?,
+            channel: ChannelName::parse(alloc, back)?,
+        })
+    }
+
+    /// The order by the text before the first `=`, then by the channel.
+    pub fn order(&self, other: &Grant) -> Ordering
+        ensures { result ≡ grant_cmp self.now other.now }
+    {
+        self.to
+            .order(&other.to)
+            .then(self.channel.order(&other.channel))
+    }
+
+    pub fn copy(&self, alloc: Global) -> Result<Grant, AllocError>
+        ensures { IfOk result (λ g. g ≡ self.now) }
+    {
+        Ok(Grant {
+            to: self.to.copy(alloc)?,
+            channel: self.channel.copy(alloc)?,
+        })
+    }
+
+    /// Puts the text at the end. An error leaves the bytes as they were.
+    pub fn write(&self, out: &mut Bytes) -> Result<(), Memory>
+        ensures ok { OnOk result (out.new ≡ out.old ++ grant_text self.now) }
+        ensures err { OnErr result (out.new ≡ out.old) }
+    {
+        let channel = self.channel.as_bytes();
+        match &self.to {
+            Grantee::User(name) => pieces::append(&[name.as_bytes(), b"=", channel], out),
+            Grantee::Role(name) => {
+                pieces::append(&[b"role:", name.as_bytes(), b"=", channel], out)
+            }
+        }
+    }
+}
+
+impl Item for Grant {
+    ghost use Rattle.sg_names.specs.Grants.{grant_text, is_grant};
+
+    ghost text = { λ g. grant_text g };
+
+    ghost admits = { λ g. is_grant g };
+
+    fn read(alloc: Global, piece: &str) -> Result<Grant, TextFault> {
+        Grant::parse(alloc, piece)
+    }
+
+    fn print(&self, out: &mut Bytes) -> Result<(), Memory> {
+        self.write(out)
+    }
+}
+
+impl Rising for Grant {
+    ghost use Rattle.sg_names.specs.Grants.{grant_cmp};
+
+    ghost order = { λ a b. grant_cmp a b };
+
+    fn compare(&self, other: &Grant) -> Ordering {
+        self.order(other)
+    }
+}
+
+/// A list of grants.
+#[derive(Drop)]
+pub struct Grants {
+    items: Vec<Grant>,
+}
+
+impl Model for Grants {
+    ghost use Rattle.std.specs.Prelude.{List};
+    ghost use Rattle.sg_names.specs.declared.grants.Grant.{Grant};
+
+    ghost Value = { List Grant };
+
+    ghost view = { λ l. l.items.items };
+}
+
+impl Grants {
+    ghost use Rattle.sg_names.specs.Grants.{grants_text, is_grants};
+    ghost use Rattle.sg_names.specs.declared.grants.Grant.{Grant};
+
+    /// None. Takes no memory.
+    pub fn new(alloc: Global) -> Grants
+        ensures { result ≡ [] }
+    {
+        Grants {
+            items: Vec::new(alloc),
+        }
+    }
+
+    /// The list of a vector's items. Takes no memory.
+    pub fn from_vec(items: Vec<Grant>) -> Grants
+        ensures { result ≡ items.items }
+    {
+        Grants { items }
+    }
+
+    /// The vector of the items. Takes no memory.
+    pub fn into_vec(self) -> Vec<Grant>
+        ensures { result.items ≡ self }
+    {
+        self.items
+    }
+
+    /// Reads the text of a list: `Bad` where it is outside the grammar, or does not rise.
+    pub fn parse(alloc: Global, text: &str) -> Result<Grants, TextFault>
+        ensures ok { IfOk result (λ l. (text.now ≡ grants_text l) × IsTrue (is_grants l)) }
+        ensures bad { result ≡ Err TextFault.Bad → (l : List Grant) → IsTrue (is_grants l) → text.now ≢ grants_text l }
+    {
+        let items = item_list::read_list(alloc, text)?;
+        if !item_list::rises(items.as_slice()) {
+            return Err(TextFault::Bad);
+        }
+        Ok(Grants { items })
+    }
+
+    pub fn as_slice(&self) -> &[Grant]
+        ensures { result.now ≡ self.now }
+    {
+        self.items.as_slice()
+    }
+
+    pub fn push(&mut self, item: Grant) -> Result<(), AllocError>
+        ensures ok { OnOk result (self.new ≡ self.old ++ item ∷ []) }
+        ensures err { OnErr result (self.new ≡ self.old) }
+    {
+        self.items.push(item)?;
+        Ok(())
+    }
+
+    pub fn copy(&self, alloc: Global) -> Result<Grants, AllocError>
+        ensures { IfOk result (λ l. l ≡ self.now) }
+    {
+        let mut items = Vec::new(alloc);
+        for item in self.items.as_slice() {
+            items.push(item.copy(alloc)?)?;
+        }
+        Ok(Grants { items })
+    }
+
+    /// Puts the text at the end. An error leaves the bytes as they were.
+    pub fn write(&self, out: &mut Bytes) -> Result<(), Memory>
+        ensures ok { OnOk result (out.new ≡ out.old ++ grants_text self.now) }
+        ensures err { OnErr result (out.new ≡ out.old) }
+    {
+        item_list::write_list(self.items.as_slice(), out)
+    }
+}

@@ -1,0 +1,180 @@
+//! Revisions and lists of them.
+
+ghost use Rattle.std.specs.Prelude.{◌≡◌, ◌≢◌, ◌++◌, ◌∷◌, ◌<◌, ◌≤◌, ◌^◌, List, ℕ, [], ◌↔◌, IsTrue, IfOk, OnOk, OnErr, IfSome, IfNone, decimal};
+
+use crate::decimal::read_decimal;
+use crate::digest::Digest;
+use crate::fault::TextFault;
+use crate::item_list::{self, Item};
+use crate::pieces;
+use itoa::Buffer;
+use sg_outside::{Bytes, Memory};
+use std::alloc::{AllocError, Global};
+use std::marker::Model;
+
+/// A revision: a generation from 1 upward, and a digest. Its text is `GENERATION-DIGEST`.
+#[derive(Drop)]
+pub struct RevId {
+    pub generation: u32,
+    pub digest: Digest,
+}
+
+impl RevId {
+    ghost use Rattle.sg_names.specs.RevId.{same_rev, rev_text, is_rev};
+    ghost use Rattle.sg_names.specs.declared.rev_id.RevId.{RevId};
+
+    /// Reads one: `Bad` where the text is outside the grammar.
+    pub fn parse(alloc: Global, text: &str) -> Result<RevId, TextFault>
+        ensures ok { IfOk result (λ r. (text.now ≡ rev_text r) × IsTrue (is_rev r)) }
+        ensures bad { result ≡ Err TextFault.Bad → (r : RevId) → IsTrue (is_rev r) → text.now ≢ rev_text r }
+    {
+        let Some((front, back)) = pieces::cut(text, '-') else {
+            return Err(TextFault::Bad);
+        };
+        let Some(generation) = read_generation(front) else {
+            return Err(TextFault::Bad);
+        };
+        Ok(RevId {
+            generation,
+            digest: Digest::parse(alloc, back)?,
+        })
+    }
+
+    /// Whether both are the same revision.
+    pub fn equals(&self, other: &RevId) -> bool
+        ensures value { result ≡ same_rev self.now other.now }
+        ensures same { IsTrue result ↔ (self.now ≡ other.now) }
+    {
+        self.generation == other.generation && self.digest.equals(&other.digest)
+    }
+
+    pub fn copy(&self, alloc: Global) -> Result<RevId, AllocError>
+        ensures { IfOk result (λ r. r ≡ self.now) }
+    {
+        Ok(RevId {
+            generation: self.generation,
+            digest: self.digest.copy(alloc)?,
+        })
+    }
+
+    /// Puts the text at the end. An error leaves the bytes as they were.
+    pub fn write(&self, out: &mut Bytes) -> Result<(), Memory>
+        ensures ok { OnOk result (out.new ≡ out.old ++ rev_text self.now) }
+        ensures err { OnErr result (out.new ≡ out.old) }
+    {
+        let mut buffer = Buffer::new();
+        let generation = buffer.format(self.generation).as_bytes();
+        pieces::append(&[generation, b"-", self.digest.as_bytes()], out)
+    }
+}
+
+impl Item for RevId {
+    ghost use Rattle.sg_names.specs.RevId.{rev_text, is_rev};
+
+    ghost text = { λ r. rev_text r };
+
+    ghost admits = { λ r. is_rev r };
+
+    fn read(alloc: Global, piece: &str) -> Result<RevId, TextFault> {
+        RevId::parse(alloc, piece)
+    }
+
+    fn print(&self, out: &mut Bytes) -> Result<(), Memory> {
+        self.write(out)
+    }
+}
+
+/// The generation from 1 to 4,294,967,295 of which the text is the decimal.
+fn read_generation(text: &str) -> Option<u32>
+    ensures some { IfSome result (λ n. (text.now ≡ decimal n) × (1 ≤ n)) }
+    ensures none { IfNone result ((n : ℕ) → 1 ≤ n → n < 2 ^ 32 → text.now ≢ decimal n) }
+{
+    match read_decimal(text) {
+        Some(n) if n >= 1 && n <= u32::MAX as u64 => Some(n as u32),
+        _ => None,
+    }
+}
+
+/// A list of revisions.
+#[derive(Drop)]
+pub struct Revs {
+    items: Vec<RevId>,
+}
+
+impl Model for Revs {
+    ghost use Rattle.std.specs.Prelude.{List};
+    ghost use Rattle.sg_names.specs.declared.rev_id.RevId.{RevId};
+
+    ghost Value = { List RevId };
+
+    ghost view = { λ l. l.items.items };
+}
+
+impl Revs {
+    ghost use Rattle.sg_names.specs.Revs.{revs_text, is_revs};
+    ghost use Rattle.sg_names.specs.declared.rev_id.RevId.{RevId};
+
+    /// None. Takes no memory.
+    pub fn new(alloc: Global) -> Revs
+        ensures { result ≡ [] }
+    {
+        Revs {
+            items: Vec::new(alloc),
+        }
+    }
+
+    /// The list of a vector's items. Takes no memory.
+    pub fn from_vec(items: Vec<RevId>) -> Revs
+        ensures { result ≡ items.items }
+    {
+        Revs { items }
+    }
+
+    /// The vector of the items. Takes no memory.
+    pub fn into_vec(self) -> Vec<RevId>
+        ensures { result.items ≡ self }
+    {
+        self.items
+    }
+
+    /// Reads the text of a list: `Bad` where it is outside the grammar.
+    pub fn parse(alloc: Global, text: &str) -> Result<Revs, TextFault>
+        ensures ok { IfOk result (λ l. (text.now ≡ revs_text l) × IsTrue (is_revs l)) }
+        ensures bad { result ≡ Err TextFault.Bad → (l : List RevId) → IsTrue (is_revs l) → text.now ≢ revs_text l }
+    {
+        let items = item_list::read_list(alloc, text)?;
+        Ok(Revs { items })
+    }
+
+    pub fn as_slice(&self) -> &[RevId]
+        ensures { result.now ≡ self.now }
+    {
+        self.items.as_slice()
+    }
+
+    pub fn push(&mut self, item: RevId) -> Result<(), AllocError>
+        ensures ok { OnOk result (self.new ≡ self.old ++ item ∷ []) }
+        ensures err { OnErr result (self.new ≡ self.old) }
+    {
+        self.items.push(item)?;
+        Ok(())
+    }
+
+    pub fn copy(&self, alloc: Global) -> Result<Revs, AllocError>
+        ensures { IfOk result (λ l. l ≡ self.now) }
+    {
+        let mut items = Vec::new(alloc);
+        for item in self.items.as_slice() {
+            items.push(item.copy(alloc)?)?;
+        }
+        Ok(Revs { items })
+    }
+
+    /// Puts the text at the end. An error leaves the bytes as they were.
+    pub fn write(&self, out: &mut Bytes) -> Result<(), Memory>
+        ensures ok { OnOk result (out.new ≡ out.old ++ revs_text self.now) }
+        ensures err { OnErr result (out.new ≡ out.old) }
+    {
+        item_list::write_list(self.items.as_slice(), out)
+    }
+}
