@@ -306,6 +306,9 @@ value_after-checksum sent f = by (has_checksum f.kind) where
 pub frame_from : (sent : List ℕ) (value : ℕ) (bytes : List ℕ) (f : FrameParts) → value ≡ checksum sent → IsFrameFrom value bytes f → IsFrameAfter sent bytes f
 frame_from sent value bytes f e is = subst (λ (v : ℕ). IsFrame v bytes f) (ap (λ (v : ℕ). value_after v f) e ∙ value_after-checksum sent f) is
 
+pub frame_sent : (sent : List ℕ) (value : ℕ) (bytes : List ℕ) (f : FrameParts) → value ≡ checksum sent → IsFrameAfter sent bytes f → IsFrameFrom value bytes f
+frame_sent sent value bytes f e is = subst (λ (v : ℕ). IsFrame v bytes f) (sym (ap (λ (v : ℕ). value_after v f) e ∙ value_after-checksum sent f)) is
+
 -- ---- what is written
 
 pub flags_below : (f : FrameParts) → flags_of f < 2 ^ 64

@@ -87,9 +87,11 @@ pub fn read_frame<'a>(crc: &mut Crc, bytes: &'a [u8]) -> Result<Frame<'a>, Frame
     ensures found { IfOk result (λ f. IsFrameFrom crc.old.value bytes.now (parts_of f)) }
     ensures only { (f : FrameParts) → IsFrameFrom crc.old.value bytes.now f → IsOkAnd result (λ g. parts_of g ≡ f) }
 
-    // In a direction in which these bytes were sent.
+    // The same in a direction in which these bytes were sent.
     ensures sent { (sent : List ℕ) → crc.old.value ≡ checksum sent → IfOk result
         (λ f. IsFrameAfter sent bytes.now (parts_of f) × (crc.new.value ≡ checksum (sent_after sent (parts_of f)))) }
+    ensures sent_only { (sent : List ℕ) (f : FrameParts) → crc.old.value ≡ checksum sent → IsFrameAfter sent bytes.now f
+        → IsOkAnd result (λ g. parts_of g ≡ f) }
 
     // A fault is the first one.
     ensures exact { MatchResult result
