@@ -1,0 +1,5 @@
+pub mod Register
+pub mod Varints
+pub mod Frames
+pub mod Blocks
+pub mod Payloads

@@ -1,0 +1,5 @@
+pub mod Checksum
+pub mod Varint
+pub mod Frame
+pub mod Props
+pub mod Payload

@@ -1,0 +1,18 @@
+//! BLIP frames and message payloads, read and written exactly.
+#![tactic(auto)]
+
+pub mod crc;
+pub mod frame;
+pub mod laws;
+pub mod payload;
+pub mod props;
+pub mod varint;
+
+pub use crc::Crc;
+pub use frame::{Frame, FrameFault, Kind, read_frame, write_frame};
+pub use payload::{Payload, PayloadFault, read_payload, write_payload};
+pub use props::{Prop, Props};
+pub use varint::{VarintFault, read_varint, write_varint};
+
+#[cfg(test)]
+mod tests;
