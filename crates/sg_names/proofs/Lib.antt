@@ -6,4 +6,5 @@ pub mod ItemTexts
 pub mod KeyTexts
 pub mod ListTexts
 pub mod Lists
+pub mod OneText
 pub mod RevTexts

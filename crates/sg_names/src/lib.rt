@@ -13,6 +13,7 @@ pub mod grants;
 pub mod hex;
 pub mod item_list;
 pub mod key;
+pub mod laws;
 pub mod name;
 pub mod names;
 pub mod pieces;
