@@ -11,7 +11,7 @@ use Rattle.sg_names.specs.Grammar.{lacks}
 is_digit-from : (d : ℕ) → d < 10 → is_digit (48 + d) ≡ true
 is_digit-from d small = and_from _ _ (le-leb 48 (48 + d) (omega arith)) (le-leb (48 + d) 57 (omega arith))
 
-digit_range : (b : ℕ) → is_digit b ≡ true → (48 ≤ b) × (b ≤ 57)
+pub digit_range : (b : ℕ) → is_digit b ≡ true → (48 ≤ b) × (b ≤ 57)
 digit_range b h = let both = and_parts (nat_le 48 b) (nat_le b 57) h in (leb-true 48 b both.0, leb-true b 57 both.1)
 
 -- the parts of the test
@@ -61,12 +61,14 @@ digits_lack c (b ∷ bs) other h =
     let apart : b ≢ c = λ e. cc (ap is_digit e) in
     and_from _ _ (not_from_false (nat_eq b c) (ne_eqb b c apart)) (digits_lack c bs other parts.1)
 
+-- a decimal is of digits
+pub decimal_digits : (ds : List ℕ) → is_decimal ds ≡ true → list_all is_digit ds ≡ true
+decimal_digits [] h = refl
+decimal_digits (b ∷ bs) h = let parts = decimal_parts b bs h in and_from _ _ parts.0 parts.1
+
 -- a decimal lacks a byte that is no digit
 pub decimals_lack : (c : ℕ) (ds : List ℕ) → is_digit c ≡ false → is_decimal ds ≡ true → lacks c ds ≡ true
-decimals_lack c [] other h = refl
-decimals_lack c (b ∷ bs) other h =
-    let parts = decimal_parts b bs h in
-    digits_lack c (b ∷ bs) other (and_from _ _ parts.0 parts.1)
+decimals_lack c ds other h = digits_lack c ds other (decimal_digits ds h)
 
 pub lacks-decimal : (c n : ℕ) → is_digit c ≡ false → n < 2 ^ 64 → lacks c (decimal n) ≡ true
 lacks-decimal c n other small = decimals_lack c (decimal n) other (is_decimal-decimal n small)

@@ -7,4 +7,5 @@ pub mod KeyTexts
 pub mod ListTexts
 pub mod Lists
 pub mod OneText
+pub mod PlainTexts
 pub mod RevTexts

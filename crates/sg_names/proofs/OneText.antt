@@ -1,5 +1,5 @@
 -- each text is that of one value
-use Rattle.std.proofs.Common.{◌≡◌, ℕ, ◌+◌, ◌*◌, ◌<◌, ◌≤◌, ◌/◌, ◌%◌, Bool, true, cond, List, [], ◌∷◌, length, refl, sym, ap, ◌∙◌, arith, ◌⊎◌, inl, inr}
+use Rattle.std.proofs.Common.{◌≡◌, ℕ, ◌+◌, ◌*◌, ◌<◌, ◌≤◌, ◌/◌, ◌%◌, true, cond, List, [], ◌∷◌, length, refl, sym, ap, ◌∙◌, arith, ◌⊎◌, inl, inr}
 use Rattle.std.specs.Prelude.{nat_lt}
 use Rattle.std.specs.List.{list_all}
 use Rattle.std.proofs.lemmas.Bool.{and_parts, and_from, or_left, or_right, le-leb, lt-ltb, le-ltb, eq-eqb, cases_lt}
@@ -10,7 +10,7 @@ use Rattle.sg_names.proofs.Lists.{lists_same}
 use Rattle.sg_names.specs.Channels.{channels_text, is_channels}
 use Rattle.sg_names.specs.Grammar.{is_channel_name, is_name}
 use Rattle.sg_names.specs.Grants.{grants_text, is_grants, grant_text, is_grant}
-use Rattle.sg_names.specs.Hex.{hex_digit, hex_text, is_hex, is_hex_digit}
+use Rattle.sg_names.specs.Hex.{hex_digit, hex_text, is_hex, is_hex_digit, are_bytes}
 use Rattle.sg_names.specs.ItemList.{list_text}
 use Rattle.sg_names.specs.Names.{names_text, is_names}
 use Rattle.sg_names.specs.RevId.{rev_text, is_rev}
@@ -59,9 +59,6 @@ digit_is n small = elim (digit_cases n) [
   | inr a ↦ ap is_hex_digit a.1 ∙ or_right _ _ (and_from _ _ (le-leb 97 (87 + n) (omega (arith, a.0))) (le-leb (87 + n) 102 (omega arith)))
 ]
 
-abbrev are_bytes : List ℕ → Bool
-are_bytes bytes = list_all (λ c. nat_lt c 256) bytes
-
 byte_parts : (b : ℕ) (bs : List ℕ) → are_bytes (b ∷ bs) ≡ true → (b < 256) × (are_bytes bs ≡ true)
 byte_parts b bs h = let both = and_parts (nat_lt b 256) (are_bytes bs) h in (ltb-true b 256 both.0, both.1)
 
@@ -81,7 +78,7 @@ hex_same (x ∷ xs) (y ∷ ys) h g e =
     let tail = hex_same xs ys a.1 b.1 others in
     λ i. head i ∷ tail i
 
-hex_digits : (bytes : List ℕ) → are_bytes bytes ≡ true → list_all (λ b. is_hex_digit b) (hex_text bytes) ≡ true
+pub hex_digits : (bytes : List ℕ) → are_bytes bytes ≡ true → list_all (λ b. is_hex_digit b) (hex_text bytes) ≡ true
 hex_digits [] h = refl
 hex_digits (b ∷ bs) h =
     let a = byte_parts b bs h in

@@ -7,9 +7,13 @@ use Rattle.std.specs.Str.{bytes_eq}
 abbrev pub is_plain_byte : ℕ → Bool
 is_plain_byte b = nat_le 32 b && not (nat_eq b 127)
 
+-- no control characters
+abbrev pub is_plain : List ℕ → Bool
+is_plain text = list_all (λ b. is_plain_byte b) text
+
 -- 1 to 250 bytes without control characters
 abbrev pub is_plain_text : List ℕ → Bool
-is_plain_text text = nat_lt 0 (length text) && nat_le (length text) 250 && list_all (λ b. is_plain_byte b) text
+is_plain_text text = nat_lt 0 (length text) && nat_le (length text) 250 && is_plain text
 
 -- the byte does not stand in the text
 abbrev pub lacks : ℕ → List ℕ → Bool

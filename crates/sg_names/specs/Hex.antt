@@ -17,3 +17,7 @@ is_hex_digit b = (nat_le 48 b && nat_le b 57) || (nat_le 97 b && nat_le b 102)
 -- the text of at least one byte: not empty, of even length, and of lower-case hexadecimal digits
 abbrev pub is_hex : List ℕ → Bool
 is_hex text = nat_lt 0 (length text) && (length text % 2 == 0) && list_all (λ b. is_hex_digit b) text
+
+-- each number is a byte
+abbrev pub are_bytes : List ℕ → Bool
+are_bytes bytes = list_all (λ b. nat_lt b 256) bytes

@@ -36,3 +36,7 @@ pub record IsLowForm (text : List ℕ) : Type 0 where
   pub seq : List ℕ
   pub decimals : IsTrue (are_low_parts low by seq)
   pub spelled : text ≡ low ++ 58 ∷ by ++ 58 ∷ seq
+
+-- the text is read as no key, and is no low form
+abbrev pub IsBadKey : List ℕ → Type 0
+IsBadKey text = ((k : Key) → ¬ (ReadsKey text k)) × ¬ (IsLowForm text)

@@ -11,7 +11,7 @@ fn is_plain_byte(byte: u8) -> bool
 }
 
 fn all_plain(text: &[u8]) -> bool
-    ensures { result ≡ list_all (λ b. grammar.is_plain_byte b) text.now }
+    ensures { result ≡ grammar.is_plain text.now }
 {
     text.iter().all(|b| is_plain_byte(*b))
 }

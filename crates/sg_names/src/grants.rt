@@ -28,7 +28,8 @@ impl Grantee {
     /// Reads one: `Bad` where the text is outside the grammar.
     pub fn parse(alloc: Global, text: &str) -> Result<Grantee, TextFault>
         ensures ok { IfOk result (λ g. (text.now ≡ grantee_text g) × IsTrue (is_grantee g)) }
-        ensures bad { result ≡ Err TextFault.Bad → (g : Grantee) → IsTrue (is_grantee g) → text.now ≢ grantee_text g }
+        ensures bad { result ≡ Err TextFault.Bad → (g : Grantee) → IsTrue (is_grantee g)
+            → text.now ≢ grantee_text g }
     {
         match pieces::cut(text, ':') {
             None => Ok(Grantee::User(Name::parse(alloc, text)?)),
@@ -192,7 +193,8 @@ impl Grants {
     /// Reads the text of a list: `Bad` where it is outside the grammar, or does not rise.
     pub fn parse(alloc: Global, text: &str) -> Result<Grants, TextFault>
         ensures ok { IfOk result (λ l. (text.now ≡ grants_text l) × IsTrue (is_grants l)) }
-        ensures bad { result ≡ Err TextFault.Bad → (l : List Grant) → IsTrue (is_grants l) → text.now ≢ grants_text l }
+        ensures bad { result ≡ Err TextFault.Bad → (l : List Grant) → IsTrue (is_grants l)
+            → text.now ≢ grants_text l }
     {
         let items = item_list::read_list(alloc, text)?;
         if !item_list::rises(items.as_slice()) {

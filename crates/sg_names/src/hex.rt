@@ -73,7 +73,8 @@ fn value_of(digit: u8) -> u8
 fn read_while(text: &[u8], out: &mut Bytes) -> Result<(), Memory>
     requires even { length text.now % 2 ≡ 0 }
     requires digits { IsTrue (list_all (λ b. hex.is_hex_digit b) text.now) }
-    ensures ok { OnOk result ((bytes : List ℕ) × (text.now ≡ hex.hex_text bytes) × (out.new ≡ out.old ++ bytes)) }
+    ensures ok { OnOk result ((bytes : List ℕ) × (text.now ≡ hex.hex_text bytes)
+        × (out.new ≡ out.old ++ bytes)) }
     ensures err { OnErr result (take (length out.old) out.new ≡ out.old) }
 {
     for i in 0..text.len() / 2 {
@@ -85,7 +86,8 @@ fn read_while(text: &[u8], out: &mut Bytes) -> Result<(), Memory>
 /// Puts the bytes of a text at the end: `Bad` where it is empty, odd in length or has a byte that is
 /// no lower-case hexadecimal digit. A refusal leaves `out` as it was.
 pub fn from_hex(text: &[u8], out: &mut Bytes) -> Result<(), TextFault>
-    ensures ok { OnOk result ((bytes : List ℕ) × (text.now ≡ hex.hex_text bytes) × (out.new ≡ out.old ++ bytes)) }
+    ensures ok { OnOk result ((bytes : List ℕ) × (text.now ≡ hex.hex_text bytes)
+        × (out.new ≡ out.old ++ bytes)) }
     ensures grammar { OnOk result (IsTrue (hex.is_hex text.now)) }
     ensures bad { result ≡ Err TextFault.Bad → ¬ IsTrue (hex.is_hex text.now) }
     ensures err { OnErr result (out.new ≡ out.old) }

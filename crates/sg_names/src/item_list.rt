@@ -42,8 +42,10 @@ pub trait Rising: Item {
 
 /// Reads an item from each piece: `Bad` where one is outside the grammar.
 fn read_items<T: Item>(alloc: Global, pieces: &[&str]) -> Result<Vec<T>, TextFault>
-    ensures ok { IfOk result (λ v. (map (λ p. p.now) pieces.now ≡ map T.text v.items) × IsTrue (list_all T.admits v.items)) }
-    ensures bad { result ≡ Err TextFault.Bad → (xs : List T) → IsTrue (list_all T.admits xs) → map (λ p. p.now) pieces.now ≢ map T.text xs }
+    ensures ok { IfOk result (λ v. (map (λ p. p.now) pieces.now ≡ map T.text v.items)
+        × IsTrue (list_all T.admits v.items)) }
+    ensures bad { result ≡ Err TextFault.Bad → (xs : List T) → IsTrue (list_all T.admits xs)
+        → map (λ p. p.now) pieces.now ≢ map T.text xs }
 {
     let mut items = Vec::new(alloc);
     for piece in pieces {
@@ -55,9 +57,12 @@ fn read_items<T: Item>(alloc: Global, pieces: &[&str]) -> Result<Vec<T>, TextFau
 /// Reads the text of a list, in any order: `Bad` where it is outside the grammar.
 pub fn read_list<T: Item>(alloc: Global, text: &str) -> Result<Vec<T>, TextFault>
     requires { lists.AreApart T.text T.admits }
-    ensures ok { IfOk result (λ v. (text.now ≡ list_text (map T.text v.items)) × IsTrue (list_all T.admits v.items)) }
-    ensures only { IfOk result (λ v. (xs : List T) → IsTrue (list_all T.admits xs) → text.now ≡ list_text (map T.text xs) → v.items ≡ xs) }
-    ensures bad { result ≡ Err TextFault.Bad → (xs : List T) → IsTrue (list_all T.admits xs) → text.now ≢ list_text (map T.text xs) }
+    ensures ok { IfOk result (λ v. (text.now ≡ list_text (map T.text v.items))
+        × IsTrue (list_all T.admits v.items)) }
+    ensures only { IfOk result (λ v. (xs : List T) → IsTrue (list_all T.admits xs)
+        → text.now ≡ list_text (map T.text xs) → v.items ≡ xs) }
+    ensures bad { result ≡ Err TextFault.Bad → (xs : List T) → IsTrue (list_all T.admits xs)
+        → text.now ≢ list_text (map T.text xs) }
 {
     if text == "-" {
         return Ok(Vec::new(alloc));

@@ -3,7 +3,7 @@
 ghost use Rattle.std.specs.Prelude.{◌≡◌, ◌≢◌, ◌↔◌, ◌++◌, ◌∷◌, IsTrue, IfOk, OnOk, OnErr};
 ghost use Rattle.sg_names.specs.Grammar.{lacks};
 ghost use Rattle.sg_names.specs.Key as keys;
-ghost use Rattle.sg_names.specs.Key.{key_cmp, key_text, ReadsKey, IsLowForm};
+ghost use Rattle.sg_names.specs.Key.{key_cmp, key_text, ReadsKey, IsLowForm, IsBadKey};
 ghost use Rattle.sg_names.specs.declared.key.Key.{Key};
 
 use crate::decimal::{is_decimal, read_decimal, write_decimal};
@@ -35,7 +35,7 @@ impl Key {
         ensures ok { IfOk result (λ k. ReadsKey text.now k) }
         ensures read { (k : Key) → ReadsKey text.now k → result ≡ Ok k }
         ensures low_form { (result ≡ Err KeyFault.LowForm) ↔ IsLowForm text.now }
-        ensures bad_key { (result ≡ Err KeyFault.BadKey) ↔ (((k : Key) → ¬ (ReadsKey text.now k)) × ¬ (IsLowForm text.now)) }
+        ensures bad_key { (result ≡ Err KeyFault.BadKey) ↔ IsBadKey text.now }
     {
         find_key(text)
     }
@@ -81,7 +81,7 @@ fn are_low_parts(low: &str, by: &str, seq: &str) -> bool
 fn find_key(text: &str) -> Result<Key, KeyFault>
     ensures ok { IfOk result (λ k. ReadsKey text.now k) }
     ensures low_form { result ≡ Err KeyFault.LowForm → IsLowForm text.now }
-    ensures bad_key { result ≡ Err KeyFault.BadKey → ((k : Key) → ¬ (ReadsKey text.now k)) × ¬ (IsLowForm text.now) }
+    ensures bad_key { result ≡ Err KeyFault.BadKey → IsBadKey text.now }
 {
     match pieces::cut(text, ':') {
         Some((front, back)) => find_pair(front, back),
@@ -94,7 +94,7 @@ fn find_plain(text: &str) -> Result<Key, KeyFault>
     requires { IsTrue (lacks 58 text.now) }
     ensures ok { IfOk result (λ k. ReadsKey text.now k) }
     ensures low_form { result ≢ Err KeyFault.LowForm }
-    ensures bad_key { result ≡ Err KeyFault.BadKey → ((k : Key) → ¬ (ReadsKey text.now k)) × ¬ (IsLowForm text.now) }
+    ensures bad_key { result ≡ Err KeyFault.BadKey → IsBadKey text.now }
 {
     match read_decimal(text) {
         Some(seq) => Ok(Key { by: seq, seq }),
@@ -107,7 +107,7 @@ fn find_pair(front: &str, back: &str) -> Result<Key, KeyFault>
     requires { IsTrue (lacks 58 front.now) }
     ensures ok { IfOk result (λ k. ReadsKey (front.now ++ 58 ∷ back.now) k) }
     ensures low_form { result ≡ Err KeyFault.LowForm → IsLowForm (front.now ++ 58 ∷ back.now) }
-    ensures bad_key { result ≡ Err KeyFault.BadKey → ((k : Key) → ¬ (ReadsKey (front.now ++ 58 ∷ back.now) k)) × ¬ (IsLowForm (front.now ++ 58 ∷ back.now)) }
+    ensures bad_key { result ≡ Err KeyFault.BadKey → IsBadKey (front.now ++ 58 ∷ back.now) }
 {
     match pieces::cut(back, ':') {
         Some((by, seq)) if are_low_parts(front, by, seq) => Err(KeyFault::LowForm),

@@ -34,3 +34,6 @@ pub use name::Name;
 pub use names::Names;
 pub use rev_id::{RevId, Revs};
 pub use role_grants::{RoleGrant, RoleGrants};
+
+#[cfg(test)]
+mod tests;

@@ -51,7 +51,8 @@ impl Names {
     /// Reads the text of a list: `Bad` where it is outside the grammar, or does not rise.
     pub fn parse(alloc: Global, text: &str) -> Result<Names, TextFault>
         ensures ok { IfOk result (λ l. (text.now ≡ names_text l) × IsTrue (is_names l)) }
-        ensures bad { result ≡ Err TextFault.Bad → (l : List (List ℕ)) → IsTrue (is_names l) → text.now ≢ names_text l }
+        ensures bad { result ≡ Err TextFault.Bad → (l : List (List ℕ)) → IsTrue (is_names l)
+            → text.now ≢ names_text l }
     {
         let items = item_list::read_list(alloc, text)?;
         if !item_list::rises(items.as_slice()) {

@@ -140,7 +140,8 @@ impl Revs {
     /// Reads the text of a list: `Bad` where it is outside the grammar.
     pub fn parse(alloc: Global, text: &str) -> Result<Revs, TextFault>
         ensures ok { IfOk result (λ l. (text.now ≡ revs_text l) × IsTrue (is_revs l)) }
-        ensures bad { result ≡ Err TextFault.Bad → (l : List RevId) → IsTrue (is_revs l) → text.now ≢ revs_text l }
+        ensures bad { result ≡ Err TextFault.Bad → (l : List RevId) → IsTrue (is_revs l)
+            → text.now ≢ revs_text l }
     {
         let items = item_list::read_list(alloc, text)?;
         Ok(Revs { items })

@@ -25,7 +25,8 @@ impl RoleGrant {
     /// Reads one: `Bad` where the text is outside the grammar.
     pub fn parse(alloc: Global, text: &str) -> Result<RoleGrant, TextFault>
         ensures ok { IfOk result (λ g. (text.now ≡ role_grant_text g) × IsTrue (is_role_grant g)) }
-        ensures bad { result ≡ Err TextFault.Bad → (g : RoleGrant) → IsTrue (is_role_grant g) → text.now ≢ role_grant_text g }
+        ensures bad { result ≡ Err TextFault.Bad → (g : RoleGrant) → IsTrue (is_role_grant g)
+            → text.now ≢ role_grant_text g }
     {
         let Some((front, back)) = pieces::cut(text, '=') else {
             return Err(TextFault::Bad);
@@ -134,7 +135,8 @@ impl RoleGrants {
     /// Reads the text of a list: `Bad` where it is outside the grammar, or does not rise.
     pub fn parse(alloc: Global, text: &str) -> Result<RoleGrants, TextFault>
         ensures ok { IfOk result (λ l. (text.now ≡ role_grants_text l) × IsTrue (is_role_grants l)) }
-        ensures bad { result ≡ Err TextFault.Bad → (l : List RoleGrant) → IsTrue (is_role_grants l) → text.now ≢ role_grants_text l }
+        ensures bad { result ≡ Err TextFault.Bad → (l : List RoleGrant) → IsTrue (is_role_grants l)
+            → text.now ≢ role_grants_text l }
     {
         let items = item_list::read_list(alloc, text)?;
         if !item_list::rises(items.as_slice()) {
