@@ -9,6 +9,7 @@ pub mod fields;
 pub mod journal;
 pub mod line;
 pub mod row;
+pub mod write_line;
 
 pub use entries::{Entries, Entry, Log, Write};
 pub use fault::{BadLine, ReadLog, Why};
