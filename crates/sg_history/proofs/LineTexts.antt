@@ -1,6 +1,6 @@
 -- the line of an entry and its fields
-use Rattle.std.proofs.Common.{◌≡◌, ◌≢◌, ℕ, ◌+◌, ◌<◌, ◌≤◌, Bool, true, false, ◌&&◌, not, List, [], ◌∷◌, ◌++◌, length, refl, sym, ap, ◌∙◌, arith, map, if◌then◌else◌, IfOk, IfErr, IsUtf8, decimal, codes, Option, Some, None, inl, inr}
-use Rattle.std.specs.Prelude.{nat_eq, nat_lt, nat_le, Result, Ok, Err, MatchBool}
+use Rattle.std.proofs.Common.{◌≡◌, ℕ, ◌<◌, ◌≤◌, Bool, true, false, ◌&&◌, not, List, [], ◌∷◌, length, refl, sym, ap, ◌∙◌, arith, if◌then◌else◌, IfOk, Option, Some, None, inl, inr}
+use Rattle.std.specs.Prelude.{nat_eq, nat_lt, nat_le, Result, Ok, Err}
 use Rattle.std.specs.List.{list_all, join_with_byte}
 use Rattle.std.proofs.lemmas.Bool.{and_parts, and_from, cases_Bool, eqb-true}
 use Rattle.std.proofs.lemmas.List.Folds.{list_all-append}
@@ -11,8 +11,8 @@ use Rattle.sg_history.specs.declared.entries.Entry.TheVariants as entry
 use Rattle.sg_history.specs.declared.fault.LineFault.{LineFault}
 use Rattle.sg_history.specs.declared.line.ReadEntry.{ReadEntry}
 use Rattle.sg_history.specs.Pieces.{pieces, begin_with}
-use Rattle.sg_history.specs.Journal.{IsEntry, IsWrite, fields_of, line_of, mark_text, by_text, is_by}
-use Rattle.sg_history.specs.Line.{IsLineEntry, NoEntry, NoLine, ReadsEntry, ReadsLine}
+use Rattle.sg_history.specs.Journal.{IsEntry, fields_of, line_of, mark_text, by_text, is_by}
+use Rattle.sg_history.specs.Line.{NoEntry, NoLine, ReadsEntry, ReadsLine}
 use Rattle.sg_history.proofs.PieceLemmas.{pieces-lacking, pieces-cut, pieces-some}
 
 -- pieces that are joined are the pieces again

@@ -1,11 +1,10 @@
 -- the fields of a write
-use Rattle.std.proofs.Common.{◌≡◌, ◌≢◌, ℕ, ◌+◌, ◌*◌, ◌<◌, ◌≤◌, ◌^◌, ◌/◌, ◌%◌, Bool, true, false, ◌&&◌, ◌||◌, cond, List, [], ◌∷◌, length, refl, sym, ap, ◌∙◌, subst, arith, inl, inr, ◌⊎◌, unwrap_or, decimal, MatchOption, IsUtf8, IsTrue, Option, Some, None}
-use Rattle.std.specs.Prelude.{nat_lt, nat_le, is_some, MatchResult, IfErr, Result, Ok, Err}
+use Rattle.std.proofs.Common.{◌≡◌, ℕ, ◌+◌, ◌<◌, ◌^◌, ◌/◌, ◌%◌, Bool, true, ◌&&◌, cond, List, [], ◌∷◌, length, refl, sym, ap, ◌∙◌, subst, arith, inl, inr, unwrap_or, decimal, MatchOption, IsUtf8, IsTrue, Option, Some, None}
+use Rattle.std.specs.Prelude.{nat_lt, nat_le, is_some, IfErr, Result, Ok, Err}
 use Rattle.std.specs.List.{list_all}
 use Rattle.std.proofs.lemmas.Bool.{and_parts, and_from, or_cases, lt-ltb, leb-true, cases_lt, le-ltb}
 use Rattle.std.proofs.lemmas.Fmt.{IsAscii-decimal}
 use Rattle.std.proofs.lemmas.Str.{IsUtf8-from_ascii}
-use borrow.Author.Tests.{ltb-true}
 use Rattle.sg_names.proofs.Decimals.{is_decimal-decimal}
 use Rattle.sg_names.proofs.OneText.{hex_is}
 use Rattle.sg_names.specs.Decimal.{is_decimal}
@@ -19,7 +18,6 @@ use Rattle.sg_names.specs.RoleGrants.{role_grants_text, is_role_grants}
 use Rattle.sg_history.specs.declared.entries.Write.{Write}
 use Rattle.sg_history.specs.declared.fault.LineFault.{LineFault}
 use Rattle.sg_history.specs.declared.fault.LineFault.TheVariants.{Bad, Memory}
-use Rattle.sg_history.specs.declared.write_line.ReadWrite.{ReadWrite}
 use Rattle.sg_history.specs.declared.write_line.WriteTexts.{WriteTexts}
 use Rattle.sg_history.specs.Journal.{IsWrite, is_body, is_by, by_text, mark_text, write_fields}
 use Rattle.sg_history.specs.Line.{texts_of, NoWrite, ReadsWrite}

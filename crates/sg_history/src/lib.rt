@@ -7,8 +7,10 @@ pub mod fault;
 pub mod field;
 pub mod fields;
 pub mod journal;
+pub mod laws;
 pub mod line;
 pub mod row;
+pub mod rules;
 pub mod write_line;
 
 pub use entries::{Entries, Entry, Log, Write};

@@ -1,5 +1,4 @@
-use Rattle.std.proofs.Common.{◌≡◌, List, ℕ, map, ap, ◌∙◌, Bor}
-use Rattle.sg_history.specs.Pieces.{pieces}
+use Rattle.std.proofs.Common.{List, ℕ, map, ap, ◌∙◌, Bor}
 use Rattle.sg_history.proofs.WriteFields.{refused}
 use Rattle.sg_history.proofs.LineTexts.{read_ok, read_bad, no_long_line}
 use Rattle.sg_history.proofs.line.read_line.Goals as goal
