@@ -22,3 +22,6 @@ pub use sg_names::{
     Names, RevId, Revs, RoleGrant, RoleGrants, TextFault, from_hex, is_decimal, read_decimal,
     write_decimal, write_hex,
 };
+
+#[cfg(test)]
+mod tests;
