@@ -1,1 +1,6 @@
 pub mod PieceLemmas
+pub mod WriteFields
+pub mod LineTexts
+pub mod RuleLemmas
+pub mod OneLine
+pub mod JournalTexts

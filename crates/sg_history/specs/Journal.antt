@@ -1,7 +1,7 @@
 -- The journal: the text of a history. The first line is `sgjournal 1`; line k + 1 is entry k. Fields are
 -- parted by one TAB, and each line ends with a line feed.
-use Rattle.std.specs.Prelude.{◌≡◌, ℕ, ◌+◌, Bool, true, false, ◌&&◌, ◌||◌, not, nat_lt, List, [], ◌∷◌, ◌++◌, length, reverse, is_some, Option, Some, None, codes, decimal, IsTrue, IsUtf8}
-use Rattle.std.specs.List.{flat_map, join_with_byte, list_all, AllByRecursion}
+use Rattle.std.specs.Prelude.{◌≡◌, ℕ, ◌+◌, ◌<◌, ◌^◌, Bool, true, false, ◌&&◌, ◌||◌, not, nat_lt, List, [], ◌∷◌, ◌++◌, length, reverse, is_some, Option, Some, None, codes, decimal, IsTrue, IsUtf8}
+use Rattle.std.specs.List.{flat_map, join_with_byte, list_all}
 use Rattle.sg_names.specs.declared.rev_id.RevId.{RevId}
 use Rattle.sg_names.specs.Grammar.{is_doc_id, is_name}
 use Rattle.sg_names.specs.RevId.{rev_text, is_rev, same_rev}
@@ -61,28 +61,42 @@ abbrev pub is_by : Option (List ℕ) → Bool
 is_by None = true
 is_by (Some name) = is_name name
 
--- the fields of a write are in their grammars
-abbrev pub is_write : Write → Bool
-is_write w =
-    is_doc_id w.doc && is_rev w.rev && is_revs w.ancestors && nat_lt 0 (length w.body) && list_all (λ b. nat_lt b 256) w.body
-    && is_by w.by && is_rev w.winner && is_channels w.channels && is_grants w.grants && is_role_grants w.roles
+-- a body is at least one byte
+abbrev pub is_body : List ℕ → Bool
+is_body body = nat_lt 0 (length body) && list_all (λ b. nat_lt b 256) body
 
--- the fields of an entry are in their grammars
-abbrev pub is_entry : Entry → Bool
-is_entry (entry.Write w) = is_write w
-is_entry (entry.PutUser name channels roles) = is_name name && is_channels channels && is_names roles
-is_entry (entry.PutRole name channels) = is_name name && is_channels channels
-is_entry (entry.DropUser name) = is_name name
-is_entry (entry.DropRole name) = is_name name
-is_entry entry.Unused = true
+-- a write in its grammar: each field is, each that is no number is UTF-8, and the front fits its type
+pub record IsWrite (w : Write) : Type 0 where
+  pub doc : IsTrue (is_doc_id w.doc) × IsUtf8 w.doc
+  pub rev : IsTrue (is_rev w.rev) × IsUtf8 (rev_text w.rev)
+  pub ancestors : IsTrue (is_revs w.ancestors) × IsUtf8 (revs_text w.ancestors)
+  pub body : IsTrue (is_body w.body)
+  pub by : IsTrue (is_by w.by) × IsUtf8 (by_text w.by)
+  pub at : w.at < 2 ^ 64
+  pub winner : IsTrue (is_rev w.winner) × IsUtf8 (rev_text w.winner)
+  pub channels : IsTrue (is_channels w.channels) × IsUtf8 (channels_text w.channels)
+  pub grants : IsTrue (is_grants w.grants) × IsUtf8 (grants_text w.grants)
+  pub roles : IsTrue (is_role_grants w.roles) × IsUtf8 (role_grants_text w.roles)
 
--- an entry in its grammar: each field is, and each is UTF-8
+-- a put of a user in its grammar
+pub record IsPutUser (user : List ℕ) (given taken : List (List ℕ)) : Type 0 where
+  pub name : IsTrue (is_name user) × IsUtf8 user
+  pub channels : IsTrue (is_channels given) × IsUtf8 (channels_text given)
+  pub roles : IsTrue (is_names taken) × IsUtf8 (names_text taken)
+
+-- a put of a role in its grammar
+pub record IsPutRole (role : List ℕ) (given : List (List ℕ)) : Type 0 where
+  pub name : IsTrue (is_name role) × IsUtf8 role
+  pub channels : IsTrue (is_channels given) × IsUtf8 (channels_text given)
+
+-- an entry in its grammar: each of its fields is, and each that is no number is UTF-8
 abbrev pub IsEntry : Entry → Type 0
-IsEntry e = IsTrue (is_entry e) × AllByRecursion IsUtf8 (fields_of e)
-
--- a write in its grammar: each field after the kind is, and each is UTF-8
-abbrev pub IsWrite : Write → Type 0
-IsWrite w = IsTrue (is_write w) × AllByRecursion IsUtf8 (write_fields w)
+IsEntry (entry.Write w) = IsWrite w
+IsEntry (entry.PutUser name channels roles) = IsPutUser name channels roles
+IsEntry (entry.PutRole name channels) = IsPutRole name channels
+IsEntry (entry.DropUser name) = IsTrue (is_name name) × IsUtf8 name
+IsEntry (entry.DropRole name) = IsTrue (is_name name) × IsUtf8 name
+IsEntry entry.Unused = Unit {0}
 
 -- the generations fall strictly from this one on
 abbrev pub falls_from : ℕ → List RevId → Bool
@@ -116,10 +130,16 @@ is_recorded (entry.DropUser name) = false
 is_recorded (entry.DropRole name) = false
 is_recorded entry.Unused = false
 
--- entries, the newest first, of which each is in its grammar, is recorded, and follows the rules
+-- an entry that may be the next after these, the newest first: in its grammar, of a kind that a journal has, and by the rules
+pub record IsNext (older : List Entry) (e : Entry) : Type 0 where
+  pub grammar : IsEntry e
+  pub recorded : IsTrue (is_recorded e)
+  pub rules : IsTrue (may_follow older e)
+
+-- entries, the newest first, of which each may be the next after the older ones
 abbrev pub IsRecord : List Entry → Type 0
 IsRecord [] = Unit {0}
-IsRecord (e ∷ older) = IsEntry e × IsTrue (is_recorded e) × IsTrue (may_follow older e) × IsRecord older
+IsRecord (e ∷ older) = IsNext older e × IsRecord older
 
 -- the bytes are the journal of this history
 abbrev pub Spells : List ℕ → List Entry → Type 0

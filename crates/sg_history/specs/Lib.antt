@@ -11,4 +11,6 @@ pub mod Device
 pub mod Journal
 pub mod Line
 pub mod Pieces
+pub mod Reading
 pub mod Refusal
+pub mod Rules

@@ -1,74 +1,34 @@
 //! The journal: reads the text of a history.
 
-use crate::entries::{Entry, Log, Write};
+ghost use Rattle.std.specs.Prelude.{◌≡◌, List, IfOk, IfErr, OnOk, OnErr};
+ghost use Rattle.sg_history.specs.declared.entries.Entry.{Entry};
+ghost use Rattle.sg_history.specs.History.{history};
+ghost use Rattle.sg_history.specs.Journal.{Spells};
+ghost use Rattle.sg_history.specs.Reading.{NoNext, AddsLine, SpellsLines};
+ghost use Rattle.sg_history.specs.Refusal.{Refuses, RefusesLog};
+
+use crate::entries::Log;
 use crate::fault::{BadLine, LineFault, ReadLog, Why};
 use crate::fields::cut;
-use crate::line::{ReadEntry, read_line};
-use sg_names::{DocId, RevId};
+use crate::line::read_line;
+use crate::rules::fault_of;
 use std::alloc::Global;
 
 /// The first line of a journal.
 const HEADER: &str = "sgjournal 1";
 
-fn bad(place: u64, why: Why) -> ReadLog {
+fn bad(place: u64, why: Why) -> ReadLog
+    ensures { result ≡ ReadLog.Bad (record { place = place; why = why }) }
+{
     ReadLog::Bad(BadLine { place, why })
 }
 
-/// Whether an entry writes the document with this revision.
-fn writes_rev(entry: &Entry, doc: &DocId, rev: &RevId) -> bool {
-    match entry {
-        Entry::Write(write) => write.doc.equals(doc) && write.rev.equals(rev),
-        _ => false,
-    }
-}
-
-/// Whether an earlier write of the document has this revision.
-fn has_rev(older: &[Entry], doc: &DocId, rev: &RevId) -> bool {
-    older.iter().any(|entry| writes_rev(entry, doc, rev))
-}
-
-/// Whether the generations fall strictly from this one on.
-fn falls_from(generation: u32, revs: &[RevId]) -> bool {
-    let mut last = generation;
-    for rev in revs {
-        if rev.generation >= last {
-            return false;
-        }
-        last = rev.generation;
-    }
-    true
-}
-
-/// The first rule that a write breaks, by the number of its field.
-fn broken_rule(older: &[Entry], write: &Write, at_fits: bool) -> Option<u64> {
-    if has_rev(older, &write.doc, &write.rev) {
-        return Some(3);
-    }
-    if !falls_from(write.rev.generation, write.ancestors.as_slice()) {
-        return Some(4);
-    }
-    if !at_fits || write.at > older.len() as u64 {
-        return Some(8);
-    }
-    if !write.winner.equals(&write.rev) && !has_rev(older, &write.doc, &write.winner) {
-        return Some(9);
-    }
-    None
-}
-
-/// What is wrong with an entry after these, if anything is.
-fn fault_of(older: &[Entry], read: &ReadEntry) -> Option<Why> {
-    match &read.entry {
-        Entry::Write(write) => match broken_rule(older, write, read.at_fits) {
-            Some(rule) => Some(Why::Rule(rule)),
-            None => None,
-        },
-        _ => None,
-    }
-}
-
-/// Reads one line as the log's next entry.
-fn add_line(alloc: Global, line: &[u8], log: &mut Log) -> Result<(), LineFault> {
+/// Reads one line as the log's next entry. A refusal leaves the log's entries as they were.
+fn add_line(alloc: Global, line: &[u8], log: &mut Log) -> Result<(), LineFault>
+    ensures ok { OnOk result (AddsLine log.old.entries.list line.now log.new.entries.list) }
+    ensures err { OnErr result (log.new.entries.list ≡ log.old.entries.list) }
+    ensures bad { IfErr result (λ e. Refuses e (NoNext log.old.entries.list line.now)) }
+{
     let read = read_line(alloc, line)?;
     if let Some(why) = fault_of(log.entries.as_slice(), &read) {
         return Err(LineFault::Bad(why));
@@ -77,8 +37,32 @@ fn add_line(alloc: Global, line: &[u8], log: &mut Log) -> Result<(), LineFault> 
     Ok(())
 }
 
+/// Reads the lines after the header.
+fn read_lines(alloc: Global, lines: &[u8]) -> Result<Log, ReadLog>
+    ensures ok { IfOk result (λ log. SpellsLines lines.now (history log)) }
+    ensures bad { IfErr result (λ e. RefusesLog e ((es : List Entry) → ¬ (SpellsLines lines.now es))) }
+{
+    let mut log = Log::new(alloc);
+    let mut rest = lines;
+    while !rest.is_empty() {
+        let place = (log.entries.len() as u64).saturating_add(2);
+        let Some((line, after)) = cut(rest, b'\n') else {
+            return Err(bad(place, Why::Ending));
+        };
+        match add_line(alloc, line, &mut log) {
+            Ok(()) => rest = after,
+            Err(LineFault::Bad(why)) => return Err(bad(place, why)),
+            Err(LineFault::Memory) => return Err(ReadLog::Memory),
+        }
+    }
+    Ok(log)
+}
+
 /// Reads a journal, or tells its first bad line.
-pub fn read_journal(alloc: Global, bytes: &[u8]) -> Result<Log, ReadLog> {
+pub fn read_journal(alloc: Global, bytes: &[u8]) -> Result<Log, ReadLog>
+    ensures ok { IfOk result (λ log. Spells bytes.now (history log)) }
+    ensures bad { IfErr result (λ e. RefusesLog e ((es : List Entry) → ¬ (Spells bytes.now es))) }
+{
     let Some((first, lines)) = cut(bytes, b'\n') else {
         return Err(bad(
             1,
@@ -92,21 +76,5 @@ pub fn read_journal(alloc: Global, bytes: &[u8]) -> Result<Log, ReadLog> {
     if first != HEADER.as_bytes() {
         return Err(bad(1, Why::Head));
     }
-    let mut log = Log::new(alloc);
-    let mut rest = lines;
-    for _ in 0..u64::MAX {
-        if rest.is_empty() {
-            break;
-        }
-        let place = (log.entries.len() as u64).saturating_add(2);
-        let Some((line, after)) = cut(rest, b'\n') else {
-            return Err(bad(place, Why::Ending));
-        };
-        match add_line(alloc, line, &mut log) {
-            Ok(()) => rest = after,
-            Err(LineFault::Bad(why)) => return Err(bad(place, why)),
-            Err(LineFault::Memory) => return Err(ReadLog::Memory),
-        }
-    }
-    Ok(log)
+    read_lines(alloc, lines)
 }

@@ -7,8 +7,11 @@ pub mod fault;
 pub mod field;
 pub mod fields;
 pub mod journal;
+pub mod laws;
 pub mod line;
 pub mod row;
+pub mod rules;
+pub mod write_line;
 
 pub use entries::{Entries, Entry, Log, Write};
 pub use fault::{BadLine, ReadLog, Why};
@@ -19,3 +22,6 @@ pub use sg_names::{
     Names, RevId, Revs, RoleGrant, RoleGrants, TextFault, from_hex, is_decimal, read_decimal,
     write_decimal, write_hex,
 };
+
+#[cfg(test)]
+mod tests;

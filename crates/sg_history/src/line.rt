@@ -1,72 +1,15 @@
 //! The lines of a journal, each read as an entry.
 
-ghost use Rattle.std.specs.Prelude.{◌≡◌, unwrap_or};
+ghost use Rattle.std.specs.Prelude.{◌≡◌, ◌≢◌, ◌∷◌, ◌<◌, [], map, length, codes, IsTrue, IfOk, IfErr, IfSome, IfNone};
+ghost use Rattle.sg_history.specs.Line.{texts_of, NoEntry, ReadsEntry, NoLine, ReadsLine};
+ghost use Rattle.sg_history.specs.Refusal.{Refuses};
 
-use crate::entries::{Entry, Write};
+use crate::entries::Entry;
 use crate::fault::{LineFault, Why};
 use crate::field;
 use crate::fields::{cut, pieces_of};
+use crate::write_line::{WriteTexts, read_write};
 use std::alloc::Global;
-
-/// The fields of a write's line, after its kind.
-#[derive(Clone, Copy)]
-pub struct WriteTexts<'a> {
-    pub doc: &'a [u8],
-    pub rev: &'a [u8],
-    pub ancestors: &'a [u8],
-    pub deleted: &'a [u8],
-    pub body: &'a [u8],
-    pub by: &'a [u8],
-    pub at: &'a [u8],
-    pub winner: &'a [u8],
-    pub channels: &'a [u8],
-    pub grants: &'a [u8],
-    pub roles: &'a [u8],
-}
-
-/// A write that was read, and whether its front is a number of the type; where it is not, `at` is the
-/// type's greatest number.
-#[derive(Drop)]
-pub struct ReadWrite {
-    pub write: Write,
-    pub at_fits: bool,
-}
-
-fn front_of(at: Option<u64>) -> u64
-    ensures { result ≡ unwrap_or at 18446744073709551615 }
-{
-    at.unwrap_or(u64::MAX)
-}
-
-fn read_write(alloc: Global, texts: WriteTexts<'_>) -> Result<ReadWrite, LineFault> {
-    let doc = field::doc_id(alloc, texts.doc, 2)?;
-    let rev = field::rev_id(alloc, texts.rev, 3)?;
-    let ancestors = field::revs(alloc, texts.ancestors, 4)?;
-    let deleted = field::mark(texts.deleted, 5)?;
-    let body = field::body(alloc, texts.body, 6)?;
-    let by = field::writer(alloc, texts.by, 7)?;
-    let at = field::number_of(texts.at, 8)?;
-    let winner = field::rev_id(alloc, texts.winner, 9)?;
-    let channels = field::channels(alloc, texts.channels, 10)?;
-    let grants = field::grants(alloc, texts.grants, 11)?;
-    let roles = field::role_grants(alloc, texts.roles, 12)?;
-    Ok(ReadWrite {
-        write: Write {
-            doc,
-            rev,
-            ancestors,
-            deleted,
-            body,
-            by,
-            at: front_of(at),
-            winner,
-            channels,
-            grants,
-            roles,
-        },
-        at_fits: at.is_some(),
-    })
-}
 
 /// A line that was read as an entry, and whether a write's front is a number of the type.
 #[derive(Drop)]
@@ -75,9 +18,12 @@ pub struct ReadEntry {
     pub at_fits: bool,
 }
 
-fn read_write_entry(alloc: Global, fields: &[&[u8]]) -> Result<ReadEntry, LineFault> {
+/// The fields of a write after its kind, if they are eleven.
+fn write_texts<'a>(fields: &[&'a [u8]]) -> Option<WriteTexts<'a>>
+    ensures some { IfSome result (λ t. map (λ p. p.now) fields.now ≡ texts_of t) }
+    ensures none { IfNone result (length fields.now ≢ 11) }
+{
     let [
-        _,
         doc,
         rev,
         ancestors,
@@ -91,9 +37,9 @@ fn read_write_entry(alloc: Global, fields: &[&[u8]]) -> Result<ReadEntry, LineFa
         roles,
     ] = fields
     else {
-        return Err(LineFault::Bad(Why::Fields));
+        return None;
     };
-    let texts = WriteTexts {
+    Some(WriteTexts {
         doc,
         rev,
         ancestors,
@@ -105,6 +51,16 @@ fn read_write_entry(alloc: Global, fields: &[&[u8]]) -> Result<ReadEntry, LineFa
         channels,
         grants,
         roles,
+    })
+}
+
+/// Reads the fields after the kind `W`.
+fn read_write_entry(alloc: Global, fields: &[&[u8]]) -> Result<ReadEntry, LineFault>
+    ensures ok { IfOk result (λ read. ReadsEntry (codes "W" ∷ map (λ p. p.now) fields.now) read) }
+    ensures bad { IfErr result (λ e. Refuses e (NoEntry (codes "W" ∷ map (λ p. p.now) fields.now))) }
+{
+    let Some(texts) = write_texts(fields) else {
+        return Err(LineFault::Bad(Why::Fields));
     };
     let read = read_write(alloc, texts)?;
     Ok(ReadEntry {
@@ -113,8 +69,12 @@ fn read_write_entry(alloc: Global, fields: &[&[u8]]) -> Result<ReadEntry, LineFa
     })
 }
 
-fn read_put_user(alloc: Global, fields: &[&[u8]]) -> Result<ReadEntry, LineFault> {
-    let [_, name, channels, roles] = fields else {
+/// Reads the fields after the kind `U`.
+fn read_put_user(alloc: Global, fields: &[&[u8]]) -> Result<ReadEntry, LineFault>
+    ensures ok { IfOk result (λ read. ReadsEntry (codes "U" ∷ map (λ p. p.now) fields.now) read) }
+    ensures bad { IfErr result (λ e. Refuses e (NoEntry (codes "U" ∷ map (λ p. p.now) fields.now))) }
+{
+    let [name, channels, roles] = fields else {
         return Err(LineFault::Bad(Why::Fields));
     };
     let name = field::name(alloc, name, 2)?;
@@ -126,18 +86,41 @@ fn read_put_user(alloc: Global, fields: &[&[u8]]) -> Result<ReadEntry, LineFault
     })
 }
 
-/// Reads a line, without its line feed, as an entry.
-pub fn read_line(alloc: Global, line: &[u8]) -> Result<ReadEntry, LineFault> {
-    let fields = pieces_of(alloc, line, b'\t', 12)?;
+/// Reads the fields of a line.
+fn read_fields(alloc: Global, fields: &[&[u8]]) -> Result<ReadEntry, LineFault>
+    ensures ok { IfOk result (λ read. ReadsEntry (map (λ p. p.now) fields.now) read) }
+    ensures bad { IfErr result (λ e. Refuses e (NoEntry (map (λ p. p.now) fields.now))) }
+{
+    let [kind, further @ ..] = fields else {
+        return Err(LineFault::Bad(Why::Kind));
+    };
+    match *kind {
+        b"W" => read_write_entry(alloc, further),
+        b"U" => read_put_user(alloc, further),
+        _ => Err(LineFault::Bad(Why::Kind)),
+    }
+}
+
+/// What is wrong with a line of more fields than any kind has.
+fn fault_of_many(line: &[u8]) -> Why {
     let kind = match cut(line, b'\t') {
         Some((kind, _)) => kind,
         None => line,
     };
-    match (kind, fields) {
-        (b"W", Some(fields)) => read_write_entry(alloc, fields.as_slice()),
-        (b"U", Some(fields)) => read_put_user(alloc, fields.as_slice()),
-        (b"W", None) => Err(LineFault::Bad(Why::Fields)),
-        (b"U", None) => Err(LineFault::Bad(Why::Fields)),
-        _ => Err(LineFault::Bad(Why::Kind)),
+    match kind {
+        b"W" => Why::Fields,
+        b"U" => Why::Fields,
+        _ => Why::Kind,
+    }
+}
+
+/// Reads a line, without its line feed, as an entry.
+pub fn read_line(alloc: Global, line: &[u8]) -> Result<ReadEntry, LineFault>
+    ensures ok { IfOk result (λ read. ReadsLine line.now read) }
+    ensures bad { IfErr result (λ e. Refuses e (NoLine line.now)) }
+{
+    match pieces_of(alloc, line, b'\t', 12)? {
+        Some(fields) => read_fields(alloc, fields.as_slice()),
+        None => Err(LineFault::Bad(fault_of_many(line))),
     }
 }

@@ -1,0 +1,134 @@
+-- the line of an entry and its fields
+use Rattle.std.proofs.Common.{◌≡◌, ℕ, ◌<◌, ◌≤◌, Bool, true, false, ◌&&◌, not, List, [], ◌∷◌, length, refl, sym, ap, ◌∙◌, arith, if◌then◌else◌, IfOk, Option, Some, None, inl, inr}
+use Rattle.std.specs.Prelude.{nat_eq, nat_lt, nat_le, Result, Ok, Err}
+use Rattle.std.specs.List.{list_all, join_with_byte}
+use Rattle.std.proofs.lemmas.Bool.{and_parts, and_from, cases_Bool, eqb-true}
+use Rattle.std.proofs.lemmas.List.Folds.{list_all-append}
+use Rattle.sg_names.proofs.PlainTexts.{plain_decimal, plain_hex, plain_rev, plain_channels, plain_names, plain_revs, plain_grants, plain_role_grants, plain_lacks}
+use Rattle.sg_names.specs.Grammar.{lacks, is_plain, is_plain_text, is_channel_name, is_name, is_doc_id, is_dash, begins_with_underscore}
+use Rattle.sg_history.specs.declared.entries.Entry.{Entry}
+use Rattle.sg_history.specs.declared.entries.Entry.TheVariants as entry
+use Rattle.sg_history.specs.declared.fault.LineFault.{LineFault}
+use Rattle.sg_history.specs.declared.line.ReadEntry.{ReadEntry}
+use Rattle.sg_history.specs.Pieces.{pieces, begin_with}
+use Rattle.sg_history.specs.Journal.{IsEntry, fields_of, line_of, mark_text, by_text, is_by}
+use Rattle.sg_history.specs.Line.{NoEntry, NoLine, ReadsEntry, ReadsLine}
+use Rattle.sg_history.proofs.PieceLemmas.{pieces-lacking, pieces-cut, pieces-some}
+
+-- pieces that are joined are the pieces again
+pieces_joined : (at : ℕ) (fs : List (List ℕ)) → 0 < length fs → list_all (λ f. lacks at f) fs ≡ true → pieces at (join_with_byte at fs) ≡ fs
+pieces_joined at [] some h = absurd (omega arith)
+pieces_joined at (f ∷ []) some h = pieces-lacking at f (and_parts (lacks at f) true h).0
+pieces_joined at (f ∷ g ∷ fs) some h =
+    let parts = and_parts (lacks at f) (list_all (λ x. lacks at x) (g ∷ fs)) h in
+    pieces-cut at f (join_with_byte at (g ∷ fs)) parts.0 ∙ ap (λ rest. f ∷ rest) (pieces_joined at (g ∷ fs) (omega arith) parts.1)
+
+joined_begun : (at b : ℕ) (ps : List (List ℕ)) → 0 < length ps → join_with_byte at (begin_with b ps) ≡ b ∷ join_with_byte at ps
+joined_begun at b [] some = absurd (omega arith)
+joined_begun at b (p ∷ []) some = refl
+joined_begun at b (p ∷ q ∷ ps) some = refl
+
+joined_after_none : (at : ℕ) (ps : List (List ℕ)) → 0 < length ps → join_with_byte at ([] ∷ ps) ≡ at ∷ join_with_byte at ps
+joined_after_none at [] some = absurd (omega arith)
+joined_after_none at (p ∷ ps) some = refl
+
+-- the pieces of a text, joined, are the text
+pub joined_pieces : (at : ℕ) (text : List ℕ) → join_with_byte at (pieces at text) ≡ text
+joined_pieces at [] = refl
+joined_pieces at (b ∷ bs) =
+    let again = joined_pieces at bs in
+    elim (cases_Bool (nat_eq b at)) [
+      | inl same ↦
+          ap (λ t. join_with_byte at (if t then [] ∷ pieces at bs else begin_with b (pieces at bs))) same
+          ∙ joined_after_none at (pieces at bs) (pieces-some at bs) ∙ (λ i. sym (eqb-true b at same) i ∷ again i)
+      | inr other ↦
+          ap (λ t. join_with_byte at (if t then [] ∷ pieces at bs else begin_with b (pieces at bs))) other
+          ∙ joined_begun at b (pieces at bs) (pieces-some at bs) ∙ ap (λ rest. b ∷ rest) again
+    ]
+
+plain_from_text : (text : List ℕ) → is_plain_text text ≡ true → is_plain text ≡ true
+plain_from_text text h = (and_parts (nat_lt 0 (length text) && nat_le (length text) 250) (is_plain text) h).1
+
+plain_name : (name : List ℕ) → is_name name ≡ true → is_plain name ≡ true
+plain_name name h =
+    let channel = (and_parts (is_channel_name name) (lacks 58 name) (and_parts (is_channel_name name && lacks 58 name) (lacks 61 name) h).0).0 in
+    plain_from_text name (and_parts (is_plain_text name) (lacks 44 name) (and_parts (is_plain_text name && lacks 44 name) (not (is_dash name)) channel).0).0
+
+plain_doc : (doc : List ℕ) → is_doc_id doc ≡ true → is_plain doc ≡ true
+plain_doc doc h = plain_from_text doc (and_parts (is_plain_text doc) (not (begins_with_underscore doc)) h).0
+
+plain_mark : (mark : Bool) → is_plain (mark_text mark) ≡ true
+plain_mark true = refl
+plain_mark false = refl
+
+plain_by : (by : Option (List ℕ)) → is_by by ≡ true → is_plain (by_text by) ≡ true
+plain_by None h = refl
+plain_by (Some name) h = plain_name name h
+
+-- no field of an entry has a control character
+fields_plain : (e : Entry) → IsEntry e → list_all (λ f. is_plain f) (fields_of e) ≡ true
+fields_plain (entry.Write w) is =
+    and_from _ _ (plain_doc w.doc is.doc.0) (and_from _ _ (plain_rev w.rev is.rev.0) (and_from _ _ (plain_revs w.ancestors is.ancestors.0)
+    (and_from _ _ (plain_mark w.deleted) (and_from _ _ (plain_hex w.body (and_parts _ _ is.body).1) (and_from _ _ (plain_by w.by is.by.0)
+    (and_from _ _ (plain_decimal w.at is.at) (and_from _ _ (plain_rev w.winner is.winner.0) (and_from _ _ (plain_channels w.channels is.channels.0)
+    (and_from _ _ (plain_grants w.grants is.grants.0) (and_from _ _ (plain_role_grants w.roles is.roles.0) refl))))))))))
+fields_plain (entry.PutUser name channels roles) is =
+    and_from _ _ (plain_name name is.name.0) (and_from _ _ (plain_channels channels is.channels.0) (and_from _ _ (plain_names roles is.roles.0) refl))
+fields_plain (entry.PutRole name channels) is = and_from _ _ (plain_name name is.name.0) (and_from _ _ (plain_channels channels is.channels.0) refl)
+fields_plain (entry.DropUser name) is = and_from _ _ (plain_name name is.0) refl
+fields_plain (entry.DropRole name) is = and_from _ _ (plain_name name is.0) refl
+fields_plain entry.Unused is = refl
+
+fields_count : (e : Entry) → (0 < length (fields_of e)) × (length (fields_of e) ≤ 12)
+fields_count (entry.Write w) = (omega arith, omega arith)
+fields_count (entry.PutUser name channels roles) = (omega arith, omega arith)
+fields_count (entry.PutRole name channels) = (omega arith, omega arith)
+fields_count (entry.DropUser name) = (omega arith, omega arith)
+fields_count (entry.DropRole name) = (omega arith, omega arith)
+fields_count entry.Unused = (omega arith, omega arith)
+
+all_lack : (c : ℕ) → c < 32 → (fs : List (List ℕ)) → list_all (λ f. is_plain f) fs ≡ true → list_all (λ f. lacks c f) fs ≡ true
+all_lack c low [] h = refl
+all_lack c low (f ∷ fs) h =
+    let parts = and_parts (is_plain f) (list_all (λ x. is_plain x) fs) h in
+    and_from _ _ (plain_lacks c f low parts.0) (all_lack c low fs parts.1)
+
+joined_lack : (c at : ℕ) → not (nat_eq at c) ≡ true → (fs : List (List ℕ)) → list_all (λ f. lacks c f) fs ≡ true → lacks c (join_with_byte at fs) ≡ true
+joined_lack c at apart [] h = refl
+joined_lack c at apart (f ∷ []) h = (and_parts (lacks c f) true h).0
+joined_lack c at apart (f ∷ g ∷ fs) h =
+    let parts = and_parts (lacks c f) (list_all (λ x. lacks c x) (g ∷ fs)) h in
+    list_all-append (λ b. not (nat_eq b c)) f (at ∷ join_with_byte at (g ∷ fs))
+    ∙ and_from _ _ parts.0 (and_from _ _ apart (joined_lack c at apart (g ∷ fs) parts.1))
+
+-- the pieces of an entry's line are its fields
+pub line_pieces : (e : Entry) → IsEntry e → pieces 9 (line_of e) ≡ fields_of e
+line_pieces e is = pieces_joined 9 (fields_of e) (fields_count e).0 (all_lack 9 (omega arith) (fields_of e) (fields_plain e is))
+
+-- an entry's line has no line feed
+pub line_whole : (e : Entry) → IsEntry e → lacks 10 (line_of e) ≡ true
+line_whole e is = joined_lack 10 9 refl (fields_of e) (all_lack 10 (omega arith) (fields_of e) (fields_plain e is))
+
+-- fields that are no entry's make a line that is none's
+no_line : (line : List ℕ) (fields : List (List ℕ)) → fields ≡ pieces 9 line → NoEntry fields → NoLine line
+no_line line fields parts none e is spelled = none e is (parts ∙ ap (pieces 9) spelled ∙ line_pieces e is.0)
+
+reads_line : (line : List ℕ) (fields : List (List ℕ)) (e : Entry) (fits : Bool) → fields ≡ pieces 9 line
+    → ReadsEntry fields (record { entry = e; at_fits = fits }) → ReadsLine line (record { entry = e; at_fits = fits })
+reads_line line fields e true parts read = (read.0, sym (joined_pieces 9 line) ∙ ap (join_with_byte 9) (sym parts ∙ read.1))
+reads_line line fields e false parts read = (read.0, no_line line fields parts read.1)
+
+pub read_ok : (line : List ℕ) (fields : List (List ℕ)) (r : Result ReadEntry LineFault) → fields ≡ pieces 9 line
+    → IfOk r (λ read. ReadsEntry fields read) → IfOk r (λ read. ReadsLine line read)
+read_ok line fields (Ok read) parts h = reads_line line fields read.entry read.at_fits parts h
+read_ok line fields (Err e) parts h = tt
+
+pub read_bad : (line : List ℕ) (fields : List (List ℕ)) → fields ≡ pieces 9 line → NoEntry fields → NoLine line
+read_bad line fields parts none = no_line line fields parts none
+
+-- no entry has more than twelve fields
+pub no_long_line : (line : List ℕ) → 12 < length (pieces 9 line) → NoLine line
+no_long_line line more e is spelled =
+    let same = ap length (ap (pieces 9) spelled ∙ line_pieces e is.0) in
+    let count = fields_count e in
+    omega (arith, more, same, count.1)

@@ -1,0 +1,162 @@
+//! The fields of a write's line, read as a write.
+
+ghost use Rattle.std.specs.Prelude.{◌≡◌, ◌<◌, ◌^◌, unwrap_or, decimal, IsTrue, IsUtf8, IfOk, IfErr, MatchOption};
+ghost use Rattle.sg_names.specs.Grammar.{is_doc_id};
+ghost use Rattle.sg_names.specs.RevId.{rev_text, is_rev};
+ghost use Rattle.sg_names.specs.Revs.{revs_text, is_revs};
+ghost use Rattle.sg_names.specs.Channels.{channels_text, is_channels};
+ghost use Rattle.sg_names.specs.Grants.{grants_text, is_grants};
+ghost use Rattle.sg_names.specs.RoleGrants.{role_grants_text, is_role_grants};
+ghost use Rattle.sg_names.specs.Hex.{hex_text, is_hex};
+ghost use Rattle.sg_history.specs.Journal.{mark_text, by_text, is_by};
+ghost use Rattle.sg_history.specs.Refusal.{Refuses};
+ghost use Rattle.sg_history.specs.Line.{texts_of, NoWrite, ReadsWrite};
+
+use crate::entries::Write;
+use crate::fault::LineFault;
+use crate::field;
+use sg_names::{Channels, DocId, Grants, Name, RevId, Revs, RoleGrants};
+use sg_outside::Bytes;
+use std::alloc::Global;
+
+/// The fields of a write's line, after its kind.
+#[derive(Clone, Copy)]
+pub struct WriteTexts<'a> {
+    pub doc: &'a [u8],
+    pub rev: &'a [u8],
+    pub ancestors: &'a [u8],
+    pub deleted: &'a [u8],
+    pub body: &'a [u8],
+    pub by: &'a [u8],
+    pub at: &'a [u8],
+    pub winner: &'a [u8],
+    pub channels: &'a [u8],
+    pub grants: &'a [u8],
+    pub roles: &'a [u8],
+}
+
+/// A write that was read, and whether its front is a number of the type; where it is not, `at` is the
+/// type's greatest number.
+#[derive(Drop)]
+pub struct ReadWrite {
+    pub write: Write,
+    pub at_fits: bool,
+}
+
+fn doc_of(alloc: Global, texts: WriteTexts<'_>) -> Result<DocId, LineFault>
+    ensures ok { IfOk result (λ v. (v ≡ texts.entry.doc.now) × IsTrue (is_doc_id v) × IsUtf8 texts.entry.doc.now) }
+    ensures bad { IfErr result (λ e. Refuses e (NoWrite (texts_of texts.entry))) }
+{
+    field::doc_id(alloc, texts.doc, 2)
+}
+
+fn rev_of(alloc: Global, texts: WriteTexts<'_>) -> Result<RevId, LineFault>
+    ensures ok { IfOk result (λ v. (texts.entry.rev.now ≡ rev_text v) × IsTrue (is_rev v) × IsUtf8 texts.entry.rev.now) }
+    ensures bad { IfErr result (λ e. Refuses e (NoWrite (texts_of texts.entry))) }
+{
+    field::rev_id(alloc, texts.rev, 3)
+}
+
+fn ancestors_of(alloc: Global, texts: WriteTexts<'_>) -> Result<Revs, LineFault>
+    ensures ok { IfOk result (λ v. (texts.entry.ancestors.now ≡ revs_text v) × IsTrue (is_revs v) × IsUtf8 texts.entry.ancestors.now) }
+    ensures bad { IfErr result (λ e. Refuses e (NoWrite (texts_of texts.entry))) }
+{
+    field::revs(alloc, texts.ancestors, 4)
+}
+
+fn deleted_of(texts: WriteTexts<'_>) -> Result<bool, LineFault>
+    ensures ok { IfOk result (λ v. texts.entry.deleted.now ≡ mark_text v) }
+    ensures bad { IfErr result (λ e. Refuses e (NoWrite (texts_of texts.entry))) }
+{
+    field::mark(texts.deleted, 5)
+}
+
+fn body_of(alloc: Global, texts: WriteTexts<'_>) -> Result<Bytes, LineFault>
+    ensures ok { IfOk result (λ v. (texts.entry.body.now ≡ hex_text v) × IsTrue (is_hex texts.entry.body.now)) }
+    ensures bad { IfErr result (λ e. Refuses e (NoWrite (texts_of texts.entry))) }
+{
+    field::body(alloc, texts.body, 6)
+}
+
+fn writer_of(alloc: Global, texts: WriteTexts<'_>) -> Result<Option<Name>, LineFault>
+    ensures ok { IfOk result (λ v. (texts.entry.by.now ≡ by_text v) × IsTrue (is_by v) × IsUtf8 texts.entry.by.now) }
+    ensures bad { IfErr result (λ e. Refuses e (NoWrite (texts_of texts.entry))) }
+{
+    field::writer(alloc, texts.by, 7)
+}
+
+/// The front; none where it is too large for the type.
+fn at_of(texts: WriteTexts<'_>) -> Result<Option<u64>, LineFault>
+    ensures ok { IfOk result (λ v. MatchOption v (NoWrite (texts_of texts.entry)) (λ n. (n < 2 ^ 64) × (texts.entry.at.now ≡ decimal n))) }
+    ensures bad { IfErr result (λ e. Refuses e (NoWrite (texts_of texts.entry))) }
+{
+    field::number_of(texts.at, 8)
+}
+
+fn winner_of(alloc: Global, texts: WriteTexts<'_>) -> Result<RevId, LineFault>
+    ensures ok { IfOk result (λ v. (texts.entry.winner.now ≡ rev_text v) × IsTrue (is_rev v) × IsUtf8 texts.entry.winner.now) }
+    ensures bad { IfErr result (λ e. Refuses e (NoWrite (texts_of texts.entry))) }
+{
+    field::rev_id(alloc, texts.winner, 9)
+}
+
+fn channels_of(alloc: Global, texts: WriteTexts<'_>) -> Result<Channels, LineFault>
+    ensures ok { IfOk result (λ v. (texts.entry.channels.now ≡ channels_text v) × IsTrue (is_channels v) × IsUtf8 texts.entry.channels.now) }
+    ensures bad { IfErr result (λ e. Refuses e (NoWrite (texts_of texts.entry))) }
+{
+    field::channels(alloc, texts.channels, 10)
+}
+
+fn grants_of(alloc: Global, texts: WriteTexts<'_>) -> Result<Grants, LineFault>
+    ensures ok { IfOk result (λ v. (texts.entry.grants.now ≡ grants_text v) × IsTrue (is_grants v) × IsUtf8 texts.entry.grants.now) }
+    ensures bad { IfErr result (λ e. Refuses e (NoWrite (texts_of texts.entry))) }
+{
+    field::grants(alloc, texts.grants, 11)
+}
+
+fn roles_of(alloc: Global, texts: WriteTexts<'_>) -> Result<RoleGrants, LineFault>
+    ensures ok { IfOk result (λ v. (texts.entry.roles.now ≡ role_grants_text v) × IsTrue (is_role_grants v) × IsUtf8 texts.entry.roles.now) }
+    ensures bad { IfErr result (λ e. Refuses e (NoWrite (texts_of texts.entry))) }
+{
+    field::role_grants(alloc, texts.roles, 12)
+}
+
+fn front_of(at: Option<u64>) -> u64
+    ensures { result ≡ unwrap_or at 18446744073709551615 }
+{
+    at.unwrap_or(u64::MAX)
+}
+
+/// Reads the fields of a write, from the first one on.
+pub fn read_write(alloc: Global, texts: WriteTexts<'_>) -> Result<ReadWrite, LineFault>
+    ensures ok { IfOk result (λ read. ReadsWrite (texts_of texts.entry) read) }
+    ensures bad { IfErr result (λ e. Refuses e (NoWrite (texts_of texts.entry))) }
+{
+    let doc = doc_of(alloc, texts)?;
+    let rev = rev_of(alloc, texts)?;
+    let ancestors = ancestors_of(alloc, texts)?;
+    let deleted = deleted_of(texts)?;
+    let body = body_of(alloc, texts)?;
+    let by = writer_of(alloc, texts)?;
+    let at = at_of(texts)?;
+    let winner = winner_of(alloc, texts)?;
+    let channels = channels_of(alloc, texts)?;
+    let grants = grants_of(alloc, texts)?;
+    let roles = roles_of(alloc, texts)?;
+    Ok(ReadWrite {
+        write: Write {
+            doc,
+            rev,
+            ancestors,
+            deleted,
+            body,
+            by,
+            at: front_of(at),
+            winner,
+            channels,
+            grants,
+            roles,
+        },
+        at_fits: at.is_some(),
+    })
+}
