@@ -1,5 +1,5 @@
 -- lists of four words
-use Rattle.std.proofs.Common.{IsTrue, Bool, true, false, not, codes, subst, ◌≡◌, ℕ, ◌+◌, ◌<◌, ◌≤◌, List, [], ◌∷◌, length, get_or, map, arith, ap, sym, ◌∙◌, refl}
+use Rattle.std.proofs.Common.{IsTrue, Bool, true, false, not, codes, subst, ◌≡◌, ℕ, ◌<◌, ◌≤◌, List, [], ◌∷◌, length, get_or, map, arith, sym, ◌∙◌, refl}
 use Rattle.std.specs.Str.{bytes_eq}
 use Rattle.std.proofs.lemmas.Slice.Eq.{bytes_eq-Decides}
 use Rattle.sg_names.specs.declared.key.Key.{Key}
@@ -30,3 +30,8 @@ feed_words words a b c d command journal user since name key e ea eb ec ed h n k
     let all : words ≡ codes "feed" ∷ journal ∷ name ∷ since ∷ [] = cc (e, first, eb, ec, ed, n.0) in
     let P : List ℕ → Type 0 = λ t. IsTrue (is_name t) in
     (since, all, subst P (sym n.0) n.1, k)
+
+-- a name that is not refused as such is one
+pub named : (b : Bool) (P : Type 0) → (¬ IsTrue b → P) → ¬ P → IsTrue b
+named true P refused not_refused = refl
+named false P refused not_refused = absurd (not_refused (refused (λ (h : IsTrue false). cc)))

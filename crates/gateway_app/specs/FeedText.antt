@@ -1,5 +1,5 @@
 -- what `feed` prints
-use Rattle.std.specs.Prelude.{ℕ, List, [], ◌∷◌, ◌++◌, reverse, Option, None, true, false, decimal}
+use Rattle.std.specs.Prelude.{ℕ, List, [], ◌∷◌, ◌++◌, reverse, None, true, false, decimal}
 use Rattle.std.specs.List.{flat_map}
 use Rattle.sg_names.specs.declared.key.Key.{Key}
 use Rattle.sg_names.specs.Key.{key_text}

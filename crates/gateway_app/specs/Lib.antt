@@ -1,2 +1,4 @@
 pub mod FeedText
+pub mod Request
+pub mod Run
 pub mod Words

@@ -1,6 +1,7 @@
 -- what a run of `feed` answers and does
-use Rattle.std.specs.Prelude.{◌≡◌, ℕ, ◌≤◌, ◌<◌, List, ◌++◌, length, Option, Some}
+use Rattle.std.specs.Prelude.{◌≡◌, ℕ, ◌≤◌, ◌<◌, List, ◌++◌, length, Option, Some, None, Result, Ok, Err}
 use Rattle.sg_outside.specs.Files.{largest_file}
+use Rattle.sg_names.specs.declared.key.Key.{Key}
 use Rattle.sg_history.specs.declared.entries.Entry.{Entry}
 use Rattle.sg_history.specs.Journal.{Spells}
 use Rattle.gateway_app.specs.declared.status.Status.{Status}
@@ -11,6 +12,10 @@ use Rattle.gateway_app.specs.Words.{FeedWords}
 -- files that tell what they hold have these bytes under the name
 abbrev pub HasFile : Option (List ℕ → Option (List ℕ)) → List ℕ → List ℕ → Type 0
 HasFile told name bytes = (files : List ℕ → Option (List ℕ)) × (told ≡ Some files) × (files name ≡ Some bytes)
+
+-- files that tell what they hold have none under the name
+abbrev pub HasNoFile : Option (List ℕ → Option (List ℕ)) → List ℕ → Type 0
+HasNoFile told name = (files : List ℕ → Option (List ℕ)) × (told ≡ Some files) × (files name ≡ None)
 
 -- the bytes are no more than a file may have, and are the journal of this history
 abbrev pub IsInput : List ℕ → List Entry → Type 0
@@ -25,11 +30,20 @@ abbrev pub TookPart : Option (List ℕ) → Option (List ℕ) → List ℕ → T
 TookPart before after text =
     (taken : List ℕ) → before ≡ Some taken → (part : List ℕ) × (rest : List ℕ) × (text ≡ part ++ rest) × (after ≡ Some (taken ++ part))
 
+-- the two statuses that a run may end with where there is no file
+abbrev pub EndsAbsent : Status → Type 0
+EndsAbsent status.ReadFault = Unit {0}
+EndsAbsent status.Memory = Unit {0}
+EndsAbsent status.Ok = ⊥
+EndsAbsent status.BadWords = ⊥
+EndsAbsent (status.BadInput file place why) = ⊥
+EndsAbsent status.WriteFault = ⊥
+
 -- each status with what it tells of the journal's bytes and of the sink
 abbrev pub Ends : Status → FeedWords → List ℕ → Option (List ℕ) → Option (List ℕ) → Type 0
 Ends status.Ok f bytes before after = (es : List Entry) × IsInput bytes es × Took before after (feed_text es f.user f.since)
 Ends status.BadWords f bytes before after = ⊥
-Ends (status.BadInput file place why) f bytes before after = (es : List Entry) → ¬ IsInput bytes es
+Ends (status.BadInput file place why) f bytes before after = (file ≡ 1) × ((es : List Entry) → ¬ IsInput bytes es)
 Ends status.ReadFault f bytes before after = Unit {0}
 Ends status.WriteFault f bytes before after = (es : List Entry) × IsInput bytes es × TookPart before after (feed_text es f.user f.since)
 Ends status.Memory f bytes before after = Unit {0}
@@ -51,3 +65,44 @@ Silent status.BadWords before after = after ≡ before
 Silent (status.BadInput file place why) before after = after ≡ before
 Silent status.ReadFault before after = after ≡ before
 Silent status.Memory before after = after ≡ before
+
+-- a journal that was loaded whole, or how the run ends without it, where its bytes are told
+abbrev pub IsLoaded : List ℕ → Result (List ℕ) Status → Type 0
+IsLoaded bytes (Ok loaded) = (length bytes ≤ largest_file) × (loaded ≡ bytes)
+IsLoaded bytes (Err status.Ok) = ⊥
+IsLoaded bytes (Err status.BadWords) = ⊥
+IsLoaded bytes (Err (status.BadInput file place why)) = (file ≡ 1) × (largest_file < length bytes)
+IsLoaded bytes (Err status.ReadFault) = Unit {0}
+IsLoaded bytes (Err status.WriteFault) = ⊥
+IsLoaded bytes (Err status.Memory) = Unit {0}
+
+-- how a run may end at the loading, with the count of the files' faults
+abbrev pub EndsLoaded : Result (List ℕ) Status → ℕ → ℕ → Type 0
+EndsLoaded (Ok loaded) before after = Unit {0}
+EndsLoaded (Err status.Ok) before after = ⊥
+EndsLoaded (Err status.BadWords) before after = ⊥
+EndsLoaded (Err (status.BadInput file place why)) before after = Unit {0}
+EndsLoaded (Err status.ReadFault) before after = before < after
+EndsLoaded (Err status.WriteFault) before after = ⊥
+EndsLoaded (Err status.Memory) before after = Unit {0}
+
+-- how a run may end at the writing, with the count of the sink's faults and what it took of the text
+abbrev pub Prints : Status → List ℕ → ℕ → ℕ → Option (List ℕ) → Option (List ℕ) → Type 0
+Prints status.Ok text faults faults' before after = Took before after text
+Prints status.BadWords text faults faults' before after = ⊥
+Prints (status.BadInput file place why) text faults faults' before after = ⊥
+Prints status.ReadFault text faults faults' before after = ⊥
+Prints status.WriteFault text faults faults' before after = (faults < faults') × TookPart before after text
+Prints status.Memory text faults faults' before after = after ≡ before
+
+-- how a run may end with the journal in hand, with the count of the sink's faults and what the sink took
+abbrev pub EndsFeed : Status → List ℕ → List ℕ → Key → ℕ → ℕ → Option (List ℕ) → Option (List ℕ) → Type 0
+EndsFeed status.Ok journal user since faults faults' before after =
+    (es : List Entry) × Spells journal es × Took before after (feed_text es user since)
+EndsFeed status.BadWords journal user since faults faults' before after = ⊥
+EndsFeed (status.BadInput file place why) journal user since faults faults' before after =
+    (file ≡ 1) × ((es : List Entry) → ¬ Spells journal es) × (after ≡ before)
+EndsFeed status.ReadFault journal user since faults faults' before after = ⊥
+EndsFeed status.WriteFault journal user since faults faults' before after =
+    (es : List Entry) × Spells journal es × TookPart before after (feed_text es user since) × (faults < faults')
+EndsFeed status.Memory journal user since faults faults' before after = after ≡ before

@@ -1,5 +1,14 @@
 //! The command `feed`: prints the rows of a user's changes feed over a journal.
 
+ghost use Rattle.std.specs.Prelude.{◌≡◌, ◌≢◌, ◌↔◌, ℕ, List, Option, Some, None, map, string_bytes, IfOk, IfErr, IsErrAnd};
+ghost use Rattle.sg_history.specs.declared.entries.Entry.{Entry};
+ghost use Rattle.sg_history.specs.Journal.{Spells};
+ghost use Rattle.sg_history.specs.Refusal.{RefusesLog};
+ghost use Rattle.gateway_app.specs.FeedText.{feed_text};
+ghost use Rattle.gateway_app.specs.Words.{FeedWords, IsFeed};
+ghost use Rattle.gateway_app.specs.Request.{words_of};
+ghost use Rattle.gateway_app.specs.Run.{Counted, Ends, EndsAbsent, EndsFeed, EndsLoaded, HasFile, HasNoFile, IsLoaded, Prints, Silent};
+
 use crate::status::Status;
 use crate::text::print_rows;
 use crate::words::{FeedRequest, WordsFault, read_words};
@@ -12,7 +21,10 @@ use std::alloc::Global;
 const JOURNAL: u64 = 1;
 
 /// The printed feed of the history that a journal spells, over its whole length, with revocations.
-fn feed_of(alloc: Global, journal: &[u8], user: &Name, since: &Key) -> Result<Bytes, ReadLog> {
+fn feed_of(alloc: Global, journal: &[u8], user: &Name, since: &Key) -> Result<Bytes, ReadLog>
+    ensures ok { IfOk result (λ text. (es : List Entry) × Spells journal.now es × (text ≡ feed_text es user.now since.now)) }
+    ensures bad { IfErr result (λ e. RefusesLog e ((es : List Entry) → ¬ (Spells journal.now es))) }
+{
     let log = read_journal(alloc, journal)?;
     let options = Options {
         filter: None,
@@ -23,7 +35,13 @@ fn feed_of(alloc: Global, journal: &[u8], user: &Name, since: &Key) -> Result<By
     Ok(print_rows(alloc, rows.as_slice())?)
 }
 
-fn load<F: Files>(alloc: Global, files: &mut F, path: &str) -> Result<Bytes, Status> {
+/// The bytes of the journal, or how the run ends without them.
+fn load<F: Files>(alloc: Global, files: &mut F, path: &str) -> Result<Bytes, Status>
+    ensures told { (bytes : List ℕ) → HasFile (F.told files.old) path.now bytes → IsLoaded bytes result }
+    ensures absent { HasNoFile (F.told files.old) path.now → IsErrAnd result EndsAbsent }
+    ensures loaded { EndsLoaded result (F.faults files.old) (F.faults files.new) }
+    ensures kept { F.told files.new ≡ F.told files.old }
+{
     let mut bytes = Bytes::new(alloc);
     match files.load(path, &mut bytes) {
         Loaded::Whole => Ok(bytes),
@@ -37,7 +55,9 @@ fn load<F: Files>(alloc: Global, files: &mut F, path: &str) -> Result<Bytes, Sta
     }
 }
 
-fn print<O: Sink>(text: &[u8], out: &mut O) -> Status {
+fn print<O: Sink>(text: &[u8], out: &mut O) -> Status
+    ensures { Prints result text.now (O.faults out.old) (O.faults out.new) (O.taken out.old) (O.taken out.new) }
+{
     match out.give(text) {
         Gave::Done => Status::Ok,
         Gave::Failed => Status::WriteFault,
@@ -45,12 +65,17 @@ fn print<O: Sink>(text: &[u8], out: &mut O) -> Status {
     }
 }
 
-fn run_feed<F: Files, O: Sink>(alloc: Global, request: &FeedRequest<'_>, files: &mut F, out: &mut O) -> Status {
-    let journal = match load(alloc, files, request.journal) {
-        Ok(journal) => journal,
-        Err(status) => return status,
-    };
-    match feed_of(alloc, journal.as_slice(), &request.user, &request.since) {
+/// Prints the feed of a journal that was loaded.
+fn print_feed<O: Sink>(
+    alloc: Global,
+    journal: &[u8],
+    user: &Name,
+    since: &Key,
+    out: &mut O,
+) -> Status
+    ensures { EndsFeed result journal.now user.now since.now (O.faults out.old) (O.faults out.new) (O.taken out.old) (O.taken out.new) }
+{
+    match feed_of(alloc, journal, user, since) {
         Ok(text) => print(text.as_slice(), out),
         Err(ReadLog::Bad(BadLine { place, why })) => Status::BadInput {
             file: JOURNAL,
@@ -61,8 +86,41 @@ fn run_feed<F: Files, O: Sink>(alloc: Global, request: &FeedRequest<'_>, files: 
     }
 }
 
+fn run_feed<F: Files, O: Sink>(
+    alloc: Global,
+    request: &FeedRequest<'_>,
+    files: &mut F,
+    out: &mut O,
+) -> Status
+    ensures ends { (bytes : List ℕ) → HasFile (F.told files.old) request.now.journal.now bytes → Ends result (words_of request.now) bytes (O.taken out.old) (O.taken out.new) }
+    ensures absent { HasNoFile (F.told files.old) request.now.journal.now → EndsAbsent result }
+    ensures words { result ≢ Status.BadWords }
+    ensures counted { Counted result (F.faults files.old) (F.faults files.new) (O.faults out.old) (O.faults out.new) }
+    ensures silent { Silent result (O.taken out.old) (O.taken out.new) }
+    ensures kept { F.told files.new ≡ F.told files.old }
+{
+    match load(alloc, files, request.journal) {
+        Ok(journal) => print_feed(
+            alloc,
+            journal.as_slice(),
+            &request.user,
+            &request.since,
+            out,
+        ),
+        Err(status) => status,
+    }
+}
+
 /// Runs a command: the words are those after the program's name.
-pub fn run<F: Files, O: Sink>(alloc: Global, words: &[String], files: &mut F, out: &mut O) -> Status {
+pub fn run<F: Files, O: Sink>(alloc: Global, words: &[String], files: &mut F, out: &mut O) -> Status
+    ensures words { (result ≡ Status.BadWords) ↔ ((f : FeedWords) → ¬ IsFeed (map (λ w. string_bytes w) words.now) f) }
+    ensures untouched { result ≡ Status.BadWords → (files.new ≡ files.old) × (out.new ≡ out.old) }
+    ensures ends { (f : FeedWords) (bytes : List ℕ) → IsFeed (map (λ w. string_bytes w) words.now) f → HasFile (F.told files.old) f.journal bytes → Ends result f bytes (O.taken out.old) (O.taken out.new) }
+    ensures absent { (f : FeedWords) → IsFeed (map (λ w. string_bytes w) words.now) f → HasNoFile (F.told files.old) f.journal → EndsAbsent result }
+    ensures counted { Counted result (F.faults files.old) (F.faults files.new) (O.faults out.old) (O.faults out.new) }
+    ensures silent { Silent result (O.taken out.old) (O.taken out.new) }
+    ensures kept { F.told files.new ≡ F.told files.old }
+{
     match read_words(alloc, words) {
         Ok(request) => run_feed(alloc, &request, files, out),
         Err(WordsFault::BadWords) => Status::BadWords,

@@ -1,0 +1,16 @@
+use Rattle.std.proofs.Common.{◌∙◌}
+use Rattle.gateway_app.specs.Request.{words_of}
+use Rattle.gateway_app.proofs.Endings.{with_bytes, not_loaded}
+use Rattle.gateway_app.proofs.feed_command.run_feed.Goals as goal
+
+pub returns-in-Ok-clause-ends : goal.returns-in-Ok-clause-ends
+returns-in-Ok-clause-ends g c = λ bytes file.
+    let loaded = c.in-Ok.ensures.told bytes file in
+    with_bytes c.print_feed.result (words_of c.args.request.now) bytes c.as_slice.result.now _ _ _ _ (loaded.0, c.as_slice.ensures ∙ loaded.1) c.print_feed.ensures
+
+pub returns-in-Ok-clause-absent : goal.returns-in-Ok-clause-absent
+returns-in-Ok-clause-absent g c = λ absent. absurd (c.in-Ok.ensures.absent absent)
+
+pub returns-in-Err-clause-ends : goal.returns-in-Err-clause-ends
+returns-in-Err-clause-ends g c = λ bytes file.
+    not_loaded c.in-Err.status (words_of c.args.request.now) bytes _ _ (c.in-Err.ensures.told bytes file)
