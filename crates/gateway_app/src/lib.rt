@@ -8,3 +8,6 @@ pub mod words;
 
 pub use feed_command::run;
 pub use status::Status;
+
+#[cfg(test)]
+mod tests;

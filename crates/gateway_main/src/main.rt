@@ -5,11 +5,10 @@
 use gateway_app::{Status, run};
 use sg_outside::{RealFiles, StdoutSink};
 use std::alloc::AllocError;
-use std::env;
-use std::io;
 use std::io::ErrorKind;
 use std::process::ExitCode;
 use std::rt::Env;
+use std::{env, io};
 
 /// The words after the program's name.
 fn words_of(rt: &(impl Env + AllocGlobal)) -> Result<Vec<String>, Status> {
@@ -35,7 +34,11 @@ fn tell(rt: &impl Eprint, status: Status) -> io::Result<u8> {
             eprintln!(rt; "sgate: bad words")?;
             Ok(1)
         }
-        Status::BadInput { file, place, why: _ } => {
+        Status::BadInput {
+            file,
+            place,
+            why: _,
+        } => {
             eprintln!(rt; "sgate: bad input {file} {place}")?;
             Ok(2)
         }
