@@ -1,1 +1,6 @@
+mod AnyFeed
+mod Changes
+mod Keys
 pub mod Past
+mod RowLists
+mod ShownRows

@@ -19,8 +19,17 @@ fn log_of(alloc: Global, lines: &str) -> Result<Log, Fail> {
     Ok(read_journal(alloc, journal.as_slice())?)
 }
 
-fn options_of(alloc: Global, filter: &str, active_only: bool, revocations: bool) -> Result<Options, Fail> {
-    let filter = if filter.is_empty() { None } else { Some(Channels::parse(alloc, filter)?) };
+fn options_of(
+    alloc: Global,
+    filter: &str,
+    active_only: bool,
+    revocations: bool,
+) -> Result<Options, Fail> {
+    let filter = if filter.is_empty() {
+        None
+    } else {
+        Some(Channels::parse(alloc, filter)?)
+    };
     Ok(Options {
         filter,
         active_only,
@@ -29,7 +38,13 @@ fn options_of(alloc: Global, filter: &str, active_only: bool, revocations: bool)
 }
 
 /// Rows as `KEY DOCUMENT REVISION BITS;`, one after another.
-fn text_of(alloc: Global, log: &Log, user: &str, since: &str, options: &Options) -> Result<Bytes, Fail> {
+fn text_of(
+    alloc: Global,
+    log: &Log,
+    user: &str,
+    since: &str,
+    options: &Options,
+) -> Result<Bytes, Fail> {
     let user = Name::parse(alloc, user)?;
     let since = Key::parse(since)?;
     let found = rows(alloc, log, log.entries.len() as u64, &user, &since, options)?;
@@ -47,16 +62,35 @@ fn text_of(alloc: Global, log: &Log, user: &str, since: &str, options: &Options)
     Ok(text)
 }
 
-const FIRST: &str = "U|ann|A|-;W|d1|1-a|-|0|7b7d|-|1|1-a|A|-|-;W|d2|1-b|-|0|7b7d|-|2|1-b|B|-|-;W|d3|1-c|-|0|7b7d|-|3|1-c|!|-|-;";
-const BACKFILL: &str = "U|ann|A|-;W|d1|1-a|-|0|7b7d|-|1|1-a|B|-|-;W|d2|1-b|-|0|7b7d|-|2|1-b|B|-|-;W|d3|1-c|-|0|7b7d|-|3|1-c|A|-|-;U|ann|A,B|-;";
+const FIRST: &str =
+    "U|ann|A|-;W|d1|1-a|-|0|7b7d|-|1|1-a|A|-|-;W|d2|1-b|-|0|7b7d|-|2|1-b|B|-|-;W|d3|1-c|-|0|7b7d|-|3|1-c|!|-|-;";
+
+const BACKFILL: &str =
+    "U|ann|A|-;W|d1|1-a|-|0|7b7d|-|1|1-a|B|-|-;W|d2|1-b|-|0|7b7d|-|2|1-b|B|-|-;W|d3|1-c|-|0|7b7d|-|3|1-c|A|-|-;U|ann|A,B|-;";
+
 const REVOCATION: &str = "U|ann|A|-;W|d1|1-a|-|0|7b7d|-|1|1-a|B|-|-;U|ann|A,B|-;U|ann|A|-;";
-const REMOVAL: &str = "U|ann|A|-;W|d1|1-a|-|0|7b7d|-|1|1-a|A|-|-;W|d2|1-b|-|0|7b7d|-|2|1-b|A|-|-;W|d1|2-a|1-a|0|7b7d|-|3|2-a|B|-|-;W|d2|2-b|1-b|1|7b7d|-|4|2-b|-|-|-;";
-const DELETED: &str = "U|ann|A|-;W|d1|1-a|-|0|7b7d|-|1|1-a|A|-|-;W|d2|1-b|-|0|7b7d|-|2|1-b|A|-|-;W|d1|2-a|1-a|0|7b7d|-|3|2-a|B|-|-;W|d2|2-b|1-b|1|7b7d|-|4|2-b|-|-|-;W|d3|1-c|-|1|7b7d|-|5|1-c|A|-|-;";
-const DOCUMENT_GRANT: &str = "U|ann|A|-;W|d1|1-a|-|0|7b7d|-|1|1-a|B|-|-;W|g|1-g|-|0|7b7d|-|2|1-g|A|ann=B|-;W|g|2-g|1-g|1|7b7d|-|3|2-g|A|-|-;";
-const EARLIER_CONFLICT: &str = "U|ann|A|-;W|d1|1-a|-|0|7b7d|-|1|1-a|A|-|-;W|d1|1-b|-|0|7b7d|-|2|1-b|B|-|-;";
-const CONFLICT: &str = "U|ann|A|-;W|d1|1-a|-|0|7b7d|-|1|1-a|A|-|-;W|d1|1-b|-|0|7b7d|-|2|1-b|B|-|-;W|d1|2-c|1-b|1|7b7d|-|3|1-a|-|-|-;";
-const EVERYTHING: &str = "U|bob|*|-;W|d1|1-a|-|0|7b7d|-|1|1-a|A|-|-;W|d2|1-b|-|0|7b7d|-|2|1-b|-|-|-;";
-const LEAVES_AND_RETURNS: &str = "U|ann|A|-;W|d1|1-a|-|0|7b7d|-|1|1-a|A|-|-;W|d1|2-a|1-a|0|7b7d|-|2|2-a|B|-|-;W|d1|3-a|2-a|0|7b7d|-|3|3-a|A|-|-;";
+
+const REMOVAL: &str =
+    "U|ann|A|-;W|d1|1-a|-|0|7b7d|-|1|1-a|A|-|-;W|d2|1-b|-|0|7b7d|-|2|1-b|A|-|-;W|d1|2-a|1-a|0|7b7d|-|3|2-a|B|-|-;W|d2|2-b|1-b|1|7b7d|-|4|2-b|-|-|-;";
+
+const DELETED: &str =
+    "U|ann|A|-;W|d1|1-a|-|0|7b7d|-|1|1-a|A|-|-;W|d2|1-b|-|0|7b7d|-|2|1-b|A|-|-;W|d1|2-a|1-a|0|7b7d|-|3|2-a|B|-|-;W|d2|2-b|1-b|1|7b7d|-|4|2-b|-|-|-;W|d3|1-c|-|1|7b7d|-|5|1-c|A|-|-;";
+
+const DOCUMENT_GRANT: &str =
+    "U|ann|A|-;W|d1|1-a|-|0|7b7d|-|1|1-a|B|-|-;W|g|1-g|-|0|7b7d|-|2|1-g|A|ann=B|-;W|g|2-g|1-g|1|7b7d|-|3|2-g|A|-|-;";
+
+const EARLIER_CONFLICT: &str =
+    "U|ann|A|-;W|d1|1-a|-|0|7b7d|-|1|1-a|A|-|-;W|d1|1-b|-|0|7b7d|-|2|1-b|B|-|-;";
+
+const CONFLICT: &str =
+    "U|ann|A|-;W|d1|1-a|-|0|7b7d|-|1|1-a|A|-|-;W|d1|1-b|-|0|7b7d|-|2|1-b|B|-|-;W|d1|2-c|1-b|1|7b7d|-|3|1-a|-|-|-;";
+
+const EVERYTHING: &str =
+    "U|bob|*|-;W|d1|1-a|-|0|7b7d|-|1|1-a|A|-|-;W|d2|1-b|-|0|7b7d|-|2|1-b|-|-|-;";
+
+const LEAVES_AND_RETURNS: &str =
+    "U|ann|A|-;W|d1|1-a|-|0|7b7d|-|1|1-a|A|-|-;W|d1|2-a|1-a|0|7b7d|-|2|2-a|B|-|-;W|d1|3-a|2-a|0|7b7d|-|3|3-a|A|-|-;";
+
 const GRANTS_ITSELF: &str = "U|ann|-|-;W|d1|1-a|-|0|7b7d|-|1|1-a|C|ann=C|-;";
 
 #[test]
@@ -68,7 +102,12 @@ fn worked_journals(rt: HostRuntime) -> Result<(), Fail> {
         (FIRST, "ann", "0", "2 d1 1-a 0;4 d3 1-c 0;"),
         (BACKFILL, "ann", "4", "5:2 d1 1-a 0;5:3 d2 1-b 0;"),
         (BACKFILL, "ann", "5:2", "5:3 d2 1-b 0;"),
-        (BACKFILL, "ann", "0", "4 d3 1-c 0;5:2 d1 1-a 0;5:3 d2 1-b 0;"),
+        (
+            BACKFILL,
+            "ann",
+            "0",
+            "4 d3 1-c 0;5:2 d1 1-a 0;5:3 d2 1-b 0;",
+        ),
         (BACKFILL, "ann", "9", ""),
         (REVOCATION, "ann", "2", "4:2 d1 1-a 2;"),
         (REVOCATION, "ann", "0", ""),
@@ -85,7 +124,10 @@ fn worked_journals(rt: HostRuntime) -> Result<(), Fail> {
     ] {
         let log = log_of(alloc, lines)?;
         let text = text_of(alloc, &log, user, since, &everything)?;
-        assert!(rt; text.as_slice() == want.as_bytes(), "{user} {since} {lines}");
+        assert!(rt;
+            text.as_slice() == want.as_bytes(),
+            "{user} {since} {lines}"
+        );
     }
     Ok(())
 }
@@ -95,9 +137,23 @@ fn options_and_filters(rt: HostRuntime) -> Result<(), Fail> {
     let alloc = rt.alloc();
     for (lines, since, filter, active_only, revocations, want) in [
         (DELETED, "0", "", true, true, ""),
-        (DELETED, "3", "", true, true, "4 d1 2-a 4;5 d2 2-b 5;6 d3 1-c 1;"),
+        (
+            DELETED,
+            "3",
+            "",
+            true,
+            true,
+            "4 d1 2-a 4;5 d2 2-b 5;6 d3 1-c 1;",
+        ),
         (REVOCATION, "2", "", false, false, ""),
-        (BACKFILL, "0", "B", false, true, "5:2 d1 1-a 0;5:3 d2 1-b 0;"),
+        (
+            BACKFILL,
+            "0",
+            "B",
+            false,
+            true,
+            "5:2 d1 1-a 0;5:3 d2 1-b 0;",
+        ),
         (FIRST, "0", "*", false, true, "2 d1 1-a 0;4 d3 1-c 0;"),
         (FIRST, "0", "!", false, true, "4 d3 1-c 0;"),
         (FIRST, "0", "B", false, true, ""),
@@ -105,7 +161,10 @@ fn options_and_filters(rt: HostRuntime) -> Result<(), Fail> {
         let log = log_of(alloc, lines)?;
         let options = options_of(alloc, filter, active_only, revocations)?;
         let text = text_of(alloc, &log, "ann", since, &options)?;
-        assert!(rt; text.as_slice() == want.as_bytes(), "{since} {filter} {lines}");
+        assert!(rt;
+            text.as_slice() == want.as_bytes(),
+            "{since} {filter} {lines}"
+        );
     }
     Ok(())
 }
@@ -115,7 +174,8 @@ fn dropped_and_put_again(rt: HostRuntime) -> Result<(), Fail> {
     let alloc = rt.alloc();
     let options = options_of(alloc, "", false, true)?;
     let mut log = log_of(alloc, EVERYTHING)?;
-    log.entries.push(Entry::DropUser(Name::parse(alloc, "bob")?))?;
+    log.entries
+        .push(Entry::DropUser(Name::parse(alloc, "bob")?))?;
     let dropped = text_of(alloc, &log, "bob", "3", &options)?;
     assert!(rt; dropped.as_slice() == b"4:2 d1 1-a 2;4:3 d2 1-b 2;".as_slice());
     let channels = Channels::parse(alloc, "A")?;
