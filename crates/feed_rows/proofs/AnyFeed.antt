@@ -1,6 +1,7 @@
 -- The laws of a feed, for any rows of documents of which a few facts hold.
 use Rattle.std.proofs.Common.{◌≡◌, ℕ, ◌<◌, ◌≤◌, refl, sym, ◌∙◌, ap, inl, inr, ◌⊎◌, ⊎_elim, arith, IsTrue, Bool, true, false, List, [], ◌++◌, length, filter, Option, Some, None, ◌&&◌, ◌||◌, not, nat_eq}
 use Rattle.std.proofs.lemmas.Bool.{false≢true, and_parts, and_from, and_right, or_left, ne_eqb}
+use Rattle.std.proofs.lemmas.Option.{same_Some}
 use Rattle.std.specs.List.{filter_map}
 use Rattle.std.specs.Ordering.{is_lt}
 use Rattle.std.specs.declared.cmp.Ordering.{Ordering}
@@ -43,19 +44,16 @@ feed_of row docs since options = in_key_order (filter (λ r. keeps options since
 abbrev pub Asked : (List ℕ → Option Row) → Key → Options → Row → Type 0
 Asked row since options r = (doc : List ℕ) × (row doc ≡ Some r) × IsTrue (keeps options since r)
 
-some_same : (a b : Row) → Some a ≡ Some b → a ≡ b
-some_same a b h = cc
-
 -- what is asked for, part by part
 is_less : (o : Ordering) → is_lt o ≡ true → o ≡ Less
 is_less Less h = refl
 is_less Equal h = absurd (false≢true h)
 is_less Greater h = absurd (false≢true h)
 
-abbrev from_start : Options → Key → Row → Bool
+abbrev pub from_start : Options → Key → Row → Bool
 from_start options since r = not (is_start since) || (not (is_gone r.bits) && not (options.active_only && is_deleted r.bits))
 
-abbrev revoked : Options → Row → Bool
+abbrev pub revoked : Options → Row → Bool
 revoked options r = options.revocations || not (nat_eq r.bits 2)
 
 pub kept_above : (options : Options) (since : Key) (r : Row) → keeps options since r ≡ true → IsBelow since r.key
@@ -69,13 +67,10 @@ kept_revoked options since r h = (and_parts (is_lt (key_cmp since r.key) && from
 kept_from : (options : Options) (since : Key) (r : Row) → IsBelow since r.key → is_start since ≡ false → revoked options r ≡ true → keeps options since r ≡ true
 kept_from options since r h s k =
     let below : is_lt (key_cmp since r.key) ≡ true = ap is_lt h in
-    let later : from_start options since r ≡ true = or_left' (not (is_start since)) _ (ap not s) in
+    let later : from_start options since r ≡ true = or_left (not (is_start since)) _ (ap not s) in
     and_from (is_lt (key_cmp since r.key) && from_start options since r) (revoked options r) (and_from (is_lt (key_cmp since r.key)) (from_start options since r) below later) k
-  where
-    or_left' : (x y : Bool) → x ≡ true → (x || y) ≡ true
-    or_left' x y h = or_left x y h
 
-not_start : (k : Key) → 1 ≤ k.seq → is_start k ≡ false
+pub not_start : (k : Key) → 1 ≤ k.seq → is_start k ≡ false
 not_start k h = and_right (nat_eq k.by 0) (nat_eq k.seq 0) (ne_eqb k.seq 0 (λ e. omega arith))
 
 module _ (rowed : List Entry → List ℕ → Option Row) (shown : List Entry → List ℕ → Option Held) (facts : RowFacts rowed shown) where
@@ -83,7 +78,7 @@ module _ (rowed : List Entry → List ℕ → Option Row) (shown : List Entry �
   same_row : (es : List Entry) (a b : List ℕ) (r s : Row) → rowed es a ≡ Some r → rowed es b ≡ Some s → key_cmp r.key s.key ≡ Equal → r ≡ s
   same_row es a b r s h k e =
       let d = facts.apart es a b r s h k (same_from_tie r.key s.key e) in
-      some_same r s (sym h ∙ ap (rowed es) d ∙ k)
+      same_Some r s (sym h ∙ ap (rowed es) d ∙ k)
 
   pub feed_had : (es : List Entry) (since : Key) (options : Options) (r : Row) → HasRow (feed_of (rowed es) (documents es) since options) r → Asked (rowed es) since options r
   feed_had es since options r h =
@@ -104,7 +99,7 @@ module _ (rowed : List Entry → List ℕ → Option Row) (shown : List Entry �
       let x = feed_had es since options r h in
       let y = feed_had es since options s k in
       let d : x.0 ≡ y.0 = sym (facts.own es x.0 r x.1) ∙ e ∙ facts.own es y.0 s y.1 in
-      some_same r s (sym x.1 ∙ ap (rowed es) d ∙ y.1)
+      same_Some r s (sym x.1 ∙ ap (rowed es) d ∙ y.1)
 
   -- a since key at or past the last key, or the front, gives no row
   pub past_the_last : (es : List Entry) (since : Key) (options : Options) → ((doc : List ℕ) (r : Row) → rowed es doc ≡ Some r → IsBelow since r.key → ⊥) → feed_of (rowed es) (documents es) since options ≡ []
@@ -128,7 +123,7 @@ module _ (rowed : List Entry → List ℕ → Option Row) (shown : List Entry �
       same : {doc : List ℕ} → (IsBelow sent.key r.key → ⊥) → sent.key.by ≤ length es → ((rowed (more ++ es) doc ≡ rowed es doc) × (shown (more ++ es) doc ≡ shown es doc)) ⊎ ((s : Row) × (rowed (more ++ es) doc ≡ Some s) × (length es < s.key.by)) → rowed (more ++ es) doc ≡ Some r → rowed es doc ≡ Some r
       same n b (inl e) h = sym e.0 ∙ h
       same n b (inr s) h =
-          let e : s.0 ≡ r = some_same s.0 r (sym s.1 ∙ h) in
+          let e : s.0 ≡ r = same_Some s.0 r (sym s.1 ∙ h) in
           let f = ap (λ (x : Row). x.key.by) e in
           absurd (n (below_from_under sent.key r.key (inl (omega (arith, f, s.2, b)))))
 

@@ -1,6 +1,7 @@
 -- The rows of documents at their last changes, for any view and any state of documents of which a few facts hold.
 use Rattle.std.proofs.Common.{◌≡◌, ℕ, ◌+◌, ◌<◌, ◌≤◌, refl, sym, ◌∙◌, ap, inl, inr, ◌⊎◌, ⊎_elim, arith, Bool, true, false, if◌then◌else◌, List, [], ◌∷◌, ◌++◌, length, length-append, Option, Some, None, suc}
 use Rattle.std.proofs.lemmas.Bool.{false≢true}
+use Rattle.std.proofs.lemmas.Option.{none-some, same_Some}
 use Rattle.sg_names.specs.declared.rev_id.RevId.{RevId}
 use Rattle.sg_names.specs.declared.key.Key.{Key}
 use Rattle.sg_history.specs.declared.entries.Entry.{Entry}
@@ -65,24 +66,6 @@ ending_length es ending x = let h = ap length x.1 in omega (arith, h, length-app
 row_of_state : (by : ℕ) (wrote : Bool) (shown : Option Shown) (doc : List ℕ) (now : Option Current) (r : Row) → row_with by wrote shown doc now ≡ Some r → (c : Current) × (now ≡ Some c) × (r ≡ record { key = record { by = by; seq = c.seq }; doc = doc; rev = c.rev; bits = bits_of shown wrote c.deleted })
 row_of_state by wrote shown doc None r h = absurd (cc)
 row_of_state by wrote shown doc (Some c) r h = (c, refl, cc)
-
-some_same : {X : Type 0} (a b : X) → Some a ≡ Some b → a ≡ b
-some_same a b h = cc
-
-none_is_some : {X : Type 0} {x : X} → None ≡ Some x → ⊥
-none_is_some h = cc
-
-abbrev key_in : Row → Key
-key_in r = r.key
-
-abbrev doc_in : Row → List ℕ
-doc_in r = r.doc
-
-abbrev by_in : Key → ℕ
-by_in k = k.by
-
-abbrev seq_in : Key → ℕ
-seq_in k = k.seq
 
 abbrev shown_of : Current → Shown
 shown_of c = record { seq = c.seq; rev = c.rev; deleted = c.deleted }
@@ -171,24 +154,27 @@ module _ (view : List Entry → List ℕ → Option Shown) (current : List Entry
       seen_again : (at : List Entry) (doc : List ℕ) (s : Shown) (c : Current) → view at doc ≡ Some s → current at doc ≡ Some c → s ≡ record { seq = c.seq; rev = c.rev; deleted = c.deleted }
       seen_again at doc s c e h =
           let y = facts.seen at doc s e in
-          let same : y.0 ≡ c = some_same y.0 c (sym y.1 ∙ h) in
+          let same : y.0 ≡ c = same_Some y.0 c (sym y.1 ∙ h) in
           y.2 ∙ ap shown_of same
+
+  -- the key of a row at a change: its place, and the sequence of its document there
+  row_key : (at : List Entry) (doc : List ℕ) (r : Row) → row_from view current doc at ≡ Some r → (c : Current) × (current at doc ≡ Some c) × (r.key.by ≡ length at) × (r.key.seq ≡ c.seq)
+  row_key at doc r h =
+      let x = row_has at doc r h in
+      (x.0, x.1, ap (λ (y : Row). y.key.by) x.2.1, ap (λ (y : Row). y.key.seq) x.2.1)
 
   apart_at : (es : List Entry) (a b : List ℕ) (r s : Row) → row_by view current es a ≡ Some r → row_by view current es b ≡ Some s → r.key ≡ s.key → a ≡ b
   apart_at es a b r s h k e =
-      let x = row_has (changed_by view es a) a r h in
-      let y = row_has (changed_by view es b) b s k in
-      let key_x = ap key_in x.2.1 in
-      let key_y = ap key_in y.2.1 in
-      let keys : record { by = length (changed_by view es a); seq = x.0.seq } ≡ record { by = length (changed_by view es b); seq = y.0.seq } = sym key_x ∙ e ∙ key_y in
-      let places = same_endings es (changed_by view es a) (changed_by view es b) (changed_ends es a) (changed_ends es b) (ap by_in keys) in
-      facts.apart (changed_by view es a) a b x.0 y.0 x.1 (ap (λ (at : List Entry). current at b) places ∙ y.1) (ap seq_in keys)
+      let x = row_key (changed_by view es a) a r h in
+      let y = row_key (changed_by view es b) b s k in
+      let one_place : changed_by view es a ≡ changed_by view es b = same_endings es _ _ (changed_ends es a) (changed_ends es b) (sym x.2 ∙ ap (λ (key : Key). key.by) e ∙ y.2) in
+      facts.apart (changed_by view es a) a b x.0 y.0 x.1 (ap (λ (at : List Entry). current at b) one_place ∙ y.1) (sym x.3 ∙ ap (λ (key : Key). key.seq) e ∙ y.3)
 
   hidden_at : (es : List Entry) (doc : List ℕ) → row_by view current es doc ≡ None → held_of (view es doc) ≡ None
   hidden_at es doc h =
       elim (changed_has es doc) [
         | inl e ↦ ap held_of (same_since es doc ∙ ap (λ (at : List Entry). view at doc) e ∙ facts.nothing doc)
-        | inr x ↦ let r = row_there (changed_by view es doc) doc x.0 (current_long _ doc x.0 x.1) x.1 in absurd (none_is_some (sym h ∙ r.1))
+        | inr x ↦ let r = row_there (changed_by view es doc) doc x.0 (current_long _ doc x.0 x.1) x.1 in absurd (none-some _ (sym h ∙ r.1))
       ]
 
   written_at : (es : List Entry) (doc : List ℕ) (r : Row) → row_by view current es doc ≡ Some r → Has (documents es) doc
@@ -209,16 +195,15 @@ module _ (view : List Entry → List ℕ → Option Shown) (current : List Entry
       changed_row l (inl e) = absurd (let h = ap length e in omega (arith, h))
       changed_row l (inr x) =
           let r = row_there (changed_by view (more ++ es) doc) doc x.0 (current_long _ doc x.0 x.1) x.1 in
-          let has = row_has (changed_by view (more ++ es) doc) doc r.0 r.1 in
-          let h = ap (λ y. by_in (key_in y)) has.2.1 in
-          (r.0, r.1, omega (arith, h, l))
+          let key = row_key (changed_by view (more ++ es) doc) doc r.0 r.1 in
+          (r.0, r.1, omega (arith, key.2, l))
 
   pub row_facts : RowFacts (row_by view current) (λ es doc. held_of (view es doc))
   row_facts = record {
-    own = λ es doc r h. ap doc_in (row_has (changed_by view es doc) doc r h).2.1;
-    positive = λ es doc r h. let x = row_has (changed_by view es doc) doc r h in let e = ap (λ y. seq_in (key_in y)) x.2.1 in omega (arith, e, facts.positive _ doc x.0 x.1);
-    seq_bound = λ es doc r h. let x = row_has (changed_by view es doc) doc r h in let e = ap (λ y. seq_in (key_in y)) x.2.1 in let f = ap (λ y. by_in (key_in y)) x.2.1 in omega (arith, e, f, facts.bounded _ doc x.0 x.1);
-    by_bound = λ es doc r h. let x = row_has (changed_by view es doc) doc r h in let f = ap (λ y. by_in (key_in y)) x.2.1 in omega (arith, f, ending_length es _ (changed_ends es doc));
+    own = λ es doc r h. ap (λ (y : Row). y.doc) (row_has (changed_by view es doc) doc r h).2.1;
+    positive = λ es doc r h. let x = row_key (changed_by view es doc) doc r h in omega (arith, x.3, facts.positive _ doc x.0 x.1);
+    seq_bound = λ es doc r h. let x = row_key (changed_by view es doc) doc r h in omega (arith, x.2, x.3, facts.bounded _ doc x.0 x.1);
+    by_bound = λ es doc r h. let x = row_key (changed_by view es doc) doc r h in omega (arith, x.2, ending_length es _ (changed_ends es doc));
     apart = apart_at;
     shows = λ es doc r h. ap held_of (same_since es doc) ∙ shown_at (changed_by view es doc) doc r h;
     hidden = hidden_at;

@@ -2,6 +2,7 @@
 use Rattle.std.proofs.Common.{◌≡◌, ℕ, ◌+◌, ◌≤◌, refl, sym, ◌∙◌, ap, subst, inl, inr, arith, Bool, true, false, ◌&&◌, if◌then◌else◌, List, [], ◌∷◌, ◌++◌, length, Option, Some, None, suc, nat_eq}
 use Rattle.std.proofs.Math.Path.{fun_ext}
 use Rattle.std.proofs.lemmas.Bool.{false≢true, and_parts, eqb-true}
+use Rattle.std.proofs.lemmas.Option.{none-some}
 use Rattle.std.proofs.lemmas.Slice.Eq.{bytes_eq-Decides}
 use Rattle.std.specs.Bool.{beq}
 use Rattle.std.specs.Str.{bytes_eq}
@@ -20,7 +21,8 @@ use Rattle.feed_rows.proofs.RowLists.{Has}
 use Rattle.feed_rows.proofs.AnyFeed.{RowFacts}
 use Rattle.feed_rows.proofs.Changes.{ViewFacts, changed_by, row_from, row_by, row_facts}
 
-same_bytes : (a b : List ℕ) → bytes_eq a b ≡ true → a ≡ b
+-- tests that hold of two make them the same
+pub same_bytes : (a b : List ℕ) → bytes_eq a b ≡ true → a ≡ b
 same_bytes a b h = (bytes_eq-Decides a b).0 h
 
 same_marks : (a b : Bool) → beq a b ≡ true → a ≡ b
@@ -51,20 +53,17 @@ tested None (Some b) h = absurd (false≢true h)
 tested (Some a) None h = absurd (false≢true h)
 tested (Some a) (Some b) h = ap (λ (x : Shown). Some x) (same_shown a b h)
 
-none_is_some : {X : Type 0} {x : X} → None ≡ Some x → ⊥
-none_is_some h = cc
-
 if_some : (b : Bool) (x s : Shown) → (if b then Some x else None) ≡ Some s → s ≡ x
 if_some true x s h = cc
-if_some false x s h = absurd (none_is_some h)
+if_some false x s h = absurd (none-some _ h)
 
 seen_of : (es : List Entry) (user : List ℕ) (filter : Option (List (List ℕ))) (o : Option Current) (s : Shown) → view_of es user filter o ≡ Some s → (c : Current) × (o ≡ Some c) × (s ≡ record { seq = c.seq; rev = c.rev; deleted = c.deleted })
-seen_of es user filter None s h = absurd (none_is_some h)
+seen_of es user filter None s h = absurd (none-some _ h)
 seen_of es user filter (Some c) s h = (c, refl, if_some (is_shown es user filter c) _ s h)
 
 -- a current state is of a last write
 current_last_of : (es : List Entry) (doc : List ℕ) (o : Option Sequenced) (c : Current) → current_after es doc o ≡ Some c → (l : Sequenced) × (o ≡ Some l) × (c.seq ≡ l.seq)
-current_last_of es doc None c h = absurd (none_is_some h)
+current_last_of es doc None c h = absurd (none-some _ h)
 current_last_of es doc (Some l) c h = (l, refl, seq_of c _ h)
   where
     seq_of : (a b : Current) → Some b ≡ Some a → a.seq ≡ b.seq
@@ -74,7 +73,7 @@ current_last : (es : List Entry) (doc : List ℕ) (c : Current) → current es d
 current_last es doc c h = current_last_of es doc (last_write es doc) c h
 
 current_there : (es : List Entry) (doc : List ℕ) (o : Option Sequenced) (l : Sequenced) → o ≡ Some l → (c : Current) × (current_after es doc o ≡ Some c)
-current_there es doc None l h = absurd (none_is_some h)
+current_there es doc None l h = absurd (none-some _ h)
 current_there es doc (Some m) l h = (_, refl)
 
 next_there : (w : Option Write) (seq : ℕ) (before : Option Sequenced) (l : Sequenced) → before ≡ Some l → (m : Sequenced) × (sequenced_or w seq before ≡ Some m)
@@ -89,7 +88,7 @@ stays e es doc c h =
 
 -- the last write stands at a place of the entries
 last_place : (es : List Entry) (doc : List ℕ) (l : Sequenced) → last_write es doc ≡ Some l → (1 ≤ l.seq) × (l.seq ≤ length es)
-last_place [] doc l h = absurd (none_is_some h)
+last_place [] doc l h = absurd (none-some _ h)
 last_place (e ∷ older) doc l h = go (write_to e doc) (last_write older doc) (last_place older doc l) h
   where
     go : (w : Option Write) (before : Option Sequenced) → (before ≡ Some l → (1 ≤ l.seq) × (l.seq ≤ length older)) → sequenced_or w (length older + 1) before ≡ Some l → (1 ≤ l.seq) × (l.seq ≤ suc (length older))
@@ -102,12 +101,12 @@ write_of (entry.Write w) doc v h = go (bytes_eq w.doc doc) refl h
   where
     go : (b : Bool) → bytes_eq w.doc doc ≡ b → (if b then Some w else None) ≡ Some v → (w.doc ∷ [] ≡ v.doc ∷ []) × (v.doc ≡ doc)
     go true e h = let same : w ≡ v = cc in let docs = ap (λ (x : Write). x.doc) same in (ap (λ (d : List ℕ). d ∷ []) docs, sym docs ∙ same_bytes w.doc doc e)
-    go false e h = absurd (none_is_some h)
-write_of (entry.PutUser name channels roles) doc v h = absurd (none_is_some h)
-write_of (entry.PutRole name channels) doc v h = absurd (none_is_some h)
-write_of (entry.DropUser name) doc v h = absurd (none_is_some h)
-write_of (entry.DropRole name) doc v h = absurd (none_is_some h)
-write_of entry.Unused doc v h = absurd (none_is_some h)
+    go false e h = absurd (none-some _ h)
+write_of (entry.PutUser name channels roles) doc v h = absurd (none-some _ h)
+write_of (entry.PutRole name channels) doc v h = absurd (none-some _ h)
+write_of (entry.DropUser name) doc v h = absurd (none-some _ h)
+write_of (entry.DropRole name) doc v h = absurd (none-some _ h)
+write_of entry.Unused doc v h = absurd (none-some _ h)
 
 one_written : (e : Entry) (a b : List ℕ) (v w : Write) → write_to e a ≡ Some v → write_to e b ≡ Some w → a ≡ b
 one_written e a b v w h k =
@@ -121,7 +120,7 @@ one_written e a b v w h k =
 
 -- the last writes of two documents stand at two places
 last_apart : (es : List Entry) (a b : List ℕ) (l m : Sequenced) → last_write es a ≡ Some l → last_write es b ≡ Some m → l.seq ≡ m.seq → a ≡ b
-last_apart [] a b l m h k e = absurd (none_is_some h)
+last_apart [] a b l m h k e = absurd (none-some _ h)
 last_apart (e ∷ older) a b l m h k same = go (write_to e a) (write_to e b) refl refl (last_apart older a b l m) h k
   where
     go : (v w : Option Write) → write_to e a ≡ v → write_to e b ≡ w → (last_write older a ≡ Some l → last_write older b ≡ Some m → l.seq ≡ m.seq → a ≡ b) → sequenced_or v (length older + 1) (last_write older a) ≡ Some l → sequenced_or w (length older + 1) (last_write older b) ≡ Some m → a ≡ b
@@ -140,7 +139,7 @@ has_right [] ys x h = h
 has_right (z ∷ zs) ys x h = inr (has_right zs ys x h)
 
 last_written : (es : List Entry) (doc : List ℕ) (l : Sequenced) → last_write es doc ≡ Some l → Has (documents es) doc
-last_written [] doc l h = absurd (none_is_some h)
+last_written [] doc l h = absurd (none-some _ h)
 last_written (e ∷ older) doc l h = go (write_to e doc) refl (last_written older doc l) h
   where
     go : (w : Option Write) → write_to e doc ≡ w → (last_write older doc ≡ Some l → Has (documents older) doc) → sequenced_or w (length older + 1) (last_write older doc) ≡ Some l → Has (written_by e ++ documents older) doc

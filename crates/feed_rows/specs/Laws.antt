@@ -42,6 +42,14 @@ plain n = record { by = n; seq = n }
 abbrev pub all_of : List Entry → List Entry
 all_of entries = past entries (length entries)
 
+-- the row is one of these that were sent, at a key not above this one
+abbrev pub WasSent : List Row → Key → Row → Type 0
+WasSent sent key row = HasRow sent row × ¬ (IsBelow key row.key)
+
+-- the row is one of these that are still to be sent, at a key above this one
+abbrev pub IsAhead : List Row → Key → Row → Type 0
+IsAhead ahead key row = IsBelow key row.key × HasRow ahead row
+
 -- what a device takes at once: the first rows of its feed, at a front of a history
 pub record Turn : Type 0 where
   pub history : List Entry
