@@ -1,1 +1,8 @@
+mod AnyDevice
+mod AnyFeed
+mod Changes
+mod Keys
 pub mod Past
+mod Places
+mod RowLists
+mod ShownRows

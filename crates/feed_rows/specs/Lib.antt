@@ -1,3 +1,4 @@
 pub mod Latest
+pub mod Laws
 pub mod Put
 pub mod Scan

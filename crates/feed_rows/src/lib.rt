@@ -2,6 +2,7 @@
 #![tactic(auto)]
 
 pub mod documents;
+pub mod laws;
 pub mod principals;
 pub mod scan;
 pub mod views;
