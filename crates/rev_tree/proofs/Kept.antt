@@ -47,7 +47,7 @@ kept_known tree (a ∷ b ∷ more) =
       | inr e ↦
           let k = kept_some tree b more in
           let rest : only_last_known tree (b ∷ take k.0 more) ≡ true = rw k.1 at (kept_known tree (b ∷ more)) in
-          rw (e, add-one, k.1) (and_from _ _ (not_from_false _ e) rest)
+          rw (e, add-one (kept_of tree (b ∷ more)), k.1) (and_from _ _ (not_from_false _ e) rest)
     ]
 
 -- a write with what is kept is an accepted extension

@@ -7,3 +7,4 @@ pub mod Kept
 pub mod HexDigests
 pub mod OfWrites
 pub mod Firsts
+pub mod Parents

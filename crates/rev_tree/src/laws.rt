@@ -13,10 +13,12 @@ ghost use Rattle.rev_tree.specs.Extension.{Recorded, with_write};
 ghost use Rattle.rev_tree.specs.Writes as writes;
 
 /// The tree that a list of accepted extensions makes, one after another, has the revisions of their
-/// lists, the pairs that stand next to each other there, the leaves that these leave, and their winner.
+/// lists, the pairs that stand next to each other there, so that each revision has one parent at most, the
+/// leaves that these pairs leave, and their winner.
 pub fn trees_of_writes()
     ensures revisions { (ws : List Recorded) (rev : RevId) → writes.AreAccepted ws → trees.knows (writes.tree_of ws) rev ≡ writes.among (writes.revisions ws) rev }
     ensures pairs { (ws : List Recorded) (rev parent : RevId) → writes.AreAccepted ws → trees.has_pair (writes.tree_of ws) rev parent ≡ writes.has_pair_in ws rev parent }
+    ensures parents { (ws : List Recorded) (rev parent : RevId) → writes.AreAccepted ws → ((trees.parent_of (writes.tree_of ws) rev ≡ Some parent) ↔ IsTrue (writes.has_pair_in ws rev parent)) }
     ensures leaves { (ws : List Recorded) → writes.AreAccepted ws → trees.leaves_of (writes.tree_of ws) ≡ writes.leaves_in ws }
     ensures winner { (ws : List Recorded) → writes.AreAccepted ws → trees.winner_of (writes.tree_of ws) ≡ writes.winner_in ws }
 {}

@@ -6,6 +6,7 @@ ghost use Rattle.rev_tree.specs.Order as order;
 ghost use Rattle.rev_tree.specs.Tree as trees;
 
 use sg_names::RevId;
+use sg_outside::Memory;
 use std::alloc::{AllocError, Global};
 use std::cmp::Ordering;
 use std::marker::Model;
@@ -18,7 +19,7 @@ pub struct Leaf {
 }
 
 impl Leaf {
-    pub fn copy(&self, alloc: Global) -> Result<Leaf, AllocError>
+    pub fn copy(&self, alloc: Global) -> Result<Leaf, Memory>
         ensures { IfOk result (λ l. l ≡ self.now) }
     {
         Ok(Leaf {

@@ -10,7 +10,7 @@ ghost use Rattle.rev_tree.specs.OwnRev as own;
 
 use md5::{Digest as _, Md5};
 use sg_names::{Digest, RevId, TextFault};
-use sg_outside::Bytes;
+use sg_outside::{Bytes, Memory};
 use std::alloc::{AllocError, Global};
 
 /// `1` for deleted, else `0`.
@@ -75,7 +75,7 @@ pub fn own_rev(
     parent: Option<&RevId>,
     deleted: bool,
     body: &[u8],
-) -> Result<RevId, AllocError>
+) -> Result<RevId, Memory>
     requires { own.generation_of (option_copied parent) < 4294967295 }
     ensures value { IfOk result (λ rev. rev ≡ own.own_rev_of (option_copied parent.entry) deleted body.now) }
     ensures grammar { IfOk result (λ rev. IsTrue (is_rev rev)) }

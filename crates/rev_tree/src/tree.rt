@@ -1,6 +1,6 @@
 //! Trees of revisions.
 
-ghost use Rattle.std.specs.Prelude.{◌≡◌, ◌≢◌, ◌++◌, ◌∷◌, ◌≤◌, ◌↔◌, ◌&&◌, [], false, not, take, option_map, IfOk, IfSome, IsTrue, None, Some};
+ghost use Rattle.std.specs.Prelude.{◌≡◌, ◌≢◌, ◌++◌, ◌∷◌, ◌≤◌, ◌↔◌, ◌&&◌, [], false, not, take, length, option_map, IfOk, IfSome, IsTrue, None, Some};
 ghost use Rattle.std.specs.Option.{option_copied};
 ghost use Rattle.rev_tree.specs.Tree as trees;
 ghost use Rattle.rev_tree.specs.Order as order;
@@ -15,6 +15,7 @@ use crate::extend::Extended;
 use crate::leaf::{Leaf, Leaves};
 use crate::{history, leaf};
 use sg_names::{RevId, Revs};
+use sg_outside::Memory;
 use std::alloc::{AllocError, Global};
 use std::marker::Model;
 
@@ -76,7 +77,7 @@ impl Tree {
     }
 
     /// The leaves, by falling generation, then by falling digest.
-    pub fn leaves(&self) -> Result<Leaves, AllocError>
+    pub fn leaves(&self) -> Result<Leaves, Memory>
         ensures { IfOk result (λ l. l ≡ order.in_order (trees.leaves_of self.now)) }
     {
         let alloc = *self.nodes.allocator();
@@ -177,6 +178,7 @@ impl Tree {
         ensures bad_history { result ≢ BadHistory400 }
         ensures conflict { IfConflict result (λ leaf. ⊥) }
         ensures kept { IfNewTree result (λ tree kept. kept ≡ extension.kept_of self.now ancestors.now) }
+        ensures within { IfNewTree result (λ tree kept. kept ≤ length ancestors.now) }
         ensures tree { IfNewTree result (λ tree kept. tree ≡ extension.with_write self.now (record { rev = rev.now; ancestors = take (extension.kept_of self.now ancestors.now) ancestors.now; deleted = deleted })) }
         ensures accepted { IsTrue (is_accepted self.now (record { rev = rev.now; ancestors = take (extension.kept_of self.now ancestors.now) ancestors.now; deleted = deleted })) }
     {
@@ -199,6 +201,7 @@ impl Tree {
         ensures conflict { IfConflict result (λ leaf. (extension.verdict_of self.now rev.now ancestors.now strict ≡ makes_conflict) × (option_map (λ w. w.rev) (trees.winner_of self.now) ≡ Some leaf)) }
         ensures new_tree { IfNewTree result (λ tree kept. extension.verdict_of self.now rev.now ancestors.now strict ≡ extends_tree) }
         ensures kept { IfNewTree result (λ tree kept. kept ≡ extension.kept_of self.now ancestors.now) }
+        ensures within { IfNewTree result (λ tree kept. kept ≤ length ancestors.now) }
         ensures tree { IfNewTree result (λ tree kept. tree ≡ extension.with_write self.now (record { rev = rev.now; ancestors = take kept ancestors.now; deleted = deleted })) }
         ensures accepted { IfNewTree result (λ tree kept. IsTrue (is_accepted self.now (record { rev = rev.now; ancestors = take kept ancestors.now; deleted = deleted }))) }
     {
@@ -217,7 +220,7 @@ impl Tree {
 
     /// The ancestors of a revision from its parent on, at most so many; none where the tree does not
     /// know the revision.
-    pub fn ancestors_of(&self, rev: &RevId, most: u64) -> Result<Revs, AllocError>
+    pub fn ancestors_of(&self, rev: &RevId, most: u64) -> Result<Revs, Memory>
         ensures { IfOk result (λ found. found ≡ trees.ancestors_of self.now rev.now most) }
     {
         let alloc = *self.nodes.allocator();
