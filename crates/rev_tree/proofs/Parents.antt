@@ -1,0 +1,55 @@
+-- the parent of a revision is the one that it stands next to
+use Rattle.std.proofs.Common.{◌≡◌, true, false, ◌&&◌, List, [], ◌∷◌, sym, ap, ◌∙◌, Option, Some, None, inl, inr}
+use Rattle.std.specs.Prelude.{◌↔◌}
+use Rattle.std.proofs.lemmas.Bool.{and_parts, and_from, or_left, or_right, or_cases, cases_Bool}
+use Rattle.sg_names.specs.declared.rev_id.RevId.{RevId}
+use Rattle.sg_names.specs.RevId.{same_rev}
+use Rattle.rev_tree.specs.declared.tree.Node.{Node}
+use Rattle.rev_tree.specs.Tree.{knows, is_this, has_pair, parent_of}
+use Rattle.rev_tree.specs.Extension.{Recorded}
+use Rattle.rev_tree.specs.Writes.{has_pair_in, tree_of, AreAccepted}
+use Rattle.rev_tree.specs.Shape.{is_grown}
+use Rattle.rev_tree.proofs.Sames.{same_is_equal, same_itself, known_differs}
+use Rattle.rev_tree.proofs.Lines.{newest}
+use Rattle.rev_tree.proofs.OfWrites.{of_writes_grown, same_pairs}
+
+this_is : (parent : Option RevId) (rev : RevId) → is_this parent rev ≡ true → parent ≡ Some rev
+this_is None rev h = cc
+this_is (Some p) rev h = ap (λ (r : RevId). Some r) (same_is_equal p rev h)
+
+is_of : (parent : Option RevId) (rev : RevId) → parent ≡ Some rev → is_this parent rev ≡ true
+is_of parent rev h = rw h (same_itself rev)
+
+pair_known : (tree : List Node) (rev parent : RevId) → has_pair tree rev parent ≡ true → knows tree rev ≡ true
+pair_known [] rev parent h = h
+pair_known (n ∷ older) rev parent h =
+    elim (or_cases (same_rev n.rev rev && is_this n.parent parent) (has_pair older rev parent) h) [
+      | inl a ↦ or_left _ _ (and_parts (same_rev n.rev rev) (is_this n.parent parent) a).0
+      | inr o ↦ or_right (same_rev n.rev rev) _ (pair_known older rev parent o)
+    ]
+
+pair_of : (tree : List Node) (rev parent : RevId) → parent_of tree rev ≡ Some parent → has_pair tree rev parent ≡ true
+pair_of [] rev parent h = cc
+pair_of (n ∷ older) rev parent h =
+    elim (cases_Bool (same_rev n.rev rev)) [
+      | inl s ↦ let is : n.parent ≡ Some parent = rw s at h in or_left _ _ (and_from _ _ s (is_of n.parent parent is))
+      | inr s ↦ let is : parent_of older rev ≡ Some parent = rw s at h in or_right (same_rev n.rev rev && is_this n.parent parent) _ (pair_of older rev parent is)
+    ]
+
+of_pair : (tree : List Node) (rev parent : RevId) → is_grown tree ≡ true → has_pair tree rev parent ≡ true → parent_of tree rev ≡ Some parent
+of_pair [] rev parent grown h = cc
+of_pair (n ∷ older) rev parent grown h =
+    elim (or_cases (same_rev n.rev rev && is_this n.parent parent) (has_pair older rev parent) h) [
+      | inl a ↦
+          let parts = and_parts (same_rev n.rev rev) (is_this n.parent parent) a in
+          rw parts.0 (this_is n.parent parent parts.1)
+      | inr o ↦
+          let new = newest n older grown in
+          let differs : same_rev n.rev rev ≡ false = known_differs older n.rev rev new.unknown (pair_known older rev parent o) in
+          rw differs (of_pair older rev parent new.grown o)
+    ]
+
+-- in the tree of accepted writes
+pub parent_in : (writes : List Recorded) (rev parent : RevId) → AreAccepted writes → (parent_of (tree_of writes) rev ≡ Some parent) ↔ (has_pair_in writes rev parent ≡ true)
+parent_in writes rev parent h =
+    (λ is. sym (same_pairs writes rev parent h) ∙ pair_of (tree_of writes) rev parent is, λ pair. of_pair (tree_of writes) rev parent (of_writes_grown writes h) (same_pairs writes rev parent h ∙ pair))

@@ -1,0 +1,18 @@
+//! Revision trees of documents: what a further revision does to one, which leaf wins, and the revision
+//! that the gateway makes itself.
+#![tactic(auto)]
+
+pub mod extend;
+pub mod history;
+pub mod laws;
+pub mod leaf;
+pub mod own;
+pub mod tree;
+
+pub use extend::Extended;
+pub use leaf::{Leaf, Leaves};
+pub use own::own_rev;
+pub use tree::{Node, Tree};
+
+#[cfg(test)]
+mod tests;
