@@ -110,7 +110,7 @@ pub line_whole : (e : Entry) → IsEntry e → lacks 10 (line_of e) ≡ true
 line_whole e is = joined_lack 10 9 refl (fields_of e) (all_lack 10 (omega arith) (fields_of e) (fields_plain e is))
 
 -- fields that are no entry's make a line that is none's
-no_line : (line : List ℕ) (fields : List (List ℕ)) → fields ≡ pieces 9 line → NoEntry fields → NoLine line
+pub no_line : (line : List ℕ) (fields : List (List ℕ)) → fields ≡ pieces 9 line → NoEntry fields → NoLine line
 no_line line fields parts none e is spelled = none e is (parts ∙ ap (pieces 9) spelled ∙ line_pieces e is.0)
 
 reads_line : (line : List ℕ) (fields : List (List ℕ)) (e : Entry) (fits : Bool) → fields ≡ pieces 9 line
@@ -122,9 +122,6 @@ pub read_ok : (line : List ℕ) (fields : List (List ℕ)) (r : Result ReadEntry
     → IfOk r (λ read. ReadsEntry fields read) → IfOk r (λ read. ReadsLine line read)
 read_ok line fields (Ok read) parts h = reads_line line fields read.entry read.at_fits parts h
 read_ok line fields (Err e) parts h = tt
-
-pub read_bad : (line : List ℕ) (fields : List (List ℕ)) → fields ≡ pieces 9 line → NoEntry fields → NoLine line
-read_bad line fields parts none = no_line line fields parts none
 
 -- no entry has more than twelve fields
 pub no_long_line : (line : List ℕ) → 12 < length (pieces 9 line) → NoLine line

@@ -1,7 +1,7 @@
 -- The journal: the text of a history. The first line is `sgjournal 1`; line k + 1 is entry k. Fields are
 -- parted by one TAB, and each line ends with a line feed.
 use Rattle.std.specs.Prelude.{◌≡◌, ℕ, ◌+◌, ◌<◌, ◌^◌, Bool, true, false, ◌&&◌, ◌||◌, not, nat_lt, List, [], ◌∷◌, ◌++◌, length, reverse, is_some, Option, Some, None, codes, decimal, IsTrue, IsUtf8}
-use Rattle.std.specs.List.{flat_map, join_with_byte, list_all}
+use Rattle.std.specs.List.{flat_map, join_with_byte}
 use Rattle.sg_names.specs.declared.rev_id.RevId.{RevId}
 use Rattle.sg_names.specs.Grammar.{is_doc_id, is_name}
 use Rattle.sg_names.specs.RevId.{rev_text, is_rev, same_rev}
@@ -10,7 +10,7 @@ use Rattle.sg_names.specs.Channels.{channels_text, is_channels}
 use Rattle.sg_names.specs.Names.{names_text, is_names}
 use Rattle.sg_names.specs.Grants.{grants_text, is_grants}
 use Rattle.sg_names.specs.RoleGrants.{role_grants_text, is_role_grants}
-use Rattle.sg_names.specs.Hex.{hex_text}
+use Rattle.sg_names.specs.Hex.{hex_text, are_bytes}
 use Rattle.sg_history.specs.declared.entries.Entry.{Entry}
 use Rattle.sg_history.specs.declared.entries.Entry.TheVariants as entry
 use Rattle.sg_history.specs.declared.entries.Write.{Write}
@@ -57,13 +57,14 @@ lines_of es = flat_map (λ e. line_of e ++ 10 ∷ []) es
 abbrev pub journal_text : List Entry → List ℕ
 journal_text es = header ++ lines_of es
 
+-- a writer is a name, or the administrator
 abbrev pub is_by : Option (List ℕ) → Bool
 is_by None = true
 is_by (Some name) = is_name name
 
 -- a body is at least one byte
 abbrev pub is_body : List ℕ → Bool
-is_body body = nat_lt 0 (length body) && list_all (λ b. nat_lt b 256) body
+is_body body = nat_lt 0 (length body) && are_bytes body
 
 -- a write in its grammar: each field is, each that is no number is UTF-8, and the front fits its type
 pub record IsWrite (w : Write) : Type 0 where
@@ -79,15 +80,15 @@ pub record IsWrite (w : Write) : Type 0 where
   pub roles : IsTrue (is_role_grants w.roles) × IsUtf8 (role_grants_text w.roles)
 
 -- a put of a user in its grammar
-pub record IsPutUser (user : List ℕ) (given taken : List (List ℕ)) : Type 0 where
+pub record IsPutUser (user : List ℕ) (its_channels its_roles : List (List ℕ)) : Type 0 where
   pub name : IsTrue (is_name user) × IsUtf8 user
-  pub channels : IsTrue (is_channels given) × IsUtf8 (channels_text given)
-  pub roles : IsTrue (is_names taken) × IsUtf8 (names_text taken)
+  pub channels : IsTrue (is_channels its_channels) × IsUtf8 (channels_text its_channels)
+  pub roles : IsTrue (is_names its_roles) × IsUtf8 (names_text its_roles)
 
 -- a put of a role in its grammar
-pub record IsPutRole (role : List ℕ) (given : List (List ℕ)) : Type 0 where
+pub record IsPutRole (role : List ℕ) (its_channels : List (List ℕ)) : Type 0 where
   pub name : IsTrue (is_name role) × IsUtf8 role
-  pub channels : IsTrue (is_channels given) × IsUtf8 (channels_text given)
+  pub channels : IsTrue (is_channels its_channels) × IsUtf8 (channels_text its_channels)
 
 -- an entry in its grammar: each of its fields is, and each that is no number is UTF-8
 abbrev pub IsEntry : Entry → Type 0
@@ -113,6 +114,7 @@ follows_rules older w =
     not (has_rev older w.doc w.rev) && falls_from w.rev.generation w.ancestors && nat_lt w.at (length older + 1)
     && (same_rev w.winner w.rev || has_rev older w.doc w.winner)
 
+-- an entry follows the rules, of which only writes have some
 abbrev pub may_follow : List Entry → Entry → Bool
 may_follow older (entry.Write w) = follows_rules older w
 may_follow older (entry.PutUser name channels roles) = true

@@ -30,6 +30,7 @@ IsLineEntry e = IsEntry e × IsTrue (is_recorded e)
 abbrev pub NoEntry : List (List ℕ) → Type 0
 NoEntry fields = (e : Entry) → IsLineEntry e → fields ≢ fields_of e
 
+-- whether an entry is a write
 abbrev pub is_write : Entry → Bool
 is_write (entry.Write w) = true
 is_write (entry.PutUser name channels roles) = false

@@ -59,6 +59,9 @@ fn read_lines(alloc: Global, lines: &[u8]) -> Result<Log, ReadLog>
 }
 
 /// Reads a journal, or tells its first bad line.
+///
+/// A line's faults are told in this order: `Head`, `Ending`, `Kind`, `Fields`, the first `Field`, the
+/// first `Rule`. No clause speaks of the line and the fault that are told; tests show them.
 pub fn read_journal(alloc: Global, bytes: &[u8]) -> Result<Log, ReadLog>
     ensures ok { IfOk result (λ log. Spells bytes.now (history log)) }
     ensures bad { IfErr result (λ e. RefusesLog e ((es : List Entry) → ¬ (Spells bytes.now es))) }

@@ -1,6 +1,6 @@
 use Rattle.std.proofs.Common.{List, ℕ, map, ap, ◌∙◌, Bor}
 use Rattle.sg_history.proofs.WriteFields.{refused}
-use Rattle.sg_history.proofs.LineTexts.{read_ok, read_bad, no_long_line}
+use Rattle.sg_history.proofs.LineTexts.{read_ok, no_line, no_long_line}
 use Rattle.sg_history.proofs.line.read_line.Goals as goal
 
 pub returns-in-Some-clause-ok : goal.returns-in-Some-clause-ok
@@ -11,7 +11,7 @@ returns-in-Some-clause-ok c =
 pub returns-in-Some-clause-bad : goal.returns-in-Some-clause-bad
 returns-in-Some-clause-bad c =
     let parts = rw c.in-Some.is at c.in_ok-fields.ensures.all in
-    refused c.read_fields.result (read_bad c.args.line.now _ (ap (map (λ (p : Bor (List ℕ)). p.now)) c.as_slice.ensures.value ∙ parts)) c.read_fields.ensures.bad
+    refused c.read_fields.result (no_line c.args.line.now _ (ap (map (λ (p : Bor (List ℕ)). p.now)) c.as_slice.ensures.value ∙ parts)) c.read_fields.ensures.bad
 
 pub returns-in-None-clause-bad : goal.returns-in-None-clause-bad
 returns-in-None-clause-bad c = no_long_line c.args.line.now (rw c.in-None.is at c.in_ok-fields.ensures.more)
