@@ -1,11 +1,11 @@
 //! The rows of a user's changes feed, by a plain scan of the log.
 #![tactic(auto)]
 
-pub mod documents;
+mod documents;
 pub mod laws;
-pub mod principals;
-pub mod scan;
-pub mod views;
+mod principals;
+mod scan;
+mod views;
 
 pub use scan::rows;
 

@@ -4,14 +4,14 @@
 
 pub mod entries;
 pub mod fault;
-pub mod field;
-pub mod fields;
+mod field;
+mod fields;
 pub mod journal;
 pub mod laws;
-pub mod line;
+mod line;
 pub mod row;
-pub mod rules;
-pub mod write_line;
+mod rules;
+mod write_line;
 
 pub use entries::{Entries, Entry, Log, Write};
 pub use fault::{BadLine, ReadLog, Why};
