@@ -32,6 +32,7 @@ abbrev pub kept_of : List Node → List RevId → ℕ
 kept_of tree [] = 0
 kept_of tree (a ∷ more) = if knows tree a then 1 else kept_of tree more + 1
 
+-- the nearest ancestor, if there is one
 abbrev pub first_of : List RevId → Option RevId
 first_of [] = None
 first_of (a ∷ more) = Some a

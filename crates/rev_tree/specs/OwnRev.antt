@@ -5,6 +5,7 @@ use Rattle.hex.specs.Hex.{encode_lower}
 use Rattle.sg_names.specs.declared.rev_id.RevId.{RevId}
 use Rattle.sg_names.specs.RevId.{rev_text}
 
+-- the generation of a parent, 0 where there is none
 abbrev pub generation_of : Option RevId → ℕ
 generation_of None = 0
 generation_of (Some parent) = parent.generation

@@ -24,6 +24,7 @@ has_pair tree rev parent = list_any (λ n. same_rev n.rev rev && is_this n.paren
 abbrev pub is_parent : List Node → RevId → Bool
 is_parent tree rev = list_any (λ n. is_this n.parent rev) tree
 
+-- a revision as a leaf
 abbrev pub leaf_at : Node → Leaf
 leaf_at n = record { rev = n.rev; deleted = n.deleted }
 

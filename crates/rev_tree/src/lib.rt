@@ -3,10 +3,10 @@
 #![tactic(auto)]
 
 pub mod extend;
-pub mod history;
+mod history;
 pub mod laws;
 pub mod leaf;
-pub mod own;
+mod own;
 pub mod tree;
 
 pub use extend::Extended;
