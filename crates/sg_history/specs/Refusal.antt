@@ -1,4 +1,6 @@
 -- refusals of a line and of a file
+use Rattle.std.specs.Prelude.{◌≡◌, ℕ}
+use Rattle.sg_history.specs.declared.fault.Why.TheVariants.{Field}
 use Rattle.sg_history.specs.declared.fault.LineFault.{LineFault}
 use Rattle.sg_history.specs.declared.fault.LineFault.TheVariants as line
 use Rattle.sg_history.specs.declared.fault.ReadLog.{ReadLog}
@@ -13,3 +15,8 @@ Refuses line.Memory cause = Unit {0}
 abbrev pub RefusesLog : ReadLog → Type 0 → Type 0
 RefusesLog (file.Bad bad) cause = cause
 RefusesLog file.Memory cause = Unit {0}
+
+-- a refusal that is not for want of memory names this field
+abbrev pub IsField : ℕ → LineFault → Type 0
+IsField number (line.Bad why) = why ≡ Field number
+IsField number line.Memory = Unit {0}

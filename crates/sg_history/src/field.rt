@@ -15,7 +15,7 @@ ghost use Rattle.sg_names.specs.Grants.{grants_text, is_grants};
 ghost use Rattle.sg_names.specs.RoleGrants.{role_grants_text, is_role_grants};
 ghost use Rattle.sg_names.specs.Hex.{hex_text, is_hex};
 ghost use Rattle.sg_history.specs.Journal.{mark_text, by_text, is_by};
-ghost use Rattle.sg_history.specs.Refusal.{Refuses};
+ghost use Rattle.sg_history.specs.Refusal.{IsField, Refuses};
 
 use crate::fault::{LineFault, Why};
 use sg_names::{
@@ -29,6 +29,7 @@ use std::alloc::Global;
 fn text_of(field: &[u8], number: u64) -> Result<&str, LineFault>
     ensures ok { IfOk result (λ s. (s.now ≡ field.now) × IsUtf8 field.now) }
     ensures bad { IfErr result (λ _. ¬ IsUtf8 field.now) }
+    ensures place { IfErr result (IsField number) }
 {
     match std::str::from_utf8(field) {
         Ok(text) => Ok(text),
@@ -40,6 +41,7 @@ fn text_of(field: &[u8], number: u64) -> Result<&str, LineFault>
 pub fn name(alloc: Global, field: &[u8], number: u64) -> Result<Name, LineFault>
     ensures ok { IfOk result (λ v. (v ≡ field.now) × IsTrue (is_name v) × IsUtf8 field.now) }
     ensures bad { IfErr result (λ e. Refuses e (IsUtf8 field.now → ¬ IsTrue (is_name field.now))) }
+    ensures place { IfErr result (IsField number) }
 {
     let text = text_of(field, number)?;
     match Name::parse(alloc, text) {
@@ -53,6 +55,7 @@ pub fn name(alloc: Global, field: &[u8], number: u64) -> Result<Name, LineFault>
 pub fn doc_id(alloc: Global, field: &[u8], number: u64) -> Result<DocId, LineFault>
     ensures ok { IfOk result (λ v. (v ≡ field.now) × IsTrue (is_doc_id v) × IsUtf8 field.now) }
     ensures bad { IfErr result (λ e. Refuses e (IsUtf8 field.now → ¬ IsTrue (is_doc_id field.now))) }
+    ensures place { IfErr result (IsField number) }
 {
     let text = text_of(field, number)?;
     match DocId::parse(alloc, text) {
@@ -66,6 +69,7 @@ pub fn doc_id(alloc: Global, field: &[u8], number: u64) -> Result<DocId, LineFau
 pub fn rev_id(alloc: Global, field: &[u8], number: u64) -> Result<RevId, LineFault>
     ensures ok { IfOk result (λ v. (field.now ≡ rev_text v) × IsTrue (is_rev v) × IsUtf8 field.now) }
     ensures bad { IfErr result (λ e. Refuses e (IsUtf8 field.now → (v : RevId) → IsTrue (is_rev v) → field.now ≢ rev_text v)) }
+    ensures place { IfErr result (IsField number) }
 {
     let text = text_of(field, number)?;
     match RevId::parse(alloc, text) {
@@ -79,6 +83,7 @@ pub fn rev_id(alloc: Global, field: &[u8], number: u64) -> Result<RevId, LineFau
 pub fn mark(field: &[u8], number: u64) -> Result<bool, LineFault>
     ensures ok { IfOk result (λ v. field.now ≡ mark_text v) }
     ensures bad { IfErr result (λ e. Refuses e ((v : Bool) → field.now ≢ mark_text v)) }
+    ensures place { IfErr result (IsField number) }
 {
     match field {
         b"0" => Ok(false),
@@ -91,6 +96,7 @@ pub fn mark(field: &[u8], number: u64) -> Result<bool, LineFault>
 pub fn body(alloc: Global, field: &[u8], number: u64) -> Result<Bytes, LineFault>
     ensures ok { IfOk result (λ v. (field.now ≡ hex_text v) × IsTrue (is_hex field.now)) }
     ensures bad { IfErr result (λ e. Refuses e (¬ IsTrue (is_hex field.now))) }
+    ensures place { IfErr result (IsField number) }
 {
     let mut bytes = Bytes::new(alloc);
     match from_hex(field, &mut bytes) {
@@ -104,6 +110,7 @@ pub fn body(alloc: Global, field: &[u8], number: u64) -> Result<Bytes, LineFault
 pub fn writer(alloc: Global, field: &[u8], number: u64) -> Result<Option<Name>, LineFault>
     ensures ok { IfOk result (λ v. (field.now ≡ by_text v) × IsTrue (is_by v) × IsUtf8 field.now) }
     ensures bad { IfErr result (λ e. Refuses e (IsUtf8 field.now → (v : Option (List ℕ)) → IsTrue (is_by v) → field.now ≢ by_text v)) }
+    ensures place { IfErr result (IsField number) }
 {
     let text = text_of(field, number)?;
     if text == "-" {
@@ -117,6 +124,7 @@ pub fn number_of(field: &[u8], number: u64) -> Result<Option<u64>, LineFault>
     ensures ok { IfOk result (λ v. MatchOption v ((n : ℕ) → n < 2 ^ 64 → field.now ≢ decimal n) (λ n. field.now ≡ decimal n)) }
     ensures utf8 { IfOk result (λ _. IsUtf8 field.now) }
     ensures bad { IfErr result (λ e. Refuses e (IsUtf8 field.now → ¬ IsTrue (decimals.is_decimal field.now))) }
+    ensures place { IfErr result (IsField number) }
 {
     let text = text_of(field, number)?;
     if !is_decimal(text.as_bytes()) {
@@ -129,6 +137,7 @@ pub fn number_of(field: &[u8], number: u64) -> Result<Option<u64>, LineFault>
 pub fn revs(alloc: Global, field: &[u8], number: u64) -> Result<Revs, LineFault>
     ensures ok { IfOk result (λ v. (field.now ≡ revs_text v) × IsTrue (is_revs v) × IsUtf8 field.now) }
     ensures bad { IfErr result (λ e. Refuses e (IsUtf8 field.now → (v : List RevId) → IsTrue (is_revs v) → field.now ≢ revs_text v)) }
+    ensures place { IfErr result (IsField number) }
 {
     let text = text_of(field, number)?;
     match Revs::parse(alloc, text) {
@@ -142,6 +151,7 @@ pub fn revs(alloc: Global, field: &[u8], number: u64) -> Result<Revs, LineFault>
 pub fn channels(alloc: Global, field: &[u8], number: u64) -> Result<Channels, LineFault>
     ensures ok { IfOk result (λ v. (field.now ≡ channels_text v) × IsTrue (is_channels v) × IsUtf8 field.now) }
     ensures bad { IfErr result (λ e. Refuses e (IsUtf8 field.now → (v : List (List ℕ)) → IsTrue (is_channels v) → field.now ≢ channels_text v)) }
+    ensures place { IfErr result (IsField number) }
 {
     let text = text_of(field, number)?;
     match Channels::parse(alloc, text) {
@@ -155,6 +165,7 @@ pub fn channels(alloc: Global, field: &[u8], number: u64) -> Result<Channels, Li
 pub fn names(alloc: Global, field: &[u8], number: u64) -> Result<Names, LineFault>
     ensures ok { IfOk result (λ v. (field.now ≡ names_text v) × IsTrue (is_names v) × IsUtf8 field.now) }
     ensures bad { IfErr result (λ e. Refuses e (IsUtf8 field.now → (v : List (List ℕ)) → IsTrue (is_names v) → field.now ≢ names_text v)) }
+    ensures place { IfErr result (IsField number) }
 {
     let text = text_of(field, number)?;
     match Names::parse(alloc, text) {
@@ -168,6 +179,7 @@ pub fn names(alloc: Global, field: &[u8], number: u64) -> Result<Names, LineFaul
 pub fn grants(alloc: Global, field: &[u8], number: u64) -> Result<Grants, LineFault>
     ensures ok { IfOk result (λ v. (field.now ≡ grants_text v) × IsTrue (is_grants v) × IsUtf8 field.now) }
     ensures bad { IfErr result (λ e. Refuses e (IsUtf8 field.now → (v : List Grant) → IsTrue (is_grants v) → field.now ≢ grants_text v)) }
+    ensures place { IfErr result (IsField number) }
 {
     let text = text_of(field, number)?;
     match Grants::parse(alloc, text) {
@@ -181,6 +193,7 @@ pub fn grants(alloc: Global, field: &[u8], number: u64) -> Result<Grants, LineFa
 pub fn role_grants(alloc: Global, field: &[u8], number: u64) -> Result<RoleGrants, LineFault>
     ensures ok { IfOk result (λ v. (field.now ≡ role_grants_text v) × IsTrue (is_role_grants v) × IsUtf8 field.now) }
     ensures bad { IfErr result (λ e. Refuses e (IsUtf8 field.now → (v : List RoleGrant) → IsTrue (is_role_grants v) → field.now ≢ role_grants_text v)) }
+    ensures place { IfErr result (IsField number) }
 {
     let text = text_of(field, number)?;
     match RoleGrants::parse(alloc, text) {
