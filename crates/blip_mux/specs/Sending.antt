@@ -46,10 +46,6 @@ abbrev pub after_piece : List Waiting → List Waiting
 after_piece [] = []
 after_piece (w ∷ ws) = if has_more w then without_piece w ∷ ws else ws
 
--- a message that was put, none of which was sent
-abbrev pub with_message : Sending → Waiting → Sending
-with_message s w = record s { waiting = s.waiting ++ w ∷ [] }
-
 -- whether a message that waits is a reply to the request of this number
 abbrev pub is_reply_to : ℕ → Waiting → Bool
 is_reply_to number w = is_reply w.kind && w.number == number

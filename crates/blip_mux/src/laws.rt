@@ -1,10 +1,10 @@
 //! Laws of joining and cutting. Each function says one, and does nothing.
 
-ghost use Rattle.std.specs.Prelude.{◌≡◌, ◌+◌, ◌≤◌, [], map, take, None, List, ℕ, if◌then◌else◌};
+ghost use Rattle.std.specs.Prelude.{◌≡◌, ◌≤◌, map, take, None, List, ℕ};
 ghost use Rattle.blip_frame.specs.Frame.{FrameParts};
 ghost use Rattle.blip_mux.specs.declared.message.Message.{Message};
 ghost use Rattle.blip_mux.specs.Standing.{new_standing};
-ghost use Rattle.blip_mux.specs.Joining.{Event, came, is_awaited, joined, joined_after, requests_in, taken_from};
+ghost use Rattle.blip_mux.specs.Joining.{Event, came, joined, joined_after, taken_from};
 ghost use Rattle.blip_mux.specs.Order.{request_numbers, CountsFrom, replies_to, times_expected};
 ghost use Rattle.blip_mux.specs.Sending.{Waiting};
 ghost use Rattle.blip_mux.specs.Cutting.{AreCut, HaveBytes, frames_of};

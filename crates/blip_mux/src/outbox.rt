@@ -3,10 +3,9 @@
 ghost use Rattle.std.specs.Prelude.{◌≡◌, ◌∷◌, ◌++◌, ◌+◌, ◌<◌, [], true, false, length, List, ℕ, Ok, IfOk, OnOk, OnErr};
 ghost use Rattle.std.specs.List.{list_any};
 ghost use Rattle.blip_frame.specs.Checksum.{checksum};
-ghost use Rattle.blip_frame.specs.Frame.{has_checksum};
 ghost use Rattle.blip_frame.specs.Payload.{payload_text};
 ghost use Rattle.blip_mux.specs.Joining.{is_reply};
-ghost use Rattle.blip_mux.specs.Sending.{Waiting, next_piece, after_piece, with_message, is_reply_to, Sends, SendsAfter};
+ghost use Rattle.blip_mux.specs.Sending.{next_piece, after_piece, is_reply_to, Sends, SendsAfter};
 
 use crate::waiting::WaitingMessage;
 use blip_frame::{Crc, Kind, Payload, write_frame, write_payload};
