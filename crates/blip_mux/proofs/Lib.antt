@@ -1,0 +1,4 @@
+pub mod Joins
+pub mod Cuts
+pub mod Sets
+pub mod Pieces
