@@ -1,8 +1,12 @@
-//! The rows of a user's changes feed, by a plain scan of the log.
+//! The rows of a user's changes feed, by one pass over the log.
 #![tactic(auto)]
 
+pub mod asked;
+pub mod document;
 pub mod documents;
+pub mod grants;
 pub mod laws;
+pub mod pass;
 pub mod principals;
 pub mod scan;
 pub mod views;
