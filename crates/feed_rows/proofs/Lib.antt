@@ -1,8 +1,14 @@
 mod AnyDevice
 mod AnyFeed
 mod Changes
+pub mod ChannelLists
 mod Keys
+mod Loops
+mod Names
+mod Ordered
+mod Passes
 pub mod Past
 mod Places
 mod RowLists
 mod ShownRows
+mod Steps

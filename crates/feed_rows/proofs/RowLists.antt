@@ -114,7 +114,7 @@ insert_precedes : (low row : Row) (rows : List Row) → IsBelow low.key row.key 
 insert_precedes low row [] h k = h
 insert_precedes low row (first ∷ others) h k = place_precedes (key_cmp row.key first.key) low row first others (insert_row row others) h k
 
-above_is_below : (a b : Key) → key_cmp a b ≡ Greater → IsBelow b a
+pub above_is_below : (a b : Key) → key_cmp a b ≡ Greater → IsBelow b a
 above_is_below a b h = key_total.antisymm b a ∙ ap ordering_reverse h
 
 place_rises : (o : Ordering) (row first : Row) (others after : List Row) → key_cmp row.key first.key ≡ o → Precedes first others → Rising others → (IsBelow first.key row.key → Precedes first after) → Rising after → Rising (place_row o row first others after)

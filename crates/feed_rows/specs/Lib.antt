@@ -1,4 +1,9 @@
+pub mod Channels
+pub mod Kept
 pub mod Latest
 pub mod Laws
+pub mod Ordered
+pub mod Pass
+pub mod PassAt
 pub mod Put
 pub mod Scan

@@ -1,11 +1,15 @@
-//! The rows of a user's changes feed, by a plain scan of the log.
+//! The rows of a user's changes feed, by one pass over the log.
 #![tactic(auto)]
 
-mod documents;
+pub mod asked;
+pub mod document;
+pub mod documents;
+pub mod grants;
 pub mod laws;
-mod principals;
-mod scan;
-mod views;
+pub mod pass;
+pub mod principals;
+pub mod scan;
+pub mod views;
 
 pub use scan::rows;
 

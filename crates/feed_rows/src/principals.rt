@@ -21,7 +21,11 @@ pub struct Put<'a> {
     pub roles: &'a Names,
 }
 
-fn user_after<'a>(entry: &'a Entry, user: &[u8], before: Option<Put<'a>>) -> Option<Put<'a>>
+pub(crate) fn user_after<'a>(
+    entry: &'a Entry,
+    user: &[u8],
+    before: Option<Put<'a>>,
+) -> Option<Put<'a>>
     ensures { standing_in result ≡ principals.user_after entry.now user.now (standing_in before.entry) }
 {
     match entry {
@@ -45,7 +49,7 @@ pub fn user_at<'a>(entries: &'a [Entry], user: &[u8]) -> Option<Put<'a>>
     put
 }
 
-fn role_after<'a>(
+pub(crate) fn role_after<'a>(
     entry: &'a Entry,
     role: &[u8],
     before: Option<&'a Channels>,
@@ -89,7 +93,7 @@ pub enum To<'a> {
     Role(&'a [u8]),
 }
 
-fn is_to(grantee: &Grantee, to: To<'_>) -> bool
+pub(crate) fn is_to(grantee: &Grantee, to: To<'_>) -> bool
     ensures { result ≡ principals.same_grantee grantee.now (grantee_in to.entry) }
 {
     match (grantee, to) {
@@ -153,7 +157,7 @@ fn some_role(gifts: &[RoleGrant], user: &[u8], role: &[u8]) -> bool
     gifts.iter().any(|g| is_gift(g, user, role))
 }
 
-fn gives_role(current: Option<Latest<'_>>, user: &[u8], role: &[u8]) -> bool
+pub(crate) fn gives_role(current: Option<Latest<'_>>, user: &[u8], role: &[u8]) -> bool
     ensures { result ≡ principals.gives_role (current_in current.entry) user.now role.now }
 {
     match current {
@@ -183,7 +187,7 @@ pub fn is_given(entries: &[Entry], user: &[u8], role: &[u8]) -> bool
     found
 }
 
-fn put_names_role(put: Option<Put<'_>>, role: &[u8]) -> bool
+pub(crate) fn put_names_role(put: Option<Put<'_>>, role: &[u8]) -> bool
     ensures { result ≡ principals.names_role (standing_in put.entry) role.now }
 {
     match put {

@@ -6,6 +6,7 @@ ghost use Rattle.sg_history.specs.Feed as feed;
 ghost use Rattle.feed_rows.specs.Latest.{shown_in};
 ghost use Rattle.feed_rows.specs.Scan.{insert_all};
 
+use crate::asked::rows_of_pass;
 use crate::documents;
 use crate::documents::{Latest, write_in};
 use crate::views::{last_change, shown};
@@ -13,7 +14,7 @@ use sg_history::{Channels, DocId, Entry, Key, Log, Name, Options, Row, Rows};
 use std::alloc::{AllocError, Global};
 use std::cmp::Ordering;
 
-fn bits_of(shown: Option<Latest<'_>>, wrote: bool, deleted: bool) -> u8
+pub(crate) fn bits_of(shown: Option<Latest<'_>>, wrote: bool, deleted: bool) -> u8
     ensures { result ≡ feed.bits_of (shown_in shown.entry) wrote deleted }
 {
     match (shown, wrote, deleted) {
@@ -91,7 +92,7 @@ fn is_start(key: &Key) -> bool
 }
 
 /// Whether a row is asked for.
-fn keeps(options: &Options, since: &Key, row: &Row) -> bool
+pub(crate) fn keeps(options: &Options, since: &Key, row: &Row) -> bool
     ensures { result ≡ feed.keeps options.now since.now row.now }
 {
     since.order(&row.key).is_lt()
@@ -147,7 +148,9 @@ fn insert_row_of(
     Ok(())
 }
 
-fn rows_of_entries(
+/// The rows of a user's changes feed at the end of some entries, by a plain scan that goes over them again for every
+/// place and document.
+pub fn rows_of_entries(
     alloc: Global,
     entries: &[Entry],
     user: &[u8],
@@ -177,5 +180,5 @@ pub fn rows(
     ensures { IfOk result (λ rows. rows ≡ feed.feed (past (history log.now) front) user.now since.now options.now) }
 {
     let entries = &log.entries.as_slice()[..front as usize];
-    Ok(Rows::from_vec(rows_of_entries(alloc, entries, user.as_bytes(), since, options)?))
+    Ok(Rows::from_vec(rows_of_pass(alloc, entries, user.as_bytes(), since, options)?))
 }

@@ -25,7 +25,7 @@ fn names_some(filter: &Channels, channels: &[ChannelName]) -> bool
     channels.iter().any(|c| names(filter, c.as_bytes()))
 }
 
-fn passes(filter: &Option<Channels>, channels: &[ChannelName]) -> bool
+pub(crate) fn passes(filter: &Option<Channels>, channels: &[ChannelName]) -> bool
     ensures { result ≡ view.passes filter.now (view.every ∷ channels.now) }
 {
     match filter {
@@ -65,7 +65,7 @@ pub fn shown<'a>(
     }
 }
 
-fn is_same(a: Option<Latest<'_>>, b: Option<Latest<'_>>) -> bool
+pub(crate) fn is_same(a: Option<Latest<'_>>, b: Option<Latest<'_>>) -> bool
     ensures { result ≡ view.same_view (shown_in a.entry) (shown_in b.entry) }
 {
     match (a, b) {

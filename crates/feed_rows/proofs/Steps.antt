@@ -1,0 +1,141 @@
+-- what one entry more changes of a document, and of the channels of a user
+use Rattle.std.proofs.Common.{◌≡◌, ℕ, ◌+◌, refl, sym, ◌∙◌, ap, subst, Bool, true, false, ◌&&◌, ◌||◌, if◌then◌else◌, List, [], ◌∷◌, ◌++◌, length, Option, Some, None}
+use Rattle.std.proofs.Math.Path.{fun_ext}
+use Rattle.std.specs.Bool.{beq}
+use Rattle.std.specs.List.{list_any}
+use Rattle.std.specs.Str.{bytes_eq}
+use Rattle.std.proofs.lemmas.Bool.{or_parts, and_from, eq-eqb}
+use Rattle.sg_names.specs.declared.grants.Grantee.{Grantee}
+use Rattle.sg_names.specs.declared.grants.Grantee.TheVariants.{User, Role}
+use Rattle.sg_history.specs.declared.entries.Entry.{Entry}
+use Rattle.sg_history.specs.declared.entries.Entry.TheVariants as entry
+use Rattle.sg_history.specs.declared.entries.Write.{Write}
+use Rattle.sg_history.specs.declared.row.Row.{Row}
+use Rattle.sg_history.specs.History.{write_to, written_by, documents, among}
+use Rattle.sg_history.specs.Current.{Current, Sequenced, sequenced_or, with_rev_or, write_of_rev, write_or, current_of, last_write, current, current_after}
+use Rattle.sg_history.specs.Principals.{Standing, exists, names_role, names_channel, same_grantee, grants_channel, is_granted, gives_role, is_given, has_channel, user_at, role_at, roles_put, everyone}
+use Rattle.sg_history.specs.View.{Shown, view, view_of, same_view}
+use Rattle.sg_history.specs.Feed.{changed, row_at, row_of, row_with, writes}
+use Rattle.feed_rows.specs.Kept.{kept_at, kept_next, view_by, looked_at}
+use Rattle.feed_rows.proofs.Names.{same_texts, text_is_itself}
+
+-- an entry that does not write a document leaves it as it is
+same_after : (e : Entry) (es : List Entry) (doc : List ℕ) → write_to e doc ≡ None → (o : Option Sequenced) → current_after (e ∷ es) doc o ≡ current_after es doc o
+same_after e es doc h None = refl
+same_after e es doc h (Some last) =
+    ap (λ (w : Option Write). Some (current_of last.seq (write_or (with_rev_or w last.write.winner (write_of_rev es doc last.write.winner)) last.write))) h
+
+pub current_same : (e : Entry) (es : List Entry) (doc : List ℕ) → write_to e doc ≡ None → current (e ∷ es) doc ≡ current es doc
+current_same e es doc h =
+    ap (λ (w : Option Write). current_after (e ∷ es) doc (sequenced_or w (length es + 1) (last_write es doc))) h ∙ same_after e es doc h (last_write es doc)
+
+pub writes_other : (w : Write) (doc : List ℕ) → bytes_eq w.doc doc ≡ false → write_to (entry.Write w) doc ≡ None
+writes_other w doc h = ap (λ (b : Bool). if b then Some w else None) h
+
+-- a document that was never written
+not_written : (e : Entry) (doc : List ℕ) (docs : List (List ℕ)) → among (written_by e ++ docs) doc ≡ false → (write_to e doc ≡ None) × (among docs doc ≡ false)
+not_written (entry.Write w) doc docs h = let parts = or_parts (bytes_eq w.doc doc) (among docs doc) h in (writes_other w doc parts.0, parts.1)
+not_written (entry.PutUser name channels roles) doc docs h = (refl, h)
+not_written (entry.PutRole name channels) doc docs h = (refl, h)
+not_written (entry.DropUser name) doc docs h = (refl, h)
+not_written (entry.DropRole name) doc docs h = (refl, h)
+not_written entry.Unused doc docs h = (refl, h)
+
+pub current_never : (es : List Entry) (doc : List ℕ) → among (documents es) doc ≡ false → current es doc ≡ None
+current_never [] doc h = refl
+current_never (e ∷ older) doc h =
+    let parts = not_written e doc (documents older) h in
+    current_same e older doc parts.0 ∙ current_never older doc parts.1
+
+pub view_never : (es : List Entry) (user : List ℕ) (filter : Option (List (List ℕ))) (doc : List ℕ) → among (documents es) doc ≡ false → view es user filter doc ≡ None
+view_never es user filter doc h = ap (view_of es user filter) (current_never es doc h)
+
+changed_never : (es : List Entry) (user : List ℕ) (filter : Option (List (List ℕ))) (doc : List ℕ) → among (documents es) doc ≡ false → changed es user filter doc ≡ []
+changed_never [] user filter doc h = refl
+changed_never (e ∷ older) user filter doc h =
+    let before = (not_written e doc (documents older) h).1 in
+    ap (λ (v : Option Shown). if same_view v (view older user filter doc) then changed older user filter doc else e ∷ older) (view_never (e ∷ older) user filter doc h)
+    ∙ ap (λ (v : Option Shown). if same_view None v then changed older user filter doc else e ∷ older) (view_never older user filter doc before)
+    ∙ changed_never older user filter doc before
+
+pub row_never : (es : List Entry) (user : List ℕ) (filter : Option (List (List ℕ))) (doc : List ℕ) → among (documents es) doc ≡ false → row_of es user filter doc ≡ None
+row_never es user filter doc h = ap (λ (at : List Entry). row_at at user filter doc) (changed_never es user filter doc h)
+
+view_by_is : (es : List Entry) (user : List ℕ) (filter : Option (List (List ℕ))) (o : Option Current) → view_by (λ c. has_channel es user c) filter o ≡ view_of es user filter o
+view_by_is es user filter None = refl
+view_by_is es user filter (Some c) = refl
+
+row_step : (e : Entry) (es : List Entry) (user : List ℕ) (filter : Option (List (List ℕ))) (doc : List ℕ) (b : Bool) → (if b then row_of es user filter doc else row_at (e ∷ es) user filter doc) ≡ row_at (if b then changed es user filter doc else e ∷ es) user filter doc
+row_step e es user filter doc true = refl
+row_step e es user filter doc false = refl
+
+pub looked_now : (e : Entry) (es : List Entry) (user : List ℕ) (filter : Option (List (List ℕ))) (doc : List ℕ) → looked_at (λ c. has_channel (e ∷ es) user c) filter (length es + 1) e (kept_next e es user filter doc) ≡ kept_at (e ∷ es) user filter doc
+looked_now e es user filter doc =
+    let now : Option Current = current (e ∷ es) doc in
+    let before : Option Shown = view es user filter doc in
+    ap (λ (v : Option Shown). record { name = doc; current = now; view = v; row = if same_view v before then row_of es user filter doc else row_with (length es + 1) (writes e doc) v doc now }) (view_by_is (e ∷ es) user filter now)
+    ∙ ap (λ (r : Option Row). record { name = doc; current = now; view = view (e ∷ es) user filter doc; row = r }) (row_step e es user filter doc (same_view (view (e ∷ es) user filter doc) before))
+
+-- a view is the same as itself
+mark_is_itself : (b : Bool) → beq b b ≡ true
+mark_is_itself true = refl
+mark_is_itself false = refl
+
+view_is_itself : (v : Option Shown) → same_view v v ≡ true
+view_is_itself None = refl
+view_is_itself (Some s) =
+    and_from _ _ (and_from _ _ (eq-eqb s.seq s.seq refl) (and_from _ _ (eq-eqb s.rev.generation s.rev.generation refl) (text_is_itself s.rev.digest))) (mark_is_itself s.deleted)
+
+-- an entry that neither writes a document nor changes the user's channels leaves all that is kept of it
+pub kept_same : (e : Entry) (es : List Entry) (user : List ℕ) (filter : Option (List (List ℕ))) (doc : List ℕ) → write_to e doc ≡ None → ((c : List ℕ) → has_channel (e ∷ es) user c ≡ has_channel es user c) → kept_at es user filter doc ≡ kept_at (e ∷ es) user filter doc
+kept_same e es user filter doc h same =
+    let now : current (e ∷ es) doc ≡ current es doc = current_same e es doc h in
+    let shown : view (e ∷ es) user filter doc ≡ view es user filter doc =
+    sym (view_by_is (e ∷ es) user filter (current (e ∷ es) doc)) ∙ ap (λ (has : List ℕ → Bool). view_by has filter (current (e ∷ es) doc)) (fun_ext same) ∙ ap (view_by (λ c. has_channel es user c) filter) now ∙ view_by_is es user filter (current es doc) in
+    let at : changed (e ∷ es) user filter doc ≡ changed es user filter doc =
+    ap (λ (v : Option Shown). if same_view v (view es user filter doc) then changed es user filter doc else e ∷ es) shown ∙ ap (λ (b : Bool). if b then changed es user filter doc else e ∷ es) (view_is_itself (view es user filter doc)) in
+    let row : row_of (e ∷ es) user filter doc ≡ row_of es user filter doc = ap (λ (xs : List Entry). row_at xs user filter doc) at in
+    λ i. record { name = doc; current = (sym now) i; view = (sym shown) i; row = (sym row) i }
+
+-- the user's channels, by what they are made of
+abbrev pub has_by : Option Standing → (List ℕ → Option Standing) → List (List ℕ) → (Grantee → List ℕ → Bool) → (List ℕ → Bool) → List ℕ → List ℕ → Bool
+has_by put role_put roles granted given user channel =
+    exists put
+    && (bytes_eq channel everyone || names_channel put channel || granted (User user) channel
+    || list_any (λ role. (exists put && exists (role_put role) && (names_role put role || given role)) && (exists (role_put role) && (names_channel (role_put role) channel || granted (Role role) channel))) roles)
+
+-- the document's current revision grants no channel and gives no role
+abbrev pub Quiet : Option Current → Type 0
+Quiet None = Unit {0}
+Quiet (Some c) = (c.grants ≡ []) × (c.roles ≡ [])
+
+quiet_grants : (o : Option Current) (to : Grantee) (channel : List ℕ) → Quiet o → grants_channel o to channel ≡ false
+quiet_grants None to channel q = refl
+quiet_grants (Some c) to channel q = ap (λ gs. list_any (λ g. same_grantee g.to to && bytes_eq g.channel channel) gs) q.0
+
+quiet_gives : (o : Option Current) (user role : List ℕ) → Quiet o → gives_role o user role ≡ false
+quiet_gives None user role q = refl
+quiet_gives (Some c) user role q = ap (λ gs. list_any (λ g. bytes_eq g.user user && bytes_eq g.role role) gs) q.1
+
+module _ (w : Write) (es : List Entry) (before : Quiet (current es w.doc)) (after : Quiet (current (entry.Write w ∷ es) w.doc)) where
+  -- a test that no quiet document passes finds the same documents
+  still : (test : Option Current → Bool) → ((o : Option Current) → Quiet o → test o ≡ false) → (doc : List ℕ) → test (current (entry.Write w ∷ es) doc) ≡ test (current es doc)
+  still test none doc = go (bytes_eq w.doc doc) refl
+    where
+      go : (b : Bool) → bytes_eq w.doc doc ≡ b → test (current (entry.Write w ∷ es) doc) ≡ test (current es doc)
+      go false h = ap test (current_same (entry.Write w) es doc (writes_other w doc h))
+      go true h =
+          let P : List ℕ → Type 0 = λ d. test (current (entry.Write w ∷ es) d) ≡ test (current es d) in
+          subst P (same_texts w.doc doc h) (none _ after ∙ sym (none _ before))
+
+  found : (test : Option Current → Bool) → ((o : Option Current) → Quiet o → test o ≡ false) → list_any (λ doc. test (current (entry.Write w ∷ es) doc)) (documents (entry.Write w ∷ es)) ≡ list_any (λ doc. test (current es doc)) (documents es)
+  found test none =
+      ap (λ (b : Bool). b || list_any (λ doc. test (current (entry.Write w ∷ es) doc)) (documents es)) (none _ after)
+      ∙ ap (λ (f : List ℕ → Bool). list_any f (documents es)) (fun_ext (still test none))
+
+  pub quiet_write : (user channel : List ℕ) → has_channel (entry.Write w ∷ es) user channel ≡ has_channel es user channel
+  quiet_write user channel =
+      let granted : (λ to c. is_granted (entry.Write w ∷ es) to c) ≡ (λ to c. is_granted es to c) = fun_ext (λ to. fun_ext (λ c. found (λ o. grants_channel o to c) (λ o q. quiet_grants o to c q))) in
+      let given : (λ role. is_given (entry.Write w ∷ es) user role) ≡ (λ role. is_given es user role) = fun_ext (λ role. found (λ o. gives_role o user role) (λ o q. quiet_gives o user role q)) in
+      ap (λ (g : Grantee → List ℕ → Bool). has_by (user_at es user) (λ r. role_at es r) (roles_put es) g (λ r. is_given (entry.Write w ∷ es) user r) user channel) granted
+      ∙ ap (λ (g : List ℕ → Bool). has_by (user_at es user) (λ r. role_at es r) (roles_put es) (λ to c. is_granted es to c) g user channel) given

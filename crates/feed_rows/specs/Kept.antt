@@ -1,0 +1,122 @@
+-- what a pass over the log keeps of each document and of each role
+use Rattle.std.specs.Prelude.{ℕ, Bool, true, ◌&&◌, not, nat_eq, List, [], ◌∷◌, ◌++◌, length, Option, Some, None, MatchOption, ◌≡◌, false, slice_get, slice_set, slice_index_or, if◌then◌else◌}
+use Rattle.std.specs.List.{list_any}
+use Rattle.std.specs.Str.{bytes_eq}
+use Rattle.sg_history.specs.declared.entries.Entry.{Entry}
+use Rattle.sg_history.specs.declared.entries.Entry.TheVariants as entry
+use Rattle.sg_history.specs.declared.entries.Write.{Write}
+use Rattle.sg_history.specs.declared.row.Row.{Row}
+use Rattle.sg_history.specs.History.{among, documents}
+use Rattle.sg_history.specs.Current.{Current, current}
+use Rattle.sg_history.specs.Principals.{Standing, role_at}
+use Rattle.sg_history.specs.View.{Shown, every, passes, view, same_view}
+use Rattle.sg_history.specs.Feed.{row_with, row_of, writes}
+
+-- a document, with what it is, what is shown of it, and its row
+pub record Kept : Type 0 where
+  pub name : List ℕ
+  pub current : Option Current
+  pub view : Option Shown
+  pub row : Option Row
+
+-- a name put at the end of names, once
+abbrev pub add_name : List ℕ → List (List ℕ) → List (List ℕ)
+add_name name names = if among names name then names else names ++ name ∷ []
+
+-- each name once
+abbrev pub distinct_of : List (List ℕ) → List (List ℕ)
+distinct_of [] = []
+distinct_of (name ∷ names) = add_name name (distinct_of names)
+
+-- the documents that were written, each once
+abbrev pub written_names : List Entry → List (List ℕ)
+written_names es = distinct_of (documents es)
+
+-- a document at the end of entries, the newest first
+abbrev pub kept_at : List Entry → List ℕ → Option (List (List ℕ)) → List ℕ → Kept
+kept_at es user filter name =
+    record { name = name; current = current es name; view = view es user filter name; row = row_of es user filter name }
+
+-- a document that was brought up to date with an entry, and not looked at since
+abbrev pub kept_next : Entry → List Entry → List ℕ → Option (List (List ℕ)) → List ℕ → Kept
+kept_next e es user filter name =
+    record { name = name; current = current (e ∷ es) name; view = view es user filter name; row = row_of es user filter name }
+
+-- a document that was never written
+abbrev pub blank : List ℕ → Kept
+blank name = record { name = name; current = None; view = None; row = None }
+
+-- the document as it is now
+abbrev pub with_current : Current → Kept → Kept
+with_current now kept = record { name = kept.name; current = Some now; view = kept.view; row = kept.row }
+
+-- the place of a name among names, none where it is not there
+abbrev pub PlacedBy : List (List ℕ) → List ℕ → Option ℕ → Type 0
+PlacedBy names name place = MatchOption place (among names name ≡ false) (λ k. slice_get names k ≡ Some name)
+
+-- the document in its place, blank where it has none
+abbrev pub found_at : Option ℕ → List ℕ → List Kept → Kept
+found_at None name kept = blank name
+found_at (Some k) name kept = slice_index_or kept k (blank name)
+
+-- a document put in its place, at the end where it has none
+abbrev pub put_at : Option ℕ → Kept → List Kept → List Kept
+put_at None document kept = kept ++ document ∷ []
+put_at (Some k) document kept = slice_set kept k document
+
+-- the document's current revision grants no channel and gives no role
+abbrev pub is_quiet : Option Current → Bool
+is_quiet None = true
+is_quiet (Some c) = nat_eq (length c.grants) 0 && nat_eq (length c.roles) 0
+
+-- the write that an entry is, if it is one
+abbrev pub written : Entry → Option Write
+written (entry.Write w) = Some w
+written (entry.PutUser name channels roles) = None
+written (entry.PutRole name channels) = None
+written (entry.DropUser name) = None
+written (entry.DropRole name) = None
+written entry.Unused = None
+
+-- whether an entry changes neither a document nor what the user has
+abbrev pub is_idle : Entry → List ℕ → Bool
+is_idle (entry.Write w) user = false
+is_idle (entry.PutUser name channels roles) user = not (bytes_eq name user)
+is_idle (entry.PutRole name channels) user = false
+is_idle (entry.DropUser name) user = not (bytes_eq name user)
+is_idle (entry.DropRole name) user = false
+is_idle entry.Unused user = true
+
+-- whether a user who has these channels has one of the document's, and the filter names one
+abbrev pub is_shown_by : (List ℕ → Bool) → Option (List (List ℕ)) → Current → Bool
+is_shown_by has filter c = list_any has (every ∷ c.channels) && passes filter (every ∷ c.channels)
+
+-- what is shown of a document to a user who has these channels
+abbrev pub view_by : (List ℕ → Bool) → Option (List (List ℕ)) → Option Current → Option Shown
+view_by has filter None = None
+view_by has filter (Some c) =
+    if is_shown_by has filter c
+    then Some (record { seq = c.seq; rev = c.rev; deleted = c.deleted })
+    else None
+
+abbrev pub with_view : ℕ → Entry → Option Shown → Kept → Kept
+with_view by e shown kept =
+    record {
+      name = kept.name;
+      current = kept.current;
+      view = shown;
+      row = if same_view shown kept.view then kept.row else row_with by (writes e kept.name) shown kept.name kept.current;
+    }
+
+-- a document looked at anew after the entry at this place
+abbrev pub looked_at : (List ℕ → Bool) → Option (List (List ℕ)) → ℕ → Entry → Kept → Kept
+looked_at has filter by e kept = with_view by e (view_by has filter kept.current) kept
+
+-- a role, with its last put
+pub record RoleKept : Type 0 where
+  pub name : List ℕ
+  pub standing : Option Standing
+
+-- a role at the end of entries, the newest first
+abbrev pub role_kept_at : List Entry → List ℕ → RoleKept
+role_kept_at es name = record { name = name; standing = role_at es name }

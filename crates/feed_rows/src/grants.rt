@@ -1,0 +1,201 @@
+//! The channels of a user, worked out from the states of documents and roles.
+
+ghost use Rattle.std.specs.Prelude.{◌≡◌, ◌++◌, ◌∷◌, [], ◌||◌, map, filter, OnOk, IfOk, if◌then◌else◌};
+ghost use Rattle.std.specs.List.{list_any, flat_map};
+ghost use Rattle.sg_names.specs.declared.grants.Grantee.TheVariants.{User, Role};
+ghost use Rattle.sg_history.specs.Principals as principals;
+ghost use Rattle.feed_rows.specs.Channels as channels;
+ghost use Rattle.feed_rows.specs.Latest.{current_in};
+ghost use Rattle.feed_rows.specs.Pass.{kept_in, role_in, texts};
+ghost use Rattle.feed_rows.specs.Put.{standing_in, role_standing_in, grantee_in};
+
+use crate::document::Document;
+use crate::documents::Latest;
+use crate::principals::{Put, To, gives_role, is_to, put_names_role, role_after};
+use sg_history::{Channels, Entry, Grant, Name};
+use std::alloc::{AllocError, Global};
+
+/// A role, with the channels of its last put where it was not dropped since.
+#[derive(Clone, Copy)]
+pub struct RoleState<'a> {
+    pub name: &'a Name,
+    pub channels: Option<&'a Channels>,
+}
+
+fn next_role<'a>(role: RoleState<'a>, entry: &'a Entry) -> RoleState<'a>
+    ensures { role_in result ≡ channels.role_next entry.now (role_in role.entry) }
+{
+    RoleState {
+        name: role.name,
+        channels: role_after(entry, role.name.as_bytes(), role.channels),
+    }
+}
+
+fn next_roles<'a>(roles: &mut [RoleState<'a>], entry: &'a Entry)
+    ensures { map role_in roles.new ≡ map (λ r. channels.role_next entry.now r) (map role_in roles.old) }
+{
+    for role in roles.iter_mut() {
+        *role = next_role(*role, entry);
+    }
+}
+
+fn has_name(roles: &[RoleState<'_>], name: &Name) -> bool
+    ensures { result ≡ list_any (λ r. channels.is_named r.name.now name.now) roles.now }
+{
+    roles.iter().any(|r| r.name.as_bytes() == name.as_bytes())
+}
+
+fn is_known(roles: &[RoleState<'_>], name: &Name) -> bool
+    ensures { result ≡ list_any (λ r. channels.is_named r.name name.now) (map role_in roles.now) }
+{
+    has_name(roles, name)
+}
+
+fn add_role<'a>(
+    roles: &mut Vec<RoleState<'a>>,
+    name: &'a Name,
+    put: &'a Channels,
+) -> Result<(), AllocError>
+    ensures { OnOk result (map role_in roles.new.items ≡ channels.add_role name.now put.now (map role_in roles.old.items)) }
+{
+    if !is_known(roles.as_slice(), name) {
+        roles.push(RoleState {
+            name,
+            channels: Some(put),
+        })?;
+    }
+    Ok(())
+}
+
+/// Brings the roles up to date with one entry more.
+pub fn put_role<'a>(roles: &mut Vec<RoleState<'a>>, entry: &'a Entry) -> Result<(), AllocError>
+    ensures { OnOk result (map role_in roles.new.items ≡ channels.roles_next entry.now (map role_in roles.old.items)) }
+{
+    match entry {
+        Entry::PutRole(name, put) => {
+            next_roles(roles.as_mut_slice(), entry);
+            add_role(roles, name, put)
+        }
+        Entry::DropRole(_) => {
+            next_roles(roles.as_mut_slice(), entry);
+            Ok(())
+        }
+        _ => Ok(()),
+    }
+}
+
+fn add_channels<'a>(list: &mut Vec<&'a [u8]>, channels: &'a Channels) -> Result<(), AllocError>
+    ensures { OnOk result (texts list.new.items ≡ texts list.old.items ++ channels.now) }
+{
+    for channel in channels.as_slice() {
+        list.push(channel.as_bytes())?;
+    }
+    Ok(())
+}
+
+fn add_grants<'a>(
+    list: &mut Vec<&'a [u8]>,
+    grants: &'a [Grant],
+    to: To<'_>,
+) -> Result<(), AllocError>
+    ensures { OnOk result (texts list.new.items ≡ texts list.old.items ++ map (λ g. g.channel) (filter (λ g. principals.same_grantee g.to (grantee_in to.entry)) grants.now)) }
+{
+    for grant in grants {
+        if is_to(&grant.to, to) {
+            list.push(grant.channel.as_bytes())?;
+        }
+    }
+    Ok(())
+}
+
+fn add_granted_by<'a>(
+    list: &mut Vec<&'a [u8]>,
+    latest: Option<Latest<'a>>,
+    to: To<'_>,
+) -> Result<(), AllocError>
+    ensures { OnOk result (texts list.new.items ≡ texts list.old.items ++ channels.granted_by (current_in latest.entry) (grantee_in to.entry)) }
+{
+    match latest {
+        None => Ok(()),
+        Some(latest) => add_grants(list, latest.write.grants.as_slice(), to),
+    }
+}
+
+fn add_granted<'a>(
+    list: &mut Vec<&'a [u8]>,
+    documents: &[Document<'a>],
+    to: To<'_>,
+) -> Result<(), AllocError>
+    ensures { OnOk result (texts list.new.items ≡ texts list.old.items ++ channels.granted (map kept_in documents.now) (grantee_in to.entry)) }
+{
+    for document in documents {
+        add_granted_by(list, document.latest, to)?;
+    }
+    Ok(())
+}
+
+fn some_gives(documents: &[Document<'_>], user: &[u8], role: &[u8]) -> bool
+    ensures { result ≡ list_any (λ d. principals.gives_role (current_in d.latest) user.now role.now) documents.now }
+{
+    documents.iter().any(|d| gives_role(d.latest, user, role))
+}
+
+fn is_given(documents: &[Document<'_>], user: &[u8], role: &[u8]) -> bool
+    ensures { result ≡ channels.given (map kept_in documents.now) user.now role.now }
+{
+    some_gives(documents, user, role)
+}
+
+fn add_by_role<'a>(
+    list: &mut Vec<&'a [u8]>,
+    put: Option<Put<'a>>,
+    user: &[u8],
+    documents: &[Document<'a>],
+    role: RoleState<'a>,
+) -> Result<(), AllocError>
+    ensures { OnOk result (texts list.new.items ≡ texts list.old.items ++ channels.by_role (standing_in put.entry) user.now (map kept_in documents.now) (role_in role.entry)) }
+{
+    let name = role.name.as_bytes();
+    if let Some(channels) = role.channels {
+        if put_names_role(put, name) || is_given(documents, user, name) {
+            add_channels(list, channels)?;
+            add_granted(list, documents, To::Role(name))?;
+        }
+    }
+    Ok(())
+}
+
+fn add_by_roles<'a>(
+    list: &mut Vec<&'a [u8]>,
+    put: Option<Put<'a>>,
+    user: &[u8],
+    documents: &[Document<'a>],
+    roles: &[RoleState<'a>],
+) -> Result<(), AllocError>
+    ensures { OnOk result (texts list.new.items ≡ texts list.old.items ++ flat_map (λ r. channels.by_role (standing_in put.entry) user.now (map kept_in documents.now) r) (map role_in roles.now)) }
+{
+    for role in roles {
+        add_by_role(list, put, user, documents, *role)?;
+    }
+    Ok(())
+}
+
+/// The channels of a user, given its last put and the states of all roles and documents.
+pub fn user_channels<'a>(
+    alloc: Global,
+    put: Option<Put<'a>>,
+    user: &[u8],
+    roles: &[RoleState<'a>],
+    documents: &[Document<'a>],
+) -> Result<Vec<&'a [u8]>, AllocError>
+    ensures { IfOk result (λ list. texts list.items ≡ channels.user_channels (standing_in put.entry) user.now (map role_in roles.now) (map kept_in documents.now)) }
+{
+    let mut list = Vec::new(alloc);
+    if let Some(standing) = put {
+        list.push(b"!".as_slice())?;
+        add_channels(&mut list, standing.channels)?;
+        add_granted(&mut list, documents, To::User(user))?;
+        add_by_roles(&mut list, put, user, documents, roles)?;
+    }
+    Ok(list)
+}
