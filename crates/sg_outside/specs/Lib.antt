@@ -1,3 +1,5 @@
 pub mod Files
 pub mod MemFiles
 pub mod Sink
+pub mod Wire
+pub mod MemWire

@@ -1,20 +1,26 @@
-//! What stands outside the gateway, as traits: files, and where output goes. Each has a count of
-//! faults, and tells what it holds or took where it can.
+//! What stands outside the gateway, as traits: files, where output goes, and the wire to a device. Each
+//! has a count of faults, and tells what it holds or took where it can.
 #![tactic(auto)]
 
 pub mod bytes;
 pub mod files;
 pub mod mem_files;
+pub mod mem_wire;
 pub mod real;
 pub mod scripted_sink;
+pub mod scripted_wire;
 pub mod sink;
+pub mod wire;
 
 pub use bytes::Bytes;
 pub use files::{Files, Loaded};
 pub use mem_files::{MemFile, MemFiles, ScriptedFiles};
+pub use mem_wire::{Input, MemWire};
 pub use real::{RealFiles, StdoutSink};
 pub use scripted_sink::ScriptedSink;
+pub use scripted_wire::ScriptedWire;
 pub use sink::{Gave, MemSink, Sink};
+pub use wire::{Got, Wire};
 
 /// Want of memory.
 pub type Memory = std::alloc::AllocError;

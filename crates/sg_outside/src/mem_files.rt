@@ -102,7 +102,8 @@ impl ScriptedFiles {
     }
 }
 
-fn next_fails(fails: &[bool], calls: &mut usize) -> bool {
+/// Whether the script says that this call fails; counts the call.
+pub(crate) fn next_fails(fails: &[bool], calls: &mut usize) -> bool {
     let call = *calls;
     *calls = call.saturating_add(1);
     match fails.get(call) {

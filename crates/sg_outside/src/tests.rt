@@ -1,8 +1,8 @@
 //! One happy path of each call, and each scripted failure.
 
 use crate::{
-    Bytes, Files, Gave, Loaded, MemFile, MemFiles, MemSink, RealFiles, ScriptedFiles, ScriptedSink,
-    Sink, StdoutSink,
+    Bytes, Files, Gave, Got, Input, Loaded, MemFile, MemFiles, MemSink, MemWire, RealFiles,
+    ScriptedFiles, ScriptedSink, ScriptedWire, Sink, StdoutSink, Wire,
 };
 use std::alloc::Global;
 use std::fs;
@@ -80,6 +80,58 @@ fn sinks_in_memory(rt: HostRuntime) -> Result<(), Fail> {
     assert_eq!(rt; scripted.give(b"!"), Gave::Done);
     assert_eq!(rt; scripted.faults(), 2);
     assert!(rt; scripted.bytes.as_slice() == b"one tw3!".as_slice());
+    Ok(())
+}
+
+/// What was received, as a word: a frame's bytes, or which other result it is.
+fn word(got: &Got) -> &[u8] {
+    match got {
+        Got::Frame(frame) => frame.as_slice(),
+        Got::Text => b"text",
+        Got::Idle => b"idle",
+        Got::End => b"end",
+        Got::Failed => b"failed",
+        Got::Memory => b"memory",
+    }
+}
+
+#[test]
+fn wires_in_memory(rt: HostRuntime) -> Result<(), Fail> {
+    let alloc = rt.alloc();
+    let mut inputs = Vec::new(alloc);
+    inputs.push(Input::Frame(Bytes::from_slice(alloc, b"one")?))?;
+    inputs.push(Input::Idle)?;
+    inputs.push(Input::Text)?;
+    let mut wire = MemWire::new(alloc, inputs);
+    let wanted: [&[u8]; 5] = [b"one", b"idle", b"text", b"end", b"end"];
+    for want in wanted {
+        assert!(rt; word(&wire.recv()) == want);
+    }
+    assert_eq!(rt; wire.send(b"a frame"), Gave::Done);
+    assert_eq!(rt; wire.sent.len(), 1);
+    assert!(rt; wire.sent[0].as_slice() == b"a frame".as_slice());
+    Ok(())
+}
+
+#[test]
+fn scripted_wires_fail_where_the_script_says_so(rt: HostRuntime) -> Result<(), Fail> {
+    let alloc = rt.alloc();
+    let mut script = Vec::new(alloc);
+    script.push(Got::Frame(Bytes::from_slice(alloc, b"one")?))?;
+    script.push(Got::Failed)?;
+    script.push(Got::Idle)?;
+    let mut wire = ScriptedWire::new(alloc, script, vec![in alloc; false, true]?);
+    let wanted: [&[u8]; 4] = [b"one", b"failed", b"idle", b"end"];
+    for want in wanted {
+        assert!(rt; word(&wire.recv()) == want);
+    }
+    assert_eq!(rt; wire.faults(), 1);
+    assert_eq!(rt; wire.send(b"a"), Gave::Done);
+    assert_eq!(rt; wire.send(b"b"), Gave::Failed);
+    assert_eq!(rt; wire.send(b"c"), Gave::Done);
+    assert_eq!(rt; wire.faults(), 2);
+    assert_eq!(rt; wire.sent.len(), 2);
+    assert!(rt; wire.sent[1].as_slice() == b"c".as_slice());
     Ok(())
 }
 
