@@ -95,3 +95,18 @@ pub struct Options {
     /// Also the documents that left by the end of a grant.
     pub revocations: bool,
 }
+
+impl Options {
+    pub fn copy(&self, alloc: Global) -> Result<Options, AllocError>
+        ensures { IfOk result (λ o. o ≡ self.now) }
+    {
+        Ok(Options {
+            filter: match &self.filter {
+                Some(filter) => Some(filter.copy(alloc)?),
+                None => None,
+            },
+            active_only: self.active_only,
+            revocations: self.revocations,
+        })
+    }
+}
