@@ -1,6 +1,7 @@
 pub mod PieceLemmas
 pub mod WriteFields
 pub mod LineTexts
+pub mod Revisions
 pub mod RuleLemmas
 pub mod OneLine
 pub mod JournalTexts

@@ -18,6 +18,7 @@ use Rattle.sg_names.specs.RoleGrants.{role_grants_text, is_role_grants}
 use Rattle.sg_history.specs.declared.entries.Write.{Write}
 use Rattle.sg_history.specs.declared.fault.LineFault.{LineFault}
 use Rattle.sg_history.specs.declared.fault.LineFault.TheVariants.{Bad, Memory}
+use Rattle.sg_history.specs.declared.written.WriteRevs.{WriteRevs}
 use Rattle.sg_history.specs.declared.write_line.WriteTexts.{WriteTexts}
 use Rattle.sg_history.specs.Journal.{IsWrite, is_body, is_by, by_text, mark_text, write_fields}
 use Rattle.sg_history.specs.Line.{texts_of, NoWrite, ReadsWrite}
@@ -105,10 +106,10 @@ fields_hold t w holds at = λ i.
     ∷ holds.winner.0 i ∷ holds.channels.0 i ∷ holds.grants.0 i ∷ holds.roles.0 i ∷ []
 
 -- the fields are read as the write, where the front fits
-pub reads_write : (t : WriteTexts) (w : Write) (at : Option ℕ) (fits : Bool) → HoldsFields t w
+pub reads_write : (t : WriteTexts) (w : Write) (at : Option ℕ) (fits : Bool) (revs : WriteRevs) → HoldsFields t w
     → MatchOption at (NoWrite (texts_of t)) (λ n. (n < 2 ^ 64) × (t.at.now ≡ decimal n)) → w.at ≡ unwrap_or at 18446744073709551615 → fits ≡ is_some at
-    → ReadsWrite (texts_of t) (record { write = w; at_fits = fits })
-reads_write t w None fits holds front value e = rw e front
-reads_write t w (Some n) fits holds front value e =
+    → ReadsWrite (texts_of t) (record { write = w; at_fits = fits; revs = revs })
+reads_write t w None fits revs holds front value e = rw e front
+reads_write t w (Some n) fits revs holds front value e =
     let at : t.at.now ≡ decimal w.at = front.1 ∙ ap decimal (sym value) in
     rw e (write_holds t w holds (omega (arith, value, front.0)) at, fields_hold t w holds at)

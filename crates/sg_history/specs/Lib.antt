@@ -13,4 +13,4 @@ pub mod Line
 pub mod Pieces
 pub mod Reading
 pub mod Refusal
-pub mod Rules
+pub mod Written

@@ -11,10 +11,14 @@ ghost use Rattle.sg_names.specs.Hex.{hex_text, is_hex};
 ghost use Rattle.sg_history.specs.Journal.{mark_text, by_text, is_by};
 ghost use Rattle.sg_history.specs.Refusal.{Refuses};
 ghost use Rattle.sg_history.specs.Line.{texts_of, NoWrite, ReadsWrite};
+ghost use Rattle.sg_history.specs.Written.{AreRevsOf, revision};
+ghost use Rattle.sg_names.specs.declared.rev_id.RevId.{RevId};
 
 use crate::entries::Write;
 use crate::fault::LineFault;
 use crate::field;
+use crate::fields::cut;
+use crate::written::{RevTexts, WriteRevs};
 use sg_names::{Channels, DocId, Grants, Name, RevId, Revs, RoleGrants};
 use sg_outside::Bytes;
 use std::alloc::Global;
@@ -35,12 +39,13 @@ pub struct WriteTexts<'a> {
     pub roles: &'a [u8],
 }
 
-/// A write that was read, and whether its front is a number of the type; where it is not, `at` is the
-/// type's greatest number.
+/// A write that was read, whether its front is a number of the type, and the texts of its revisions; where
+/// the front is no such number, `at` is the type's greatest.
 #[derive(Drop)]
-pub struct ReadWrite {
+pub struct ReadWrite<'a> {
     pub write: Write,
     pub at_fits: bool,
+    pub revs: WriteRevs<'a>,
 }
 
 fn doc_of(alloc: Global, texts: WriteTexts<'_>) -> Result<DocId, LineFault>
@@ -127,9 +132,46 @@ fn front_of(at: Option<u64>) -> u64
     at.unwrap_or(u64::MAX)
 }
 
+/// What stands behind the generation of a revision.
+fn digest_in(text: &[u8]) -> &[u8]
+    ensures { (rev : RevId) → text.now ≡ rev_text rev → IsTrue (is_rev rev) → result.now ≡ rev.digest }
+{
+    match cut(text, b'-') {
+        Some((_, digest)) => digest,
+        None => text,
+    }
+}
+
+/// The texts of a document's revision.
+fn texts_of_rev<'a>(doc: &'a [u8], text: &'a [u8], rev: &RevId) -> RevTexts<'a>
+    requires spelled { text.now ≡ rev_text rev.now }
+    requires grammar { IsTrue (is_rev rev.now) }
+    ensures { revision result ≡ record { doc = doc.now; rev = rev.now } }
+{
+    RevTexts {
+        doc,
+        generation: rev.generation,
+        digest: digest_in(text),
+    }
+}
+
+/// The texts of the write's revisions.
+fn revs_of<'a>(texts: WriteTexts<'a>, rev: &RevId, winner: &RevId) -> WriteRevs<'a>
+    requires rev { (texts.rev.now ≡ rev_text rev.now) × IsTrue (is_rev rev.now) }
+    requires winner { (texts.winner.now ≡ rev_text winner.now) × IsTrue (is_rev winner.now) }
+    ensures own { revision result.own ≡ record { doc = texts.entry.doc.now; rev = rev.now } }
+    ensures winner { revision result.winner ≡ record { doc = texts.entry.doc.now; rev = winner.now } }
+{
+    WriteRevs {
+        own: texts_of_rev(texts.doc, texts.rev, rev),
+        winner: texts_of_rev(texts.doc, texts.winner, winner),
+    }
+}
+
 /// Reads the fields of a write, from the first one on.
-pub fn read_write(alloc: Global, texts: WriteTexts<'_>) -> Result<ReadWrite, LineFault>
+pub fn read_write(alloc: Global, texts: WriteTexts<'_>) -> Result<ReadWrite<'_>, LineFault>
     ensures ok { IfOk result (λ read. ReadsWrite (texts_of texts.entry) read) }
+    ensures revs { IfOk result (λ read. AreRevsOf read.write read.revs) }
     ensures bad { IfErr result (λ e. Refuses e (NoWrite (texts_of texts.entry))) }
 {
     let doc = doc_of(alloc, texts)?;
@@ -143,6 +185,7 @@ pub fn read_write(alloc: Global, texts: WriteTexts<'_>) -> Result<ReadWrite, Lin
     let channels = channels_of(alloc, texts)?;
     let grants = grants_of(alloc, texts)?;
     let roles = roles_of(alloc, texts)?;
+    let revs = revs_of(texts, &rev, &winner);
     Ok(ReadWrite {
         write: Write {
             doc,
@@ -158,5 +201,6 @@ pub fn read_write(alloc: Global, texts: WriteTexts<'_>) -> Result<ReadWrite, Lin
             roles,
         },
         at_fits: at.is_some(),
+        revs,
     })
 }
