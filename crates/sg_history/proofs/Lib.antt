@@ -1,5 +1,6 @@
 pub mod PieceLemmas
 pub mod WriteFields
+pub mod FaultLemmas
 pub mod LineTexts
 pub mod Revisions
 pub mod RuleLemmas

@@ -7,7 +7,6 @@ use Rattle.std.proofs.lemmas.Fmt.{IsAscii-decimal}
 use Rattle.std.proofs.lemmas.Str.{IsUtf8-from_ascii}
 use Rattle.sg_names.proofs.Decimals.{is_decimal-decimal}
 use Rattle.sg_names.proofs.OneText.{hex_is}
-use Rattle.sg_names.specs.Decimal.{is_decimal}
 use Rattle.sg_names.specs.Hex.{hex_digit, hex_text, is_hex, is_hex_digit}
 use Rattle.sg_names.specs.Grammar.{is_doc_id}
 use Rattle.sg_names.specs.RevId.{rev_text, is_rev}
@@ -23,6 +22,7 @@ use Rattle.sg_history.specs.declared.write_line.WriteTexts.{WriteTexts}
 use Rattle.sg_history.specs.Journal.{IsWrite, is_body, is_by, by_text, mark_text, write_fields}
 use Rattle.sg_history.specs.Line.{texts_of, NoWrite, ReadsWrite}
 use Rattle.sg_history.specs.Refusal.{Refuses}
+use Rattle.sg_history.specs.Faults.{AreTexts, write_grammars}
 
 -- a refusal for one cause is one for what follows from it
 pub refused : {T : Type 0} {P Q : Type 0} (r : Result T LineFault) → (P → Q) → IfErr r (λ e. Refuses e P) → IfErr r (λ e. Refuses e Q)
@@ -30,22 +30,40 @@ refused (Ok x) f h = tt
 refused (Err (Bad why)) f h = f h
 refused (Err Memory) f h = tt
 
--- a front that is no decimal is no write's
-pub no_at : (t : WriteTexts) → (IsUtf8 t.at.now → ¬ (is_decimal t.at.now ≡ true)) → NoWrite (texts_of t)
-no_at t none w is e =
-    let field : t.at.now ≡ decimal w.at = cc in
-    none (subst IsUtf8 (sym field) (IsUtf8-from_ascii (decimal w.at) (IsAscii-decimal w.at is.at)))
-    (ap is_decimal field ∙ is_decimal-decimal w.at is.at)
-
 body_is : (body : List ℕ) → is_body body ≡ true → is_hex (hex_text body) ≡ true
 body_is [] h = absurd (cc (h))
 body_is (b ∷ bs) h = hex_is b bs (and_parts (nat_lt 0 (length (b ∷ bs))) (list_all (λ c. nat_lt c 256) (b ∷ bs)) h).1
 
--- a body that is no hexadecimal text is no write's
-pub no_body : (t : WriteTexts) → ¬ (is_hex t.body.now ≡ true) → NoWrite (texts_of t)
-no_body t none w is e =
-    let field : t.body.now ≡ hex_text w.body = cc in
-    none (ap is_hex field ∙ body_is w.body is.body)
+-- the fields of a write are in their grammars
+pub write_texts : (w : Write) → IsWrite w → AreTexts write_grammars (write_fields w)
+write_texts w is = (
+  (is.doc.1, is.doc.0),
+  (
+    (is.rev.1, w.rev, is.rev.0, refl),
+    (
+      (is.ancestors.1, w.ancestors, is.ancestors.0, refl),
+      (
+        (w.deleted, refl),
+        (
+          body_is w.body is.body,
+          (
+            (is.by.1, w.by, is.by.0, refl),
+            (
+              (IsUtf8-from_ascii (decimal w.at) (IsAscii-decimal w.at is.at), is_decimal-decimal w.at is.at),
+              (
+                (is.winner.1, w.winner, is.winner.0, refl),
+                (
+                  (is.channels.1, w.channels, is.channels.0, refl),
+                  ((is.grants.1, w.grants, is.grants.0, refl), ((is.roles.1, w.roles, is.roles.0, refl), tt)),
+                ),
+              ),
+            ),
+          ),
+        ),
+      ),
+    ),
+  ),
+)
 
 -- the digit of what is below 16
 digit_small : (n : ℕ) → is_hex_digit (hex_digit n) ≡ true → n < 16

@@ -14,3 +14,4 @@ pub mod Pieces
 pub mod Reading
 pub mod Refusal
 pub mod Written
+pub mod Faults

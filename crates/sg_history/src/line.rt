@@ -1,8 +1,10 @@
 //! The lines of a journal, each read as an entry.
 
-ghost use Rattle.std.specs.Prelude.{◌≡◌, ◌≢◌, ◌∷◌, ◌<◌, [], map, length, codes, IsTrue, IfOk, IfErr, IfSome, IfNone};
+ghost use Rattle.std.specs.Prelude.{◌≡◌, ◌≢◌, ◌∷◌, ◌<◌, [], List, ℕ, map, length, codes, IsTrue, IfOk, IfErr, IfSome, IfNone};
 ghost use Rattle.sg_history.specs.Line.{texts_of, NoEntry, ReadsEntry, NoLine, ReadsLine};
 ghost use Rattle.sg_history.specs.Refusal.{Refuses};
+ghost use Rattle.sg_history.specs.Faults.{AreFields, IsFault, HasReason};
+ghost use Rattle.sg_history.specs.Pieces.{pieces};
 ghost use Rattle.sg_history.specs.Written.{HasRevs};
 
 use crate::entries::Entry;
@@ -62,7 +64,8 @@ fn write_texts<'a>(fields: &[&'a [u8]]) -> Option<WriteTexts<'a>>
 fn read_write_entry<'a>(alloc: Global, fields: &[&'a [u8]]) -> Result<ReadEntry<'a>, LineFault>
     ensures ok { IfOk result (λ read. ReadsEntry (codes "W" ∷ map (λ p. p.now) fields.now) read) }
     ensures revs { IfOk result (λ read. HasRevs read.entry read.revs) }
-    ensures bad { IfErr result (λ e. Refuses e (NoEntry (codes "W" ∷ map (λ p. p.now) fields.now))) }
+    ensures texts { IfOk result (λ _. AreFields (codes "W" ∷ map (λ p. p.now) fields.now)) }
+    ensures reason { IfErr result (HasReason (IsFault (codes "W" ∷ map (λ p. p.now) fields.now))) }
 {
     let Some(texts) = write_texts(fields) else {
         return Err(LineFault::Bad(Why::Fields));
@@ -79,7 +82,8 @@ fn read_write_entry<'a>(alloc: Global, fields: &[&'a [u8]]) -> Result<ReadEntry<
 fn read_put_user<'a>(alloc: Global, fields: &[&'a [u8]]) -> Result<ReadEntry<'a>, LineFault>
     ensures ok { IfOk result (λ read. ReadsEntry (codes "U" ∷ map (λ p. p.now) fields.now) read) }
     ensures revs { IfOk result (λ read. HasRevs read.entry read.revs) }
-    ensures bad { IfErr result (λ e. Refuses e (NoEntry (codes "U" ∷ map (λ p. p.now) fields.now))) }
+    ensures texts { IfOk result (λ _. AreFields (codes "U" ∷ map (λ p. p.now) fields.now)) }
+    ensures reason { IfErr result (HasReason (IsFault (codes "U" ∷ map (λ p. p.now) fields.now))) }
 {
     let [name, channels, roles] = fields else {
         return Err(LineFault::Bad(Why::Fields));
@@ -98,7 +102,8 @@ fn read_put_user<'a>(alloc: Global, fields: &[&'a [u8]]) -> Result<ReadEntry<'a>
 fn read_fields<'a>(alloc: Global, fields: &[&'a [u8]]) -> Result<ReadEntry<'a>, LineFault>
     ensures ok { IfOk result (λ read. ReadsEntry (map (λ p. p.now) fields.now) read) }
     ensures revs { IfOk result (λ read. HasRevs read.entry read.revs) }
-    ensures bad { IfErr result (λ e. Refuses e (NoEntry (map (λ p. p.now) fields.now))) }
+    ensures texts { IfOk result (λ _. AreFields (map (λ p. p.now) fields.now)) }
+    ensures reason { IfErr result (HasReason (IsFault (map (λ p. p.now) fields.now))) }
 {
     let [kind, further @ ..] = fields else {
         return Err(LineFault::Bad(Why::Kind));
@@ -110,16 +115,25 @@ fn read_fields<'a>(alloc: Global, fields: &[&'a [u8]]) -> Result<ReadEntry<'a>, 
     }
 }
 
-/// What is wrong with a line of more fields than any kind has.
-fn fault_of_many(line: &[u8]) -> Why {
-    let kind = match cut(line, b'\t') {
-        Some((kind, _)) => kind,
-        None => line,
-    };
+/// What is wrong with a line of this kind that has more fields than any kind.
+fn fault_of_kind(kind: &[u8]) -> Why
+    ensures { (texts : List (List ℕ)) → 11 < length texts → IsFault (kind.now ∷ texts) result }
+{
     match kind {
         b"W" => Why::Fields,
         b"U" => Why::Fields,
         _ => Why::Kind,
+    }
+}
+
+/// What is wrong with a line of more fields than any kind has.
+fn fault_of_many(line: &[u8]) -> Why
+    requires { 12 < length (pieces 9 line.now) }
+    ensures { IsFault (pieces 9 line.now) result }
+{
+    match cut(line, b'\t') {
+        Some((kind, _)) => fault_of_kind(kind),
+        None => fault_of_kind(line),
     }
 }
 
@@ -128,6 +142,8 @@ pub fn read_line(alloc: Global, line: &[u8]) -> Result<ReadEntry<'_>, LineFault>
     ensures ok { IfOk result (λ read. ReadsLine line.now read) }
     ensures revs { IfOk result (λ read. HasRevs read.entry read.revs) }
     ensures bad { IfErr result (λ e. Refuses e (NoLine line.now)) }
+    ensures texts { IfOk result (λ _. AreFields (pieces 9 line.now)) }
+    ensures reason { IfErr result (HasReason (IsFault (pieces 9 line.now))) }
 {
     match pieces_of(alloc, line, b'\t', 12)? {
         Some(fields) => read_fields(alloc, fields.as_slice()),
