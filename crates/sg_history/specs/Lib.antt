@@ -13,5 +13,6 @@ pub mod Line
 pub mod Pieces
 pub mod Reading
 pub mod Refusal
+pub mod Rules
 pub mod Written
 pub mod Faults

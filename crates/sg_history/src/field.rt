@@ -1,11 +1,6 @@
 //! The fields of a journal's lines, each read by its grammar.
 
-ghost use Rattle.std.specs.Prelude.{◌≡◌, ◌≢◌, ◌^◌, ◌<◌, ◌∷◌, [], Bool, ℕ, List, Option, None, Some, length, decimal, IsTrue, IsUtf8, IfOk, IfErr, MatchOption, nat_lt};
-ghost use Rattle.std.specs.List.{list_all};
-ghost use Rattle.sg_names.specs.declared.rev_id.RevId.{RevId};
-ghost use Rattle.sg_names.specs.declared.grants.Grant.{Grant};
-ghost use Rattle.sg_names.specs.declared.role_grants.RoleGrant.{RoleGrant};
-ghost use Rattle.sg_names.specs.Decimal as decimals;
+ghost use Rattle.std.specs.Prelude.{◌≡◌, ◌≢◌, ◌^◌, ◌<◌, ℕ, decimal, IsTrue, IsUtf8, IfOk, IfErr, MatchOption};
 ghost use Rattle.sg_names.specs.Grammar.{is_name, is_doc_id};
 ghost use Rattle.sg_names.specs.RevId.{rev_text, is_rev};
 ghost use Rattle.sg_names.specs.Revs.{revs_text, is_revs};
@@ -15,7 +10,7 @@ ghost use Rattle.sg_names.specs.Grants.{grants_text, is_grants};
 ghost use Rattle.sg_names.specs.RoleGrants.{role_grants_text, is_role_grants};
 ghost use Rattle.sg_names.specs.Hex.{hex_text, is_hex};
 ghost use Rattle.sg_history.specs.Journal.{mark_text, by_text, is_by};
-ghost use Rattle.sg_history.specs.Refusal.{IsField, Refuses};
+ghost use Rattle.sg_history.specs.Refusal.{IsField};
 ghost use Rattle.sg_history.specs.Faults as faults;
 ghost use Rattle.sg_history.specs.Faults.{IsText, IsBadField};
 

@@ -1,7 +1,7 @@
 //! The lines of a journal, each read as an entry.
 
-ghost use Rattle.std.specs.Prelude.{◌≡◌, ◌≢◌, ◌∷◌, ◌<◌, [], List, ℕ, map, length, codes, IsTrue, IfOk, IfErr, IfSome, IfNone};
-ghost use Rattle.sg_history.specs.Line.{texts_of, NoEntry, ReadsEntry, NoLine, ReadsLine};
+ghost use Rattle.std.specs.Prelude.{◌≡◌, ◌≢◌, ◌∷◌, ◌<◌, List, ℕ, map, length, codes, IfOk, IfErr, IfSome, IfNone};
+ghost use Rattle.sg_history.specs.Line.{texts_of, ReadsEntry, NoLine, ReadsLine};
 ghost use Rattle.sg_history.specs.Refusal.{Refuses};
 ghost use Rattle.sg_history.specs.Faults.{AreFields, IsFault, HasReason};
 ghost use Rattle.sg_history.specs.Pieces.{pieces};

@@ -1,10 +1,11 @@
 //! The rules that a journal's writes keep.
 
-ghost use Rattle.std.specs.Prelude.{◌≡◌, ◌||◌, List, length, reverse, IsTrue, IfNone, IfSome};
+ghost use Rattle.std.specs.Prelude.{◌≡◌, ◌||◌, reverse, IsTrue, IfNone, IfSome};
 ghost use Rattle.sg_names.specs.RevId.{same_rev};
 ghost use Rattle.sg_history.specs.Journal as journal;
 ghost use Rattle.sg_history.specs.Journal.{follows_rules, may_follow};
 ghost use Rattle.sg_history.specs.Line.{is_write};
+ghost use Rattle.sg_history.specs.Rules as rules;
 ghost use Rattle.sg_history.specs.Written.{Knows, AreRevsOf, HasRevs};
 
 use crate::entries::{Entry, Write};
@@ -53,6 +54,7 @@ fn broken_rule<'a>(
     requires texts { AreRevsOf write.now revs }
     ensures none { IfNone result (IsTrue at_fits × IsTrue (follows_rules (reverse older.now) write.now)) }
     ensures some { IfSome result (λ _. IsTrue at_fits → ¬ IsTrue (follows_rules (reverse older.now) write.now)) }
+    ensures rule { result ≡ rules.broken_rule (reverse older.now) write.now at_fits }
 {
     if written.has(revs.own) {
         return Some(3);
@@ -76,6 +78,7 @@ pub fn fault_of<'a>(written: &Written<'a>, older: &[Entry], read: &ReadEntry<'a>
     ensures none { IfNone result (IsTrue (may_follow (reverse older.now) read.now.entry)) }
     ensures fits { IfNone result (IsTrue (is_write read.now.entry) → IsTrue read.now.at_fits) }
     ensures some { IfSome result (λ _. IsTrue read.now.at_fits → ¬ IsTrue (may_follow (reverse older.now) read.now.entry)) }
+    ensures rule { result ≡ rules.rule_fault (reverse older.now) read.now.entry read.now.at_fits }
 {
     match (&read.entry, read.revs) {
         (Entry::Write(write), Some(revs)) => {

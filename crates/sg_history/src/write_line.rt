@@ -9,7 +9,6 @@ ghost use Rattle.sg_names.specs.Grants.{grants_text, is_grants};
 ghost use Rattle.sg_names.specs.RoleGrants.{role_grants_text, is_role_grants};
 ghost use Rattle.sg_names.specs.Hex.{hex_text, is_hex};
 ghost use Rattle.sg_history.specs.Journal.{mark_text, by_text, is_by};
-ghost use Rattle.sg_history.specs.Refusal.{Refuses};
 ghost use Rattle.sg_history.specs.Line.{texts_of, NoWrite, ReadsWrite};
 ghost use Rattle.sg_history.specs.Faults as faults;
 ghost use Rattle.sg_history.specs.Faults.{IsText, IsBadField, AreTexts, IsFaultAmong, HasReason, write_grammars};
