@@ -1,5 +1,5 @@
 -- a journal's lines and its entries
-use Rattle.std.proofs.Common.{◌≡◌, ◌≢◌, ℕ, Bool, true, false, not, List, [], ◌∷◌, ◌++◌, length, reverse, refl, sym, ap, ◌∙◌, subst, append_assoc, codes}
+use Rattle.std.proofs.Common.{◌≡◌, ◌≢◌, ℕ, Bool, true, false, not, List, [], ◌∷◌, ◌++◌, length, reverse, refl, sym, ap, ◌∙◌, subst, append_assoc, codes, Option}
 use Rattle.std.specs.Prelude.{nat_eq}
 use Rattle.std.proofs.lemmas.List.{reverse-append}
 use Rattle.std.specs.Str.{bytes_eq}
@@ -9,6 +9,7 @@ use Rattle.std.proofs.lemmas.Grind.{flat_map-append}
 use Rattle.sg_names.proofs.Cuts.{cut_same, lacks_seam}
 use Rattle.sg_names.specs.Grammar.{lacks}
 use Rattle.sg_history.specs.declared.entries.Entry.{Entry}
+use Rattle.sg_history.specs.declared.written.WriteRevs.{WriteRevs}
 use Rattle.sg_history.specs.Journal.{IsNext, IsRecord, may_follow, line_of, lines_of, header, Spells}
 use Rattle.sg_history.specs.Line.{NoLine, ReadsLine, is_write}
 use Rattle.sg_history.specs.Reading.{NoNext, SpellsLines}
@@ -16,18 +17,18 @@ use Rattle.sg_history.proofs.LineTexts.{line_whole}
 use Rattle.sg_history.proofs.OneLine.{line_same}
 
 -- a line that was read, of an entry that breaks no rule
-pub next_read : (older : List Entry) (line : List ℕ) (e : Entry) (fits : Bool) → ReadsLine line (record { entry = e; at_fits = fits })
+pub next_read : (older : List Entry) (line : List ℕ) (e : Entry) (fits : Bool) (revs : Option WriteRevs) → ReadsLine line (record { entry = e; at_fits = fits; revs = revs })
     → may_follow older e ≡ true → (is_write e ≡ true → fits ≡ true) → IsNext older e × (line ≡ line_of e)
-next_read older line e true read follows fit = (record { grammar = read.0.0; recorded = read.0.1; rules = follows }, read.1)
-next_read older line e false read follows fit = absurd (cc (fit read.0))
+next_read older line e true revs read follows fit = (record { grammar = read.0.0; recorded = read.0.1; rules = follows }, read.1)
+next_read older line e false revs read follows fit = absurd (cc (fit read.0))
 
 -- a line that was read, of an entry that breaks a rule
-pub next_refused : (entries : List Entry) (line : List ℕ) (e : Entry) (fits : Bool) → ReadsLine line (record { entry = e; at_fits = fits })
+pub next_refused : (entries : List Entry) (line : List ℕ) (e : Entry) (fits : Bool) (revs : Option WriteRevs) → ReadsLine line (record { entry = e; at_fits = fits; revs = revs })
     → (fits ≡ true → ¬ (may_follow (reverse entries) e ≡ true)) → NoNext entries line
-next_refused entries line e true read breaks f next spelled =
+next_refused entries line e true revs read breaks f next spelled =
     let same : e ≡ f = line_same e f read.0.0 next.grammar (sym read.1 ∙ spelled) in
     breaks refl (ap (may_follow (reverse entries)) same ∙ next.rules)
-next_refused entries line e false read breaks f next spelled = read.1 f (next.grammar, next.recorded) spelled
+next_refused entries line e false revs read breaks f next spelled = read.1 f (next.grammar, next.recorded) spelled
 
 pub no_next : (entries : List Entry) (line : List ℕ) → NoLine line → NoNext entries line
 no_next entries line none e next = none e (next.grammar, next.recorded)

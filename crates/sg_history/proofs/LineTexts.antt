@@ -10,6 +10,7 @@ use Rattle.sg_history.specs.declared.entries.Entry.{Entry}
 use Rattle.sg_history.specs.declared.entries.Entry.TheVariants as entry
 use Rattle.sg_history.specs.declared.fault.LineFault.{LineFault}
 use Rattle.sg_history.specs.declared.line.ReadEntry.{ReadEntry}
+use Rattle.sg_history.specs.declared.written.WriteRevs.{WriteRevs}
 use Rattle.sg_history.specs.Pieces.{pieces, begin_with}
 use Rattle.sg_history.specs.Journal.{IsEntry, fields_of, line_of, mark_text, by_text, is_by}
 use Rattle.sg_history.specs.Line.{NoEntry, NoLine, ReadsEntry, ReadsLine}
@@ -113,14 +114,14 @@ line_whole e is = joined_lack 10 9 refl (fields_of e) (all_lack 10 (omega arith)
 pub no_line : (line : List ℕ) (fields : List (List ℕ)) → fields ≡ pieces 9 line → NoEntry fields → NoLine line
 no_line line fields parts none e is spelled = none e is (parts ∙ ap (pieces 9) spelled ∙ line_pieces e is.0)
 
-reads_line : (line : List ℕ) (fields : List (List ℕ)) (e : Entry) (fits : Bool) → fields ≡ pieces 9 line
-    → ReadsEntry fields (record { entry = e; at_fits = fits }) → ReadsLine line (record { entry = e; at_fits = fits })
-reads_line line fields e true parts read = (read.0, sym (joined_pieces 9 line) ∙ ap (join_with_byte 9) (sym parts ∙ read.1))
-reads_line line fields e false parts read = (read.0, no_line line fields parts read.1)
+reads_line : (line : List ℕ) (fields : List (List ℕ)) (e : Entry) (fits : Bool) (revs : Option WriteRevs) → fields ≡ pieces 9 line
+    → ReadsEntry fields (record { entry = e; at_fits = fits; revs = revs }) → ReadsLine line (record { entry = e; at_fits = fits; revs = revs })
+reads_line line fields e true revs parts read = (read.0, sym (joined_pieces 9 line) ∙ ap (join_with_byte 9) (sym parts ∙ read.1))
+reads_line line fields e false revs parts read = (read.0, no_line line fields parts read.1)
 
 pub read_ok : (line : List ℕ) (fields : List (List ℕ)) (r : Result ReadEntry LineFault) → fields ≡ pieces 9 line
     → IfOk r (λ read. ReadsEntry fields read) → IfOk r (λ read. ReadsLine line read)
-read_ok line fields (Ok read) parts h = reads_line line fields read.entry read.at_fits parts h
+read_ok line fields (Ok read) parts h = reads_line line fields read.entry read.at_fits read.revs parts h
 read_ok line fields (Err e) parts h = tt
 
 -- no entry has more than twelve fields

@@ -1,9 +1,8 @@
--- the rules of a write, by the entries in the order in which they were written
-use Rattle.std.proofs.Common.{◌≡◌, ℕ, Bool, true, false, ◌&&◌, ◌||◌, List, [], ◌∷◌, reverse, refl, sym, ap, ◌∙◌, if◌then◌else◌, Option, Some, None}
+-- the revisions that were written, and the entries that wrote them
+use Rattle.std.proofs.Common.{◌≡◌, ℕ, Bool, true, false, ◌&&◌, ◌||◌, List, [], ◌∷◌, ◌++◌, reverse, refl, sym, ap, ◌∙◌, if◌then◌else◌, Option, Some, None}
 use Rattle.std.specs.Prelude.{is_some}
-use Rattle.std.specs.List.{list_any}
+use Rattle.std.proofs.lemmas.List.{reverse-append}
 use Rattle.std.specs.Str.{bytes_eq}
-use Rattle.std.proofs.lemmas.List.Sorted.{list_any-IsPermutation, IsPermutation-reverse}
 use Rattle.sg_names.specs.declared.rev_id.RevId.{RevId}
 use Rattle.sg_names.specs.RevId.{same_rev}
 use Rattle.sg_history.specs.declared.entries.Entry.{Entry}
@@ -11,7 +10,8 @@ use Rattle.sg_history.specs.declared.entries.Entry.TheVariants as entry
 use Rattle.sg_history.specs.declared.entries.Write.{Write}
 use Rattle.sg_history.specs.Current.{write_of_rev, with_rev_or}
 use Rattle.sg_history.specs.Journal.{has_rev}
-use Rattle.sg_history.specs.Rules.{writes_rev}
+use Rattle.sg_history.specs.declared.written.RevTexts.{RevTexts}
+use Rattle.sg_history.specs.Written.{DocRev, is_rev_of, has, revision, HasRevs, Knows}
 
 chosen : (same right : Bool) (w : Write) (other : Option Write) → is_some (if same then (if right then Some w else other) else other) ≡ ((same && right) || is_some other)
 chosen true true w other = refl
@@ -23,18 +23,30 @@ chosen_write : (same : Bool) (w : Write) (rev : RevId) (other : Option Write)
 chosen_write true w rev other = chosen true (same_rev w.rev rev) w other
 chosen_write false w rev other = refl
 
-has_rev-newest : (e : Entry) (older : List Entry) (doc : List ℕ) (rev : RevId) → has_rev (e ∷ older) doc rev ≡ (writes_rev e doc rev || has_rev older doc rev)
-has_rev-newest (entry.Write w) older doc rev = chosen_write (bytes_eq w.doc doc) w rev (write_of_rev older doc rev)
-has_rev-newest (entry.PutUser name channels roles) older doc rev = refl
-has_rev-newest (entry.PutRole name channels) older doc rev = refl
-has_rev-newest (entry.DropUser name) older doc rev = refl
-has_rev-newest (entry.DropRole name) older doc rev = refl
-has_rev-newest entry.Unused older doc rev = refl
+-- one more write
+pub knows_write : (written after : List DocRev) (entries : List Entry) (w : Write) (texts : RevTexts) → Knows written entries
+    → revision texts ≡ record { doc = w.doc; rev = w.rev }
+    → ((doc : List ℕ) (rev : RevId) → has after doc rev ≡ (is_rev_of (revision texts) doc rev || has written doc rev))
+    → Knows after (entries ++ entry.Write w ∷ [])
+knows_write written after entries w texts knows is each doc rev =
+    each doc rev
+    ∙ (λ i. is_rev_of (is i) doc rev || knows doc rev i)
+    ∙ sym (chosen_write (bytes_eq w.doc doc) w rev (write_of_rev (reverse entries) doc rev))
+    ∙ ap (λ older. has_rev older doc rev) (sym (reverse-append entries (entry.Write w ∷ [])))
 
-any-has_rev : (older : List Entry) (doc : List ℕ) (rev : RevId) → list_any (λ e. writes_rev e doc rev) older ≡ has_rev older doc rev
-any-has_rev [] doc rev = refl
-any-has_rev (e ∷ older) doc rev = ap (λ more. writes_rev e doc rev || more) (any-has_rev older doc rev) ∙ sym (has_rev-newest e older doc rev)
+-- an entry that is no write
+unwritten : (older : List Entry) (e : Entry) (doc : List ℕ) (rev : RevId) → HasRevs e None → has_rev older doc rev ≡ has_rev (e ∷ older) doc rev
+unwritten older (entry.Write w) doc rev none = absurd none
+unwritten older (entry.PutUser name channels roles) doc rev none = refl
+unwritten older (entry.PutRole name channels) doc rev none = refl
+unwritten older (entry.DropUser name) doc rev none = refl
+unwritten older (entry.DropRole name) doc rev none = refl
+unwritten older entry.Unused doc rev none = refl
 
-pub has_rev-any : (entries : List Entry) (doc : List ℕ) (rev : RevId) → list_any (λ e. writes_rev e doc rev) entries ≡ has_rev (reverse entries) doc rev
-has_rev-any entries doc rev =
-    list_any-IsPermutation (λ e. writes_rev e doc rev) entries (reverse entries) (IsPermutation-reverse entries) ∙ any-has_rev (reverse entries) doc rev
+-- one more entry that is no write
+pub knows_other : (written : List DocRev) (entries : List Entry) (e : Entry) → Knows written entries → HasRevs e None → Knows written (entries ++ e ∷ [])
+knows_other written entries e knows none doc rev =
+    knows doc rev ∙ unwritten (reverse entries) e doc rev none ∙ ap (λ older. has_rev older doc rev) (sym (reverse-append entries (e ∷ [])))
+
+pub knows_none : Knows [] []
+knows_none doc rev = refl

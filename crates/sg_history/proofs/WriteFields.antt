@@ -7,7 +7,6 @@ use Rattle.std.proofs.lemmas.Fmt.{IsAscii-decimal}
 use Rattle.std.proofs.lemmas.Str.{IsUtf8-from_ascii}
 use Rattle.sg_names.proofs.Decimals.{is_decimal-decimal}
 use Rattle.sg_names.proofs.OneText.{hex_is}
-use Rattle.sg_names.specs.Decimal.{is_decimal}
 use Rattle.sg_names.specs.Hex.{hex_digit, hex_text, is_hex, is_hex_digit}
 use Rattle.sg_names.specs.Grammar.{is_doc_id}
 use Rattle.sg_names.specs.RevId.{rev_text, is_rev}
@@ -18,10 +17,12 @@ use Rattle.sg_names.specs.RoleGrants.{role_grants_text, is_role_grants}
 use Rattle.sg_history.specs.declared.entries.Write.{Write}
 use Rattle.sg_history.specs.declared.fault.LineFault.{LineFault}
 use Rattle.sg_history.specs.declared.fault.LineFault.TheVariants.{Bad, Memory}
+use Rattle.sg_history.specs.declared.written.WriteRevs.{WriteRevs}
 use Rattle.sg_history.specs.declared.write_line.WriteTexts.{WriteTexts}
 use Rattle.sg_history.specs.Journal.{IsWrite, is_body, is_by, by_text, mark_text, write_fields}
 use Rattle.sg_history.specs.Line.{texts_of, NoWrite, ReadsWrite}
 use Rattle.sg_history.specs.Refusal.{Refuses}
+use Rattle.sg_history.specs.Faults.{AreTexts, write_grammars}
 
 -- a refusal for one cause is one for what follows from it
 pub refused : {T : Type 0} {P Q : Type 0} (r : Result T LineFault) → (P → Q) → IfErr r (λ e. Refuses e P) → IfErr r (λ e. Refuses e Q)
@@ -29,22 +30,40 @@ refused (Ok x) f h = tt
 refused (Err (Bad why)) f h = f h
 refused (Err Memory) f h = tt
 
--- a front that is no decimal is no write's
-pub no_at : (t : WriteTexts) → (IsUtf8 t.at.now → ¬ (is_decimal t.at.now ≡ true)) → NoWrite (texts_of t)
-no_at t none w is e =
-    let field : t.at.now ≡ decimal w.at = cc in
-    none (subst IsUtf8 (sym field) (IsUtf8-from_ascii (decimal w.at) (IsAscii-decimal w.at is.at)))
-    (ap is_decimal field ∙ is_decimal-decimal w.at is.at)
-
 body_is : (body : List ℕ) → is_body body ≡ true → is_hex (hex_text body) ≡ true
 body_is [] h = absurd (cc (h))
 body_is (b ∷ bs) h = hex_is b bs (and_parts (nat_lt 0 (length (b ∷ bs))) (list_all (λ c. nat_lt c 256) (b ∷ bs)) h).1
 
--- a body that is no hexadecimal text is no write's
-pub no_body : (t : WriteTexts) → ¬ (is_hex t.body.now ≡ true) → NoWrite (texts_of t)
-no_body t none w is e =
-    let field : t.body.now ≡ hex_text w.body = cc in
-    none (ap is_hex field ∙ body_is w.body is.body)
+-- the fields of a write are in their grammars
+pub write_texts : (w : Write) → IsWrite w → AreTexts write_grammars (write_fields w)
+write_texts w is = (
+  (is.doc.1, is.doc.0),
+  (
+    (is.rev.1, w.rev, is.rev.0, refl),
+    (
+      (is.ancestors.1, w.ancestors, is.ancestors.0, refl),
+      (
+        (w.deleted, refl),
+        (
+          body_is w.body is.body,
+          (
+            (is.by.1, w.by, is.by.0, refl),
+            (
+              (IsUtf8-from_ascii (decimal w.at) (IsAscii-decimal w.at is.at), is_decimal-decimal w.at is.at),
+              (
+                (is.winner.1, w.winner, is.winner.0, refl),
+                (
+                  (is.channels.1, w.channels, is.channels.0, refl),
+                  ((is.grants.1, w.grants, is.grants.0, refl), ((is.roles.1, w.roles, is.roles.0, refl), tt)),
+                ),
+              ),
+            ),
+          ),
+        ),
+      ),
+    ),
+  ),
+)
 
 -- the digit of what is below 16
 digit_small : (n : ℕ) → is_hex_digit (hex_digit n) ≡ true → n < 16
@@ -105,10 +124,10 @@ fields_hold t w holds at = λ i.
     ∷ holds.winner.0 i ∷ holds.channels.0 i ∷ holds.grants.0 i ∷ holds.roles.0 i ∷ []
 
 -- the fields are read as the write, where the front fits
-pub reads_write : (t : WriteTexts) (w : Write) (at : Option ℕ) (fits : Bool) → HoldsFields t w
+pub reads_write : (t : WriteTexts) (w : Write) (at : Option ℕ) (fits : Bool) (revs : WriteRevs) → HoldsFields t w
     → MatchOption at (NoWrite (texts_of t)) (λ n. (n < 2 ^ 64) × (t.at.now ≡ decimal n)) → w.at ≡ unwrap_or at 18446744073709551615 → fits ≡ is_some at
-    → ReadsWrite (texts_of t) (record { write = w; at_fits = fits })
-reads_write t w None fits holds front value e = rw e front
-reads_write t w (Some n) fits holds front value e =
+    → ReadsWrite (texts_of t) (record { write = w; at_fits = fits; revs = revs })
+reads_write t w None fits revs holds front value e = rw e front
+reads_write t w (Some n) fits revs holds front value e =
     let at : t.at.now ≡ decimal w.at = front.1 ∙ ap decimal (sym value) in
     rw e (write_holds t w holds (omega (arith, value, front.0)) at, fields_hold t w holds at)

@@ -14,3 +14,5 @@ pub mod Pieces
 pub mod Reading
 pub mod Refusal
 pub mod Rules
+pub mod Written
+pub mod Faults

@@ -1,16 +1,31 @@
--- the rules of a write, as a reader tests them
-use Rattle.std.specs.Prelude.{ℕ, Bool, false, ◌&&◌, List}
-use Rattle.std.specs.Str.{bytes_eq}
-use Rattle.sg_names.specs.declared.rev_id.RevId.{RevId}
+-- the rules of a write, each named by the number of its field
+use Rattle.std.specs.Prelude.{ℕ, ◌+◌, Bool, ◌&&◌, ◌||◌, not, nat_lt, List, length, Option, Some, None, if◌then◌else◌}
 use Rattle.sg_names.specs.RevId.{same_rev}
 use Rattle.sg_history.specs.declared.entries.Entry.{Entry}
 use Rattle.sg_history.specs.declared.entries.Entry.TheVariants as entry
+use Rattle.sg_history.specs.declared.entries.Write.{Write}
+use Rattle.sg_history.specs.declared.fault.Why.{Why}
+use Rattle.sg_history.specs.declared.fault.Why.TheVariants.{Rule}
+use Rattle.sg_history.specs.Journal.{has_rev, falls_from}
 
--- whether an entry writes the document with this revision
-abbrev pub writes_rev : Entry → List ℕ → RevId → Bool
-writes_rev (entry.Write w) doc rev = bytes_eq w.doc doc && same_rev w.rev rev
-writes_rev (entry.PutUser name channels roles) doc rev = false
-writes_rev (entry.PutRole name channels) doc rev = false
-writes_rev (entry.DropUser name) doc rev = false
-writes_rev (entry.DropRole name) doc rev = false
-writes_rev entry.Unused doc rev = false
+-- the first rule that a write breaks after older entries, where its front fits its type or does not: its revision is new (3), its generations fall (4), it was judged before it was written (8), its winner was written (9)
+abbrev pub broken_rule : List Entry → Write → Bool → Option ℕ
+broken_rule older w fits =
+    if has_rev older w.doc w.rev then Some 3
+    else if not (falls_from w.rev.generation w.ancestors) then Some 4
+    else if not (fits && nat_lt w.at (length older + 1)) then Some 8
+    else if not (same_rev w.winner w.rev || has_rev older w.doc w.winner) then Some 9
+    else None
+
+abbrev pub as_fault : Option ℕ → Option Why
+as_fault None = None
+as_fault (Some rule) = Some (Rule rule)
+
+-- what is wrong with an entry after older ones: the first rule that it breaks, if it is a write
+abbrev pub rule_fault : List Entry → Entry → Bool → Option Why
+rule_fault older (entry.Write w) fits = as_fault (broken_rule older w fits)
+rule_fault older (entry.PutUser name channels roles) fits = None
+rule_fault older (entry.PutRole name channels) fits = None
+rule_fault older (entry.DropUser name) fits = None
+rule_fault older (entry.DropRole name) fits = None
+rule_fault older entry.Unused fits = None

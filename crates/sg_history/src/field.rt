@@ -1,11 +1,6 @@
 //! The fields of a journal's lines, each read by its grammar.
 
-ghost use Rattle.std.specs.Prelude.{◌≡◌, ◌≢◌, ◌^◌, ◌<◌, ◌∷◌, [], Bool, ℕ, List, Option, None, Some, length, decimal, IsTrue, IsUtf8, IfOk, IfErr, MatchOption, nat_lt};
-ghost use Rattle.std.specs.List.{list_all};
-ghost use Rattle.sg_names.specs.declared.rev_id.RevId.{RevId};
-ghost use Rattle.sg_names.specs.declared.grants.Grant.{Grant};
-ghost use Rattle.sg_names.specs.declared.role_grants.RoleGrant.{RoleGrant};
-ghost use Rattle.sg_names.specs.Decimal as decimals;
+ghost use Rattle.std.specs.Prelude.{◌≡◌, ◌≢◌, ◌^◌, ◌<◌, ℕ, decimal, IsTrue, IsUtf8, IfOk, IfErr, MatchOption};
 ghost use Rattle.sg_names.specs.Grammar.{is_name, is_doc_id};
 ghost use Rattle.sg_names.specs.RevId.{rev_text, is_rev};
 ghost use Rattle.sg_names.specs.Revs.{revs_text, is_revs};
@@ -15,7 +10,9 @@ ghost use Rattle.sg_names.specs.Grants.{grants_text, is_grants};
 ghost use Rattle.sg_names.specs.RoleGrants.{role_grants_text, is_role_grants};
 ghost use Rattle.sg_names.specs.Hex.{hex_text, is_hex};
 ghost use Rattle.sg_history.specs.Journal.{mark_text, by_text, is_by};
-ghost use Rattle.sg_history.specs.Refusal.{IsField, Refuses};
+ghost use Rattle.sg_history.specs.Refusal.{IsField};
+ghost use Rattle.sg_history.specs.Faults as faults;
+ghost use Rattle.sg_history.specs.Faults.{IsText, IsBadField};
 
 use crate::fault::{LineFault, Why};
 use sg_names::{
@@ -40,8 +37,8 @@ fn text_of(field: &[u8], number: u64) -> Result<&str, LineFault>
 /// A name.
 pub fn name(alloc: Global, field: &[u8], number: u64) -> Result<Name, LineFault>
     ensures ok { IfOk result (λ v. (v ≡ field.now) × IsTrue (is_name v) × IsUtf8 field.now) }
-    ensures bad { IfErr result (λ e. Refuses e (IsUtf8 field.now → ¬ IsTrue (is_name field.now))) }
-    ensures place { IfErr result (IsField number) }
+    ensures text { IfOk result (λ _. IsText faults.name field.now) }
+    ensures fault { IfErr result (IsBadField number faults.name field.now) }
 {
     let text = text_of(field, number)?;
     match Name::parse(alloc, text) {
@@ -54,8 +51,8 @@ pub fn name(alloc: Global, field: &[u8], number: u64) -> Result<Name, LineFault>
 /// A document's name.
 pub fn doc_id(alloc: Global, field: &[u8], number: u64) -> Result<DocId, LineFault>
     ensures ok { IfOk result (λ v. (v ≡ field.now) × IsTrue (is_doc_id v) × IsUtf8 field.now) }
-    ensures bad { IfErr result (λ e. Refuses e (IsUtf8 field.now → ¬ IsTrue (is_doc_id field.now))) }
-    ensures place { IfErr result (IsField number) }
+    ensures text { IfOk result (λ _. IsText faults.document field.now) }
+    ensures fault { IfErr result (IsBadField number faults.document field.now) }
 {
     let text = text_of(field, number)?;
     match DocId::parse(alloc, text) {
@@ -68,8 +65,8 @@ pub fn doc_id(alloc: Global, field: &[u8], number: u64) -> Result<DocId, LineFau
 /// A revision.
 pub fn rev_id(alloc: Global, field: &[u8], number: u64) -> Result<RevId, LineFault>
     ensures ok { IfOk result (λ v. (field.now ≡ rev_text v) × IsTrue (is_rev v) × IsUtf8 field.now) }
-    ensures bad { IfErr result (λ e. Refuses e (IsUtf8 field.now → (v : RevId) → IsTrue (is_rev v) → field.now ≢ rev_text v)) }
-    ensures place { IfErr result (IsField number) }
+    ensures text { IfOk result (λ _. IsText faults.revision field.now) }
+    ensures fault { IfErr result (IsBadField number faults.revision field.now) }
 {
     let text = text_of(field, number)?;
     match RevId::parse(alloc, text) {
@@ -82,8 +79,8 @@ pub fn rev_id(alloc: Global, field: &[u8], number: u64) -> Result<RevId, LineFau
 /// A mark: `0` or `1`.
 pub fn mark(field: &[u8], number: u64) -> Result<bool, LineFault>
     ensures ok { IfOk result (λ v. field.now ≡ mark_text v) }
-    ensures bad { IfErr result (λ e. Refuses e ((v : Bool) → field.now ≢ mark_text v)) }
-    ensures place { IfErr result (IsField number) }
+    ensures text { IfOk result (λ _. IsText faults.mark field.now) }
+    ensures fault { IfErr result (IsBadField number faults.mark field.now) }
 {
     match field {
         b"0" => Ok(false),
@@ -95,8 +92,8 @@ pub fn mark(field: &[u8], number: u64) -> Result<bool, LineFault>
 /// A body: at least one byte, in lower-case hexadecimal.
 pub fn body(alloc: Global, field: &[u8], number: u64) -> Result<Bytes, LineFault>
     ensures ok { IfOk result (λ v. (field.now ≡ hex_text v) × IsTrue (is_hex field.now)) }
-    ensures bad { IfErr result (λ e. Refuses e (¬ IsTrue (is_hex field.now))) }
-    ensures place { IfErr result (IsField number) }
+    ensures text { IfOk result (λ _. IsText faults.body field.now) }
+    ensures fault { IfErr result (IsBadField number faults.body field.now) }
 {
     let mut bytes = Bytes::new(alloc);
     match from_hex(field, &mut bytes) {
@@ -109,8 +106,8 @@ pub fn body(alloc: Global, field: &[u8], number: u64) -> Result<Bytes, LineFault
 /// A writer: a name, or `-` for the administrator.
 pub fn writer(alloc: Global, field: &[u8], number: u64) -> Result<Option<Name>, LineFault>
     ensures ok { IfOk result (λ v. (field.now ≡ by_text v) × IsTrue (is_by v) × IsUtf8 field.now) }
-    ensures bad { IfErr result (λ e. Refuses e (IsUtf8 field.now → (v : Option (List ℕ)) → IsTrue (is_by v) → field.now ≢ by_text v)) }
-    ensures place { IfErr result (IsField number) }
+    ensures text { IfOk result (λ _. IsText faults.writer field.now) }
+    ensures fault { IfErr result (IsBadField number faults.writer field.now) }
 {
     let text = text_of(field, number)?;
     if text == "-" {
@@ -123,8 +120,8 @@ pub fn writer(alloc: Global, field: &[u8], number: u64) -> Result<Option<Name>, 
 pub fn number_of(field: &[u8], number: u64) -> Result<Option<u64>, LineFault>
     ensures ok { IfOk result (λ v. MatchOption v ((n : ℕ) → n < 2 ^ 64 → field.now ≢ decimal n) (λ n. field.now ≡ decimal n)) }
     ensures utf8 { IfOk result (λ _. IsUtf8 field.now) }
-    ensures bad { IfErr result (λ e. Refuses e (IsUtf8 field.now → ¬ IsTrue (decimals.is_decimal field.now))) }
-    ensures place { IfErr result (IsField number) }
+    ensures text { IfOk result (λ _. IsText faults.number field.now) }
+    ensures fault { IfErr result (IsBadField number faults.number field.now) }
 {
     let text = text_of(field, number)?;
     if !is_decimal(text.as_bytes()) {
@@ -136,8 +133,8 @@ pub fn number_of(field: &[u8], number: u64) -> Result<Option<u64>, LineFault>
 /// A list of revisions.
 pub fn revs(alloc: Global, field: &[u8], number: u64) -> Result<Revs, LineFault>
     ensures ok { IfOk result (λ v. (field.now ≡ revs_text v) × IsTrue (is_revs v) × IsUtf8 field.now) }
-    ensures bad { IfErr result (λ e. Refuses e (IsUtf8 field.now → (v : List RevId) → IsTrue (is_revs v) → field.now ≢ revs_text v)) }
-    ensures place { IfErr result (IsField number) }
+    ensures text { IfOk result (λ _. IsText faults.revisions field.now) }
+    ensures fault { IfErr result (IsBadField number faults.revisions field.now) }
 {
     let text = text_of(field, number)?;
     match Revs::parse(alloc, text) {
@@ -150,8 +147,8 @@ pub fn revs(alloc: Global, field: &[u8], number: u64) -> Result<Revs, LineFault>
 /// A list of channels.
 pub fn channels(alloc: Global, field: &[u8], number: u64) -> Result<Channels, LineFault>
     ensures ok { IfOk result (λ v. (field.now ≡ channels_text v) × IsTrue (is_channels v) × IsUtf8 field.now) }
-    ensures bad { IfErr result (λ e. Refuses e (IsUtf8 field.now → (v : List (List ℕ)) → IsTrue (is_channels v) → field.now ≢ channels_text v)) }
-    ensures place { IfErr result (IsField number) }
+    ensures text { IfOk result (λ _. IsText faults.channels field.now) }
+    ensures fault { IfErr result (IsBadField number faults.channels field.now) }
 {
     let text = text_of(field, number)?;
     match Channels::parse(alloc, text) {
@@ -164,8 +161,8 @@ pub fn channels(alloc: Global, field: &[u8], number: u64) -> Result<Channels, Li
 /// A list of names.
 pub fn names(alloc: Global, field: &[u8], number: u64) -> Result<Names, LineFault>
     ensures ok { IfOk result (λ v. (field.now ≡ names_text v) × IsTrue (is_names v) × IsUtf8 field.now) }
-    ensures bad { IfErr result (λ e. Refuses e (IsUtf8 field.now → (v : List (List ℕ)) → IsTrue (is_names v) → field.now ≢ names_text v)) }
-    ensures place { IfErr result (IsField number) }
+    ensures text { IfOk result (λ _. IsText faults.names field.now) }
+    ensures fault { IfErr result (IsBadField number faults.names field.now) }
 {
     let text = text_of(field, number)?;
     match Names::parse(alloc, text) {
@@ -178,8 +175,8 @@ pub fn names(alloc: Global, field: &[u8], number: u64) -> Result<Names, LineFaul
 /// A list of grants.
 pub fn grants(alloc: Global, field: &[u8], number: u64) -> Result<Grants, LineFault>
     ensures ok { IfOk result (λ v. (field.now ≡ grants_text v) × IsTrue (is_grants v) × IsUtf8 field.now) }
-    ensures bad { IfErr result (λ e. Refuses e (IsUtf8 field.now → (v : List Grant) → IsTrue (is_grants v) → field.now ≢ grants_text v)) }
-    ensures place { IfErr result (IsField number) }
+    ensures text { IfOk result (λ _. IsText faults.grants field.now) }
+    ensures fault { IfErr result (IsBadField number faults.grants field.now) }
 {
     let text = text_of(field, number)?;
     match Grants::parse(alloc, text) {
@@ -192,8 +189,8 @@ pub fn grants(alloc: Global, field: &[u8], number: u64) -> Result<Grants, LineFa
 /// A list of role grants.
 pub fn role_grants(alloc: Global, field: &[u8], number: u64) -> Result<RoleGrants, LineFault>
     ensures ok { IfOk result (λ v. (field.now ≡ role_grants_text v) × IsTrue (is_role_grants v) × IsUtf8 field.now) }
-    ensures bad { IfErr result (λ e. Refuses e (IsUtf8 field.now → (v : List RoleGrant) → IsTrue (is_role_grants v) → field.now ≢ role_grants_text v)) }
-    ensures place { IfErr result (IsField number) }
+    ensures text { IfOk result (λ _. IsText faults.role_grants field.now) }
+    ensures fault { IfErr result (IsBadField number faults.role_grants field.now) }
 {
     let text = text_of(field, number)?;
     match RoleGrants::parse(alloc, text) {

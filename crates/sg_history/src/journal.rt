@@ -1,18 +1,20 @@
 //! The journal: reads the text of a history.
 
-ghost use Rattle.std.specs.Prelude.{◌≡◌, List, IfOk, IfErr, OnOk, OnErr};
+ghost use Rattle.std.specs.Prelude.{◌≡◌, ◌++◌, ◌∷◌, [], List, IfOk, IfErr, OnOk, OnErr};
 ghost use Rattle.sg_history.specs.declared.entries.Entry.{Entry};
 ghost use Rattle.sg_history.specs.History.{history};
 ghost use Rattle.sg_history.specs.Journal.{Spells};
 ghost use Rattle.sg_history.specs.Reading.{NoNext, AddsLine, SpellsLines};
 ghost use Rattle.sg_history.specs.Refusal.{Refuses, RefusesLog};
+ghost use Rattle.sg_history.specs.Written.{Knows, HasRevs};
 
 use crate::entries::Log;
 use crate::fault::{BadLine, LineFault, ReadLog, Why};
 use crate::fields::cut;
-use crate::line::read_line;
+use crate::line::{ReadEntry, read_line};
 use crate::rules::fault_of;
-use std::alloc::Global;
+use crate::written::Written;
+use std::alloc::{AllocError, Global};
 
 /// The first line of a journal.
 const HEADER: &str = "sgjournal 1";
@@ -23,17 +25,45 @@ fn bad(place: u64, why: Why) -> ReadLog
     ReadLog::Bad(BadLine { place, why })
 }
 
+/// Puts an entry at the log's end, and its revision, if it is a write, into those that were written. An error
+/// leaves both as they were.
+fn add_entry<'a>(
+    read: ReadEntry<'a>,
+    log: &mut Log,
+    written: &mut Written<'a>,
+) -> Result<(), AllocError>
+    requires knows { Knows written.old log.old.entries.list }
+    requires texts { HasRevs read.entry read.revs }
+    ensures ok { OnOk result (log.new.entries.list ≡ log.old.entries.list ++ read.entry.entry ∷ []) }
+    ensures err { OnErr result (log.new.entries.list ≡ log.old.entries.list) }
+    ensures knows { Knows written.new log.new.entries.list }
+{
+    log.entries.reserve(1)?;
+    if let Some(revs) = read.revs {
+        written.insert(revs.own)?;
+    }
+    log.entries.put(read.entry);
+    Ok(())
+}
+
 /// Reads one line as the log's next entry. A refusal leaves the log's entries as they were.
-fn add_line(alloc: Global, line: &[u8], log: &mut Log) -> Result<(), LineFault>
+fn add_line<'a>(
+    alloc: Global,
+    line: &'a [u8],
+    log: &mut Log,
+    written: &mut Written<'a>,
+) -> Result<(), LineFault>
+    requires knows { Knows written.old log.old.entries.list }
     ensures ok { OnOk result (AddsLine log.old.entries.list line.now log.new.entries.list) }
     ensures err { OnErr result (log.new.entries.list ≡ log.old.entries.list) }
     ensures bad { IfErr result (λ e. Refuses e (NoNext log.old.entries.list line.now)) }
+    ensures knows { Knows written.new log.new.entries.list }
 {
     let read = read_line(alloc, line)?;
-    if let Some(why) = fault_of(log.entries.as_slice(), &read) {
+    if let Some(why) = fault_of(written, log.entries.as_slice(), &read) {
         return Err(LineFault::Bad(why));
     }
-    log.entries.push(read.entry)?;
+    add_entry(read, log, written)?;
     Ok(())
 }
 
@@ -43,13 +73,14 @@ fn read_lines(alloc: Global, lines: &[u8]) -> Result<Log, ReadLog>
     ensures bad { IfErr result (λ e. RefusesLog e ((es : List Entry) → ¬ (SpellsLines lines.now es))) }
 {
     let mut log = Log::new(alloc);
+    let mut written = Written::new(alloc);
     let mut rest = lines;
     while !rest.is_empty() {
         let place = (log.entries.len() as u64).saturating_add(2);
         let Some((line, after)) = cut(rest, b'\n') else {
             return Err(bad(place, Why::Ending));
         };
-        match add_line(alloc, line, &mut log) {
+        match add_line(alloc, line, &mut log, &mut written) {
             Ok(()) => rest = after,
             Err(LineFault::Bad(why)) => return Err(bad(place, why)),
             Err(LineFault::Memory) => return Err(ReadLog::Memory),

@@ -12,6 +12,7 @@ mod line;
 pub mod row;
 mod rules;
 mod write_line;
+mod written;
 
 pub use entries::{Entries, Entry, Log, Write};
 pub use fault::{BadLine, ReadLog, Why};

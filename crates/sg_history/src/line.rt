@@ -1,21 +1,27 @@
 //! The lines of a journal, each read as an entry.
 
-ghost use Rattle.std.specs.Prelude.{◌≡◌, ◌≢◌, ◌∷◌, ◌<◌, [], map, length, codes, IsTrue, IfOk, IfErr, IfSome, IfNone};
-ghost use Rattle.sg_history.specs.Line.{texts_of, NoEntry, ReadsEntry, NoLine, ReadsLine};
+ghost use Rattle.std.specs.Prelude.{◌≡◌, ◌≢◌, ◌∷◌, ◌<◌, List, ℕ, map, length, codes, IfOk, IfErr, IfSome, IfNone};
+ghost use Rattle.sg_history.specs.Line.{texts_of, ReadsEntry, NoLine, ReadsLine};
 ghost use Rattle.sg_history.specs.Refusal.{Refuses};
+ghost use Rattle.sg_history.specs.Faults.{AreFields, IsFault, HasReason};
+ghost use Rattle.sg_history.specs.Pieces.{pieces};
+ghost use Rattle.sg_history.specs.Written.{HasRevs};
 
 use crate::entries::Entry;
 use crate::fault::{LineFault, Why};
 use crate::field;
 use crate::fields::{cut, pieces_of};
 use crate::write_line::{WriteTexts, read_write};
+use crate::written::WriteRevs;
 use std::alloc::Global;
 
-/// A line that was read as an entry, and whether a write's front is a number of the type.
+/// A line that was read as an entry, whether a write's front is a number of the type, and the texts of a
+/// write's revisions.
 #[derive(Drop)]
-pub struct ReadEntry {
+pub struct ReadEntry<'a> {
     pub entry: Entry,
     pub at_fits: bool,
+    pub revs: Option<WriteRevs<'a>>,
 }
 
 /// The fields of a write after its kind, if they are eleven.
@@ -55,9 +61,11 @@ fn write_texts<'a>(fields: &[&'a [u8]]) -> Option<WriteTexts<'a>>
 }
 
 /// Reads the fields after the kind `W`.
-fn read_write_entry(alloc: Global, fields: &[&[u8]]) -> Result<ReadEntry, LineFault>
+fn read_write_entry<'a>(alloc: Global, fields: &[&'a [u8]]) -> Result<ReadEntry<'a>, LineFault>
     ensures ok { IfOk result (λ read. ReadsEntry (codes "W" ∷ map (λ p. p.now) fields.now) read) }
-    ensures bad { IfErr result (λ e. Refuses e (NoEntry (codes "W" ∷ map (λ p. p.now) fields.now))) }
+    ensures revs { IfOk result (λ read. HasRevs read.entry read.revs) }
+    ensures texts { IfOk result (λ _. AreFields (codes "W" ∷ map (λ p. p.now) fields.now)) }
+    ensures reason { IfErr result (HasReason (IsFault (codes "W" ∷ map (λ p. p.now) fields.now))) }
 {
     let Some(texts) = write_texts(fields) else {
         return Err(LineFault::Bad(Why::Fields));
@@ -66,13 +74,16 @@ fn read_write_entry(alloc: Global, fields: &[&[u8]]) -> Result<ReadEntry, LineFa
     Ok(ReadEntry {
         entry: Entry::Write(read.write),
         at_fits: read.at_fits,
+        revs: Some(read.revs),
     })
 }
 
 /// Reads the fields after the kind `U`.
-fn read_put_user(alloc: Global, fields: &[&[u8]]) -> Result<ReadEntry, LineFault>
+fn read_put_user<'a>(alloc: Global, fields: &[&'a [u8]]) -> Result<ReadEntry<'a>, LineFault>
     ensures ok { IfOk result (λ read. ReadsEntry (codes "U" ∷ map (λ p. p.now) fields.now) read) }
-    ensures bad { IfErr result (λ e. Refuses e (NoEntry (codes "U" ∷ map (λ p. p.now) fields.now))) }
+    ensures revs { IfOk result (λ read. HasRevs read.entry read.revs) }
+    ensures texts { IfOk result (λ _. AreFields (codes "U" ∷ map (λ p. p.now) fields.now)) }
+    ensures reason { IfErr result (HasReason (IsFault (codes "U" ∷ map (λ p. p.now) fields.now))) }
 {
     let [name, channels, roles] = fields else {
         return Err(LineFault::Bad(Why::Fields));
@@ -83,13 +94,16 @@ fn read_put_user(alloc: Global, fields: &[&[u8]]) -> Result<ReadEntry, LineFault
     Ok(ReadEntry {
         entry: Entry::PutUser(name, channels, roles),
         at_fits: true,
+        revs: None,
     })
 }
 
 /// Reads the fields of a line.
-fn read_fields(alloc: Global, fields: &[&[u8]]) -> Result<ReadEntry, LineFault>
+fn read_fields<'a>(alloc: Global, fields: &[&'a [u8]]) -> Result<ReadEntry<'a>, LineFault>
     ensures ok { IfOk result (λ read. ReadsEntry (map (λ p. p.now) fields.now) read) }
-    ensures bad { IfErr result (λ e. Refuses e (NoEntry (map (λ p. p.now) fields.now))) }
+    ensures revs { IfOk result (λ read. HasRevs read.entry read.revs) }
+    ensures texts { IfOk result (λ _. AreFields (map (λ p. p.now) fields.now)) }
+    ensures reason { IfErr result (HasReason (IsFault (map (λ p. p.now) fields.now))) }
 {
     let [kind, further @ ..] = fields else {
         return Err(LineFault::Bad(Why::Kind));
@@ -101,12 +115,10 @@ fn read_fields(alloc: Global, fields: &[&[u8]]) -> Result<ReadEntry, LineFault>
     }
 }
 
-/// What is wrong with a line of more fields than any kind has.
-fn fault_of_many(line: &[u8]) -> Why {
-    let kind = match cut(line, b'\t') {
-        Some((kind, _)) => kind,
-        None => line,
-    };
+/// What is wrong with a line of this kind that has more fields than any kind.
+fn fault_of_kind(kind: &[u8]) -> Why
+    ensures { (texts : List (List ℕ)) → 11 < length texts → IsFault (kind.now ∷ texts) result }
+{
     match kind {
         b"W" => Why::Fields,
         b"U" => Why::Fields,
@@ -114,10 +126,24 @@ fn fault_of_many(line: &[u8]) -> Why {
     }
 }
 
+/// What is wrong with a line of more fields than any kind has.
+fn fault_of_many(line: &[u8]) -> Why
+    requires { 12 < length (pieces 9 line.now) }
+    ensures { IsFault (pieces 9 line.now) result }
+{
+    match cut(line, b'\t') {
+        Some((kind, _)) => fault_of_kind(kind),
+        None => fault_of_kind(line),
+    }
+}
+
 /// Reads a line, without its line feed, as an entry.
-pub fn read_line(alloc: Global, line: &[u8]) -> Result<ReadEntry, LineFault>
+pub fn read_line(alloc: Global, line: &[u8]) -> Result<ReadEntry<'_>, LineFault>
     ensures ok { IfOk result (λ read. ReadsLine line.now read) }
+    ensures revs { IfOk result (λ read. HasRevs read.entry read.revs) }
     ensures bad { IfErr result (λ e. Refuses e (NoLine line.now)) }
+    ensures texts { IfOk result (λ _. AreFields (pieces 9 line.now)) }
+    ensures reason { IfErr result (HasReason (IsFault (pieces 9 line.now))) }
 {
     match pieces_of(alloc, line, b'\t', 12)? {
         Some(fields) => read_fields(alloc, fields.as_slice()),

@@ -1,40 +1,18 @@
 //! The rules that a journal's writes keep.
 
-ghost use Rattle.std.specs.Prelude.{◌≡◌, ◌||◌, List, length, reverse, IsTrue, IfNone, IfSome};
-ghost use Rattle.std.specs.List.{list_any};
+ghost use Rattle.std.specs.Prelude.{◌≡◌, ◌||◌, reverse, IsTrue, IfNone, IfSome};
 ghost use Rattle.sg_names.specs.RevId.{same_rev};
 ghost use Rattle.sg_history.specs.Journal as journal;
 ghost use Rattle.sg_history.specs.Journal.{follows_rules, may_follow};
 ghost use Rattle.sg_history.specs.Line.{is_write};
 ghost use Rattle.sg_history.specs.Rules as rules;
+ghost use Rattle.sg_history.specs.Written.{Knows, AreRevsOf, HasRevs};
 
 use crate::entries::{Entry, Write};
 use crate::fault::Why;
 use crate::line::ReadEntry;
-use sg_names::{DocId, RevId};
-
-/// Whether an entry writes the document with this revision.
-fn writes_rev(entry: &Entry, doc: &DocId, rev: &RevId) -> bool
-    ensures { result ≡ rules.writes_rev entry.now doc.now rev.now }
-{
-    match entry {
-        Entry::Write(write) => write.doc.equals(doc) && write.rev.equals(rev),
-        _ => false,
-    }
-}
-
-fn any_writes_rev(entries: &[Entry], doc: &DocId, rev: &RevId) -> bool
-    ensures { result ≡ list_any (λ e. rules.writes_rev e doc.now rev.now) entries.now }
-{
-    entries.iter().any(|entry| writes_rev(entry, doc, rev))
-}
-
-/// Whether an earlier write of the document has this revision.
-fn has_rev(older: &[Entry], doc: &DocId, rev: &RevId) -> bool
-    ensures { result ≡ journal.has_rev (reverse older.now) doc.now rev.now }
-{
-    any_writes_rev(older, doc, rev)
-}
+use crate::written::{WriteRevs, Written};
+use sg_names::RevId;
 
 /// Whether the generations fall strictly from this one on.
 fn falls_from(generation: u32, revs: &[RevId]) -> bool
@@ -51,18 +29,34 @@ fn falls_from(generation: u32, revs: &[RevId]) -> bool
 }
 
 /// Whether the winner is the write's revision or that of an earlier write of the document.
-fn knows_winner(older: &[Entry], write: &Write) -> bool
+fn knows_winner<'a>(
+    written: &Written<'a>,
+    older: &[Entry],
+    write: &Write,
+    revs: WriteRevs<'a>,
+) -> bool
+    requires knows { Knows written.now older.now }
+    requires texts { AreRevsOf write.now revs }
     ensures { result ≡ (same_rev write.now.winner write.now.rev || journal.has_rev (reverse older.now) write.now.doc write.now.winner) }
 {
-    write.winner.equals(&write.rev) || has_rev(older, &write.doc, &write.winner)
+    write.winner.equals(&write.rev) || written.has(revs.winner)
 }
 
 /// The first rule that a write breaks, by the number of its field.
-fn broken_rule(older: &[Entry], write: &Write, at_fits: bool) -> Option<u64>
+fn broken_rule<'a>(
+    written: &Written<'a>,
+    older: &[Entry],
+    write: &Write,
+    revs: WriteRevs<'a>,
+    at_fits: bool,
+) -> Option<u64>
+    requires knows { Knows written.now older.now }
+    requires texts { AreRevsOf write.now revs }
     ensures none { IfNone result (IsTrue at_fits × IsTrue (follows_rules (reverse older.now) write.now)) }
     ensures some { IfSome result (λ _. IsTrue at_fits → ¬ IsTrue (follows_rules (reverse older.now) write.now)) }
+    ensures rule { result ≡ rules.broken_rule (reverse older.now) write.now at_fits }
 {
-    if has_rev(older, &write.doc, &write.rev) {
+    if written.has(revs.own) {
         return Some(3);
     }
     if !falls_from(write.rev.generation, write.ancestors.as_slice()) {
@@ -71,23 +65,28 @@ fn broken_rule(older: &[Entry], write: &Write, at_fits: bool) -> Option<u64>
     if !at_fits || write.at > older.len() as u64 {
         return Some(8);
     }
-    if !knows_winner(older, write) {
+    if !knows_winner(written, older, write, revs) {
         return Some(9);
     }
     None
 }
 
-/// What is wrong with an entry after these, if anything is.
-pub fn fault_of(older: &[Entry], read: &ReadEntry) -> Option<Why>
+/// What is wrong with an entry after these, of which the revisions are known.
+pub fn fault_of<'a>(written: &Written<'a>, older: &[Entry], read: &ReadEntry<'a>) -> Option<Why>
+    requires knows { Knows written.now older.now }
+    requires texts { HasRevs read.now.entry read.now.revs }
     ensures none { IfNone result (IsTrue (may_follow (reverse older.now) read.now.entry)) }
     ensures fits { IfNone result (IsTrue (is_write read.now.entry) → IsTrue read.now.at_fits) }
     ensures some { IfSome result (λ _. IsTrue read.now.at_fits → ¬ IsTrue (may_follow (reverse older.now) read.now.entry)) }
+    ensures rule { result ≡ rules.rule_fault (reverse older.now) read.now.entry read.now.at_fits }
 {
-    match &read.entry {
-        Entry::Write(write) => match broken_rule(older, write, read.at_fits) {
-            Some(rule) => Some(Why::Rule(rule)),
-            None => None,
-        },
+    match (&read.entry, read.revs) {
+        (Entry::Write(write), Some(revs)) => {
+            match broken_rule(written, older, write, revs, read.at_fits) {
+                Some(rule) => Some(Why::Rule(rule)),
+                None => None,
+            }
+        }
         _ => None,
     }
 }

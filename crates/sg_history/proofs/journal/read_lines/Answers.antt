@@ -16,6 +16,7 @@ loop-rest-preserved c =
     record {
       spelled = rw added.appended (spelled_more c.args.lines.now before added.entry c.loop-rest.rest.now c.in-Some.line.now c.in-Some.after.now c.loop-rest.invariant.spelled cut.0 added.spelled);
       recorded = rw added.appended (record_more before added.entry c.loop-rest.invariant.recorded added.next);
+      knows = c.in-Ok.ensures.knows;
       only = λ es h. rw added.appended (continues_more before added.entry c.loop-rest.rest.now c.in-Some.line.now c.in-Some.after.now es cut.0 cut.1 added.next added.spelled h.0 (c.loop-rest.invariant.only es h));
     }
 

@@ -2,6 +2,7 @@ use Rattle.std.proofs.Common.{◌≡◌, ◌++◌, List, length, reverse}
 use Rattle.sg_history.specs.declared.entries.Entry.{Entry}
 use Rattle.sg_history.specs.Journal.{IsRecord, lines_of}
 use Rattle.sg_history.specs.Reading.{SpellsLines}
+use Rattle.sg_history.specs.Written.{Knows}
 use Rattle.sg_history.proofs.JournalTexts.{Continues}
 use Rattle.sg_history.proofs.journal.read_lines.Given as goal
 
@@ -9,6 +10,7 @@ abbrev pub invariant-loop-rest : goal.invariant-loop-rest
 invariant-loop-rest l = record {
   spelled : l.lines ≡ lines_of l.log.entries.list ++ l.rest;
   recorded : IsRecord (reverse l.log.entries.list);
+  knows : Knows l.written l.log.entries.list;
   only : (es : List Entry) → SpellsLines l.lines es → Continues l.log.entries.list l.rest es;
 }
 

@@ -1,0 +1,84 @@
+-- what is wrong with a line, and the lines of entries
+use Rattle.std.proofs.Common.{◌≡◌, ℕ, zero, suc, ◌-◌, ◌≤◌, List, [], ◌∷◌, ◌++◌, ◌<◌, true, length, arith, refl, sym, ap, ◌∙◌, subst, Option, Some, None}
+use Rattle.std.specs.Prelude.{Result, Ok, Err, IfErr}
+use Rattle.sg_history.specs.declared.entries.Entry.{Entry}
+use Rattle.sg_history.specs.declared.entries.Entry.TheVariants as entry
+use Rattle.sg_history.specs.declared.fault.Why.{Why}
+use Rattle.sg_history.specs.declared.fault.Why.TheVariants as reason
+use Rattle.sg_history.specs.declared.fault.LineFault.{LineFault}
+use Rattle.sg_history.specs.declared.fault.LineFault.TheVariants as line
+use Rattle.sg_history.specs.Journal.{fields_of}
+use Rattle.sg_history.specs.Line.{IsLineEntry, NoEntry}
+use Rattle.sg_history.specs.Refusal.{Refuses}
+use Rattle.sg_history.specs.Faults.{Grammar, IsText, AreTexts, IsFirstBad, IsFaultAmong, IsFaultUnder, IsFault, AreTextsUnder, AreFields, grammars_of, HasReason, IsBadField}
+use Rattle.sg_names.specs.Grammar.{lacks}
+use Rattle.sg_history.specs.Pieces.{pieces}
+use Rattle.sg_history.proofs.PieceLemmas.{pieces-cut, pieces-lacking}
+use Rattle.sg_history.proofs.WriteFields.{write_texts}
+
+as_many : (grammars : List Grammar) (texts : List (List ℕ)) → AreTexts grammars texts → length texts ≡ length grammars
+as_many [] [] h = refl
+as_many [] (text ∷ texts) h = absurd h
+as_many (grammar ∷ grammars) [] h = absurd h
+as_many (grammar ∷ grammars) (text ∷ texts) h = ap suc (as_many grammars texts h.1)
+
+none_bad : (grammars : List Grammar) (texts : List (List ℕ)) (n : ℕ) → IsFirstBad grammars texts n → ¬ (AreTexts grammars texts)
+none_bad [] texts n bad h = bad
+none_bad (grammar ∷ grammars) [] n bad h = bad
+none_bad (grammar ∷ grammars) (text ∷ texts) zero bad h = bad h.0
+none_bad (grammar ∷ grammars) (text ∷ texts) (suc n) bad h = none_bad grammars texts n bad.1 h.1
+
+apart_among : (grammars : List Grammar) (texts : List (List ℕ)) (why : Why) → IsFaultAmong grammars texts why → ¬ (AreTexts grammars texts)
+apart_among grammars texts reason.Head fault h = fault
+apart_among grammars texts reason.Ending fault h = fault
+apart_among grammars texts reason.Kind fault h = fault
+apart_among grammars texts reason.Fields fault h = fault (as_many grammars texts h)
+apart_among grammars texts (reason.Field n) fault h = none_bad grammars texts (n - 2) fault.2 h
+apart_among grammars texts (reason.Rule n) fault h = fault
+apart_among grammars texts reason.Long fault h = fault
+
+apart_under : (grammars : Option (List Grammar)) (texts : List (List ℕ)) (why : Why) → IsFaultUnder grammars texts why → ¬ (AreTextsUnder grammars texts)
+apart_under None texts why fault h = h
+apart_under (Some grammars) texts why fault h = apart_among grammars texts why fault h
+
+-- fields have a fault, or they are those of a line: not both
+apart : (fields : List (List ℕ)) (why : Why) → IsFault fields why → ¬ (AreFields fields)
+apart [] why fault h = h
+apart (kind ∷ texts) why fault h = apart_under (grammars_of kind) texts why fault h
+
+entry_fields : (e : Entry) → IsLineEntry e → AreFields (fields_of e)
+entry_fields (entry.Write w) is = write_texts w is.0
+entry_fields (entry.PutUser name channels roles) is =
+    ((is.0.name.1, is.0.name.0), ((is.0.channels.1, channels, is.0.channels.0, refl), ((is.0.roles.1, roles, is.0.roles.0, refl), tt)))
+entry_fields (entry.PutRole name channels) is = absurd (cc (is.1))
+entry_fields (entry.DropUser name) is = absurd (cc (is.1))
+entry_fields (entry.DropRole name) is = absurd (cc (is.1))
+entry_fields entry.Unused is = absurd (cc (is.1))
+
+-- fields with a fault are no entry's
+pub no_entry : (fields : List (List ℕ)) (why : Why) → IsFault fields why → NoEntry fields
+no_entry fields why fault e is spelled = apart fields why fault (subst AreFields (sym spelled) (entry_fields e is))
+
+-- a refusal for a fault is one for want of an entry
+pub refused_fault : {T : Type 0} (fields : List (List ℕ)) (r : Result T LineFault) → IfErr r (HasReason (IsFault fields)) → IfErr r (λ e. Refuses e (NoEntry fields))
+refused_fault fields (Ok x) h = tt
+refused_fault fields (Err (line.Bad why)) h = no_entry fields why h
+refused_fault fields (Err line.Memory) h = tt
+
+-- a field that is outside its grammar, behind fields that are in theirs
+pub bad_field : (grammars : List Grammar) (texts : List (List ℕ)) (n : ℕ) (grammar : Grammar) (text : List ℕ) (e : LineFault)
+    → length texts ≡ length grammars → 2 ≤ n → (¬ (IsText grammar text) → IsFirstBad grammars texts (n - 2)) → IsBadField n grammar text e
+    → HasReason (IsFaultAmong grammars texts) e
+bad_field grammars texts n grammar text (line.Bad why) many low first h =
+    subst (IsFaultAmong grammars texts) (sym h.0) (many, low, first h.1)
+bad_field grammars texts n grammar text line.Memory many low first h = tt
+
+-- a line of too many fields
+pub many_fields : (line kind rest : List ℕ) (why : Why) → line ≡ kind ++ 9 ∷ rest → lacks 9 kind ≡ true → 12 < length (pieces 9 line)
+    → ((texts : List (List ℕ)) → 11 < length texts → IsFault (kind ∷ texts) why) → IsFault (pieces 9 line) why
+many_fields line kind rest why cut lacking many fault =
+    let parts = ap (pieces 9) cut ∙ pieces-cut 9 kind rest lacking in
+    subst (λ fields. IsFault fields why) (sym parts) (fault (pieces 9 rest) (omega (arith, many, ap length parts)))
+
+pub one_field : (line : List ℕ) → lacks 9 line ≡ true → ¬ (12 < length (pieces 9 line))
+one_field line lacking many = omega (arith, many, ap length (pieces-lacking 9 line lacking))

@@ -1,0 +1,116 @@
+-- What is wrong with a line: its kind, the number of its fields, or the first field outside its grammar.
+use Rattle.std.specs.Prelude.{◌≡◌, ◌≢◌, ℕ, zero, suc, ◌-◌, ◌≤◌, Bool, List, [], ◌∷◌, length, codes, Option, Some, None, IsTrue, IsUtf8, if◌then◌else◌}
+use Rattle.std.specs.Str.{bytes_eq}
+use Rattle.sg_names.specs.declared.rev_id.RevId.{RevId}
+use Rattle.sg_names.specs.declared.grants.Grant.{Grant}
+use Rattle.sg_names.specs.declared.role_grants.RoleGrant.{RoleGrant}
+use Rattle.sg_names.specs.Decimal.{is_decimal}
+use Rattle.sg_names.specs.Grammar.{is_doc_id, is_name}
+use Rattle.sg_names.specs.RevId.{rev_text, is_rev}
+use Rattle.sg_names.specs.Revs.{revs_text, is_revs}
+use Rattle.sg_names.specs.Channels.{channels_text, is_channels}
+use Rattle.sg_names.specs.Names.{names_text, is_names}
+use Rattle.sg_names.specs.Grants.{grants_text, is_grants}
+use Rattle.sg_names.specs.RoleGrants.{role_grants_text, is_role_grants}
+use Rattle.sg_names.specs.Hex.{is_hex}
+use Rattle.sg_history.specs.declared.fault.Why.{Why}
+use Rattle.sg_history.specs.declared.fault.Why.TheVariants as reason
+use Rattle.sg_history.specs.declared.fault.LineFault.{LineFault}
+use Rattle.sg_history.specs.declared.fault.LineFault.TheVariants as line
+use Rattle.sg_history.specs.Journal.{mark_text, by_text, is_by}
+
+-- the grammars of fields
+pub data Grammar : Type 0 where
+  document : Grammar
+  revision : Grammar
+  revisions : Grammar
+  mark : Grammar
+  body : Grammar
+  writer : Grammar
+  number : Grammar
+  name : Grammar
+  names : Grammar
+  channels : Grammar
+  grants : Grammar
+  role_grants : Grammar
+
+-- a text in a grammar: it is UTF-8 where it is no number, and some value's text
+abbrev pub IsText : Grammar → List ℕ → Type 0
+IsText document text = IsUtf8 text × IsTrue (is_doc_id text)
+IsText revision text = IsUtf8 text × (v : RevId) × IsTrue (is_rev v) × (text ≡ rev_text v)
+IsText revisions text = IsUtf8 text × (v : List RevId) × IsTrue (is_revs v) × (text ≡ revs_text v)
+IsText mark text = (v : Bool) × (text ≡ mark_text v)
+IsText body text = IsTrue (is_hex text)
+IsText writer text = IsUtf8 text × (v : Option (List ℕ)) × IsTrue (is_by v) × (text ≡ by_text v)
+IsText number text = IsUtf8 text × IsTrue (is_decimal text)
+IsText name text = IsUtf8 text × IsTrue (is_name text)
+IsText names text = IsUtf8 text × (v : List (List ℕ)) × IsTrue (is_names v) × (text ≡ names_text v)
+IsText channels text = IsUtf8 text × (v : List (List ℕ)) × IsTrue (is_channels v) × (text ≡ channels_text v)
+IsText grants text = IsUtf8 text × (v : List Grant) × IsTrue (is_grants v) × (text ≡ grants_text v)
+IsText role_grants text = IsUtf8 text × (v : List RoleGrant) × IsTrue (is_role_grants v) × (text ≡ role_grants_text v)
+
+-- the fields of a write's line after its kind
+abbrev pub write_grammars : List Grammar
+write_grammars =
+    document ∷ revision ∷ revisions ∷ mark ∷ body ∷ writer ∷ number ∷ revision ∷ channels ∷ grants ∷ role_grants ∷ []
+
+-- the fields of the line of a put of a user after its kind
+abbrev pub user_grammars : List Grammar
+user_grammars = name ∷ channels ∷ names ∷ []
+
+-- the fields that follow a kind of line; none where this is no kind
+abbrev pub grammars_of : List ℕ → Option (List Grammar)
+grammars_of kind =
+    if bytes_eq kind (codes "W") then Some write_grammars else if bytes_eq kind (codes "U") then Some user_grammars else None
+
+-- each text is in the grammar at its place, and there are as many
+abbrev pub AreTexts : List Grammar → List (List ℕ) → Type 0
+AreTexts [] [] = Unit {0}
+AreTexts [] (text ∷ texts) = ⊥
+AreTexts (grammar ∷ grammars) [] = ⊥
+AreTexts (grammar ∷ grammars) (text ∷ texts) = IsText grammar text × AreTexts grammars texts
+
+-- this many texts are in their grammars, and the next one is not in its own
+abbrev pub IsFirstBad : List Grammar → List (List ℕ) → ℕ → Type 0
+IsFirstBad [] texts n = ⊥
+IsFirstBad (grammar ∷ grammars) [] n = ⊥
+IsFirstBad (grammar ∷ grammars) (text ∷ texts) zero = ¬ (IsText grammar text)
+IsFirstBad (grammar ∷ grammars) (text ∷ texts) (suc n) = IsText grammar text × IsFirstBad grammars texts n
+
+-- what is wrong with texts that are to be in these grammars: there are not as many, or the first one outside its grammar, where the kind is field 1
+abbrev pub IsFaultAmong : List Grammar → List (List ℕ) → Why → Type 0
+IsFaultAmong grammars texts reason.Head = ⊥
+IsFaultAmong grammars texts reason.Ending = ⊥
+IsFaultAmong grammars texts reason.Kind = ⊥
+IsFaultAmong grammars texts reason.Fields = length texts ≢ length grammars
+IsFaultAmong grammars texts (reason.Field n) = (length texts ≡ length grammars) × (2 ≤ n) × IsFirstBad grammars texts (n - 2)
+IsFaultAmong grammars texts (reason.Rule n) = ⊥
+IsFaultAmong grammars texts reason.Long = ⊥
+
+abbrev pub IsFaultUnder : Option (List Grammar) → List (List ℕ) → Why → Type 0
+IsFaultUnder None texts why = why ≡ reason.Kind
+IsFaultUnder (Some grammars) texts why = IsFaultAmong grammars texts why
+
+-- what is wrong with the fields of a line: the first is no kind, or else what follows it
+abbrev pub IsFault : List (List ℕ) → Why → Type 0
+IsFault [] why = why ≡ reason.Kind
+IsFault (kind ∷ texts) why = IsFaultUnder (grammars_of kind) texts why
+
+abbrev pub AreTextsUnder : Option (List Grammar) → List (List ℕ) → Type 0
+AreTextsUnder None texts = ⊥
+AreTextsUnder (Some grammars) texts = AreTexts grammars texts
+
+-- the fields of a line of which nothing is wrong: a kind, and as many texts as follow it, each in its grammar
+abbrev pub AreFields : List (List ℕ) → Type 0
+AreFields [] = ⊥
+AreFields (kind ∷ texts) = AreTextsUnder (grammars_of kind) texts
+
+-- a refusal that is not for want of memory has such a reason
+abbrev pub HasReason : (Why → Type 0) → LineFault → Type 0
+HasReason P (line.Bad why) = P why
+HasReason P line.Memory = Unit {0}
+
+-- a refusal that is not for want of memory names this field, whose text is outside its grammar
+abbrev pub IsBadField : ℕ → Grammar → List ℕ → LineFault → Type 0
+IsBadField n grammar text (line.Bad why) = (why ≡ reason.Field n) × ¬ (IsText grammar text)
+IsBadField n grammar text line.Memory = Unit {0}
