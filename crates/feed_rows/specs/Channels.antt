@@ -1,6 +1,6 @@
 -- the channels of a user, as a list
 use Rattle.std.specs.Prelude.{ℕ, Bool, ◌&&◌, ◌||◌, List, [], ◌∷◌, ◌++◌, map, filter, Option, Some, None, if◌then◌else◌}
-use Rattle.std.specs.List.{list_any, flat_map}
+use Rattle.std.specs.List.{list_any, list_all, flat_map}
 use Rattle.std.specs.Str.{bytes_eq}
 use Rattle.sg_names.specs.declared.grants.Grantee.{Grantee}
 use Rattle.sg_names.specs.declared.grants.Grantee.TheVariants.{User, Role}
@@ -8,7 +8,8 @@ use Rattle.sg_history.specs.declared.entries.Entry.{Entry}
 use Rattle.sg_history.specs.declared.entries.Entry.TheVariants as entry
 use Rattle.sg_history.specs.Current.{Current}
 use Rattle.sg_history.specs.Principals.{Standing, same_grantee, gives_role, exists, names_role, everyone, role_after}
-use Rattle.feed_rows.specs.Kept.{Kept, RoleKept}
+use Rattle.sg_history.specs.History.{among}
+use Rattle.feed_rows.specs.Kept.{Kept, RoleKept, add_name}
 
 -- the channels that a document's current revision grants
 abbrev pub granted_by : Option Current → Grantee → List (List ℕ)
@@ -41,6 +42,19 @@ user_channels put user roles kept =
     if exists put
     then everyone ∷ channels_of put ++ granted kept (User user) ++ flat_map (λ role. by_role put user kept role) roles
     else []
+
+-- these names put at the end of names, each once
+abbrev pub add_names : List (List ℕ) → List (List ℕ) → List (List ℕ)
+add_names [] names = names
+add_names (name ∷ others) names = add_names others (add_name name names)
+
+-- each of these names is among the others
+abbrev pub are_among : List (List ℕ) → List (List ℕ) → Bool
+are_among names others = list_all (λ name. among others name) names
+
+-- both lists have the same names
+abbrev pub same_names : List (List ℕ) → List (List ℕ) → Bool
+same_names a b = are_among a b && are_among b a
 
 -- the role after one entry more
 abbrev pub role_next : Entry → RoleKept → RoleKept

@@ -1,7 +1,9 @@
 -- what a pass over the log keeps of each document and of each role
-use Rattle.std.specs.Prelude.{ℕ, Bool, true, ◌&&◌, not, nat_eq, List, [], ◌∷◌, ◌++◌, length, Option, Some, None, MatchOption, ◌≡◌, false, slice_get, slice_set, slice_index_or, if◌then◌else◌}
+use Rattle.std.specs.Prelude.{ℕ, Bool, true, ◌&&◌, not, List, [], ◌∷◌, ◌++◌, Option, Some, None, MatchOption, ◌≡◌, false, slice_get, slice_set, slice_index_or, if◌then◌else◌}
 use Rattle.std.specs.List.{list_any}
 use Rattle.std.specs.Str.{bytes_eq}
+use Rattle.sg_names.specs.declared.grants.Grantee.{Grantee}
+use Rattle.sg_names.specs.declared.grants.Grantee.TheVariants.{User, Role}
 use Rattle.sg_history.specs.declared.entries.Entry.{Entry}
 use Rattle.sg_history.specs.declared.entries.Entry.TheVariants as entry
 use Rattle.sg_history.specs.declared.entries.Write.{Write}
@@ -50,24 +52,31 @@ blank name = record { name = name; current = None; view = None; row = None }
 abbrev pub with_current : Current → Kept → Kept
 with_current now kept = record { name = kept.name; current = Some now; view = kept.view; row = kept.row }
 
--- the place of a name among names, none where it is not there
+-- this is the place of a name among names, or none where the name is not there
 abbrev pub PlacedBy : List (List ℕ) → List ℕ → Option ℕ → Type 0
 PlacedBy names name place = MatchOption place (among names name ≡ false) (λ k. slice_get names k ≡ Some name)
 
--- the document in its place, blank where it has none
-abbrev pub found_at : Option ℕ → List ℕ → List Kept → Kept
-found_at None name kept = blank name
-found_at (Some k) name kept = slice_index_or kept k (blank name)
+-- documents with one more that was never written, unless it is there
+abbrev pub add_blank : List ℕ → List Kept → List Kept
+add_blank name kept = if list_any (λ (k : Kept). bytes_eq k.name name) kept then kept else kept ++ blank name ∷ []
 
--- a document put in its place, at the end where it has none
-abbrev pub put_at : Option ℕ → Kept → List Kept → List Kept
-put_at None document kept = kept ++ document ∷ []
-put_at (Some k) document kept = slice_set kept k document
+-- documents with the one in this place changed
+abbrev pub changed_at : ℕ → (Kept → Kept) → List Kept → List Kept
+changed_at place change kept = slice_set kept place (change (slice_index_or kept place (blank [])))
 
--- the document's current revision grants no channel and gives no role
-abbrev pub is_quiet : Option Current → Bool
-is_quiet None = true
-is_quiet (Some c) = nat_eq (length c.grants) 0 && nat_eq (length c.roles) 0
+-- what the document in this place is
+abbrev pub current_there : ℕ → List Kept → Option Current
+current_there place kept = (slice_index_or kept place (blank [])).current
+
+-- a grant to this grantee can reach the user: it is to the user, or to a role
+abbrev pub reaches : List ℕ → Grantee → Bool
+reaches user (User name) = bytes_eq name user
+reaches user (Role name) = true
+
+-- the document's current revision grants nothing to the user or to a role, and gives the user no role
+abbrev pub is_quiet : List ℕ → Option Current → Bool
+is_quiet user None = true
+is_quiet user (Some c) = not (list_any (λ g. reaches user g.to) c.grants) && not (list_any (λ g. bytes_eq g.user user) c.roles)
 
 -- the write that an entry is, if it is one
 abbrev pub written : Entry → Option Write
@@ -111,6 +120,15 @@ with_view by e shown kept =
 -- a document looked at anew after the entry at this place
 abbrev pub looked_at : (List ℕ → Bool) → Option (List (List ℕ)) → ℕ → Entry → Kept → Kept
 looked_at has filter by e kept = with_view by e (view_by has filter kept.current) kept
+
+-- the document that was written looked at anew, where one was
+abbrev pub looked_where : Option ℕ → (Kept → Kept) → List Kept → List Kept
+looked_where None look kept = kept
+looked_where (Some place) look kept = changed_at place look kept
+
+-- this is the place of the document that an entry writes, or none where the entry is no write
+abbrev pub WrittenPlace : Entry → List (List ℕ) → Option ℕ → Type 0
+WrittenPlace e names place = MatchOption place (written e ≡ None) (λ k. (w : Write) × (written e ≡ Some w) × (slice_get names k ≡ Some w.doc))
 
 -- a role, with its last put
 pub record RoleKept : Type 0 where

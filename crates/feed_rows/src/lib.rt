@@ -5,6 +5,7 @@ pub mod asked;
 pub mod document;
 pub mod documents;
 pub mod grants;
+pub mod index;
 pub mod laws;
 pub mod pass;
 pub mod principals;
