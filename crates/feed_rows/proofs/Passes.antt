@@ -25,7 +25,7 @@ use Rattle.feed_rows.specs.declared.pass.Pass.{Pass}
 use Rattle.feed_rows.specs.Latest.{current_in, winner_in}
 use Rattle.feed_rows.specs.Index.{IsIndex, IsWriteIndex, winner_among, write_in}
 use Rattle.feed_rows.specs.Kept.{Kept, RoleKept, kept_at, kept_next, blank, add_blank, changed_at, current_there, with_current, written_names, distinct_of, add_name, looked_at, looked_where, WrittenPlace, is_quiet, written, is_idle, role_kept_at}
-use Rattle.feed_rows.specs.Channels.{role_next, roles_next, add_role, user_channels, add_names, is_named}
+use Rattle.feed_rows.specs.Channels.{role_next, roles_next, add_role, user_channels, add_names}
 use Rattle.feed_rows.specs.Pass.{kept_in, role_in}
 use Rattle.feed_rows.specs.PassAt.{PassAt, Ready, HasChannels}
 use Rattle.feed_rows.specs.Put.{standing_in}
@@ -52,7 +52,7 @@ role_pushed name channels es names false =
 added_role : (name : List ℕ) (channels : List (List ℕ)) (es : List Entry) (names : List (List ℕ)) → add_role name channels (map (role_kept_at (entry.PutRole name channels ∷ es)) names) ≡ map (role_kept_at (entry.PutRole name channels ∷ es)) (add_name name names)
 added_role name channels es names =
     let at : List ℕ → RoleKept = role_kept_at (entry.PutRole name channels ∷ es) in
-    ap (λ (b : Bool). if b then map at names else map at names ++ (record { name = name; standing = Some (record { channels = channels; roles = [] }) }) ∷ []) (any_mapped (λ (r : RoleKept). is_named r.name name) at names)
+    ap (λ (b : Bool). if b then map at names else map at names ++ (record { name = name; standing = Some (record { channels = channels; roles = [] }) }) ∷ []) (any_mapped (λ (r : RoleKept). bytes_eq r.name name) at names)
     ∙ role_pushed name channels es names (among names name)
 
 pub roles_are : (e : Entry) (es : List Entry) → roles_next e (map (role_kept_at es) (distinct_of (roles_put es))) ≡ map (role_kept_at (e ∷ es)) (distinct_of (roles_put (e ∷ es)))

@@ -2,6 +2,7 @@
 
 ghost use Rattle.std.specs.Prelude.{◌≡◌, ◌++◌, ◌∷◌, [], ◌||◌, map, filter, OnOk, IfOk, if◌then◌else◌};
 ghost use Rattle.std.specs.List.{list_any, list_all, flat_map};
+ghost use Rattle.std.specs.Str.{bytes_eq};
 ghost use Rattle.sg_names.specs.declared.grants.Grantee.TheVariants.{User, Role};
 ghost use Rattle.sg_history.specs.Principals as principals;
 ghost use Rattle.sg_history.specs.History.{among};
@@ -42,13 +43,13 @@ fn next_roles<'a>(roles: &mut [RoleState<'a>], entry: &'a Entry)
 }
 
 fn has_name(roles: &[RoleState<'_>], name: &Name) -> bool
-    ensures { result ≡ list_any (λ r. channels.is_named r.name.now name.now) roles.now }
+    ensures { result ≡ list_any (λ r. bytes_eq r.name.now name.now) roles.now }
 {
     roles.iter().any(|r| r.name.as_bytes() == name.as_bytes())
 }
 
 fn is_known(roles: &[RoleState<'_>], name: &Name) -> bool
-    ensures { result ≡ list_any (λ r. channels.is_named r.name name.now) (map role_in roles.now) }
+    ensures { result ≡ list_any (λ r. bytes_eq r.name name.now) (map role_in roles.now) }
 {
     has_name(roles, name)
 }
