@@ -1,8 +1,9 @@
 -- the list of a user's channels has exactly the channels that the user has
-use Rattle.std.proofs.Common.{◌≡◌, refl, ◌∙◌, ap, Bool, true, false, ◌&&◌, ◌||◌, if◌then◌else◌, cond, List, [], ◌∷◌, ◌++◌, map, filter, Option, Some, None, ℕ}
-use Rattle.std.specs.List.{list_any, flat_map}
+use Rattle.std.proofs.Common.{◌≡◌, refl, sym, ◌∙◌, ap, subst, Bool, true, false, ◌&&◌, ◌||◌, if◌then◌else◌, cond, List, [], ◌∷◌, ◌++◌, map, filter, Option, Some, None, ℕ}
+use Rattle.std.specs.List.{list_any, list_all, flat_map}
 use Rattle.std.specs.Str.{bytes_eq}
 use Rattle.std.proofs.Math.Path.{fun_ext}
+use Rattle.std.proofs.lemmas.Bool.{false≢true, and_parts}
 use Rattle.std.proofs.lemmas.List.Folds.{list_any-append}
 use Rattle.sg_names.specs.declared.grants.Grant.{Grant}
 use Rattle.sg_names.specs.declared.grants.Grantee.{Grantee}
@@ -11,13 +12,17 @@ use Rattle.sg_history.specs.declared.entries.Entry.{Entry}
 use Rattle.sg_history.specs.History.{among, documents}
 use Rattle.sg_history.specs.Current.{Current, current}
 use Rattle.sg_history.specs.Principals.{Standing, same_grantee, grants_channel, is_granted, gives_role, is_given, exists, names_role, names_channel, everyone, user_at, role_at, roles_put, has_channel}
-use Rattle.feed_rows.specs.Kept.{Kept, role_kept_at, distinct_of}
-use Rattle.feed_rows.specs.Channels.{granted_by, granted, given, by_role, user_channels}
-use Rattle.feed_rows.proofs.Names.{any_distinct, texts_swap}
+use Rattle.feed_rows.specs.Kept.{Kept, role_kept_at, distinct_of, add_name}
+use Rattle.feed_rows.specs.Channels.{granted_by, granted, given, by_role, user_channels, add_names, are_among, same_names}
+use Rattle.feed_rows.proofs.Names.{any_added, any_distinct, same_texts, texts_swap}
 
 pub any_mapped : {X Y : Type 0} (f : Y → Bool) (g : X → Y) (xs : List X) → list_any f (map g xs) ≡ list_any (λ x. f (g x)) xs
 any_mapped f g [] = refl
 any_mapped f g (x ∷ xs) = ap (λ b. f (g x) || b) (any_mapped f g xs)
+
+pub all_mapped : {X Y : Type 0} (f : Y → Bool) (g : X → Y) (xs : List X) → list_all f (map g xs) ≡ list_all (λ x. f (g x)) xs
+all_mapped f g [] = refl
+all_mapped f g (x ∷ xs) = ap (λ b. f (g x) && b) (all_mapped f g xs)
 
 among_flat : {X : Type 0} (f : X → List (List ℕ)) (xs : List X) (c : List ℕ) → among (flat_map f xs) c ≡ list_any (λ x. among (f x) c) xs
 among_flat f [] c = refl
@@ -38,6 +43,52 @@ among_granted_by (Some now) to c = among_grants to now.grants c
 among_role : (b : Bool) (cs gs : List (List ℕ)) (c : List ℕ) → among (if b then cs ++ gs else []) c ≡ (b && (among cs c || among gs c))
 among_role true cs gs c = list_any-append (λ t. bytes_eq t c) cs gs
 among_role false cs gs c = refl
+
+-- names that are put in once
+or_swap : (a b c : Bool) → (a || (b || c)) ≡ ((b || a) || c)
+or_swap true true c = refl
+or_swap true false c = refl
+or_swap false true c = refl
+or_swap false false c = refl
+
+among_added : (names others : List (List ℕ)) (c : List ℕ) → among (add_names names others) c ≡ (among names c || among others c)
+among_added [] others c = refl
+among_added (n ∷ ns) others c =
+    among_added ns (add_name n others) c
+    ∙ ap (λ b. among ns c || b) (any_added (λ t. bytes_eq t c) n others)
+    ∙ or_swap (among ns c) (bytes_eq n c) (among others c)
+
+or_nothing : (b : Bool) → (b || false) ≡ b
+or_nothing true = refl
+or_nothing false = refl
+
+among_names : (names : List (List ℕ)) (c : List ℕ) → among (add_names names []) c ≡ among names c
+among_names names c = among_added names [] c ∙ or_nothing (among names c)
+
+-- lists with the same names
+all_there : (names others : List (List ℕ)) (c : List ℕ) → are_among names others ≡ true → among names c ≡ true → among others c ≡ true
+all_there [] others c h k = absurd (false≢true k)
+all_there (n ∷ ns) others c h k =
+    let both = and_parts (among others n) (are_among ns others) h in
+    go (bytes_eq n c) refl k both.0 (all_there ns others c both.1)
+  where
+    go : (b : Bool) → bytes_eq n c ≡ b → (b || among ns c) ≡ true → among others n ≡ true → (among ns c ≡ true → among others c ≡ true) → among others c ≡ true
+    go true e k one more =
+        let P : List ℕ → Type 0 = λ t. among others t ≡ true in
+        subst P (same_texts n c e) one
+    go false e k one more = more k
+
+pub same_named : (a b : List (List ℕ)) → same_names a b ≡ true → (c : List ℕ) → among a c ≡ among b c
+same_named a b h c = go (among a c) refl (among b c) refl
+  where
+    both : (are_among a b ≡ true) × (are_among b a ≡ true)
+    both = and_parts (are_among a b) (are_among b a) h
+
+    go : (x : Bool) → among a c ≡ x → (y : Bool) → among b c ≡ y → x ≡ y
+    go true p true q = refl
+    go false p false q = refl
+    go true p false q = sym (all_there a b c both.0 p) ∙ q
+    go false p true q = sym p ∙ all_there b a c both.1 q
 
 -- any states of the documents that were written and of the roles that were put
 module _ (es : List Entry) (user : List ℕ) (f : List ℕ → Kept) (is : (n : List ℕ) → (f n).current ≡ current es n) where
@@ -83,5 +134,5 @@ module _ (es : List Entry) (user : List ℕ) (f : List ℕ → Kept) (is : (n : 
       ∙ ap (λ b. (bytes_eq c everyone || among put.channels c || b) || among roles c) (among_granted (User user) c)
       ∙ ap (λ b. (bytes_eq c everyone || among put.channels c || is_granted es (User user) c) || b) (among_by_roles put c)
 
-  pub listed : (c : List ℕ) → among (user_channels (user_at es user) user (map (role_kept_at es) (distinct_of (roles_put es))) (map f (distinct_of (documents es)))) c ≡ has_channel es user c
-  listed c = among_all (user_at es user) c
+  pub listed : (c : List ℕ) → among (add_names (user_channels (user_at es user) user (map (role_kept_at es) (distinct_of (roles_put es))) (map f (distinct_of (documents es)))) []) c ≡ has_channel es user c
+  listed c = among_names (user_channels (user_at es user) user (map (role_kept_at es) (distinct_of (roles_put es))) (map f (distinct_of (documents es)))) c ∙ among_all (user_at es user) c

@@ -2,6 +2,7 @@ mod AnyDevice
 mod AnyFeed
 mod Changes
 pub mod ChannelLists
+mod Indexes
 mod Keys
 mod Loops
 mod Names

@@ -1,15 +1,14 @@
 -- names, each once, and what is kept of each
-use Rattle.std.proofs.Common.{◌≡◌, ℕ, refl, sym, ◌∙◌, ap, subst, Bool, true, false, ◌||◌, if◌then◌else◌, List, [], ◌∷◌, ◌++◌, map, Option, Some, None, zero, suc}
+use Rattle.std.proofs.Common.{◌≡◌, ℕ, refl, sym, ◌∙◌, ap, subst, Bool, true, false, ◌||◌, if◌then◌else◌, List, [], ◌∷◌, ◌++◌, map, Some, zero, suc}
 use Rattle.std.specs.Prelude.{slice_get, slice_set, slice_index_or}
 use Rattle.std.specs.List.{list_any}
 use Rattle.std.specs.Str.{bytes_eq}
 use Rattle.std.proofs.lemmas.Bool.{false≢true, or_parts, or_from, or_left, or_right, false_from_ne_true}
 use Rattle.std.proofs.lemmas.Option.{none-some, same_Some}
-use Rattle.std.proofs.lemmas.List.{map-append}
 use Rattle.std.proofs.lemmas.List.Folds.{list_any-append}
 use Rattle.std.proofs.lemmas.Slice.Eq.{bytes_eq-Decides}
 use Rattle.sg_history.specs.History.{among}
-use Rattle.feed_rows.specs.Kept.{Kept, add_name, distinct_of, PlacedBy, put_at}
+use Rattle.feed_rows.specs.Kept.{Kept, add_name, distinct_of, blank, changed_at}
 
 pub same_texts : (a b : List ℕ) → bytes_eq a b ≡ true → a ≡ b
 same_texts a b h = (bytes_eq-Decides a b).0 h
@@ -119,15 +118,15 @@ get_there f name [] k x h = absurd (none-some _ h)
 get_there f name (n ∷ ns) zero x h = ap f (same_Some n name h)
 get_there f name (n ∷ ns) (suc k) x h = get_there f name ns k x h
 
-added_there : (name : List ℕ) (names : List (List ℕ)) → among names name ≡ true → add_name name names ≡ names
+pub added_there : (name : List ℕ) (names : List (List ℕ)) → among names name ≡ true → add_name name names ≡ names
 added_there name names h = ap (λ (b : Bool). if b then names else names ++ name ∷ []) h
 
-added_new : (name : List ℕ) (names : List (List ℕ)) → among names name ≡ false → add_name name names ≡ names ++ name ∷ []
+pub added_new : (name : List ℕ) (names : List (List ℕ)) → among names name ≡ false → add_name name names ≡ names ++ name ∷ []
 added_new name names h = ap (λ (b : Bool). if b then names else names ++ name ∷ []) h
 
--- a document put in its place
-pub put_there : (f g : List ℕ → Kept) (name : List ℕ) (names : List (List ℕ)) (place : Option ℕ) (document : Kept) → Distinct names → PlacedBy names name place → ((n : List ℕ) → bytes_eq n name ≡ false → f n ≡ g n) → document ≡ g name → put_at place document (map f names) ≡ map g (add_name name names)
-put_there f g name names None document d h others is =
-    ap (λ x. map f names ++ x ∷ []) is ∙ ap (λ xs. xs ++ g name ∷ []) (same_elsewhere f g name names h others) ∙ sym (map-append g names (name ∷ [])) ∙ ap (map g) (sym (added_new name names h))
-put_there f g name names (Some k) document d h others is =
-    ap (λ x. slice_set (map f names) k x) is ∙ set_there f g name names k d h others ∙ ap (map g) (sym (added_there name names (placed_among names k name h)))
+-- one document changed, where all others are already what they are to be
+pub changed_there : (f g : List ℕ → Kept) (change : Kept → Kept) (name : List ℕ) (names : List (List ℕ)) (k : ℕ) → Distinct names → slice_get names k ≡ Some name → ((n : List ℕ) → bytes_eq n name ≡ false → f n ≡ g n) → change (f name) ≡ g name → changed_at k change (map f names) ≡ map g names
+changed_there f g change name names k d h others is =
+    ap (λ x. slice_set (map f names) k (change x)) (get_there f name names k (blank []) h)
+    ∙ ap (λ x. slice_set (map f names) k x) is
+    ∙ set_there f g name names k d h others

@@ -1,10 +1,12 @@
 -- what one entry more changes of a document, and of the channels of a user
-use Rattle.std.proofs.Common.{◌≡◌, ℕ, ◌+◌, refl, sym, ◌∙◌, ap, subst, Bool, true, false, ◌&&◌, ◌||◌, if◌then◌else◌, List, [], ◌∷◌, ◌++◌, length, Option, Some, None}
+use Rattle.std.proofs.Common.{◌≡◌, ℕ, ◌+◌, refl, sym, ◌∙◌, ap, subst, Bool, true, false, not, ◌&&◌, ◌||◌, if◌then◌else◌, List, [], ◌∷◌, ◌++◌, length, Option, Some, None}
 use Rattle.std.proofs.Math.Path.{fun_ext}
 use Rattle.std.specs.Bool.{beq}
 use Rattle.std.specs.List.{list_any}
 use Rattle.std.specs.Str.{bytes_eq}
-use Rattle.std.proofs.lemmas.Bool.{or_parts, and_from, eq-eqb}
+use Rattle.std.proofs.lemmas.Bool.{false≢true, or_parts, or_from, and_parts, and_from, eq-eqb}
+use Rattle.sg_names.specs.declared.grants.Grant.{Grant}
+use Rattle.sg_names.specs.declared.role_grants.RoleGrant.{RoleGrant}
 use Rattle.sg_names.specs.declared.grants.Grantee.{Grantee}
 use Rattle.sg_names.specs.declared.grants.Grantee.TheVariants.{User, Role}
 use Rattle.sg_history.specs.declared.entries.Entry.{Entry}
@@ -16,7 +18,7 @@ use Rattle.sg_history.specs.Current.{Current, Sequenced, sequenced_or, with_rev_
 use Rattle.sg_history.specs.Principals.{Standing, exists, names_role, names_channel, same_grantee, grants_channel, is_granted, gives_role, is_given, has_channel, user_at, role_at, roles_put, everyone}
 use Rattle.sg_history.specs.View.{Shown, view, view_of, same_view}
 use Rattle.sg_history.specs.Feed.{changed, row_at, row_of, row_with, writes}
-use Rattle.feed_rows.specs.Kept.{kept_at, kept_next, view_by, looked_at}
+use Rattle.feed_rows.specs.Kept.{kept_at, kept_next, view_by, looked_at, reaches, is_quiet}
 use Rattle.feed_rows.proofs.Names.{same_texts, text_is_itself}
 
 -- an entry that does not write a document leaves it as it is
@@ -98,44 +100,74 @@ kept_same e es user filter doc h same =
     λ i. record { name = doc; current = (sym now) i; view = (sym shown) i; row = (sym row) i }
 
 -- the user's channels, by what they are made of
-abbrev pub has_by : Option Standing → (List ℕ → Option Standing) → List (List ℕ) → (Grantee → List ℕ → Bool) → (List ℕ → Bool) → List ℕ → List ℕ → Bool
-has_by put role_put roles granted given user channel =
+abbrev pub has_by : Option Standing → (List ℕ → Option Standing) → List (List ℕ) → (List ℕ → Bool) → (List ℕ → List ℕ → Bool) → (List ℕ → Bool) → List ℕ → List ℕ → Bool
+has_by put role_put roles granted by_role given user channel =
     exists put
-    && (bytes_eq channel everyone || names_channel put channel || granted (User user) channel
-    || list_any (λ role. (exists put && exists (role_put role) && (names_role put role || given role)) && (exists (role_put role) && (names_channel (role_put role) channel || granted (Role role) channel))) roles)
+    && (bytes_eq channel everyone || names_channel put channel || granted channel
+    || list_any (λ role. (exists put && exists (role_put role) && (names_role put role || given role)) && (exists (role_put role) && (names_channel (role_put role) channel || by_role role channel))) roles)
 
--- the document's current revision grants no channel and gives no role
-abbrev pub Quiet : Option Current → Type 0
-Quiet None = Unit {0}
-Quiet (Some c) = (c.grants ≡ []) × (c.roles ≡ [])
+-- what a quiet document does not do
+pub record Quiet (user : List ℕ) (o : Option Current) : Type 0 where
+  pub to_user : (channel : List ℕ) → grants_channel o (User user) channel ≡ false
+  pub to_role : (role channel : List ℕ) → grants_channel o (Role role) channel ≡ false
+  pub gives : (role : List ℕ) → gives_role o user role ≡ false
 
-quiet_grants : (o : Option Current) (to : Grantee) (channel : List ℕ) → Quiet o → grants_channel o to channel ≡ false
-quiet_grants None to channel q = refl
-quiet_grants (Some c) to channel q = ap (λ gs. list_any (λ g. same_grantee g.to to && bytes_eq g.channel channel) gs) q.0
+-- grants of which none reaches the user
+out_of_reach : (user : List ℕ) (to : Grantee) → ((g : Grantee) → reaches user g ≡ false → same_grantee g to ≡ false) → (channel : List ℕ) (grants : List Grant) → list_any (λ g. reaches user g.to) grants ≡ false → list_any (λ g. same_grantee g.to to && bytes_eq g.channel channel) grants ≡ false
+out_of_reach user to apart channel [] h = refl
+out_of_reach user to apart channel (g ∷ gs) h =
+    let parts = or_parts (reaches user g.to) (list_any (λ x. reaches user x.to) gs) h in
+    or_from _ _ (ap (λ (b : Bool). b && bytes_eq g.channel channel) (apart g.to parts.0)) (out_of_reach user to apart channel gs parts.1)
 
-quiet_gives : (o : Option Current) (user role : List ℕ) → Quiet o → gives_role o user role ≡ false
-quiet_gives None user role q = refl
-quiet_gives (Some c) user role q = ap (λ gs. list_any (λ g. bytes_eq g.user user && bytes_eq g.role role) gs) q.1
+apart_user : (user : List ℕ) (g : Grantee) → reaches user g ≡ false → same_grantee g (User user) ≡ false
+apart_user user (User name) h = h
+apart_user user (Role name) h = refl
 
-module _ (w : Write) (es : List Entry) (before : Quiet (current es w.doc)) (after : Quiet (current (entry.Write w ∷ es) w.doc)) where
-  -- a test that no quiet document passes finds the same documents
-  still : (test : Option Current → Bool) → ((o : Option Current) → Quiet o → test o ≡ false) → (doc : List ℕ) → test (current (entry.Write w ∷ es) doc) ≡ test (current es doc)
-  still test none doc = go (bytes_eq w.doc doc) refl
+apart_role : (user role : List ℕ) (g : Grantee) → reaches user g ≡ false → same_grantee g (Role role) ≡ false
+apart_role user role (User name) h = refl
+apart_role user role (Role name) h = absurd (false≢true (sym h))
+
+not_given : (user role : List ℕ) (gifts : List RoleGrant) → list_any (λ g. bytes_eq g.user user) gifts ≡ false → list_any (λ g. bytes_eq g.user user && bytes_eq g.role role) gifts ≡ false
+not_given user role [] h = refl
+not_given user role (g ∷ gs) h =
+    let parts = or_parts (bytes_eq g.user user) (list_any (λ x. bytes_eq x.user user) gs) h in
+    or_from _ _ (ap (λ (b : Bool). b && bytes_eq g.role role) parts.0) (not_given user role gs parts.1)
+
+not_true : (b : Bool) → not b ≡ true → b ≡ false
+not_true true h = absurd (false≢true h)
+not_true false h = refl
+
+pub quiet_is : (user : List ℕ) (o : Option Current) → is_quiet user o ≡ true → Quiet user o
+quiet_is user None h = record { to_user = λ channel. refl; to_role = λ role channel. refl; gives = λ role. refl }
+quiet_is user (Some c) h =
+    let parts = and_parts (not (list_any (λ g. reaches user g.to) c.grants)) (not (list_any (λ g. bytes_eq g.user user) c.roles)) h in
+    let none = not_true _ parts.0 in
+    record {
+      to_user = λ channel. out_of_reach user (User user) (apart_user user) channel c.grants none;
+      to_role = λ role channel. out_of_reach user (Role role) (apart_role user role) channel c.grants none;
+      gives = λ role. not_given user role c.roles (not_true _ parts.1);
+    }
+
+module _ (w : Write) (es : List Entry) where
+  -- a test that the document passes neither before nor after finds the same documents
+  still : (test : Option Current → Bool) → test (current es w.doc) ≡ false → test (current (entry.Write w ∷ es) w.doc) ≡ false → (doc : List ℕ) → test (current (entry.Write w ∷ es) doc) ≡ test (current es doc)
+  still test before after doc = go (bytes_eq w.doc doc) refl
     where
       go : (b : Bool) → bytes_eq w.doc doc ≡ b → test (current (entry.Write w ∷ es) doc) ≡ test (current es doc)
       go false h = ap test (current_same (entry.Write w) es doc (writes_other w doc h))
       go true h =
           let P : List ℕ → Type 0 = λ d. test (current (entry.Write w ∷ es) d) ≡ test (current es d) in
-          subst P (same_texts w.doc doc h) (none _ after ∙ sym (none _ before))
+          subst P (same_texts w.doc doc h) (after ∙ sym before)
 
-  found : (test : Option Current → Bool) → ((o : Option Current) → Quiet o → test o ≡ false) → list_any (λ doc. test (current (entry.Write w ∷ es) doc)) (documents (entry.Write w ∷ es)) ≡ list_any (λ doc. test (current es doc)) (documents es)
-  found test none =
-      ap (λ (b : Bool). b || list_any (λ doc. test (current (entry.Write w ∷ es) doc)) (documents es)) (none _ after)
-      ∙ ap (λ (f : List ℕ → Bool). list_any f (documents es)) (fun_ext (still test none))
+  found : (test : Option Current → Bool) → test (current es w.doc) ≡ false → test (current (entry.Write w ∷ es) w.doc) ≡ false → list_any (λ doc. test (current (entry.Write w ∷ es) doc)) (documents (entry.Write w ∷ es)) ≡ list_any (λ doc. test (current es doc)) (documents es)
+  found test before after =
+      ap (λ (b : Bool). b || list_any (λ doc. test (current (entry.Write w ∷ es) doc)) (documents es)) after
+      ∙ ap (λ (f : List ℕ → Bool). list_any f (documents es)) (fun_ext (still test before after))
 
-  pub quiet_write : (user channel : List ℕ) → has_channel (entry.Write w ∷ es) user channel ≡ has_channel es user channel
-  quiet_write user channel =
-      let granted : (λ to c. is_granted (entry.Write w ∷ es) to c) ≡ (λ to c. is_granted es to c) = fun_ext (λ to. fun_ext (λ c. found (λ o. grants_channel o to c) (λ o q. quiet_grants o to c q))) in
-      let given : (λ role. is_given (entry.Write w ∷ es) user role) ≡ (λ role. is_given es user role) = fun_ext (λ role. found (λ o. gives_role o user role) (λ o q. quiet_gives o user role q)) in
-      ap (λ (g : Grantee → List ℕ → Bool). has_by (user_at es user) (λ r. role_at es r) (roles_put es) g (λ r. is_given (entry.Write w ∷ es) user r) user channel) granted
-      ∙ ap (λ (g : List ℕ → Bool). has_by (user_at es user) (λ r. role_at es r) (roles_put es) (λ to c. is_granted es to c) g user channel) given
+  pub quiet_write : (user : List ℕ) → Quiet user (current es w.doc) → Quiet user (current (entry.Write w ∷ es) w.doc) → (channel : List ℕ) → has_channel (entry.Write w ∷ es) user channel ≡ has_channel es user channel
+  quiet_write user before after channel =
+      let new : List Entry = entry.Write w ∷ es in
+      let granted : (λ c. is_granted new (User user) c) ≡ (λ c. is_granted es (User user) c) = fun_ext (λ c. found (λ o. grants_channel o (User user) c) (before.to_user c) (after.to_user c)) in
+      let by_role : (λ role c. is_granted new (Role role) c) ≡ (λ role c. is_granted es (Role role) c) = fun_ext (λ role. fun_ext (λ c. found (λ o. grants_channel o (Role role) c) (before.to_role role c) (after.to_role role c))) in
+      let given : (λ role. is_given new user role) ≡ (λ role. is_given es user role) = fun_ext (λ role. found (λ o. gives_role o user role) (before.gives role) (after.gives role)) in
+      λ i. has_by (user_at es user) (λ r. role_at es r) (roles_put es) (granted i) (by_role i) (given i) user channel

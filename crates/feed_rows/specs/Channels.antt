@@ -1,6 +1,6 @@
--- the channels of a user, as a list
+-- the channels of a user, worked out from what is kept of documents and roles
 use Rattle.std.specs.Prelude.{ℕ, Bool, ◌&&◌, ◌||◌, List, [], ◌∷◌, ◌++◌, map, filter, Option, Some, None, if◌then◌else◌}
-use Rattle.std.specs.List.{list_any, flat_map}
+use Rattle.std.specs.List.{list_any, list_all, flat_map}
 use Rattle.std.specs.Str.{bytes_eq}
 use Rattle.sg_names.specs.declared.grants.Grantee.{Grantee}
 use Rattle.sg_names.specs.declared.grants.Grantee.TheVariants.{User, Role}
@@ -8,14 +8,15 @@ use Rattle.sg_history.specs.declared.entries.Entry.{Entry}
 use Rattle.sg_history.specs.declared.entries.Entry.TheVariants as entry
 use Rattle.sg_history.specs.Current.{Current}
 use Rattle.sg_history.specs.Principals.{Standing, same_grantee, gives_role, exists, names_role, everyone, role_after}
-use Rattle.feed_rows.specs.Kept.{Kept, RoleKept}
+use Rattle.sg_history.specs.History.{among}
+use Rattle.feed_rows.specs.Kept.{Kept, RoleKept, add_name}
 
--- the channels that a document's current revision grants
+-- the channels that a document's current revision grants to a user or a role
 abbrev pub granted_by : Option Current → Grantee → List (List ℕ)
 granted_by None to = []
 granted_by (Some c) to = map (λ g. g.channel) (filter (λ g. same_grantee g.to to) c.grants)
 
--- the channels that current revisions grant
+-- the channels that current revisions grant to a user or a role
 abbrev pub granted : List Kept → Grantee → List (List ℕ)
 granted kept to = flat_map (λ k. granted_by k.current to) kept
 
@@ -23,41 +24,50 @@ granted kept to = flat_map (λ k. granted_by k.current to) kept
 abbrev pub given : List Kept → List ℕ → List ℕ → Bool
 given kept user role = list_any (λ k. gives_role k.current user role) kept
 
--- the channels of a put
+-- the channels of a put, none where there is no put
 abbrev pub channels_of : Option Standing → List (List ℕ)
 channels_of None = []
 channels_of (Some standing) = standing.channels
 
--- the channels that a user has by a role
+-- the channels that a user has by a role: those of its last put and those granted to it, where it exists and the user has it
 abbrev pub by_role : Option Standing → List ℕ → List Kept → RoleKept → List (List ℕ)
 by_role put user kept role =
     if exists role.standing && (names_role put role.name || given kept user role.name)
     then channels_of role.standing ++ granted kept (Role role.name)
     else []
 
--- the channels of a user
+-- the channels of a user: `!`, those of its last put, those granted to it, and those of its roles; none where it does not exist
 abbrev pub user_channels : Option Standing → List ℕ → List RoleKept → List Kept → List (List ℕ)
 user_channels put user roles kept =
     if exists put
     then everyone ∷ channels_of put ++ granted kept (User user) ++ flat_map (λ role. by_role put user kept role) roles
     else []
 
--- the role after one entry more
+-- names, and after them each of these that is not there yet
+abbrev pub add_names : List (List ℕ) → List (List ℕ) → List (List ℕ)
+add_names [] names = names
+add_names (name ∷ others) names = add_names others (add_name name names)
+
+-- each of these names is among the others
+abbrev pub are_among : List (List ℕ) → List (List ℕ) → Bool
+are_among names others = list_all (λ name. among others name) names
+
+-- both lists have the same names
+abbrev pub same_names : List (List ℕ) → List (List ℕ) → Bool
+same_names a b = are_among a b && are_among b a
+
+-- what an entry makes of a role
 abbrev pub role_next : Entry → RoleKept → RoleKept
 role_next e role = record { name = role.name; standing = role_after e role.name role.standing }
 
--- whether both names are the same
-abbrev pub is_named : List ℕ → List ℕ → Bool
-is_named a b = bytes_eq a b
-
--- a role that is put, added where it was never put before
+-- roles with one more that is put, unless it is there
 abbrev pub add_role : List ℕ → List (List ℕ) → List RoleKept → List RoleKept
 add_role name channels roles =
-    if list_any (λ (r : RoleKept). is_named r.name name) roles
+    if list_any (λ (r : RoleKept). bytes_eq r.name name) roles
     then roles
     else roles ++ (record { name = name; standing = Some (record { channels = channels; roles = [] }) }) ∷ []
 
--- the roles after one entry more
+-- what an entry makes of the roles
 abbrev pub roles_next : Entry → List RoleKept → List RoleKept
 roles_next (entry.Write w) roles = roles
 roles_next (entry.PutUser name channels names) roles = roles

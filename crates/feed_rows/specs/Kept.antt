@@ -1,7 +1,9 @@
 -- what a pass over the log keeps of each document and of each role
-use Rattle.std.specs.Prelude.{ℕ, Bool, true, ◌&&◌, not, nat_eq, List, [], ◌∷◌, ◌++◌, length, Option, Some, None, MatchOption, ◌≡◌, false, slice_get, slice_set, slice_index_or, if◌then◌else◌}
+use Rattle.std.specs.Prelude.{ℕ, Bool, true, ◌&&◌, not, List, [], ◌∷◌, ◌++◌, Option, Some, None, MatchOption, ◌≡◌, false, slice_get, slice_set, slice_index_or, if◌then◌else◌}
 use Rattle.std.specs.List.{list_any}
 use Rattle.std.specs.Str.{bytes_eq}
+use Rattle.sg_names.specs.declared.grants.Grantee.{Grantee}
+use Rattle.sg_names.specs.declared.grants.Grantee.TheVariants.{User, Role}
 use Rattle.sg_history.specs.declared.entries.Entry.{Entry}
 use Rattle.sg_history.specs.declared.entries.Entry.TheVariants as entry
 use Rattle.sg_history.specs.declared.entries.Write.{Write}
@@ -12,14 +14,14 @@ use Rattle.sg_history.specs.Principals.{Standing, role_at}
 use Rattle.sg_history.specs.View.{Shown, every, passes, view, same_view}
 use Rattle.sg_history.specs.Feed.{row_with, row_of, writes}
 
--- a document, with what it is, what is shown of it, and its row
+-- what is kept of a document: what it is, what is shown of it, and its row, which tells of its last change
 pub record Kept : Type 0 where
   pub name : List ℕ
   pub current : Option Current
   pub view : Option Shown
   pub row : Option Row
 
--- a name put at the end of names, once
+-- names with one more, unless it is there
 abbrev pub add_name : List ℕ → List (List ℕ) → List (List ℕ)
 add_name name names = if among names name then names else names ++ name ∷ []
 
@@ -32,12 +34,12 @@ distinct_of (name ∷ names) = add_name name (distinct_of names)
 abbrev pub written_names : List Entry → List (List ℕ)
 written_names es = distinct_of (documents es)
 
--- a document at the end of entries, the newest first
+-- what is to be kept of a document after these entries, the newest first
 abbrev pub kept_at : List Entry → List ℕ → Option (List (List ℕ)) → List ℕ → Kept
 kept_at es user filter name =
     record { name = name; current = current es name; view = view es user filter name; row = row_of es user filter name }
 
--- a document that was brought up to date with an entry, and not looked at since
+-- what is kept of a document after an entry from which it has what it is, but not yet what is shown of it since
 abbrev pub kept_next : Entry → List Entry → List ℕ → Option (List (List ℕ)) → List ℕ → Kept
 kept_next e es user filter name =
     record { name = name; current = current (e ∷ es) name; view = view es user filter name; row = row_of es user filter name }
@@ -46,28 +48,35 @@ kept_next e es user filter name =
 abbrev pub blank : List ℕ → Kept
 blank name = record { name = name; current = None; view = None; row = None }
 
--- the document as it is now
+-- the document, now being this
 abbrev pub with_current : Current → Kept → Kept
 with_current now kept = record { name = kept.name; current = Some now; view = kept.view; row = kept.row }
 
--- the place of a name among names, none where it is not there
+-- this is the place of a name among names, or none where the name is not there
 abbrev pub PlacedBy : List (List ℕ) → List ℕ → Option ℕ → Type 0
 PlacedBy names name place = MatchOption place (among names name ≡ false) (λ k. slice_get names k ≡ Some name)
 
--- the document in its place, blank where it has none
-abbrev pub found_at : Option ℕ → List ℕ → List Kept → Kept
-found_at None name kept = blank name
-found_at (Some k) name kept = slice_index_or kept k (blank name)
+-- documents with one more that was never written, unless it is there
+abbrev pub add_blank : List ℕ → List Kept → List Kept
+add_blank name kept = if list_any (λ (k : Kept). bytes_eq k.name name) kept then kept else kept ++ blank name ∷ []
 
--- a document put in its place, at the end where it has none
-abbrev pub put_at : Option ℕ → Kept → List Kept → List Kept
-put_at None document kept = kept ++ document ∷ []
-put_at (Some k) document kept = slice_set kept k document
+-- documents, of which the one in this place is changed
+abbrev pub changed_at : ℕ → (Kept → Kept) → List Kept → List Kept
+changed_at place change kept = slice_set kept place (change (slice_index_or kept place (blank [])))
 
--- the document's current revision grants no channel and gives no role
-abbrev pub is_quiet : Option Current → Bool
-is_quiet None = true
-is_quiet (Some c) = nat_eq (length c.grants) 0 && nat_eq (length c.roles) 0
+-- what the document in this place is
+abbrev pub current_there : ℕ → List Kept → Option Current
+current_there place kept = (slice_index_or kept place (blank [])).current
+
+-- a grant to this grantee can reach the user: it is to the user, or to a role
+abbrev pub reaches : List ℕ → Grantee → Bool
+reaches user (User name) = bytes_eq name user
+reaches user (Role name) = true
+
+-- the document's current revision grants nothing to the user or to a role, and gives the user no role
+abbrev pub is_quiet : List ℕ → Option Current → Bool
+is_quiet user None = true
+is_quiet user (Some c) = not (list_any (λ g. reaches user g.to) c.grants) && not (list_any (λ g. bytes_eq g.user user) c.roles)
 
 -- the write that an entry is, if it is one
 abbrev pub written : Entry → Option Write
@@ -99,6 +108,7 @@ view_by has filter (Some c) =
     then Some (record { seq = c.seq; rev = c.rev; deleted = c.deleted })
     else None
 
+-- the document, shown so after the entry at this place; its row is of this place where that is a change
 abbrev pub with_view : ℕ → Entry → Option Shown → Kept → Kept
 with_view by e shown kept =
     record {
@@ -108,15 +118,24 @@ with_view by e shown kept =
       row = if same_view shown kept.view then kept.row else row_with by (writes e kept.name) shown kept.name kept.current;
     }
 
--- a document looked at anew after the entry at this place
+-- the document looked at anew after the entry at this place, for a user who has these channels
 abbrev pub looked_at : (List ℕ → Bool) → Option (List (List ℕ)) → ℕ → Entry → Kept → Kept
 looked_at has filter by e kept = with_view by e (view_by has filter kept.current) kept
 
--- a role, with its last put
+-- documents, of which the one in this place is looked at anew; none is where there is no place
+abbrev pub looked_where : Option ℕ → (Kept → Kept) → List Kept → List Kept
+looked_where None look kept = kept
+looked_where (Some place) look kept = changed_at place look kept
+
+-- this is the place of the document that an entry writes, or none where the entry is no write
+abbrev pub WrittenPlace : Entry → List (List ℕ) → Option ℕ → Type 0
+WrittenPlace e names place = MatchOption place (written e ≡ None) (λ k. (w : Write) × (written e ≡ Some w) × (slice_get names k ≡ Some w.doc))
+
+-- what is kept of a role: its last put, where it was not dropped since
 pub record RoleKept : Type 0 where
   pub name : List ℕ
   pub standing : Option Standing
 
--- a role at the end of entries, the newest first
+-- what is to be kept of a role after these entries, the newest first
 abbrev pub role_kept_at : List Entry → List ℕ → RoleKept
 role_kept_at es name = record { name = name; standing = role_at es name }

@@ -1,9 +1,6 @@
 -- what the code's references to writes stand for
-use Rattle.std.specs.Prelude.{List, Option, Some, None, if◌then◌else◌}
-use Rattle.sg_names.specs.RevId.{same_rev}
-use Rattle.sg_history.specs.declared.entries.Entry.{Entry}
-use Rattle.sg_history.specs.declared.entries.Write.{Write}
-use Rattle.sg_history.specs.Current.{Sequenced, Current, current_of, write_of_rev, write_or}
+use Rattle.std.specs.Prelude.{Option, Some, None}
+use Rattle.sg_history.specs.Current.{Sequenced, Current, current_of}
 use Rattle.sg_history.specs.View.{Shown}
 use Rattle.feed_rows.specs.declared.documents.Latest.{Latest}
 
@@ -20,10 +17,6 @@ current_in (Some latest) = Some (current_of latest.seq latest.write.now)
 -- the winner, with the sequence of the last write
 abbrev pub winner_in : Latest → Current
 winner_in latest = current_of latest.seq latest.write.now
-
--- the write of the revision that a write behind these entries says wins, or that write itself where there is none
-abbrev pub winner_after : List Entry → Write → Write
-winner_after older w = if same_rev w.rev w.winner then w else write_or (write_of_rev older w.doc w.winner) w
 
 -- what is shown of it
 abbrev pub shown_in : Option Latest → Option Shown

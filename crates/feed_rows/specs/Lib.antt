@@ -1,4 +1,5 @@
 pub mod Channels
+pub mod Index
 pub mod Kept
 pub mod Latest
 pub mod Laws

@@ -9,6 +9,7 @@ use Rattle.sg_history.specs.declared.row.Options.{Options}
 use Rattle.sg_history.specs.Feed.{keeps}
 use Rattle.feed_rows.specs.Kept.{Kept}
 
+-- a row before these, in place of the first, or behind it, by the order of its key and the first one's
 abbrev pub put_over : Ordering → Row → Row → List Row → List Row → List Row
 put_over Less row first others after = row ∷ first ∷ others
 put_over Equal row first others after = row ∷ others

@@ -9,18 +9,18 @@ use Rattle.feed_rows.specs.Kept.{Kept, RoleKept}
 use Rattle.feed_rows.specs.Latest.{current_in, shown_in}
 use Rattle.feed_rows.specs.Put.{role_standing_in}
 
--- the row of a document by its last change
+-- the row of a document, as its last change gives it
 abbrev pub row_in : List ℕ → Option Change → Option Row
 row_in name None = None
 row_in name (Some change) =
     Some (record { key = record { by = change.by; seq = change.latest.seq }; doc = name; rev = change.latest.write.now.rev; bits = change.bits })
 
--- a document's state
+-- what the code keeps of a document
 abbrev pub kept_in : Document → Kept
 kept_in document =
     record { name = document.name.now; current = current_in document.latest; view = shown_in document.shown; row = row_in document.name.now document.change }
 
--- a role's state
+-- what the code keeps of a role
 abbrev pub role_in : RoleState → RoleKept
 role_in role = record { name = role.name.now; standing = role_standing_in role.channels }
 

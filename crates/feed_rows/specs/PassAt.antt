@@ -4,19 +4,28 @@ use Rattle.sg_history.specs.declared.entries.Entry.{Entry}
 use Rattle.sg_history.specs.History.{among}
 use Rattle.sg_history.specs.Principals.{user_at, roles_put, has_channel}
 use Rattle.feed_rows.specs.declared.pass.Pass.{Pass}
+use Rattle.feed_rows.specs.Index.{IsIndex, IsWriteIndex}
 use Rattle.feed_rows.specs.Kept.{kept_at, kept_next, role_kept_at, written_names, distinct_of}
 use Rattle.feed_rows.specs.Pass.{kept_in, role_in, texts}
 use Rattle.feed_rows.specs.Put.{standing_in}
 
+-- the pass has the channels that the user has after these entries
+abbrev pub HasChannels : List Entry → List ℕ → Pass → Type 0
+HasChannels es user pass = (c : List ℕ) → among (texts pass.channels.items) c ≡ has_channel es user c
+
 -- the pass knows what holds at the end of these entries, the newest first
 pub record PassAt (es : List Entry) (user : List ℕ) (filter : Option (List (List ℕ))) (pass : Pass) : Type 0 where
   pub documents : map kept_in pass.documents.items ≡ map (kept_at es user filter) (written_names es)
+  pub places : IsIndex (written_names es) pass.places
+  pub writes : IsWriteIndex es pass.writes
   pub roles : map role_in pass.roles.items ≡ map (role_kept_at es) (distinct_of (roles_put es))
   pub put : standing_in pass.put ≡ user_at es user
-  pub channels : (c : List ℕ) → among (texts pass.channels.items) c ≡ has_channel es user c
+  pub channels : HasChannels es user pass
 
 -- the pass knows what an entry made of documents, roles and the user, but not yet what is shown since
 pub record Ready (e : Entry) (es : List Entry) (user : List ℕ) (filter : Option (List (List ℕ))) (pass : Pass) : Type 0 where
   pub documents : map kept_in pass.documents.items ≡ map (kept_next e es user filter) (written_names (e ∷ es))
+  pub places : IsIndex (written_names (e ∷ es)) pass.places
+  pub writes : IsWriteIndex (e ∷ es) pass.writes
   pub roles : map role_in pass.roles.items ≡ map (role_kept_at (e ∷ es)) (distinct_of (roles_put (e ∷ es)))
   pub put : standing_in pass.put ≡ user_at (e ∷ es) user

@@ -1,23 +1,23 @@
 //! What the pass over the log keeps of a document.
 
-ghost use Rattle.std.specs.Prelude.{◌≡◌, ◌+◌, ◌<◌, ◌^◌, ◌∷◌, map, length, reverse, Some, OnOk};
+ghost use Rattle.std.specs.Prelude.{◌≡◌, ◌<◌, map, length};
 ghost use Rattle.std.specs.List.{list_any};
 ghost use Rattle.std.specs.Option.{ForSome};
 ghost use Rattle.std.specs.Str.{bytes_eq};
-ghost use Rattle.sg_history.specs.declared.entries.Entry.TheVariants as entry;
 ghost use Rattle.sg_history.specs.History.{among};
-ghost use Rattle.sg_history.specs.Current as history;
-ghost use Rattle.sg_history.specs.View as view;
+ghost use Rattle.sg_history.specs.Current.{current_of};
 ghost use Rattle.sg_history.specs.Feed as feed;
-ghost use Rattle.feed_rows.specs.Latest.{current_in, shown_in, winner_in, winner_after};
+ghost use Rattle.feed_rows.specs.Index.{winner_among};
+ghost use Rattle.feed_rows.specs.Latest.{current_in, shown_in, winner_in};
 ghost use Rattle.feed_rows.specs.Kept as kept;
 ghost use Rattle.feed_rows.specs.Pass.{kept_in, row_in, texts};
 
-use crate::documents::{Latest, write_in, write_of_rev};
+use crate::documents::{Latest, write_in};
+use crate::index::winner_of;
 use crate::scan::bits_of;
 use crate::views::{is_same, passes};
-use sg_history::{ChannelName, Channels, DocId, Entry, Write};
-use std::alloc::AllocError;
+use sg_history::{ChannelName, Channels, DocId, Entry, Grant, Grantee, RoleGrant, Write};
+use std::collections::BTreeMap;
 
 /// The last change of what is shown of a document: at which place, what the document was there, and the bits of
 /// its row.
@@ -37,82 +37,71 @@ pub struct Document<'a> {
     pub change: Option<Change<'a>>,
 }
 
-fn winner_of<'a>(older: &'a [Entry], write: &'a Write) -> &'a Write
-    ensures { result.now ≡ winner_after (reverse older.now) write.now }
+/// What a document is after a write that stands at this place, given the last writes of the revisions before it.
+pub fn latest_after<'a>(
+    writes: &BTreeMap<(&'a str, u32, &'a str), &'a Write>,
+    write: &'a Write,
+    seq: u64,
+) -> Latest<'a>
+    ensures { winner_in result ≡ current_of seq (winner_among writes.now write.now) }
 {
-    if write.rev.equals(&write.winner) {
-        return write;
-    }
-    match write_of_rev(older, &write.doc, &write.winner) {
-        Some(found) => found,
-        None => write,
-    }
-}
-
-/// What a document is after a write that stands behind these entries.
-pub fn latest_after<'a>(older: &'a [Entry], write: &'a Write) -> Latest<'a>
-    requires { length older.now + 1 < 2 ^ 64 }
-    ensures { Some (winner_in result) ≡ history.current (entry.Write write.now ∷ reverse older.now) write.now.doc }
-{
-    let winner = winner_of(older, write);
     Latest {
-        seq: older.len() as u64 + 1,
-        write: winner,
+        seq,
+        write: winner_of(writes, write),
     }
 }
 
-/// The place of a document among others.
-pub fn place_of(documents: &[Document<'_>], name: &DocId) -> Option<usize>
-    ensures { kept.PlacedBy (map (λ d. d.name.now) documents.now) name.now result }
-{
-    for (i, document) in documents.iter().enumerate() {
-        if document.name.equals(name) {
-            return Some(i);
-        }
-    }
-    None
-}
-
-/// The document in its place; one that was never written where it has none.
-pub fn found<'a>(documents: &[Document<'a>], place: Option<usize>, name: &'a DocId) -> Document<'a>
-    requires { ForSome place (λ k. k < length documents.now) }
-    ensures { kept_in result ≡ kept.found_at place name.now (map kept_in documents.now) }
-{
-    match place {
-        Some(k) => documents[k],
-        None => Document {
-            name,
-            latest: None,
-            shown: None,
-            change: None,
-        },
-    }
-}
-
-/// Puts a document in its place, at the end where it has none.
-pub fn put_document<'a>(
+/// Brings the document in this place up to date, and answers what it was.
+pub fn set_latest<'a>(
     documents: &mut Vec<Document<'a>>,
-    place: Option<usize>,
-    document: Document<'a>,
-) -> Result<(), AllocError>
-    requires { ForSome place (λ k. k < length documents.old.items) }
-    ensures { OnOk result (map kept_in documents.new.items ≡ kept.put_at place (kept_in document.entry) (map kept_in documents.old.items)) }
+    place: usize,
+    latest: Latest<'a>,
+) -> Option<Latest<'a>>
+    requires { place < length documents.old.items }
+    ensures before { current_in result ≡ kept.current_there place (map kept_in documents.old.items) }
+    ensures documents { map kept_in documents.new.items ≡ kept.changed_at place (kept.with_current (winner_in latest.entry)) (map kept_in documents.old.items) }
+    ensures count { length documents.new.items ≡ length documents.old.items }
 {
-    match place {
-        Some(k) => documents[k] = document,
-        None => documents.push(document)?,
-    }
-    Ok(())
+    let before = documents[place];
+    documents[place] = Document {
+        name: before.name,
+        latest: Some(latest),
+        shown: before.shown,
+        change: before.change,
+    };
+    before.latest
 }
 
-/// Whether a document's current revision grants no channel and gives no role.
-pub fn is_quiet(latest: Option<Latest<'_>>) -> bool
-    ensures { result ≡ kept.is_quiet (current_in latest.entry) }
+fn reaches(user: &[u8], to: &Grantee) -> bool
+    ensures { result ≡ kept.reaches user.now to.now }
+{
+    match to {
+        Grantee::User(name) => name.as_bytes() == user,
+        Grantee::Role(_) => true,
+    }
+}
+
+fn some_grant_reaches(user: &[u8], grants: &[Grant]) -> bool
+    ensures { result ≡ list_any (λ g. kept.reaches user.now g.to) grants.now }
+{
+    grants.iter().any(|g| reaches(user, &g.to))
+}
+
+fn some_role_is_given(user: &[u8], gifts: &[RoleGrant]) -> bool
+    ensures { result ≡ list_any (λ g. bytes_eq g.user user.now) gifts.now }
+{
+    gifts.iter().any(|g| g.user.as_bytes() == user)
+}
+
+/// Whether a document's current revision grants nothing to the user or to a role, and gives the user no role.
+pub fn is_quiet(user: &[u8], latest: Option<Latest<'_>>) -> bool
+    ensures { result ≡ kept.is_quiet user.now (current_in latest.entry) }
 {
     match latest {
         None => true,
         Some(latest) => {
-            latest.write.grants.as_slice().is_empty() && latest.write.roles.as_slice().is_empty()
+            !some_grant_reaches(user, latest.write.grants.as_slice())
+                && !some_role_is_given(user, latest.write.roles.as_slice())
         }
     }
 }
@@ -123,7 +112,8 @@ fn is_among(channels: &[&[u8]], channel: &[u8]) -> bool
     channels.iter().any(|c| *c == channel)
 }
 
-fn has(channels: &[&[u8]], channel: &[u8]) -> bool
+/// Whether a channel is among these.
+pub fn has(channels: &[&[u8]], channel: &[u8]) -> bool
     ensures { result ≡ among (texts channels.now) channel.now }
 {
     is_among(channels, channel)
@@ -175,7 +165,7 @@ fn change_of<'a>(
 }
 
 /// Looks at a document anew after the entry at this place.
-pub fn look<'a>(
+fn look<'a>(
     channels: &[&[u8]],
     filter: &Option<Channels>,
     by: u64,
@@ -223,4 +213,21 @@ pub fn look_at_all(
     ensures { map kept_in documents.new.items ≡ map (λ k. kept.looked_at (λ c. among (texts channels.now) c) filter.now by entry.now k) (map kept_in documents.old.items) }
 {
     look_at_each(channels, filter, by, entry, documents.as_mut_slice());
+}
+
+/// Looks at the document that the entry at this place wrote, where it wrote one.
+pub fn look_at_written(
+    channels: &[&[u8]],
+    filter: &Option<Channels>,
+    by: u64,
+    entry: &Entry,
+    place: Option<usize>,
+    documents: &mut Vec<Document<'_>>,
+)
+    requires { ForSome place (λ k. k < length documents.old.items) }
+    ensures { map kept_in documents.new.items ≡ kept.looked_where place (kept.looked_at (λ c. among (texts channels.now) c) filter.now by entry.now) (map kept_in documents.old.items) }
+{
+    if let Some(k) = place {
+        documents[k] = look(channels, filter, by, entry, documents[k]);
+    }
 }

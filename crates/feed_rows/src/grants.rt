@@ -1,15 +1,18 @@
 //! The channels of a user, worked out from the states of documents and roles.
 
 ghost use Rattle.std.specs.Prelude.{◌≡◌, ◌++◌, ◌∷◌, [], ◌||◌, map, filter, OnOk, IfOk, if◌then◌else◌};
-ghost use Rattle.std.specs.List.{list_any, flat_map};
+ghost use Rattle.std.specs.List.{list_any, list_all, flat_map};
+ghost use Rattle.std.specs.Str.{bytes_eq};
 ghost use Rattle.sg_names.specs.declared.grants.Grantee.TheVariants.{User, Role};
 ghost use Rattle.sg_history.specs.Principals as principals;
+ghost use Rattle.sg_history.specs.History.{among};
 ghost use Rattle.feed_rows.specs.Channels as channels;
+ghost use Rattle.feed_rows.specs.Kept.{add_name};
 ghost use Rattle.feed_rows.specs.Latest.{current_in};
 ghost use Rattle.feed_rows.specs.Pass.{kept_in, role_in, texts};
 ghost use Rattle.feed_rows.specs.Put.{standing_in, role_standing_in, grantee_in};
 
-use crate::document::Document;
+use crate::document::{Document, has};
 use crate::documents::Latest;
 use crate::principals::{Put, To, gives_role, is_to, put_names_role, role_after};
 use sg_history::{Channels, Entry, Grant, Name};
@@ -40,13 +43,13 @@ fn next_roles<'a>(roles: &mut [RoleState<'a>], entry: &'a Entry)
 }
 
 fn has_name(roles: &[RoleState<'_>], name: &Name) -> bool
-    ensures { result ≡ list_any (λ r. channels.is_named r.name.now name.now) roles.now }
+    ensures { result ≡ list_any (λ r. bytes_eq r.name.now name.now) roles.now }
 {
     roles.iter().any(|r| r.name.as_bytes() == name.as_bytes())
 }
 
 fn is_known(roles: &[RoleState<'_>], name: &Name) -> bool
-    ensures { result ≡ list_any (λ r. channels.is_named r.name name.now) (map role_in roles.now) }
+    ensures { result ≡ list_any (λ r. bytes_eq r.name name.now) (map role_in roles.now) }
 {
     has_name(roles, name)
 }
@@ -180,8 +183,7 @@ fn add_by_roles<'a>(
     Ok(())
 }
 
-/// The channels of a user, given its last put and the states of all roles and documents.
-pub fn user_channels<'a>(
+fn all_channels<'a>(
     alloc: Global,
     put: Option<Put<'a>>,
     user: &[u8],
@@ -198,4 +200,57 @@ pub fn user_channels<'a>(
         add_by_roles(&mut list, put, user, documents, roles)?;
     }
     Ok(list)
+}
+
+fn add_once<'a>(list: &mut Vec<&'a [u8]>, channel: &'a [u8]) -> Result<(), AllocError>
+    ensures { OnOk result (texts list.new.items ≡ add_name channel.now (texts list.old.items)) }
+{
+    if !has(list.as_slice(), channel) {
+        list.push(channel)?;
+    }
+    Ok(())
+}
+
+fn each_once<'a>(alloc: Global, list: &[&'a [u8]]) -> Result<Vec<&'a [u8]>, AllocError>
+    ensures { IfOk result (λ once. texts once.items ≡ channels.add_names (texts list.now) []) }
+{
+    let mut once = Vec::new(alloc);
+    for channel in list {
+        add_once(&mut once, *channel)?;
+    }
+    Ok(once)
+}
+
+/// The channels of a user, each once, given its last put and the states of all roles and documents.
+pub fn user_channels<'a>(
+    alloc: Global,
+    put: Option<Put<'a>>,
+    user: &[u8],
+    roles: &[RoleState<'a>],
+    documents: &[Document<'a>],
+) -> Result<Vec<&'a [u8]>, AllocError>
+    ensures { IfOk result (λ list. texts list.items ≡ channels.add_names (channels.user_channels (standing_in put.entry) user.now (map role_in roles.now) (map kept_in documents.now)) []) }
+{
+    let list = all_channels(alloc, put, user, roles, documents)?;
+    let once = each_once(alloc, list.as_slice())?;
+    Ok(once)
+}
+
+fn all_are_among(wanted: &[&[u8]], others: &[&[u8]]) -> bool
+    ensures { result ≡ list_all (λ c. among (texts others.now) c.now) wanted.now }
+{
+    wanted.iter().all(|c| has(others, *c))
+}
+
+fn are_among(wanted: &[&[u8]], others: &[&[u8]]) -> bool
+    ensures { result ≡ channels.are_among (texts wanted.now) (texts others.now) }
+{
+    all_are_among(wanted, others)
+}
+
+/// Whether both lists have the same channels.
+pub fn are_same(a: &[&[u8]], b: &[&[u8]]) -> bool
+    ensures { result ≡ channels.same_names (texts a.now) (texts b.now) }
+{
+    are_among(a, b) && are_among(b, a)
 }

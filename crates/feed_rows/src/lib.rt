@@ -1,17 +1,20 @@
 //! The rows of a user's changes feed, by one pass over the log.
 #![tactic(auto)]
 
-pub mod asked;
-pub mod document;
-pub mod documents;
-pub mod grants;
+mod asked;
+mod document;
+mod documents;
+mod grants;
+mod index;
 pub mod laws;
-pub mod pass;
-pub mod principals;
-pub mod scan;
-pub mod views;
+mod pass;
+mod principals;
+mod scan;
+mod views;
 
 pub use scan::rows;
 
+#[cfg(test)]
+mod generated;
 #[cfg(test)]
 mod tests;
