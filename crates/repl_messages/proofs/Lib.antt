@@ -1,3 +1,6 @@
 pub mod Numbers
 pub mod Quotes
 pub mod OneAnswer
+pub mod NoFloats
+pub mod History
+pub mod Appended

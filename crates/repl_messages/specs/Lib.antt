@@ -1,3 +1,6 @@
 pub mod Numbers
 pub mod Properties
 pub mod Requests
+pub mod Changes
+pub mod Errors
+pub mod Rev
