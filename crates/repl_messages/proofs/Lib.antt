@@ -4,3 +4,5 @@ pub mod OneAnswer
 pub mod NoFloats
 pub mod History
 pub mod Appended
+pub mod Replies
+pub mod NoNul

@@ -4,3 +4,5 @@ pub mod Requests
 pub mod Changes
 pub mod Errors
 pub mod Rev
+pub mod Wanted
+pub mod ReadAgain
