@@ -1,0 +1,20 @@
+-- Payloads that are read again as they were written.
+use Rattle.std.specs.Prelude.{◌≡◌, false, All, IsTrue}
+use Rattle.blip_frame.specs.Payload.{HasNoNul}
+use Rattle.blip_frame.specs.Props.{keys_of, stands_twice}
+use Rattle.blip_frame.specs.declared.payload.Payload.{Payload}
+use Rattle.sg_names.specs.Grammar.{is_doc_id}
+use Rattle.sg_names.specs.Key.{is_key}
+use Rattle.sg_names.specs.RevId.{is_rev}
+use Rattle.sg_history.specs.declared.row.Row.{Row}
+
+-- no NUL in a key or a value, and no key twice
+pub record IsReadAgain (payload : Payload) : Type 0 where
+  pub closable : All HasNoNul payload.props
+  pub once : stands_twice (keys_of payload.props) ≡ false
+
+-- document, revision and key are in their grammar
+pub record IsInGrammar (row : Row) : Type 0 where
+  pub doc : IsTrue (is_doc_id row.doc)
+  pub rev : IsTrue (is_rev row.rev)
+  pub key : IsTrue (is_key row.key)
