@@ -1,0 +1,4 @@
+pub mod Feed
+pub mod Looks
+pub mod Met
+pub mod Solo

@@ -1,0 +1,14 @@
+//! Grounds: where a session looks at the history.
+#![tactic(auto)]
+
+pub mod feed;
+pub mod ground;
+pub mod laws;
+pub mod met;
+pub mod solo;
+
+pub use ground::Ground;
+pub use solo::SoloGround;
+
+#[cfg(test)]
+mod tests;
