@@ -1,2 +1,5 @@
+pub mod BodyLaws
 pub mod LookLaws
 pub mod OneLook
+pub mod Same
+pub mod Winners

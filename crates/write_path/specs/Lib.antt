@@ -1,3 +1,4 @@
+pub mod Bodies
 pub mod Feed
 pub mod Looks
 pub mod Met

@@ -4,9 +4,10 @@ ghost use Rattle.std.specs.Prelude.{◌≡◌, ◌≤◌, ℕ, List, Option, len
 ghost use Rattle.sg_history.specs.declared.entries.Entry.{Entry};
 ghost use Rattle.write_path.specs.Looks.{Looks, WasLookedAt, IsTold};
 ghost use Rattle.write_path.specs.Feed.{FeedAt};
+ghost use Rattle.write_path.specs.Bodies.{BodiesAt};
 
-use repl_messages::Fed;
-use sg_history::{Key, Name, Options};
+use repl_messages::{Bodies, Fed};
+use sg_history::{Key, Name, Options, Row};
 use sg_outside::Memory;
 use std::alloc::Global;
 
@@ -41,4 +42,18 @@ pub trait Ground: Drop {
         ensures looks { Looks (met self.old) (met self.new) (floor self.old) (floor self.new) }
         ensures told { told self.new ≡ told self.old }
         ensures answer { IfOk result (λ fed. (h : List Entry) × WasLookedAt (met self.old) (met self.new) h × IsTold (told self.old) h × FeedAt h user.now since.now options.now fed) };
+
+    /// Looks at the history for the bodies of rows, each with at most `most` ancestors. At want of memory it may have
+    /// looked, or not.
+    fn bodies(
+        &mut self,
+        alloc: Global,
+        user: &Name,
+        options: &Options,
+        rows: &[Row],
+        most: u64,
+    ) -> Result<Bodies, Memory>
+        ensures looks { Looks (met self.old) (met self.new) (floor self.old) (floor self.new) }
+        ensures told { told self.new ≡ told self.old }
+        ensures answer { IfOk result (λ bodies. (h : List Entry) × WasLookedAt (met self.old) (met self.new) h × IsTold (told self.old) h × BodiesAt h user.now options.now rows.now most bodies) };
 }

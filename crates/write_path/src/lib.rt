@@ -1,6 +1,7 @@
 //! Grounds: where a session looks at the history.
 #![tactic(auto)]
 
+pub mod bodies;
 pub mod feed;
 pub mod ground;
 pub mod laws;

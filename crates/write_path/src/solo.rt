@@ -3,11 +3,12 @@
 ghost use Rattle.std.specs.Prelude.{◌≡◌, [], Some, length};
 ghost use Rattle.sg_history.specs.History.{history};
 
+use crate::bodies::bodies_at;
 use crate::feed::feed_at;
 use crate::ground::Ground;
 use crate::met::Met;
-use repl_messages::Fed;
-use sg_history::{Key, Log, Name, Options};
+use repl_messages::{Bodies, Fed};
+use sg_history::{Key, Log, Name, Options, Row};
 use sg_outside::Memory;
 use std::alloc::Global;
 use std::marker::Model;
@@ -74,5 +75,17 @@ impl Ground for SoloGround {
     ) -> Result<Fed, Memory> {
         self.met.add(&self.log);
         feed_at(alloc, &self.log, user, since, options)
+    }
+
+    fn bodies(
+        &mut self,
+        alloc: Global,
+        user: &Name,
+        options: &Options,
+        rows: &[Row],
+        most: u64,
+    ) -> Result<Bodies, Memory> {
+        self.met.add(&self.log);
+        bodies_at(alloc, &self.log, user, options, rows, most)
     }
 }
