@@ -8,12 +8,13 @@ use Rattle.sg_history.specs.declared.entries.Entry.{Entry}
 use Rattle.sg_history.specs.declared.entries.Write.{Write}
 use Rattle.sg_history.specs.declared.row.Row.{Row}
 use Rattle.sg_history.specs.Current.{Current, current}
-use Rattle.sg_history.specs.View.{Shown, view, view_of, is_shown}
+use Rattle.sg_history.specs.View.{Shown, view, is_shown}
 use Rattle.sg_history.specs.Feed.{changed}
 use Rattle.repl_messages.specs.declared.looks.Body.{Body}
 use Rattle.repl_messages.specs.declared.looks.Body.TheVariants as body
 use Rattle.write_path.specs.Bodies.{winning_write, said_by, is_still_shown, is_still_gone, left_by_write, body_with, body_of}
 use Rattle.write_path.proofs.Same.{same_views, view_itself, number_itself}
+use Rattle.write_path.proofs.RowsTell.{seen}
 use Rattle.write_path.proofs.Winners.{winner_names, current_winner}
 
 abbrev chosen : Bool → Bool → ℕ → Option Write → Body
@@ -30,15 +31,6 @@ removed_chosen true gone most None h = absurd (cc)
 removed_chosen true gone most (Some w) h = absurd (cc)
 removed_chosen false true most o h = (refl, refl)
 removed_chosen false false most o h = absurd (cc)
-
--- a view is of the current state, and the user has one of its channels
-seen : (es : List Entry) (user : List ℕ) (filter : Option (List (List ℕ))) (o : Option Current) (s : Shown) → view_of es user filter o ≡ Some s → (c : Current) × (o ≡ Some c) × (is_shown es user filter c ≡ true) × (s ≡ record { seq = c.seq; rev = c.rev; deleted = c.deleted })
-seen es user filter None s h = absurd (none-some _ h)
-seen es user filter (Some c) s h = let x = go (is_shown es user filter c) h in (c, refl, x.0, x.1)
-  where
-    go : (b : Bool) → (if b then Some (record { seq = c.seq; rev = c.rev; deleted = c.deleted }) else None) ≡ Some s → (b ≡ true) × (s ≡ record { seq = c.seq; rev = c.rev; deleted = c.deleted })
-    go true h = (refl, sym (same_Some _ s h))
-    go false h = absurd (none-some _ h)
 
 module _ (es : List Entry) (user : List ℕ) (filter : Option (List (List ℕ))) (most : ℕ) (row : Row) where
   abbrev Answers : Body → Type 0

@@ -1,4 +1,5 @@
 pub mod Bodies
+pub mod ByName
 pub mod Feed
 pub mod Looks
 pub mod Met

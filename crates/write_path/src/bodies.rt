@@ -1,27 +1,23 @@
 //! The bodies of rows at the end of a log.
 
-ghost use Rattle.std.specs.Prelude.{◌≡◌, ◌&&◌, nat_eq, is_none, List, length, map, reverse, take, IfOk};
+ghost use Rattle.std.specs.Prelude.{◌≡◌, ◌&&◌, nat_eq, is_none, List, ℕ, length, map, reverse, take, Option, Some, None, IfOk, OnOk};
 ghost use Rattle.std.specs.Option.{option_copied};
 ghost use Rattle.sg_names.specs.declared.rev_id.RevId.{RevId};
-ghost use Rattle.sg_history.specs.History.{history};
+ghost use Rattle.sg_history.specs.declared.row.Row.{Row};
+ghost use Rattle.sg_history.specs.History.{history, past};
+ghost use Rattle.sg_history.specs.View.{same_view};
 ghost use Rattle.sg_history.specs.Feed as feed;
 ghost use Rattle.write_path.specs.Bodies as bodies;
 ghost use Rattle.write_path.specs.Bodies.{BodiesAt};
+ghost use Rattle.write_path.specs.ByName as by_name;
+ghost use Rattle.write_path.specs.ByName.{under};
 
-use feed_rows::documents::{last_write, write_of_rev};
-use feed_rows::views::{last_change, shown};
+use crate::by_name::{row_under, rows_by_name, rows_now, winners_by_name, write_under};
 use repl_messages::{Bodies, Body, BodyList};
-use sg_history::{Channels, DocId, Entry, Log, Name, Options, RevId, Revs, Row, Write};
+use sg_history::{Log, Name, Options, RevId, Revs, Row, Write};
 use sg_outside::Memory;
 use std::alloc::Global;
-
-/// The write of a document's current revision.
-fn winning_write<'a>(entries: &'a [Entry], doc: &DocId) -> Option<&'a Write>
-    ensures { option_copied result ≡ bodies.winning_write (reverse entries.now) doc.now }
-{
-    let last = last_write(entries, doc)?;
-    Some(write_of_rev(entries, doc, &last.write.winner).unwrap_or(last.write))
-}
+use std::collections::BTreeMap;
 
 fn is_deleted(bits: u8) -> bool
     ensures { result ≡ feed.is_deleted bits }
@@ -35,25 +31,34 @@ fn left_by_write(bits: u8) -> bool
     bits == 4 || bits == 5
 }
 
-fn is_still_shown(entries: &[Entry], user: &[u8], filter: &Option<Channels>, row: &Row) -> bool
-    ensures { result ≡ bodies.is_still_shown (reverse entries.now) user.now filter.now row.now }
+fn is_gone(bits: u8) -> bool
+    ensures { result ≡ feed.is_gone bits }
 {
-    match shown(entries, user, filter, &row.doc) {
-        None => false,
-        Some(latest) => {
-            latest.seq == row.key.seq
-                && latest.write.rev.equals(&row.rev)
-                && latest.write.deleted == is_deleted(row.bits)
+    bits >= 2
+}
+
+/// Whether what is shown of a document, by the row that it has now, is what a row says.
+fn is_still_shown(now: Option<&Row>, row: &Row) -> bool
+    ensures { result ≡ same_view (by_name.shown_by (option_copied now.entry)) (Some (bodies.said_by row.now)) }
+{
+    match now {
+        Some(now) if !is_gone(now.bits) => {
+            now.key.seq == row.key.seq
+                && now.rev.equals(&row.rev)
+                && is_deleted(now.bits) == is_deleted(row.bits)
         }
+        _ => false,
     }
 }
 
-fn is_still_gone(entries: &[Entry], user: &[u8], filter: &Option<Channels>, row: &Row) -> bool
-    ensures { result ≡ bodies.is_still_gone (reverse entries.now) user.now filter.now row.now }
+/// Whether a document is not shown, by the row that it has now, and has not changed since a row by which it left.
+fn is_still_gone(now: Option<&Row>, row: &Row) -> bool
+    ensures { result ≡ (bodies.left_by_write row.now.bits && is_none (by_name.shown_by (option_copied now.entry)) && nat_eq (by_name.place_by (option_copied now.entry)) row.now.key.by) }
 {
-    left_by_write(row.bits)
-        && shown(entries, user, filter, &row.doc).is_none()
-        && last_change(entries, user, filter, &row.doc) as u64 == row.key.by
+    match now {
+        None => left_by_write(row.bits) && row.key.by == 0,
+        Some(now) => { left_by_write(row.bits) && is_gone(now.bits) && now.key.by == row.key.by }
+    }
 }
 
 fn copies(alloc: Global, revs: &[RevId]) -> Result<Vec<RevId>, Memory>
@@ -86,44 +91,57 @@ fn body_with(alloc: Global, most: u64, write: Option<&Write>) -> Result<Body, Me
     })
 }
 
-/// What is answered for a row.
-fn body_of(
+/// What is answered for a row, by the row that its document has now and the write of the winner.
+fn body_by(
     alloc: Global,
-    entries: &[Entry],
-    user: &[u8],
-    filter: &Option<Channels>,
+    now: Option<&Row>,
+    winner: Option<&Write>,
     most: u64,
     row: &Row,
 ) -> Result<Body, Memory>
-    ensures { IfOk result (λ body. body ≡ bodies.body_of (reverse entries.now) user.now filter.now most row.now) }
+    ensures { IfOk result (λ body. body ≡ by_name.body_by (option_copied now.entry) (option_copied winner.entry) most row.now) }
 {
-    if is_still_shown(entries, user, filter, row) {
-        return body_with(alloc, most, winning_write(entries, &row.doc));
+    if is_still_shown(now, row) {
+        return body_with(alloc, most, winner);
     }
-    if is_still_gone(entries, user, filter, row) {
+    if is_still_gone(now, row) {
         return Ok(Body::Removed);
     }
     Ok(Body::NoRev)
 }
 
+fn body_of(
+    alloc: Global,
+    now: &BTreeMap<&str, &Row>,
+    winners: &BTreeMap<&str, &Write>,
+    most: u64,
+    row: &Row,
+) -> Result<Body, Memory>
+    ensures { IfOk result (λ body. body ≡ by_name.body_by (under now.now row.now.doc) (under winners.now row.now.doc) most row.now) }
+{
+    let now = row_under(now, &row.doc);
+    let winner = write_under(winners, &row.doc);
+    body_by(alloc, now, winner, most, row)
+}
+
 fn answers_of(
     alloc: Global,
-    entries: &[Entry],
-    user: &[u8],
-    filter: &Option<Channels>,
-    rows: &[Row],
+    now: &BTreeMap<&str, &Row>,
+    winners: &BTreeMap<&str, &Write>,
     most: u64,
+    rows: &[Row],
 ) -> Result<BodyList, Memory>
-    ensures { IfOk result (λ list. list ≡ map (bodies.body_of (reverse entries.now) user.now filter.now most) rows.now) }
+    ensures { IfOk result (λ list. list ≡ map (λ row. by_name.body_by (under now.now row.doc) (under winners.now row.doc) most row) rows.now) }
 {
     let mut list = BodyList::new(alloc);
     for row in rows {
-        list.push(body_of(alloc, entries, user, filter, most, row)?)?;
+        list.push(body_of(alloc, now, winners, most, row)?)?;
     }
     Ok(list)
 }
 
-/// What a look at a log answers for the rows that a device wants.
+/// What a look at a log answers for the rows that a device wants: two passes over the log, however many rows there
+/// are.
 pub fn bodies_at(
     alloc: Global,
     log: &Log,
@@ -134,10 +152,13 @@ pub fn bodies_at(
 ) -> Result<Bodies, Memory>
     ensures { IfOk result (BodiesAt (history log.now) user.now options.now rows.now most) }
 {
-    let entries = log.entries.as_slice();
-    let answers = answers_of(alloc, entries, user.as_bytes(), &options.filter, rows, most)?;
+    let all = rows_now(alloc, log, user, &options.filter)?;
+    let now = rows_by_name(alloc, all.as_slice())?;
+    let winners = winners_by_name(alloc, log.entries.as_slice(), &now)?;
+    let answers = answers_of(alloc, &now, &winners, most, rows)?;
+    feed_rows::laws::members();
     Ok(Bodies {
-        front: entries.len() as u64,
+        front: log.entries.len() as u64,
         answers,
     })
 }

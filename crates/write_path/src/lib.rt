@@ -2,6 +2,7 @@
 #![tactic(auto)]
 
 pub mod bodies;
+pub mod by_name;
 pub mod feed;
 pub mod ground;
 pub mod laws;

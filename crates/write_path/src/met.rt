@@ -9,7 +9,7 @@ use std::snapshot::Snapshot;
 
 /// Snapshots of logs, the newest first. It has no bytes of them.
 #[derive(Drop)]
-pub enum Looked {
+enum Looked {
     Nothing,
     After(Snapshot<Looked>, Snapshot<Log>),
 }
