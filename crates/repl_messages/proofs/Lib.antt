@@ -4,5 +4,6 @@ pub mod OneAnswer
 pub mod NoFloats
 pub mod History
 pub mod Appended
+pub mod Batches
 pub mod Replies
 pub mod NoNul

@@ -4,5 +4,6 @@ pub mod Requests
 pub mod Changes
 pub mod Errors
 pub mod Rev
+pub mod Looks
 pub mod Wanted
 pub mod ReadAgain

@@ -1,5 +1,5 @@
 -- What a message of a device asks for, by its properties: a request, or the refusal that is due.
-use Rattle.std.specs.Prelude.{◌≡◌, ℕ, Bool, true, false, ◌&&◌, not, nat_eq, ◌==◌, List, [], ◌∷◌, Option, Some, None, option_map, unwrap_or, Result, Ok, Err, codes, if◌then◌else◌}
+use Rattle.std.specs.Prelude.{◌≡◌, ◌≤◌, ℕ, Bool, true, false, ◌&&◌, not, nat_eq, ◌==◌, List, [], ◌∷◌, Option, Some, None, option_map, unwrap_or, Result, Ok, Err, codes, if◌then◌else◌}
 use Rattle.std.specs.List.{list_all, slice_split}
 use Rattle.std.specs.Str.{bytes_eq}
 use Rattle.blip_frame.specs.Props.{Pair, value_at}
@@ -126,3 +126,7 @@ IsAnswerWhere true props version answer =
 -- what a message with these properties is read as: a request, or the one refusal that is due
 abbrev pub IsAnswer : List Pair → Version → Result Request RequestFault → Type 0
 IsAnswer props version answer = IsAnswerWhere (asks_for_changes props) props version answer
+
+-- the batch of a request is from 1 to 10,000
+abbrev pub IsBounded : Request → Type 0
+IsBounded (SubChanges since batch options) = (1 ≤ batch) × (batch ≤ 10000)

@@ -9,7 +9,7 @@ ghost use Rattle.sg_names.specs.declared.key.KeyFault.{KeyFault};
 ghost use Rattle.repl_messages.specs.declared.request.Request.{Request};
 ghost use Rattle.repl_messages.specs.declared.request.RequestFault.{RequestFault};
 ghost use Rattle.repl_messages.specs.Requests as requests;
-ghost use Rattle.repl_messages.specs.Requests.{IsAnswer, IsReading, IsSince, field_text};
+ghost use Rattle.repl_messages.specs.Requests.{IsAnswer, IsBounded, IsReading, IsSince, field_text};
 
 use crate::properties::{is_named, is_set, number_up_to};
 use blip_frame::Props;
@@ -105,6 +105,8 @@ pub fn read_request(
 ) -> Result<Request, RequestFault>
     ensures ok { IfOk result (λ request. IsAnswer message.now.payload.props version (Ok request)) }
     ensures refused { IfErr result (λ fault. fault ≢ RequestFault.Memory → IsAnswer message.now.payload.props version (Err fault)) }
+
+    ensures bounded { IfOk result IsBounded }
 
     // Want of memory apart, a message has this one answer.
     ensures only { (answer : Result Request RequestFault) → IsAnswer message.now.payload.props version answer

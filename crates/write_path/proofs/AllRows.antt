@@ -21,7 +21,7 @@ use Rattle.sg_history.specs.Feed.{changed, feed, keeps, is_gone, row_of}
 use Rattle.feed_rows.specs.Laws.{HasRow, IsAskedFor}
 use Rattle.repl_messages.specs.declared.looks.Body.{Body}
 use Rattle.repl_messages.specs.declared.looks.Body.TheVariants as body
-use Rattle.write_path.specs.Bodies.{winning_write, said_by, left_by_write, body_with, body_of}
+use Rattle.repl_messages.specs.Looks.{winning_write, said_by, left_by_write, body_with, body_of}
 use Rattle.write_path.specs.ByName.{last_named, before_all, all_rows, shown_by, place_by, body_by}
 use Rattle.write_path.proofs.Same.{same_bytes, bytes_themselves, same_views}
 use Rattle.write_path.proofs.RowsTell.{seen, shown_now, place_now, row_names, winner_of_rev}

@@ -11,7 +11,7 @@ use Rattle.sg_history.specs.History.{write_to}
 use Rattle.sg_history.specs.Current.{Current, Sequenced, sequenced_or, last_write, write_of_rev, with_rev_or, write_or, current, current_after, current_of}
 use Rattle.sg_history.specs.View.{Shown, view, view_of, is_shown, same_view}
 use Rattle.sg_history.specs.Feed.{changed, writes, bits_of, row_with, row_at, row_of}
-use Rattle.write_path.specs.Bodies.{winning_write, winner_after}
+use Rattle.repl_messages.specs.Looks.{winning_write, winner_after}
 use Rattle.write_path.specs.ByName.{shown_by, place_by}
 use Rattle.write_path.proofs.Same.{same_views, same_revs, rev_itself}
 

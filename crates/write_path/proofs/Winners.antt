@@ -9,7 +9,7 @@ use Rattle.sg_history.specs.declared.entries.Entry.TheVariants as entry
 use Rattle.sg_history.specs.declared.entries.Write.{Write}
 use Rattle.sg_history.specs.History.{write_to}
 use Rattle.sg_history.specs.Current.{Current, Sequenced, sequenced_or, last_write, write_of_rev, with_rev_or, write_or, current, current_after, current_of}
-use Rattle.write_path.specs.Bodies.{winning_write, winner_after}
+use Rattle.repl_messages.specs.Looks.{winning_write, winner_after}
 use Rattle.write_path.proofs.Same.{same_bytes}
 
 pub write_names : (e : Entry) (doc : List ℕ) (w : Write) → write_to e doc ≡ Some w → w.doc ≡ doc

@@ -1,56 +1,11 @@
 -- What a look for the bodies of rows answers.
-use Rattle.std.specs.Prelude.{◌≡◌, ℕ, Bool, ◌&&◌, ◌||◌, nat_eq, is_none, List, length, map, take, Option, Some, None, if◌then◌else◌}
+use Rattle.std.specs.Prelude.{◌≡◌, ℕ, List, length}
 use Rattle.sg_history.specs.declared.entries.Entry.{Entry}
-use Rattle.sg_history.specs.declared.entries.Write.{Write}
 use Rattle.sg_history.specs.declared.row.Row.{Row}
 use Rattle.sg_history.specs.declared.row.Options.{Options}
-use Rattle.sg_history.specs.History.{past}
-use Rattle.sg_history.specs.Current.{Sequenced, last_write, write_of_rev, write_or}
-use Rattle.sg_history.specs.View.{Shown, view, same_view}
-use Rattle.sg_history.specs.Feed.{changed, is_deleted}
-use Rattle.repl_messages.specs.declared.looks.Body.{Body}
-use Rattle.repl_messages.specs.declared.looks.Body.TheVariants as body
 use Rattle.repl_messages.specs.declared.looks.Bodies.{Bodies}
+use Rattle.repl_messages.specs.Looks.{AreBodies}
 
-abbrev pub winner_after : List Entry → List ℕ → Option Sequenced → Option Write
-winner_after es doc None = None
-winner_after es doc (Some last) = Some (write_or (write_of_rev es doc last.write.winner) last.write)
-
--- the write of a document's current revision: of the winner that its last write names (or, in a log that names one which was
--- never written, that write itself)
-abbrev pub winning_write : List Entry → List ℕ → Option Write
-winning_write es doc = winner_after es doc (last_write es doc)
-
--- what a row says is shown: its sequence, its revision, and whether that is deleted
-abbrev pub said_by : Row → Shown
-said_by row = record { seq = row.key.seq; rev = row.rev; deleted = is_deleted row.bits }
-
--- whether what is shown of the row's document still is what the row says
-abbrev pub is_still_shown : List Entry → List ℕ → Option (List (List ℕ)) → Row → Bool
-is_still_shown es user filter row = same_view (view es user filter row.doc) (Some (said_by row))
-
--- whether a row says that its document left by a write of its own
-abbrev pub left_by_write : ℕ → Bool
-left_by_write bits = nat_eq bits 4 || nat_eq bits 5
-
--- whether the row's document left by a write of its own, is not shown, and did not change since
-abbrev pub is_still_gone : List Entry → List ℕ → Option (List (List ℕ)) → Row → Bool
-is_still_gone es user filter row =
-    left_by_write row.bits && is_none (view es user filter row.doc) && nat_eq (length (changed es user filter row.doc)) row.key.by
-
--- the body of a write with its ancestors, the nearest first and at most so many
-abbrev pub body_with : ℕ → Option Write → Body
-body_with most None = body.NoRev
-body_with most (Some w) = body.Rev (take most w.ancestors) w.body
-
--- what is answered for a row: the winner's body where it still is shown, that it was removed where it still is gone, else neither
-abbrev pub body_of : List Entry → List ℕ → Option (List (List ℕ)) → ℕ → Row → Body
-body_of es user filter most row =
-    if is_still_shown es user filter row
-    then body_with most (winning_write es row.doc)
-    else (if is_still_gone es user filter row then body.Removed else body.NoRev)
-
--- the front is the history's length, and each row has its answer, in their order
+-- the front is the history's length, and each row has its answer by that history, in their order
 abbrev pub BodiesAt : List Entry → List ℕ → Options → List Row → ℕ → Bodies → Type 0
-BodiesAt h user options rows most bodies =
-    (bodies.front ≡ length h) × (bodies.answers ≡ map (body_of (past h (length h)) user options.filter most) rows)
+BodiesAt h user options rows most bodies = (bodies.front ≡ length h) × AreBodies h user options rows most bodies

@@ -14,7 +14,7 @@ use Rattle.sg_history.specs.View.{Shown, same_view}
 use Rattle.sg_history.specs.Feed.{is_gone}
 use Rattle.repl_messages.specs.declared.looks.Body.{Body}
 use Rattle.repl_messages.specs.declared.looks.Body.TheVariants as body
-use Rattle.write_path.specs.Bodies.{said_by, left_by_write, body_with}
+use Rattle.repl_messages.specs.Looks.{said_by, left_by_write, body_with}
 
 -- what a map has under a name
 abbrev pub under : {X : Type 0} → BTreeMap (Bor (List ℕ)) (Bor X) → List ℕ → Option X

@@ -7,7 +7,7 @@ ghost use Rattle.sg_history.specs.declared.row.Row.{Row};
 ghost use Rattle.sg_history.specs.History.{history, past};
 ghost use Rattle.sg_history.specs.View.{same_view};
 ghost use Rattle.sg_history.specs.Feed as feed;
-ghost use Rattle.write_path.specs.Bodies as bodies;
+ghost use Rattle.repl_messages.specs.Looks as bodies;
 ghost use Rattle.write_path.specs.Bodies.{BodiesAt};
 ghost use Rattle.write_path.specs.ByName as by_name;
 ghost use Rattle.write_path.specs.ByName.{under};

@@ -9,7 +9,7 @@ ghost use Rattle.sg_history.specs.Current.{Current, current, current_of};
 ghost use Rattle.sg_history.specs.View.{view, is_shown};
 ghost use Rattle.sg_history.specs.Feed.{changed};
 ghost use Rattle.repl_messages.specs.declared.looks.Body.TheVariants as answer;
-ghost use Rattle.write_path.specs.Bodies.{winning_write, said_by, left_by_write, body_of};
+ghost use Rattle.repl_messages.specs.Looks.{winning_write, said_by, left_by_write, body_of};
 ghost use Rattle.write_path.specs.Looks.{Later, IsLaterThanAll, Looks, WasLookedAt};
 
 /// A history goes on from itself, and from all that one goes on from which it goes on from.
