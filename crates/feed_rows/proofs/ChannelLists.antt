@@ -12,9 +12,11 @@ use Rattle.sg_history.specs.declared.entries.Entry.{Entry}
 use Rattle.sg_history.specs.History.{among, documents}
 use Rattle.sg_history.specs.Current.{Current, current}
 use Rattle.sg_history.specs.Principals.{Standing, same_grantee, grants_channel, is_granted, gives_role, is_given, exists, names_role, names_channel, everyone, user_at, role_at, roles_put, has_channel}
-use Rattle.feed_rows.specs.Kept.{Kept, role_kept_at, distinct_of, add_name}
-use Rattle.feed_rows.specs.Channels.{granted_by, granted, given, by_role, user_channels, add_names, are_among, same_names}
+use Rattle.feed_rows.specs.Kept.{role_kept_at, distinct_of, add_name}
+use Rattle.feed_rows.specs.Channels.{granted, given, by_role, user_channels, add_names, are_among, same_names}
+use Rattle.feed_rows.proofs.Looks.{Misses}
 use Rattle.feed_rows.proofs.Names.{any_added, any_distinct, same_texts, texts_swap}
+use Rattle.feed_rows.proofs.Steps.{quiet_is}
 
 pub any_mapped : {X Y : Type 0} (f : Y → Bool) (g : X → Y) (xs : List X) → list_any f (map g xs) ≡ list_any (λ x. f (g x)) xs
 any_mapped f g [] = refl
@@ -35,10 +37,6 @@ among_grants to (g ∷ gs) c = go (same_grantee g.to to) ∙ ap (λ b. (same_gra
     go : (b : Bool) → among (map (λ g. g.channel) (cond b (g ∷ filter (λ g. same_grantee g.to to) gs) (filter (λ g. same_grantee g.to to) gs))) c ≡ ((b && bytes_eq g.channel c) || among (map (λ g. g.channel) (filter (λ g. same_grantee g.to to) gs)) c)
     go true = refl
     go false = refl
-
-among_granted_by : (o : Option Current) (to : Grantee) (c : List ℕ) → among (granted_by o to) c ≡ grants_channel o to c
-among_granted_by None to c = refl
-among_granted_by (Some now) to c = among_grants to now.grants c
 
 among_role : (b : Bool) (cs gs : List (List ℕ)) (c : List ℕ) → among (if b then cs ++ gs else []) c ≡ (b && (among cs c || among gs c))
 among_role true cs gs c = list_any-append (λ t. bytes_eq t c) cs gs
@@ -90,49 +88,49 @@ same_named a b h c = go (among a c) refl (among b c) refl
     go true p false q = sym (all_there a b c both.0 p) ∙ q
     go false p true q = sym p ∙ all_there b a c both.1 q
 
--- any states of the documents that were written and of the roles that were put
-module _ (es : List Entry) (user : List ℕ) (f : List ℕ → Kept) (is : (n : List ℕ) → (f n).current ≡ current es n) where
-  searched : (test : Option Current → Bool) → list_any (λ (k : Kept). test k.current) (map f (distinct_of (documents es))) ≡ list_any (λ doc. test (current es doc)) (documents es)
-  searched test =
-      any_mapped (λ (k : Kept). test k.current) f (distinct_of (documents es))
-      ∙ ap (λ (t : List ℕ → Bool). list_any t (distinct_of (documents es))) (fun_ext (λ n. ap test (is n)))
-      ∙ any_distinct (λ doc. test (current es doc)) (documents es)
+-- any states of documents among which a test that no quiet one passes finds what it finds among all that were written
+module _ (es : List Entry) (user : List ℕ) (now : List Current) (searched : (test : Option Current → Bool) → Misses user test → list_any (λ c. test (Some c)) now ≡ list_any (λ doc. test (current es doc)) (documents es)) where
+  among_granted : (to : Grantee) (c : List ℕ) → Misses user (λ o. grants_channel o to c) → among (granted now to) c ≡ is_granted es to c
+  among_granted to c misses =
+      among_flat (λ k. map (λ g. g.channel) (filter (λ g. same_grantee g.to to) k.grants)) now c
+      ∙ ap (λ (t : Current → Bool). list_any t now) (fun_ext (λ k. among_grants to k.grants c))
+      ∙ searched (λ o. grants_channel o to c) misses
 
-  among_granted : (to : Grantee) (c : List ℕ) → among (granted (map f (distinct_of (documents es))) to) c ≡ is_granted es to c
-  among_granted to c =
-      among_flat (λ (k : Kept). granted_by k.current to) (map f (distinct_of (documents es))) c
-      ∙ ap (λ (t : Kept → Bool). list_any t (map f (distinct_of (documents es)))) (fun_ext (λ k. among_granted_by k.current to c))
-      ∙ searched (λ o. grants_channel o to c)
+  among_user : (c : List ℕ) → among (granted now (User user)) c ≡ is_granted es (User user) c
+  among_user c = among_granted (User user) c (λ o h. (quiet_is user o h).to_user c)
 
-  given_is : (role : List ℕ) → given (map f (distinct_of (documents es))) user role ≡ is_given es user role
-  given_is role = searched (λ o. gives_role o user role)
+  among_one_role : (role c : List ℕ) → among (granted now (Role role)) c ≡ is_granted es (Role role) c
+  among_one_role role c = among_granted (Role role) c (λ o h. (quiet_is user o h).to_role role c)
+
+  given_is : (role : List ℕ) → given now user role ≡ is_given es user role
+  given_is role = searched (λ o. gives_role o user role) (λ o h. (quiet_is user o h).gives role)
 
   -- a role of a user that exists
-  among_by_role : (put : Standing) (name : List ℕ) (at : Option Standing) (c : List ℕ) → among (by_role (Some put) user (map f (distinct_of (documents es))) (record { name = name; standing = at })) c ≡ ((exists at && (names_role (Some put) name || is_given es user name)) && (exists at && (names_channel at c || is_granted es (Role name) c)))
+  among_by_role : (put : Standing) (name : List ℕ) (at : Option Standing) (c : List ℕ) → among (by_role (Some put) user now (record { name = name; standing = at })) c ≡ ((exists at && (names_role (Some put) name || is_given es user name)) && (exists at && (names_channel at c || is_granted es (Role name) c)))
   among_by_role put name None c = refl
   among_by_role put name (Some standing) c =
-      among_role (names_role (Some put) name || given (map f (distinct_of (documents es))) user name) standing.channels (granted (map f (distinct_of (documents es))) (Role name)) c
-      ∙ ap (λ b. (names_role (Some put) name || b) && (among standing.channels c || among (granted (map f (distinct_of (documents es))) (Role name)) c)) (given_is name)
-      ∙ ap (λ b. (names_role (Some put) name || is_given es user name) && (among standing.channels c || b)) (among_granted (Role name) c)
+      among_role (names_role (Some put) name || given now user name) standing.channels (granted now (Role name)) c
+      ∙ ap (λ b. (names_role (Some put) name || b) && (among standing.channels c || among (granted now (Role name)) c)) (given_is name)
+      ∙ ap (λ b. (names_role (Some put) name || is_given es user name) && (among standing.channels c || b)) (among_one_role name c)
 
-  among_by_roles : (put : Standing) (c : List ℕ) → among (flat_map (λ role. by_role (Some put) user (map f (distinct_of (documents es))) role) (map (role_kept_at es) (distinct_of (roles_put es)))) c ≡ list_any (λ role. (exists (role_at es role) && (names_role (Some put) role || is_given es user role)) && (exists (role_at es role) && (names_channel (role_at es role) c || is_granted es (Role role) c))) (roles_put es)
+  among_by_roles : (put : Standing) (c : List ℕ) → among (flat_map (λ role. by_role (Some put) user now role) (map (role_kept_at es) (distinct_of (roles_put es)))) c ≡ list_any (λ role. (exists (role_at es role) && (names_role (Some put) role || is_given es user role)) && (exists (role_at es role) && (names_channel (role_at es role) c || is_granted es (Role role) c))) (roles_put es)
   among_by_roles put c =
-      among_flat (λ role. by_role (Some put) user (map f (distinct_of (documents es))) role) (map (role_kept_at es) (distinct_of (roles_put es))) c
-      ∙ any_mapped (λ role. among (by_role (Some put) user (map f (distinct_of (documents es))) role) c) (role_kept_at es) (distinct_of (roles_put es))
+      among_flat (λ role. by_role (Some put) user now role) (map (role_kept_at es) (distinct_of (roles_put es))) c
+      ∙ any_mapped (λ role. among (by_role (Some put) user now role) c) (role_kept_at es) (distinct_of (roles_put es))
       ∙ ap (λ (t : List ℕ → Bool). list_any t (distinct_of (roles_put es))) (fun_ext (λ role. among_by_role put role (role_at es role) c))
       ∙ any_distinct _ (roles_put es)
 
-  among_all : (o : Option Standing) (c : List ℕ) → among (user_channels o user (map (role_kept_at es) (distinct_of (roles_put es))) (map f (distinct_of (documents es)))) c ≡ (exists o && (bytes_eq c everyone || names_channel o c || is_granted es (User user) c || list_any (λ role. (exists o && exists (role_at es role) && (names_role o role || is_given es user role)) && (exists (role_at es role) && (names_channel (role_at es role) c || is_granted es (Role role) c))) (roles_put es)))
+  among_all : (o : Option Standing) (c : List ℕ) → among (user_channels o user (map (role_kept_at es) (distinct_of (roles_put es))) now) c ≡ (exists o && (bytes_eq c everyone || names_channel o c || is_granted es (User user) c || list_any (λ role. (exists o && exists (role_at es role) && (names_role o role || is_given es user role)) && (exists (role_at es role) && (names_channel (role_at es role) c || is_granted es (Role role) c))) (roles_put es)))
   among_all None c = refl
   among_all (Some put) c =
       let own : List (List ℕ) = everyone ∷ put.channels in
-      let users : List (List ℕ) = granted (map f (distinct_of (documents es))) (User user) in
-      let roles : List (List ℕ) = flat_map (λ role. by_role (Some put) user (map f (distinct_of (documents es))) role) (map (role_kept_at es) (distinct_of (roles_put es))) in
+      let users : List (List ℕ) = granted now (User user) in
+      let roles : List (List ℕ) = flat_map (λ role. by_role (Some put) user now role) (map (role_kept_at es) (distinct_of (roles_put es))) in
       list_any-append (λ t. bytes_eq t c) (own ++ users) roles
       ∙ ap (λ b. b || among roles c) (list_any-append (λ t. bytes_eq t c) own users)
       ∙ ap (λ b. (b || among put.channels c || among users c) || among roles c) (texts_swap everyone c)
-      ∙ ap (λ b. (bytes_eq c everyone || among put.channels c || b) || among roles c) (among_granted (User user) c)
+      ∙ ap (λ b. (bytes_eq c everyone || among put.channels c || b) || among roles c) (among_user c)
       ∙ ap (λ b. (bytes_eq c everyone || among put.channels c || is_granted es (User user) c) || b) (among_by_roles put c)
 
-  pub listed : (c : List ℕ) → among (add_names (user_channels (user_at es user) user (map (role_kept_at es) (distinct_of (roles_put es))) (map f (distinct_of (documents es)))) []) c ≡ has_channel es user c
-  listed c = among_names (user_channels (user_at es user) user (map (role_kept_at es) (distinct_of (roles_put es))) (map f (distinct_of (documents es)))) c ∙ among_all (user_at es user) c
+  pub listed : (c : List ℕ) → among (add_names (user_channels (user_at es user) user (map (role_kept_at es) (distinct_of (roles_put es))) now) []) c ≡ has_channel es user c
+  listed c = among_names (user_channels (user_at es user) user (map (role_kept_at es) (distinct_of (roles_put es))) now) c ∙ among_all (user_at es user) c

@@ -28,11 +28,11 @@ use Rattle.feed_rows.proofs.Names.{same_texts}
 pub place_added : (old new : BTreeMap (Bor (List ℕ)) ℕ) (name : List ℕ) (place : ℕ) → UpdatesBy (λ x y. slice_cmp nat_cmp x.now y.now) (λ k. slice_cmp nat_cmp name k.now) old new (Some place) → (other : List ℕ) → place_in new other ≡ (if bytes_eq name other then Some place else place_in old other)
 place_added old new name place h other = btree_map_updates_str name old new (Some place) h other
 
-slice_get_end : {X : Type 0} (xs : List X) (x : X) → slice_get (xs ++ x ∷ []) (length xs) ≡ Some x
+pub slice_get_end : {X : Type 0} (xs : List X) (x : X) → slice_get (xs ++ x ∷ []) (length xs) ≡ Some x
 slice_get_end [] x = refl
 slice_get_end (y ∷ xs) x = slice_get_end xs x
 
-slice_get_more : {X : Type 0} (xs ys : List X) (k : ℕ) (x : X) → slice_get xs k ≡ Some x → slice_get (xs ++ ys) k ≡ Some x
+pub slice_get_more : {X : Type 0} (xs ys : List X) (k : ℕ) (x : X) → slice_get xs k ≡ Some x → slice_get (xs ++ ys) k ≡ Some x
 slice_get_more [] ys k x h = absurd (none-some _ h)
 slice_get_more (y ∷ xs) ys zero x h = h
 slice_get_more (y ∷ xs) ys (suc k) x h = slice_get_more xs ys k x h

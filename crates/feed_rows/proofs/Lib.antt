@@ -4,8 +4,10 @@ mod Changes
 pub mod ChannelLists
 mod Indexes
 mod Keys
+mod Looks
 mod Loops
 mod Names
+mod Numberings
 mod Ordered
 mod Passes
 pub mod Past

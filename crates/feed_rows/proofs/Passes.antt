@@ -1,7 +1,7 @@
 -- what a pass knows after one entry more
 use Rattle.std.proofs.Common.{◌≡◌, ℕ, ◌+◌, refl, sym, ◌∙◌, ap, subst, Bool, true, false, not, if◌then◌else◌, List, [], ◌∷◌, ◌++◌, length, map, Option, Some, None}
 use Rattle.std.proofs.Math.Path.{fun_ext}
-use Rattle.std.specs.Prelude.{slice_get}
+use Rattle.std.specs.Prelude.{slice_get, slice_set}
 use Rattle.std.specs.Borrow.{Bor}
 use Rattle.std.specs.BTreeMap.{BTreeMap}
 use Rattle.std.specs.List.{list_any}
@@ -21,16 +21,20 @@ use Rattle.sg_history.specs.Principals.{Standing, user_after, user_at, roles_put
 use Rattle.sg_names.specs.declared.grants.Grantee.TheVariants.{User, Role}
 use Rattle.feed_rows.specs.declared.documents.Latest.{Latest}
 use Rattle.feed_rows.specs.declared.document.Document.{Document}
+use Rattle.feed_rows.specs.declared.numbers.Numbered.{Numbered}
 use Rattle.feed_rows.specs.declared.pass.Pass.{Pass}
 use Rattle.feed_rows.specs.Latest.{current_in, winner_in}
 use Rattle.feed_rows.specs.Index.{IsIndex, IsWriteIndex, winner_among, write_in}
-use Rattle.feed_rows.specs.Kept.{Kept, RoleKept, kept_at, kept_next, blank, add_blank, changed_at, current_there, with_current, written_names, distinct_of, add_name, looked_at, looked_where, WrittenPlace, is_quiet, written, is_idle, role_kept_at}
+use Rattle.feed_rows.specs.Kept.{Kept, RoleKept, kept_at, kept_next, blank, add_blank, changed_at, current_there, with_current, written_names, distinct_of, add_name, looked_at, looked_where, sought, WrittenPlace, is_quiet, written, is_idle, role_kept_at}
 use Rattle.feed_rows.specs.Channels.{role_next, roles_next, add_role, user_channels, add_names}
-use Rattle.feed_rows.specs.Pass.{kept_in, role_in}
+use Rattle.feed_rows.specs.Numbers.{IsNumbering, GoesOn, AreNumbers}
+use Rattle.feed_rows.specs.Pass.{kept_in, noted_in, Noted, noted, AreNoted, StayNoted, granting_in, role_in}
 use Rattle.feed_rows.specs.PassAt.{PassAt, Ready, HasChannels}
 use Rattle.feed_rows.specs.Put.{standing_in}
 use Rattle.feed_rows.proofs.Names.{any_distinct, distinct_names, get_there, changed_there, placed_among, text_is_itself, other_texts}
 use Rattle.feed_rows.proofs.ChannelLists.{any_mapped, listed}
+use Rattle.feed_rows.proofs.Looks.{Misses, granting_found, noted_on, noted_set}
+use Rattle.feed_rows.proofs.Numberings.{holds_same}
 use Rattle.feed_rows.proofs.Steps.{current_same, current_never, view_never, row_never, kept_same, looked_now, writes_other, quiet_is, quiet_write, has_by}
 
 -- a write is an entry of its own kind
@@ -177,9 +181,13 @@ idle entry.Unused es user filter h =
     record { has = has; put = refl; documents = all_kept entry.Unused es user filter (λ doc. refl) has; names = refl; found = λ doc rev. refl; roles = refl }
 
 -- a pass whose documents were looked at
-pub passed : (e : Entry) (es : List Entry) (user : List ℕ) (filter : Option (List (List ℕ))) (before after : Pass) → Ready e es user filter before → after.places ≡ before.places → after.writes ≡ before.writes → after.roles ≡ before.roles → after.put ≡ before.put → HasChannels (e ∷ es) user after → map kept_in after.documents.items ≡ map (kept_at (e ∷ es) user filter) (written_names (e ∷ es)) → PassAt (e ∷ es) user filter after
-passed e es user filter before after ready same_places same_writes same_roles same_put has looked =
+pub passed : (e : Entry) (es : List Entry) (user : List ℕ) (filter : Option (List (List ℕ))) (before after : Pass) → Ready e es user filter before → after.places ≡ before.places → after.writes ≡ before.writes → after.roles ≡ before.roles → after.put ≡ before.put → after.numbered.numbers ≡ before.numbered.numbers → length after.numbered.held.items ≡ length before.numbered.held.items → map noted_in after.documents.items ≡ map noted_in before.documents.items → HasChannels (e ∷ es) user after → map kept_in after.documents.items ≡ map (kept_at (e ∷ es) user filter) (written_names (e ∷ es)) → PassAt (e ∷ es) user filter after
+passed e es user filter before after ready same_places same_writes same_roles same_put same_numbers same_count same_notes has looked =
     let P : BTreeMap (Bor (List ℕ)) ℕ → Type 0 = IsIndex (written_names (e ∷ es)) in
+    let Q : BTreeMap (Bor (List ℕ)) ℕ → Type 0 = λ numbers. IsNumbering numbers (length before.numbered.held.items) in
+    let R : ℕ → Type 0 = λ count. IsNumbering after.numbered.numbers count in
+    let S : BTreeMap (Bor (List ℕ)) ℕ → Type 0 = λ numbers. AreNoted user filter numbers (map noted_in before.documents.items) in
+    let T : List Noted → Type 0 = λ notes. AreNoted user filter after.numbered.numbers notes in
     record {
       documents = looked;
       places = subst P (sym same_places) ready.places;
@@ -187,17 +195,26 @@ passed e es user filter before after ready same_places same_writes same_roles sa
       roles = ap (λ rs. map role_in rs.items) same_roles ∙ ready.roles;
       put = ap standing_in same_put ∙ ready.put;
       channels = has;
+      numbering = subst R (sym same_count) (subst Q (sym same_numbers) ready.numbering);
+      noted = subst T (sym same_notes) (subst S (sym same_numbers) ready.noted);
     }
 
+-- the documents that grant something tell all that is granted
+granting_all : (e : Entry) (es : List Entry) (user : List ℕ) (filter : Option (List (List ℕ))) (before : Pass) → Ready e es user filter before → (test : Option Current → Bool) → Misses user test → list_any (λ c. test (Some c)) (granting_in before.documents.items) ≡ list_any (λ doc. test (current (e ∷ es) doc)) (documents (e ∷ es))
+granting_all e es user filter before ready test misses =
+    granting_found user filter before.numbered.numbers test misses before.documents.items ready.noted
+    ∙ ap (list_any (λ (k : Kept). test k.current)) ready.documents
+    ∙ any_mapped (λ (k : Kept). test k.current) (kept_next e es user filter) (written_names (e ∷ es))
+    ∙ any_distinct (λ doc. test (current (e ∷ es) doc)) (documents (e ∷ es))
+
 -- the channels that were worked out
-pub worked_out : (e : Entry) (es : List Entry) (user : List ℕ) (filter : Option (List (List ℕ))) (before : Pass) (list : List (List ℕ)) → Ready e es user filter before → list ≡ add_names (user_channels (standing_in before.put) user (map role_in before.roles.items) (map kept_in before.documents.items)) [] → (c : List ℕ) → among list c ≡ has_channel (e ∷ es) user c
+pub worked_out : (e : Entry) (es : List Entry) (user : List ℕ) (filter : Option (List (List ℕ))) (before : Pass) (list : List (List ℕ)) → Ready e es user filter before → list ≡ add_names (user_channels (standing_in before.put) user (map role_in before.roles.items) (granting_in before.documents.items)) [] → (c : List ℕ) → among list c ≡ has_channel (e ∷ es) user c
 worked_out e es user filter before list ready is c =
     ap (λ (l : List (List ℕ)). among l c)
     (is
-    ∙ ap (λ (p : Option Standing). add_names (user_channels p user (map role_in before.roles.items) (map kept_in before.documents.items)) []) ready.put
-    ∙ ap (λ rs. add_names (user_channels (user_at (e ∷ es) user) user rs (map kept_in before.documents.items)) []) ready.roles
-    ∙ ap (λ ks. add_names (user_channels (user_at (e ∷ es) user) user (map (role_kept_at (e ∷ es)) (distinct_of (roles_put (e ∷ es)))) ks) []) ready.documents)
-    ∙ listed (e ∷ es) user (kept_next e es user filter) (λ n. refl) c
+    ∙ ap (λ (p : Option Standing). add_names (user_channels p user (map role_in before.roles.items) (granting_in before.documents.items)) []) ready.put
+    ∙ ap (λ rs. add_names (user_channels (user_at (e ∷ es) user) user rs (granting_in before.documents.items)) []) ready.roles)
+    ∙ listed (e ∷ es) user (granting_in before.documents.items) (granting_all e es user filter before ready) c
 
 -- the names of the documents that a pass knows
 pub names_are : (es : List Entry) (user : List ℕ) (filter : Option (List (List ℕ))) (items : List Document) (names : List (List ℕ)) → map kept_in items ≡ map (kept_at es user filter) names → map (λ d. d.name.now) items ≡ names
@@ -205,16 +222,21 @@ names_are es user filter items names h =
     sym (map-map (λ (k : Kept). k.name) kept_in items) ∙ ap (map (λ (k : Kept). k.name)) h ∙ map-map (λ (k : Kept). k.name) (kept_at es user filter) names ∙ map-id names
 
 -- an entry that is no write, taken by the roles and the user
-pub ready_put : (e : Entry) (es : List Entry) (user : List ℕ) (filter : Option (List (List ℕ))) (before after : Pass) → written e ≡ None → PassAt es user filter before → map kept_in after.documents.items ≡ map kept_in before.documents.items → after.places ≡ before.places → after.writes ≡ before.writes → map role_in after.roles.items ≡ roles_next e (map role_in before.roles.items) → standing_in after.put ≡ user_after e user (standing_in before.put) → Ready e es user filter after
-ready_put e es user filter before after other known same same_places same_writes roles put =
+pub ready_put : (e : Entry) (es : List Entry) (user : List ℕ) (filter : Option (List (List ℕ))) (before after : Pass) → written e ≡ None → PassAt es user filter before → map kept_in after.documents.items ≡ map kept_in before.documents.items → after.places ≡ before.places → after.writes ≡ before.writes → after.numbered ≡ before.numbered → map noted_in after.documents.items ≡ map noted_in before.documents.items → map role_in after.roles.items ≡ roles_next e (map role_in before.roles.items) → standing_in after.put ≡ user_after e user (standing_in before.put) → Ready e es user filter after
+ready_put e es user filter before after other known same same_places same_writes same_numbered same_notes roles put =
     let P : BTreeMap (Bor (List ℕ)) ℕ → Type 0 = IsIndex (written_names (e ∷ es)) in
     let Q : List (List ℕ) → Type 0 = λ names. IsIndex names before.places in
+    let R : Numbered → Type 0 = λ numbered. IsNumbering numbered.numbers (length numbered.held.items) in
+    let S : Numbered → Type 0 = λ numbered. AreNoted user filter numbered.numbers (map noted_in before.documents.items) in
+    let T : List Noted → Type 0 = λ notes. AreNoted user filter after.numbered.numbers notes in
     record {
       documents = same ∙ known.documents ∙ documents_stay e es user filter other;
       places = subst P (sym same_places) (subst Q (sym (no_document e es other)) known.places);
       writes = λ doc rev. ap (λ ws. write_in ws doc rev) same_writes ∙ known.writes doc rev ∙ ap (λ (w : Option Write). with_rev_or w rev (write_of_rev es doc rev)) (sym (writes_none e doc other));
       roles = roles ∙ ap (roles_next e) known.roles ∙ roles_are e es;
       put = put ∙ ap (user_after e user) known.put;
+      numbering = subst R (sym same_numbered) known.numbering;
+      noted = subst T (sym same_notes) (subst S (sym same_numbered) known.noted);
     }
 
 -- what a document is after a write, by the index of writes
@@ -251,6 +273,13 @@ module _ (e : Entry) (w : Write) (es : List Entry) (user : List ℕ) (filter : O
       ap (λ (x : Entry). has_channel (x ∷ es) user c) (is_write e w writes)
       ∙ quiet_write w es user (quiet_is user _ (ap (is_quiet user) (sym (h ∙ was)) ∙ a)) (quiet_is user _ (ap (is_quiet user) (sym (now_is latest now)) ∙ b)) c
 
+  -- the notes of all documents, once those of the written one were set
+  pub notes_set : (index : BTreeMap (Bor (List ℕ)) ℕ) → GoesOn before.numbered.numbers index → StayNoted (map noted_in before.documents.items) (map noted_in placed) → (latest : Latest) (numbers : List ℕ) (quiet : Bool) → AreNumbers index (sought filter (Some (winner_in latest))) numbers → quiet ≡ is_quiet user (Some (winner_in latest)) → AreNoted user filter index (slice_set (map noted_in placed) k (noted (Some (winner_in latest)) numbers quiet))
+  notes_set index on stay latest numbers quiet are is =
+      noted_set user filter index (map noted_in placed) k (noted (Some (winner_in latest)) numbers quiet)
+      (noted_on user filter before.numbered.numbers index on (map noted_in placed) (stay user filter before.numbered.numbers known.noted))
+      (record { numbers = are; quiet = is })
+
   brought : (latest : Latest) → winner_in latest ≡ current_of (length es + 1) (winner_among before.writes w) → changed_at k (with_current (winner_in latest)) (map kept_in placed) ≡ map (kept_next (entry.Write w) es user filter) (written_names (entry.Write w ∷ es))
   brought latest now =
       ap (changed_at k (with_current (winner_in latest))) placed_is
@@ -258,8 +287,8 @@ module _ (e : Entry) (w : Write) (es : List Entry) (user : List ℕ) (filter : O
       (λ n b. sym (next_same (entry.Write w) es user filter n (writes_other w n (other_texts n w.doc b))))
       (ap (λ (o : Option Current). record { name = w.doc; current = o; view = (kept_at es user filter w.doc).view; row = (kept_at es user filter w.doc).row }) (now_is latest now))
 
-  ready_of : (latest : Latest) (after : Pass) → winner_in latest ≡ current_of (length es + 1) (winner_among before.writes w) → map kept_in after.documents.items ≡ changed_at k (with_current (winner_in latest)) (map kept_in placed) → IsIndex (map (λ d. d.name.now) placed) after.places → ((doc : List ℕ) (rev : RevId) → write_in after.writes doc rev ≡ with_rev_or (if bytes_eq w.doc doc then Some w else None) rev (write_in before.writes doc rev)) → after.roles ≡ before.roles → after.put ≡ before.put → Ready (entry.Write w) es user filter after
-  ready_of latest after now set index added same_roles same_put =
+  ready_of : (latest : Latest) (after : Pass) → winner_in latest ≡ current_of (length es + 1) (winner_among before.writes w) → map kept_in after.documents.items ≡ changed_at k (with_current (winner_in latest)) (map kept_in placed) → IsIndex (map (λ d. d.name.now) placed) after.places → ((doc : List ℕ) (rev : RevId) → write_in after.writes doc rev ≡ with_rev_or (if bytes_eq w.doc doc then Some w else None) rev (write_in before.writes doc rev)) → after.roles ≡ before.roles → after.put ≡ before.put → IsNumbering after.numbered.numbers (length after.numbered.held.items) → AreNoted user filter after.numbered.numbers (map noted_in after.documents.items) → Ready (entry.Write w) es user filter after
+  ready_of latest after now set index added same_roles same_put numbering noted =
       let P : List (List ℕ) → Type 0 = λ names. IsIndex names after.places in
       record {
         documents = set ∙ brought latest now;
@@ -267,12 +296,21 @@ module _ (e : Entry) (w : Write) (es : List Entry) (user : List ℕ) (filter : O
         writes = λ doc rev. added doc rev ∙ ap (with_rev_or (if bytes_eq w.doc doc then Some w else None) rev) (known.writes doc rev);
         roles = ap (λ rs. map role_in rs.items) same_roles ∙ known.roles;
         put = ap standing_in same_put ∙ known.put;
+        numbering = numbering;
+        noted = noted;
       }
 
-  pub ready_write : (latest : Latest) (after : Pass) → winner_in latest ≡ current_of (length es + 1) (winner_among before.writes w) → map kept_in after.documents.items ≡ changed_at k (with_current (winner_in latest)) (map kept_in placed) → IsIndex (map (λ d. d.name.now) placed) after.places → ((doc : List ℕ) (rev : RevId) → write_in after.writes doc rev ≡ with_rev_or (if bytes_eq w.doc doc then Some w else None) rev (write_in before.writes doc rev)) → after.roles ≡ before.roles → after.put ≡ before.put → Ready e es user filter after
-  ready_write latest after now set index added same_roles same_put =
+  pub ready_write : (latest : Latest) (after : Pass) → winner_in latest ≡ current_of (length es + 1) (winner_among before.writes w) → map kept_in after.documents.items ≡ changed_at k (with_current (winner_in latest)) (map kept_in placed) → IsIndex (map (λ d. d.name.now) placed) after.places → ((doc : List ℕ) (rev : RevId) → write_in after.writes doc rev ≡ with_rev_or (if bytes_eq w.doc doc then Some w else None) rev (write_in before.writes doc rev)) → after.roles ≡ before.roles → after.put ≡ before.put → IsNumbering after.numbered.numbers (length after.numbered.held.items) → AreNoted user filter after.numbered.numbers (map noted_in after.documents.items) → Ready e es user filter after
+  ready_write latest after now set index added same_roles same_put numbering noted =
       let P : Entry → Type 0 = λ x. Ready x es user filter after in
-      subst P (sym (is_write e w writes)) (ready_of latest after now set index added same_roles same_put)
+      subst P (sym (is_write e w writes)) (ready_of latest after now set index added same_roles same_put numbering noted)
+
+-- the channels of a user that an entry leaves as they were
+pub still_has : (e : Entry) (es : List Entry) (user : List ℕ) (before : Pass) → ((c : List ℕ) → has_channel (e ∷ es) user c ≡ has_channel es user c) → HasChannels es user before → HasChannels (e ∷ es) user before
+still_has e es user before same has = record {
+  listed = λ c. has.listed c ∙ sym (same c);
+  held = holds_same (λ c. has_channel es user c) (λ c. has_channel (e ∷ es) user c) before.numbered.numbers before.numbered.held.items (λ c. sym (same c)) has.held;
+}
 
 -- an idle entry
 pub idle_pass : (es : List Entry) (user : List ℕ) (filter : Option (List (List ℕ))) (before : Pass) → PassAt es user filter before → (e : Entry) → is_idle e user ≡ true → PassAt (e ∷ es) user filter before
@@ -285,5 +323,7 @@ idle_pass es user filter before known e h =
       writes = λ doc rev. known.writes doc rev ∙ rest.found doc rev;
       roles = known.roles ∙ rest.roles;
       put = known.put ∙ rest.put;
-      channels = λ c. known.channels c ∙ sym (rest.has c);
+      channels = still_has e es user before rest.has known.channels;
+      numbering = known.numbering;
+      noted = known.noted;
     }

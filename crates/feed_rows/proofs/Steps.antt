@@ -16,9 +16,9 @@ use Rattle.sg_history.specs.declared.row.Row.{Row}
 use Rattle.sg_history.specs.History.{write_to, written_by, documents, among}
 use Rattle.sg_history.specs.Current.{Current, Sequenced, sequenced_or, with_rev_or, write_of_rev, write_or, current_of, last_write, current, current_after}
 use Rattle.sg_history.specs.Principals.{Standing, exists, names_role, names_channel, same_grantee, grants_channel, is_granted, gives_role, is_given, has_channel, user_at, role_at, roles_put, everyone}
-use Rattle.sg_history.specs.View.{Shown, view, view_of, same_view}
+use Rattle.sg_history.specs.View.{Shown, every, passes, view, view_of, same_view}
 use Rattle.sg_history.specs.Feed.{changed, row_at, row_of, row_with, writes}
-use Rattle.feed_rows.specs.Kept.{kept_at, kept_next, view_by, looked_at, reaches, is_quiet}
+use Rattle.feed_rows.specs.Kept.{kept_at, kept_next, view_when, view_by, looked_at, reaches, is_quiet}
 use Rattle.feed_rows.proofs.Names.{same_texts, text_is_itself}
 
 -- an entry that does not write a document leaves it as it is
@@ -63,9 +63,21 @@ changed_never (e ∷ older) user filter doc h =
 pub row_never : (es : List Entry) (user : List ℕ) (filter : Option (List (List ℕ))) (doc : List ℕ) → among (documents es) doc ≡ false → row_of es user filter doc ≡ None
 row_never es user filter doc h = ap (λ (at : List Entry). row_at at user filter doc) (changed_never es user filter doc h)
 
+shown_when : (c : Current) (h : Bool) → view_when h (Some c) ≡ (if h && true then Some (record { seq = c.seq; rev = c.rev; deleted = c.deleted }) else None)
+shown_when c true = refl
+shown_when c false = refl
+
+hidden_when : (c : Current) (h : Bool) → view_when false (Some c) ≡ (if h && false then Some (record { seq = c.seq; rev = c.rev; deleted = c.deleted }) else None)
+hidden_when c true = refl
+hidden_when c false = refl
+
+shown_where : (has : List ℕ → Bool) (channels : List (List ℕ)) (c : Current) (p : Bool) → view_when (list_any has (if p then channels else [])) (Some c) ≡ (if list_any has channels && p then Some (record { seq = c.seq; rev = c.rev; deleted = c.deleted }) else None)
+shown_where has channels c true = shown_when c (list_any has channels)
+shown_where has channels c false = hidden_when c (list_any has channels)
+
 view_by_is : (es : List Entry) (user : List ℕ) (filter : Option (List (List ℕ))) (o : Option Current) → view_by (λ c. has_channel es user c) filter o ≡ view_of es user filter o
 view_by_is es user filter None = refl
-view_by_is es user filter (Some c) = refl
+view_by_is es user filter (Some c) = shown_where (λ channel. has_channel es user channel) (every ∷ c.channels) c (passes filter (every ∷ c.channels))
 
 row_step : (e : Entry) (es : List Entry) (user : List ℕ) (filter : Option (List (List ℕ))) (doc : List ℕ) (b : Bool) → (if b then row_of es user filter doc else row_at (e ∷ es) user filter doc) ≡ row_at (if b then changed es user filter doc else e ∷ es) user filter doc
 row_step e es user filter doc true = refl
@@ -83,7 +95,7 @@ mark_is_itself : (b : Bool) → beq b b ≡ true
 mark_is_itself true = refl
 mark_is_itself false = refl
 
-view_is_itself : (v : Option Shown) → same_view v v ≡ true
+pub view_is_itself : (v : Option Shown) → same_view v v ≡ true
 view_is_itself None = refl
 view_is_itself (Some s) =
     and_from _ _ (and_from _ _ (eq-eqb s.seq s.seq refl) (and_from _ _ (eq-eqb s.rev.generation s.rev.generation refl) (text_is_itself s.rev.digest))) (mark_is_itself s.deleted)

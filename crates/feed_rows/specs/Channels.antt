@@ -1,4 +1,4 @@
--- the channels of a user, worked out from what is kept of documents and roles
+-- the channels of a user, worked out from the documents that grant something and from what is kept of roles
 use Rattle.std.specs.Prelude.{ℕ, Bool, ◌&&◌, ◌||◌, List, [], ◌∷◌, ◌++◌, map, filter, Option, Some, None, if◌then◌else◌}
 use Rattle.std.specs.List.{list_any, list_all, flat_map}
 use Rattle.std.specs.Str.{bytes_eq}
@@ -9,20 +9,15 @@ use Rattle.sg_history.specs.declared.entries.Entry.TheVariants as entry
 use Rattle.sg_history.specs.Current.{Current}
 use Rattle.sg_history.specs.Principals.{Standing, same_grantee, gives_role, exists, names_role, everyone, role_after}
 use Rattle.sg_history.specs.History.{among}
-use Rattle.feed_rows.specs.Kept.{Kept, RoleKept, add_name}
-
--- the channels that a document's current revision grants to a user or a role
-abbrev pub granted_by : Option Current → Grantee → List (List ℕ)
-granted_by None to = []
-granted_by (Some c) to = map (λ g. g.channel) (filter (λ g. same_grantee g.to to) c.grants)
+use Rattle.feed_rows.specs.Kept.{RoleKept, add_name}
 
 -- the channels that current revisions grant to a user or a role
-abbrev pub granted : List Kept → Grantee → List (List ℕ)
-granted kept to = flat_map (λ k. granted_by k.current to) kept
+abbrev pub granted : List Current → Grantee → List (List ℕ)
+granted currents to = flat_map (λ c. map (λ g. g.channel) (filter (λ g. same_grantee g.to to) c.grants)) currents
 
 -- whether some current revision gives the role to the user
-abbrev pub given : List Kept → List ℕ → List ℕ → Bool
-given kept user role = list_any (λ k. gives_role k.current user role) kept
+abbrev pub given : List Current → List ℕ → List ℕ → Bool
+given currents user role = list_any (λ c. gives_role (Some c) user role) currents
 
 -- the channels of a put, none where there is no put
 abbrev pub channels_of : Option Standing → List (List ℕ)
@@ -30,17 +25,17 @@ channels_of None = []
 channels_of (Some standing) = standing.channels
 
 -- the channels that a user has by a role: those of its last put and those granted to it, where it exists and the user has it
-abbrev pub by_role : Option Standing → List ℕ → List Kept → RoleKept → List (List ℕ)
-by_role put user kept role =
-    if exists role.standing && (names_role put role.name || given kept user role.name)
-    then channels_of role.standing ++ granted kept (Role role.name)
+abbrev pub by_role : Option Standing → List ℕ → List Current → RoleKept → List (List ℕ)
+by_role put user currents role =
+    if exists role.standing && (names_role put role.name || given currents user role.name)
+    then channels_of role.standing ++ granted currents (Role role.name)
     else []
 
 -- the channels of a user: `!`, those of its last put, those granted to it, and those of its roles; none where it does not exist
-abbrev pub user_channels : Option Standing → List ℕ → List RoleKept → List Kept → List (List ℕ)
-user_channels put user roles kept =
+abbrev pub user_channels : Option Standing → List ℕ → List RoleKept → List Current → List (List ℕ)
+user_channels put user roles currents =
     if exists put
-    then everyone ∷ channels_of put ++ granted kept (User user) ++ flat_map (λ role. by_role put user kept role) roles
+    then everyone ∷ channels_of put ++ granted currents (User user) ++ flat_map (λ role. by_role put user currents role) roles
     else []
 
 -- names, and after them each of these that is not there yet

@@ -96,17 +96,20 @@ is_idle (entry.DropUser name) user = not (bytes_eq name user)
 is_idle (entry.DropRole name) user = false
 is_idle entry.Unused user = true
 
--- whether a user who has these channels has one of the document's, and the filter names one
-abbrev pub is_shown_by : (List ℕ → Bool) → Option (List (List ℕ)) → Current → Bool
-is_shown_by has filter c = list_any has (every ∷ c.channels) && passes filter (every ∷ c.channels)
+-- the channels under which a document is sought: `*` and its own, where the filter lets one of them through
+abbrev pub sought : Option (List (List ℕ)) → Option Current → List (List ℕ)
+sought filter None = []
+sought filter (Some c) = if passes filter (every ∷ c.channels) then every ∷ c.channels else []
+
+-- what is shown of a document, where it is shown
+abbrev pub view_when : Bool → Option Current → Option Shown
+view_when true None = None
+view_when true (Some c) = Some (record { seq = c.seq; rev = c.rev; deleted = c.deleted })
+view_when false o = None
 
 -- what is shown of a document to a user who has these channels
 abbrev pub view_by : (List ℕ → Bool) → Option (List (List ℕ)) → Option Current → Option Shown
-view_by has filter None = None
-view_by has filter (Some c) =
-    if is_shown_by has filter c
-    then Some (record { seq = c.seq; rev = c.rev; deleted = c.deleted })
-    else None
+view_by has filter o = view_when (list_any has (sought filter o)) o
 
 -- the document, shown so after the entry at this place; its row is of this place where that is a change
 abbrev pub with_view : ℕ → Entry → Option Shown → Kept → Kept
@@ -117,6 +120,10 @@ with_view by e shown kept =
       view = shown;
       row = if same_view shown kept.view then kept.row else row_with by (writes e kept.name) shown kept.name kept.current;
     }
+
+-- the document, shown or hidden after the entry at this place
+abbrev pub shown_at : Bool → ℕ → Entry → Kept → Kept
+shown_at is_shown by e kept = with_view by e (view_when is_shown kept.current) kept
 
 -- the document looked at anew after the entry at this place, for a user who has these channels
 abbrev pub looked_at : (List ℕ → Bool) → Option (List (List ℕ)) → ℕ → Entry → Kept → Kept

@@ -3,6 +3,7 @@ pub mod Index
 pub mod Kept
 pub mod Latest
 pub mod Laws
+pub mod Numbers
 pub mod Ordered
 pub mod Pass
 pub mod PassAt

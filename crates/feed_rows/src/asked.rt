@@ -1,18 +1,32 @@
 //! The rows that are asked for, out of what a pass over the log knows of documents.
 
-ghost use Rattle.std.specs.Prelude.{◌≡◌, List, map, reverse, OnOk, IfOk};
+ghost use Rattle.std.specs.Prelude.{◌≡◌, List, map, reverse, Some, OnOk, IfOk};
 ghost use Rattle.std.specs.BTreeMap.{values};
 ghost use Rattle.sg_history.specs.declared.row.Row.{Row};
 ghost use Rattle.sg_history.specs.Feed.{feed};
+ghost use Rattle.feed_rows.specs.Kept.{view_when};
+ghost use Rattle.feed_rows.specs.Latest.{shown_in, winner_in};
 ghost use Rattle.feed_rows.specs.Ordered.{asked_rows, insert_asked, under_key};
 ghost use Rattle.feed_rows.specs.Pass.{kept_in, row_in};
 
 use crate::document::{Change, Document};
+use crate::documents::Latest;
 use crate::pass::pass_over;
-use crate::scan::keeps;
+use crate::scan::{bits_of, keeps};
 use sg_history::{DocId, Entry, Key, Options, Row};
 use std::alloc::{AllocError, Global};
 use std::collections::BTreeMap;
+
+/// What was shown of a document from a change on.
+fn shown_by<'a>(change: Change<'a>) -> Option<Latest<'a>>
+    ensures { shown_in result ≡ view_when change.entry.is_shown (Some (winner_in change.entry.latest)) }
+{
+    if change.is_shown {
+        Some(change.latest)
+    } else {
+        None
+    }
+}
 
 /// The row of a document by its last change.
 fn row_of_change(
@@ -31,7 +45,7 @@ fn row_of_change(
             },
             doc: name.copy(alloc)?,
             rev: change.latest.write.rev.copy(alloc)?,
-            bits: change.bits,
+            bits: bits_of(shown_by(change), change.wrote, change.latest.write.deleted),
         })),
     }
 }
@@ -41,10 +55,10 @@ fn add_row(
     alloc: Global,
     options: &Options,
     since: &Key,
-    document: Document<'_>,
+    document: &Document<'_>,
     rows: &mut BTreeMap<(u64, u64), Row>,
 ) -> Result<(), AllocError>
-    ensures { OnOk result ((before : List Row) → rows.old.entries ≡ map under_key before → rows.new.entries ≡ map under_key (insert_asked options.now since.now (kept_in document.entry).row before)) }
+    ensures { OnOk result ((before : List Row) → rows.old.entries ≡ map under_key before → rows.new.entries ≡ map under_key (insert_asked options.now since.now (kept_in document.now).row before)) }
 {
     if let Some(row) = row_of_change(alloc, document.name, document.change)? {
         if keeps(options, since, &row) {
@@ -64,7 +78,7 @@ fn map_of(
 {
     let mut rows = BTreeMap::new(alloc);
     for document in documents {
-        add_row(alloc, options, since, *document, &mut rows)?;
+        add_row(alloc, options, since, document, &mut rows)?;
     }
     Ok(rows)
 }

@@ -1,6 +1,6 @@
 //! The channels of a user, worked out from the states of documents and roles.
 
-ghost use Rattle.std.specs.Prelude.{◌≡◌, ◌++◌, ◌∷◌, [], ◌||◌, map, filter, OnOk, IfOk, if◌then◌else◌};
+ghost use Rattle.std.specs.Prelude.{◌≡◌, ◌++◌, ◌∷◌, [], ◌||◌, map, filter, Some, OnOk, IfOk, if◌then◌else◌};
 ghost use Rattle.std.specs.List.{list_any, list_all, flat_map};
 ghost use Rattle.std.specs.Str.{bytes_eq};
 ghost use Rattle.sg_names.specs.declared.grants.Grantee.TheVariants.{User, Role};
@@ -8,11 +8,11 @@ ghost use Rattle.sg_history.specs.Principals as principals;
 ghost use Rattle.sg_history.specs.History.{among};
 ghost use Rattle.feed_rows.specs.Channels as channels;
 ghost use Rattle.feed_rows.specs.Kept.{add_name};
-ghost use Rattle.feed_rows.specs.Latest.{current_in};
-ghost use Rattle.feed_rows.specs.Pass.{kept_in, role_in, texts};
+ghost use Rattle.feed_rows.specs.Latest.{current_in, winner_in};
+ghost use Rattle.feed_rows.specs.Pass.{granting_by, granting_in, role_in, texts};
 ghost use Rattle.feed_rows.specs.Put.{standing_in, role_standing_in, grantee_in};
 
-use crate::document::{Document, has};
+use crate::document::Document;
 use crate::documents::Latest;
 use crate::principals::{Put, To, gives_role, is_to, put_names_role, role_after};
 use sg_history::{Channels, Entry, Grant, Name};
@@ -111,40 +111,27 @@ fn add_grants<'a>(
     Ok(())
 }
 
-fn add_granted_by<'a>(
-    list: &mut Vec<&'a [u8]>,
-    latest: Option<Latest<'a>>,
-    to: To<'_>,
-) -> Result<(), AllocError>
-    ensures { OnOk result (texts list.new.items ≡ texts list.old.items ++ channels.granted_by (current_in latest.entry) (grantee_in to.entry)) }
-{
-    match latest {
-        None => Ok(()),
-        Some(latest) => add_grants(list, latest.write.grants.as_slice(), to),
-    }
-}
-
 fn add_granted<'a>(
     list: &mut Vec<&'a [u8]>,
-    documents: &[Document<'a>],
+    documents: &[Latest<'a>],
     to: To<'_>,
 ) -> Result<(), AllocError>
-    ensures { OnOk result (texts list.new.items ≡ texts list.old.items ++ channels.granted (map kept_in documents.now) (grantee_in to.entry)) }
+    ensures { OnOk result (texts list.new.items ≡ texts list.old.items ++ channels.granted (map winner_in documents.now) (grantee_in to.entry)) }
 {
-    for document in documents {
-        add_granted_by(list, document.latest, to)?;
+    for latest in documents {
+        add_grants(list, latest.write.grants.as_slice(), to)?;
     }
     Ok(())
 }
 
-fn some_gives(documents: &[Document<'_>], user: &[u8], role: &[u8]) -> bool
-    ensures { result ≡ list_any (λ d. principals.gives_role (current_in d.latest) user.now role.now) documents.now }
+fn some_gives(documents: &[Latest<'_>], user: &[u8], role: &[u8]) -> bool
+    ensures { result ≡ list_any (λ l. principals.gives_role (Some (winner_in l)) user.now role.now) documents.now }
 {
-    documents.iter().any(|d| gives_role(d.latest, user, role))
+    documents.iter().any(|l| gives_role(Some(*l), user, role))
 }
 
-fn is_given(documents: &[Document<'_>], user: &[u8], role: &[u8]) -> bool
-    ensures { result ≡ channels.given (map kept_in documents.now) user.now role.now }
+fn is_given(documents: &[Latest<'_>], user: &[u8], role: &[u8]) -> bool
+    ensures { result ≡ channels.given (map winner_in documents.now) user.now role.now }
 {
     some_gives(documents, user, role)
 }
@@ -153,10 +140,10 @@ fn add_by_role<'a>(
     list: &mut Vec<&'a [u8]>,
     put: Option<Put<'a>>,
     user: &[u8],
-    documents: &[Document<'a>],
+    documents: &[Latest<'a>],
     role: RoleState<'a>,
 ) -> Result<(), AllocError>
-    ensures { OnOk result (texts list.new.items ≡ texts list.old.items ++ channels.by_role (standing_in put.entry) user.now (map kept_in documents.now) (role_in role.entry)) }
+    ensures { OnOk result (texts list.new.items ≡ texts list.old.items ++ channels.by_role (standing_in put.entry) user.now (map winner_in documents.now) (role_in role.entry)) }
 {
     let name = role.name.as_bytes();
     if let Some(channels) = role.channels {
@@ -172,10 +159,10 @@ fn add_by_roles<'a>(
     list: &mut Vec<&'a [u8]>,
     put: Option<Put<'a>>,
     user: &[u8],
-    documents: &[Document<'a>],
+    documents: &[Latest<'a>],
     roles: &[RoleState<'a>],
 ) -> Result<(), AllocError>
-    ensures { OnOk result (texts list.new.items ≡ texts list.old.items ++ flat_map (λ r. channels.by_role (standing_in put.entry) user.now (map kept_in documents.now) r) (map role_in roles.now)) }
+    ensures { OnOk result (texts list.new.items ≡ texts list.old.items ++ flat_map (λ r. channels.by_role (standing_in put.entry) user.now (map winner_in documents.now) r) (map role_in roles.now)) }
 {
     for role in roles {
         add_by_role(list, put, user, documents, *role)?;
@@ -188,9 +175,9 @@ fn all_channels<'a>(
     put: Option<Put<'a>>,
     user: &[u8],
     roles: &[RoleState<'a>],
-    documents: &[Document<'a>],
+    documents: &[Latest<'a>],
 ) -> Result<Vec<&'a [u8]>, AllocError>
-    ensures { IfOk result (λ list. texts list.items ≡ channels.user_channels (standing_in put.entry) user.now (map role_in roles.now) (map kept_in documents.now)) }
+    ensures { IfOk result (λ list. texts list.items ≡ channels.user_channels (standing_in put.entry) user.now (map role_in roles.now) (map winner_in documents.now)) }
 {
     let mut list = Vec::new(alloc);
     if let Some(standing) = put {
@@ -200,6 +187,19 @@ fn all_channels<'a>(
         add_by_roles(&mut list, put, user, documents, roles)?;
     }
     Ok(list)
+}
+
+fn is_among(channels: &[&[u8]], channel: &[u8]) -> bool
+    ensures { result ≡ list_any (λ c. bytes_eq c.now channel.now) channels.now }
+{
+    channels.iter().any(|c| *c == channel)
+}
+
+/// Whether a channel is among these.
+pub fn has(channels: &[&[u8]], channel: &[u8]) -> bool
+    ensures { result ≡ among (texts channels.now) channel.now }
+{
+    is_among(channels, channel)
 }
 
 fn add_once<'a>(list: &mut Vec<&'a [u8]>, channel: &'a [u8]) -> Result<(), AllocError>
@@ -221,6 +221,28 @@ fn each_once<'a>(alloc: Global, list: &[&'a [u8]]) -> Result<Vec<&'a [u8]>, Allo
     Ok(once)
 }
 
+fn add_granting<'a>(list: &mut Vec<Latest<'a>>, document: &Document<'a>) -> Result<(), AllocError>
+    ensures { OnOk result (map winner_in list.new.items ≡ map winner_in list.old.items ++ granting_by document.now.quiet (current_in document.now.latest)) }
+{
+    if !document.quiet {
+        if let Some(latest) = document.latest {
+            list.push(latest)?;
+        }
+    }
+    Ok(())
+}
+
+/// What the documents that grant something are.
+fn granting<'a>(alloc: Global, documents: &[Document<'a>]) -> Result<Vec<Latest<'a>>, AllocError>
+    ensures { IfOk result (λ list. map winner_in list.items ≡ granting_in documents.now) }
+{
+    let mut list = Vec::new(alloc);
+    for document in documents {
+        add_granting(&mut list, document)?;
+    }
+    Ok(list)
+}
+
 /// The channels of a user, each once, given its last put and the states of all roles and documents.
 pub fn user_channels<'a>(
     alloc: Global,
@@ -229,9 +251,10 @@ pub fn user_channels<'a>(
     roles: &[RoleState<'a>],
     documents: &[Document<'a>],
 ) -> Result<Vec<&'a [u8]>, AllocError>
-    ensures { IfOk result (λ list. texts list.items ≡ channels.add_names (channels.user_channels (standing_in put.entry) user.now (map role_in roles.now) (map kept_in documents.now)) []) }
+    ensures { IfOk result (λ list. texts list.items ≡ channels.add_names (channels.user_channels (standing_in put.entry) user.now (map role_in roles.now) (granting_in documents.now)) []) }
 {
-    let list = all_channels(alloc, put, user, roles, documents)?;
+    let granting = granting(alloc, documents)?;
+    let list = all_channels(alloc, put, user, roles, granting.as_slice())?;
     let once = each_once(alloc, list.as_slice())?;
     Ok(once)
 }

@@ -7,6 +7,7 @@ mod documents;
 mod grants;
 mod index;
 pub mod laws;
+mod numbers;
 mod pass;
 mod principals;
 mod scan;

@@ -1,25 +1,28 @@
 //! One pass over the log for a user: what every document is, what is shown of it, and where that changed last.
 
-ghost use Rattle.std.specs.Prelude.{◌≡◌, ◌+◌, ◌<◌, ◌^◌, ℕ, List, Option, [], ◌∷◌, ◌&&◌, length, map, reverse, slice_get, Some, None, OnOk, IfOk};
-ghost use Rattle.std.specs.Option.{option_copied};
+ghost use Rattle.std.specs.Prelude.{◌≡◌, ◌+◌, ◌<◌, ◌^◌, ℕ, List, Option, [], ◌∷◌, ◌&&◌, true, length, map, reverse, slice_get, Some, None, OnOk, IfOk};
+ghost use Rattle.std.specs.Option.{option_copied, ForSome};
 ghost use Rattle.feed_rows.specs.Index.{IsIndex};
 ghost use Rattle.feed_rows.specs.Kept as kept;
-ghost use Rattle.feed_rows.specs.Latest.{current_in, winner_in};
-ghost use Rattle.feed_rows.specs.Pass.{kept_in};
-ghost use Rattle.feed_rows.specs.PassAt.{PassAt, Ready, HasChannels};
+ghost use Rattle.feed_rows.specs.Latest.{current_in};
+ghost use Rattle.feed_rows.specs.Pass.{kept_in, noted_in, StayNoted};
+ghost use Rattle.feed_rows.specs.PassAt.{PassAt, Ready, HasChannels, Stays, Completes};
 
-use crate::document::{Document, is_quiet, latest_after, look_at_all, look_at_written, set_latest};
+use crate::document::{
+    Document, Seen, is_quiet, latest_after, look_at_all, look_at_written, set_latest,
+};
 use crate::documents::Latest;
 use crate::grants::{RoleState, are_same, put_role, user_channels};
 use crate::index::{add_place, add_write, place_of};
+use crate::numbers::{Numbered, hold, numbers_sought};
 use crate::principals::{Put, user_after};
 use sg_history::{Channels, DocId, Entry, Write};
 use std::alloc::{AllocError, Global};
 use std::collections::BTreeMap;
 
 /// What is known after some entries: all documents that were written, with the place of each; the last write of
-/// each revision, by its document, generation and digest; all roles that were put; the user's last put; and the
-/// user's channels.
+/// each revision, by its document, generation and digest; all roles that were put; the user's last put; the user's
+/// channels; and the channels of documents by number.
 #[derive(Drop)]
 pub struct Pass<'a> {
     pub documents: Vec<Document<'a>>,
@@ -28,6 +31,7 @@ pub struct Pass<'a> {
     pub roles: Vec<RoleState<'a>>,
     pub put: Option<Put<'a>>,
     pub channels: Vec<&'a [u8]>,
+    pub numbered: Numbered<'a>,
 }
 
 /// The write that an entry is, if it is one.
@@ -50,6 +54,15 @@ fn is_idle(entry: &Entry, user: &[u8]) -> bool
         Entry::Unused => true,
         _ => false,
     }
+}
+
+/// Looks at the document that the entry at this place wrote, where it wrote one and left the user's channels.
+fn look_at_one(pass: &mut Pass<'_>, by: u64, entry: &Entry, place: Option<usize>)
+    requires { ForSome place (λ k. k < length pass.old.documents.items) }
+    ensures { Completes entry.now by place pass.old pass.new }
+{
+    let held = pass.numbered.held.as_slice();
+    look_at_written(held, by, entry, place, &mut pass.documents);
 }
 
 /// Works out the user's channels anew, and looks at all documents where they changed, else at the one that was
@@ -78,18 +91,12 @@ fn refresh<'a>(
     )?;
     let by = older.len() as u64 + 1;
     if are_same(pass.channels.as_slice(), channels.as_slice()) {
-        let documents = &mut pass.documents;
-        look_at_written(
-            pass.channels.as_slice(),
-            filter,
-            by,
-            entry,
-            place,
-            documents,
-        );
+        look_at_one(pass, by, entry, place);
         return Ok(());
     }
-    look_at_all(channels.as_slice(), filter, by, entry, &mut pass.documents);
+    hold(alloc, &mut pass.numbered, channels.as_slice())?;
+    let held = pass.numbered.held.as_slice();
+    look_at_all(held, by, entry, &mut pass.documents);
     pass.channels = channels;
     Ok(())
 }
@@ -115,12 +122,14 @@ fn take_put<'a>(
 
 /// The place of a document, at the end where it was never written.
 fn place_for<'a>(
+    alloc: Global,
     documents: &mut Vec<Document<'a>>,
     places: &mut BTreeMap<&'a str, usize>,
     name: &'a DocId,
 ) -> Result<usize, AllocError>
     requires { IsIndex (map (λ d. d.name.now) documents.old.items) places.old }
     ensures documents { OnOk result (map kept_in documents.new.items ≡ kept.add_blank name.now (map kept_in documents.old.items)) }
+    ensures noted { OnOk result (StayNoted (map noted_in documents.old.items) (map noted_in documents.new.items)) }
     ensures places { OnOk result (IsIndex (map (λ d. d.name.now) documents.new.items) places.new) }
     ensures place { IfOk result (λ k. slice_get (map (λ d. d.name.now) documents.new.items) k ≡ Some name.now) }
 {
@@ -131,17 +140,58 @@ fn place_for<'a>(
     documents.push(Document {
         name,
         latest: None,
-        shown: None,
+        seen: Seen::Nothing,
         change: None,
+        numbers: Vec::new(alloc),
+        quiet: true,
     })?;
     add_place(places, name, place)?;
     Ok(place)
 }
 
-fn both_quiet(user: &[u8], before: Option<Latest<'_>>, after: Latest<'_>) -> bool
-    ensures { result ≡ (kept.is_quiet user.now (current_in before.entry) && kept.is_quiet user.now (Some (winner_in after.entry))) }
+fn both_quiet(user: &[u8], before: Option<Latest<'_>>, quiet: bool) -> bool
+    ensures { result ≡ (kept.is_quiet user.now (current_in before.entry) && quiet) }
 {
-    is_quiet(user, before) && is_quiet(user, Some(after))
+    is_quiet(user, before) && quiet
+}
+
+/// A document that was written: its place, and whether it was quiet before and still is.
+#[derive(Clone, Copy)]
+struct Brought {
+    place: usize,
+    stays_quiet: bool,
+}
+
+/// Brings the document up to date that is written, and the index of writes.
+fn put_write<'a>(
+    alloc: Global,
+    pass: &mut Pass<'a>,
+    user: &[u8],
+    filter: &Option<Channels>,
+    older: &'a [Entry],
+    entry: &'a Entry,
+    write: &'a Write,
+) -> Result<Brought, AllocError>
+    requires fits { length older.now + 1 < 2 ^ 64 }
+    requires writes { kept.written entry.now ≡ Some write.now }
+    requires known { PassAt (reverse older.now) user.now filter.now pass.old }
+    ensures ready { OnOk result (Ready entry.now (reverse older.now) user.now filter.now pass.new) }
+    ensures had { OnOk result (HasChannels (reverse older.now) user.now pass.new) }
+    ensures place { IfOk result (λ r. kept.WrittenPlace entry.now (kept.written_names (entry.now ∷ reverse older.now)) (Some r.place)) }
+    ensures stays { IfOk result (λ r. r.stays_quiet ≡ true → Stays entry.now (reverse older.now) user.now) }
+    ensures within { IfOk result (λ r. r.place < length pass.new.documents.items) }
+{
+    let place = place_for(alloc, &mut pass.documents, &mut pass.places, &write.doc)?;
+    let latest = latest_after(&pass.writes, write, older.len() as u64 + 1);
+    let numbered = &mut pass.numbered;
+    let numbers = numbers_sought(alloc, numbered, pass.channels.as_slice(), filter, latest)?;
+    let quiet = is_quiet(user, Some(latest));
+    let before = set_latest(&mut pass.documents, place, latest, numbers, quiet);
+    add_write(&mut pass.writes, write)?;
+    Ok(Brought {
+        place,
+        stays_quiet: both_quiet(user, before, quiet),
+    })
 }
 
 /// Takes a write.
@@ -159,24 +209,13 @@ fn take_write<'a>(
     requires known { PassAt (reverse older.now) user.now filter.now pass.old }
     ensures { OnOk result (PassAt (entry.now ∷ reverse older.now) user.now filter.now pass.new) }
 {
-    let by = older.len() as u64 + 1;
-    let place = place_for(&mut pass.documents, &mut pass.places, &write.doc)?;
-    let latest = latest_after(&pass.writes, write, by);
-    let before = set_latest(&mut pass.documents, place, latest);
-    add_write(&mut pass.writes, write)?;
-    if both_quiet(user, before, latest) {
-        let documents = &mut pass.documents;
-        look_at_written(
-            pass.channels.as_slice(),
-            filter,
-            by,
-            entry,
-            Some(place),
-            documents,
-        );
+    let brought = put_write(alloc, pass, user, filter, older, entry, write)?;
+    let place = Some(brought.place);
+    if brought.stays_quiet {
+        look_at_one(pass, older.len() as u64 + 1, entry, place);
         return Ok(());
     }
-    refresh(alloc, pass, user, filter, older, entry, Some(place))
+    refresh(alloc, pass, user, filter, older, entry, place)
 }
 
 /// Takes one entry more.
@@ -211,6 +250,10 @@ fn start<'a>(alloc: Global) -> Pass<'a>
         roles: Vec::new(alloc),
         put: None,
         channels: Vec::new(alloc),
+        numbered: Numbered {
+            numbers: BTreeMap::new(alloc),
+            held: Vec::new(alloc),
+        },
     }
 }
 
