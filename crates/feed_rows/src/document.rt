@@ -16,6 +16,7 @@ use crate::documents::{Latest, write_in};
 use crate::index::winner_of;
 use crate::views::is_same;
 use sg_history::{DocId, Entry, Grant, Grantee, RoleGrant, Write};
+use smallvec::SmallVec;
 use std::collections::BTreeMap;
 
 /// The last change of what is shown of a document: at which place, what the document was there, whether it was
@@ -45,7 +46,7 @@ pub struct Document<'a> {
     pub latest: Option<Latest<'a>>,
     pub seen: Seen<'a>,
     pub change: Option<Change<'a>>,
-    pub numbers: Vec<usize>,
+    pub numbers: SmallVec<usize, 4>,
     pub quiet: bool,
 }
 
@@ -78,7 +79,7 @@ fn seen_before<'a>(latest: Option<Latest<'a>>, seen: Seen<'a>) -> Seen<'a>
 fn bring_up<'a>(
     document: &mut Document<'a>,
     latest: Latest<'a>,
-    numbers: Vec<usize>,
+    numbers: SmallVec<usize, 4>,
     quiet: bool,
 ) -> Option<Latest<'a>>
     ensures before { result ≡ document.old.latest }
@@ -98,7 +99,7 @@ pub fn set_latest<'a>(
     documents: &mut Vec<Document<'a>>,
     place: usize,
     latest: Latest<'a>,
-    numbers: Vec<usize>,
+    numbers: SmallVec<usize, 4>,
     quiet: bool,
 ) -> Option<Latest<'a>>
     requires { place < length documents.old.items }

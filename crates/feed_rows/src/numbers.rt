@@ -14,6 +14,7 @@ use crate::documents::Latest;
 use crate::grants::has;
 use crate::views::passes;
 use sg_history::{ChannelName, Channels};
+use smallvec::SmallVec;
 use std::alloc::{AllocError, Global};
 use std::collections::BTreeMap;
 
@@ -51,7 +52,7 @@ fn number_for<'a>(
 }
 
 fn add_numbers<'a>(
-    list: &mut Vec<usize>,
+    list: &mut SmallVec<usize, 4>,
     numbered: &mut Numbered<'a>,
     channels: &[&'a [u8]],
     names: &'a [ChannelName],
@@ -74,13 +75,13 @@ fn all_numbers<'a>(
     numbered: &mut Numbered<'a>,
     channels: &[&'a [u8]],
     names: &'a [ChannelName],
-) -> Result<Vec<usize>, AllocError>
+) -> Result<SmallVec<usize, 4>, AllocError>
     ensures numbering { OnOk result (IsNumbering numbered.old.numbers (length numbered.old.held.items) → IsNumbering numbered.new.numbers (length numbered.new.held.items)) }
     ensures held { OnOk result (IsNumbering numbered.old.numbers (length numbered.old.held.items) → Holds (λ c. among (texts channels.now) c) numbered.old.numbers numbered.old.held.items → Holds (λ c. among (texts channels.now) c) numbered.new.numbers numbered.new.held.items) }
     ensures goes_on { OnOk result (GoesOn numbered.old.numbers numbered.new.numbers) }
     ensures numbers { IfOk result (λ list. AreNumbers numbered.new.numbers (every ∷ names.now) list.items) }
 {
-    let mut list = Vec::new(alloc);
+    let mut list = SmallVec::new(alloc);
     let number = number_for(numbered, channels, b"*".as_slice())?;
     list.push(number)?;
     add_numbers(&mut list, numbered, channels, names)?;
@@ -94,7 +95,7 @@ pub fn numbers_sought<'a>(
     channels: &[&'a [u8]],
     filter: &Option<Channels>,
     latest: Latest<'a>,
-) -> Result<Vec<usize>, AllocError>
+) -> Result<SmallVec<usize, 4>, AllocError>
     ensures numbering { OnOk result (IsNumbering numbered.old.numbers (length numbered.old.held.items) → IsNumbering numbered.new.numbers (length numbered.new.held.items)) }
     ensures held { OnOk result (IsNumbering numbered.old.numbers (length numbered.old.held.items) → Holds (λ c. among (texts channels.now) c) numbered.old.numbers numbered.old.held.items → Holds (λ c. among (texts channels.now) c) numbered.new.numbers numbered.new.held.items) }
     ensures goes_on { OnOk result (GoesOn numbered.old.numbers numbered.new.numbers) }
@@ -102,7 +103,7 @@ pub fn numbers_sought<'a>(
 {
     let names = latest.write.channels.as_slice();
     if !passes(filter, names) {
-        return Ok(Vec::new(alloc));
+        return Ok(SmallVec::new(alloc));
     }
     let list = all_numbers(alloc, numbered, channels, names)?;
     Ok(list)

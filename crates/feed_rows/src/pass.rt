@@ -17,6 +17,7 @@ use crate::index::{add_place, add_write, place_of};
 use crate::numbers::{Numbered, hold, numbers_sought};
 use crate::principals::{Put, user_after};
 use sg_history::{Channels, DocId, Entry, Write};
+use smallvec::SmallVec;
 use std::alloc::{AllocError, Global};
 use std::collections::BTreeMap;
 
@@ -142,7 +143,7 @@ fn place_for<'a>(
         latest: None,
         seen: Seen::Nothing,
         change: None,
-        numbers: Vec::new(alloc),
+        numbers: SmallVec::new(alloc),
         quiet: true,
     })?;
     add_place(places, name, place)?;

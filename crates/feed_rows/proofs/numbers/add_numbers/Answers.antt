@@ -21,5 +21,5 @@ loop-name-preserved c =
           ap (λ (ns : List (List ℕ)). map (λ x. place_in new x) (before ++ ns)) next
           ∙ ap (map (λ x. place_in new x)) (sym (append_assoc before (take i names) (name ∷ [])))
           ∙ one_more new (before ++ take i names) list name c.in_ok-number.number (still_numbers c.loop-name.numbered.numbers new c.in_ok-number.ensures.goes_on (before ++ take i names) list (c.loop-name.invariant.numbers before h)) c.in_ok-number.ensures.number
-          ∙ ap (map (λ n. Some n)) (sym c.in_ok-push.ensures.items);
+          ∙ ap (map (λ n. Some n)) (sym c.in_ok-push.ensures.ok);
     }

@@ -7,5 +7,5 @@ use Rattle.feed_rows.proofs.numbers.all_numbers.Goals as goal
 pub returns-clause-numbers : goal.returns-clause-numbers
 returns-clause-numbers c =
     let first : AreNumbers c.number_for.new.numbered.numbers (every ∷ []) c.push.new.self.items =
-    ap (λ (name : List ℕ). place_in c.number_for.new.numbered.numbers name ∷ []) (sym c.as_slice.ensures) ∙ ap (λ o. o ∷ []) c.in_ok-number.ensures.number ∙ ap (map (λ n. Some n)) (sym (c.in_ok-push.ensures.items ∙ ap (λ (xs : List ℕ). xs ++ c.in_ok-number.number ∷ []) c.new-list.ensures.items)) in
+    ap (λ (name : List ℕ). place_in c.number_for.new.numbered.numbers name ∷ []) (sym c.as_slice.ensures) ∙ ap (λ o. o ∷ []) c.in_ok-number.ensures.number ∙ ap (map (λ n. Some n)) (sym (c.in_ok-push.ensures.ok ∙ ap (λ (xs : List ℕ). xs ++ c.in_ok-number.number ∷ []) c.new-list.ensures.items)) in
     c.in_ok-add_numbers.ensures.numbers (every ∷ []) first
