@@ -9,8 +9,9 @@ use Rattle.std.proofs.lemmas.Bool.{false≢true}
 use Rattle.std.proofs.lemmas.List.{length-append, map-append}
 use Rattle.std.proofs.lemmas.Option.{none-some, same_Some}
 use Rattle.sg_history.specs.History.{among}
+use Rattle.feed_rows.specs.declared.numbers.Numbered.{Numbered}
 use Rattle.feed_rows.specs.Index.{place_in}
-use Rattle.feed_rows.specs.Numbers.{IsNumbering, Holds, GoesOn, AreNumbers, is_held}
+use Rattle.feed_rows.specs.Numbers.{IsNumbering, Holds, Grows, GoesOn, AreNumbers, is_held}
 use Rattle.feed_rows.specs.Pass.{texts}
 use Rattle.feed_rows.proofs.Indexes.{slice_get_end, slice_get_more}
 use Rattle.feed_rows.proofs.Names.{same_texts, text_is_itself}
@@ -57,6 +58,17 @@ module _ (old new : Index) (name : List ℕ) (k : ℕ) (free : place_in old name
   next_holds has held later end is holds c n h = which {X = slice_get later n ≡ Some (has c)} c n h
       (λ a e. ap (λ (flags : List Bool). slice_get flags n) is ∙ ap (slice_get (held ++ has name ∷ [])) (sym e ∙ end) ∙ slice_get_end held (has name) ∙ ap (λ x. Some (has x)) a)
       (λ g. ap (λ (flags : List Bool). slice_get flags n) is ∙ slice_get_more held (has name ∷ []) n (has c) (holds c n g))
+
+-- channels that were only added, none and in two steps
+pub grows_not : (has : List ℕ → Bool) (numbered : Numbered) → Grows has numbered numbered
+grows_not has numbered = record { numbering = λ is. is; held = λ is holds. holds; goes_on = λ c n h. h }
+
+pub grows_twice : (has : List ℕ → Bool) (a b c : Numbered) → Grows has a b → Grows has b c → Grows has a c
+grows_twice has a b c first next = record {
+  numbering = λ is. next.numbering (first.numbering is);
+  held = λ is holds. next.held (first.numbering is) (first.held is holds);
+  goes_on = λ x n h. next.goes_on x n (first.goes_on x n h);
+}
 
 -- the numbers of names
 pub still_numbers : (old new : Index) → GoesOn old new → (names : List (List ℕ)) (list : List ℕ) → AreNumbers old names list → AreNumbers new names list

@@ -5,7 +5,7 @@ ghost use Rattle.std.specs.Str.{bytes_eq};
 ghost use Rattle.feed_rows.specs.Index.{place_in};
 ghost use Rattle.feed_rows.specs.Kept.{sought};
 ghost use Rattle.feed_rows.specs.Latest.{winner_in};
-ghost use Rattle.feed_rows.specs.Numbers.{IsNumbering, Holds, GoesOn, AreNumbers};
+ghost use Rattle.feed_rows.specs.Numbers.{IsNumbering, Holds, Grows, AreNumbers};
 ghost use Rattle.feed_rows.specs.Pass.{texts};
 ghost use Rattle.sg_history.specs.History.{among};
 ghost use Rattle.sg_history.specs.View.{every};
@@ -37,9 +37,7 @@ fn number_for<'a>(
     channels: &[&'a [u8]],
     channel: &'a [u8],
 ) -> Result<usize, AllocError>
-    ensures numbering { OnOk result (IsNumbering numbered.old.numbers (length numbered.old.held.items) → IsNumbering numbered.new.numbers (length numbered.new.held.items)) }
-    ensures held { OnOk result (IsNumbering numbered.old.numbers (length numbered.old.held.items) → Holds (λ c. among (texts channels.now) c) numbered.old.numbers numbered.old.held.items → Holds (λ c. among (texts channels.now) c) numbered.new.numbers numbered.new.held.items) }
-    ensures goes_on { OnOk result (GoesOn numbered.old.numbers numbered.new.numbers) }
+    ensures grown { OnOk result (Grows (λ c. among (texts channels.now) c) numbered.old numbered.new) }
     ensures number { IfOk result (λ n. place_in numbered.new.numbers channel.now ≡ Some n) }
 {
     if let Some(number) = number_of(&numbered.numbers, channel) {
@@ -57,9 +55,7 @@ fn add_numbers<'a>(
     channels: &[&'a [u8]],
     names: &'a [ChannelName],
 ) -> Result<(), AllocError>
-    ensures numbering { OnOk result (IsNumbering numbered.old.numbers (length numbered.old.held.items) → IsNumbering numbered.new.numbers (length numbered.new.held.items)) }
-    ensures held { OnOk result (IsNumbering numbered.old.numbers (length numbered.old.held.items) → Holds (λ c. among (texts channels.now) c) numbered.old.numbers numbered.old.held.items → Holds (λ c. among (texts channels.now) c) numbered.new.numbers numbered.new.held.items) }
-    ensures goes_on { OnOk result (GoesOn numbered.old.numbers numbered.new.numbers) }
+    ensures grown { OnOk result (Grows (λ c. among (texts channels.now) c) numbered.old numbered.new) }
     ensures numbers { OnOk result ((before : List (List ℕ)) → AreNumbers numbered.old.numbers before list.old.items → AreNumbers numbered.new.numbers (before ++ names.now) list.new.items) }
 {
     for name in names {
@@ -76,9 +72,7 @@ fn all_numbers<'a>(
     channels: &[&'a [u8]],
     names: &'a [ChannelName],
 ) -> Result<SmallVec<usize, 4>, AllocError>
-    ensures numbering { OnOk result (IsNumbering numbered.old.numbers (length numbered.old.held.items) → IsNumbering numbered.new.numbers (length numbered.new.held.items)) }
-    ensures held { OnOk result (IsNumbering numbered.old.numbers (length numbered.old.held.items) → Holds (λ c. among (texts channels.now) c) numbered.old.numbers numbered.old.held.items → Holds (λ c. among (texts channels.now) c) numbered.new.numbers numbered.new.held.items) }
-    ensures goes_on { OnOk result (GoesOn numbered.old.numbers numbered.new.numbers) }
+    ensures grown { OnOk result (Grows (λ c. among (texts channels.now) c) numbered.old numbered.new) }
     ensures numbers { IfOk result (λ list. AreNumbers numbered.new.numbers (every ∷ names.now) list.items) }
 {
     let mut list = SmallVec::new(alloc);
@@ -96,9 +90,7 @@ pub fn numbers_sought<'a>(
     filter: &Option<Channels>,
     latest: Latest<'a>,
 ) -> Result<SmallVec<usize, 4>, AllocError>
-    ensures numbering { OnOk result (IsNumbering numbered.old.numbers (length numbered.old.held.items) → IsNumbering numbered.new.numbers (length numbered.new.held.items)) }
-    ensures held { OnOk result (IsNumbering numbered.old.numbers (length numbered.old.held.items) → Holds (λ c. among (texts channels.now) c) numbered.old.numbers numbered.old.held.items → Holds (λ c. among (texts channels.now) c) numbered.new.numbers numbered.new.held.items) }
-    ensures goes_on { OnOk result (GoesOn numbered.old.numbers numbered.new.numbers) }
+    ensures grown { OnOk result (Grows (λ c. among (texts channels.now) c) numbered.old numbered.new) }
     ensures numbers { IfOk result (λ list. AreNumbers numbered.new.numbers (sought filter.now (Some (winner_in latest.entry))) list.items) }
 {
     let names = latest.write.channels.as_slice();

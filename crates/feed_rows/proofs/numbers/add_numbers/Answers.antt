@@ -1,7 +1,9 @@
 use Rattle.std.proofs.Common.{◌≡◌, ◌<◌, ◌+◌, ◌++◌, ◌∷◌, [], ◌∙◌, ap, sym, ℕ, List, Some, length, take, map, arith, append_assoc}
 use Rattle.std.proofs.lemmas.List.{take_more}
+use Rattle.sg_history.specs.History.{among}
 use Rattle.feed_rows.specs.Index.{place_in}
-use Rattle.feed_rows.proofs.Numberings.{still_numbers, one_more}
+use Rattle.feed_rows.specs.Pass.{texts}
+use Rattle.feed_rows.proofs.Numberings.{grows_twice, still_numbers, one_more}
 use Rattle.feed_rows.proofs.numbers.add_numbers.Goals as goal
 
 pub loop-name-preserved : goal.loop-name-preserved
@@ -14,12 +16,10 @@ loop-name-preserved c =
     let within : i < length names = omega arith in
     let next : take (i + 1) names ≡ take i names ++ name ∷ [] = take_more names i c.name-item.result within ∙ ap (λ (x : List ℕ). take i names ++ x ∷ []) (sym c.name-item.is ∙ sym c.as_bytes.ensures.value) in
     record {
-      numbering = λ is. c.in_ok-number.ensures.numbering (c.loop-name.invariant.numbering is);
-      held = λ is holds. c.in_ok-number.ensures.held (c.loop-name.invariant.numbering is) (c.loop-name.invariant.held is holds);
-      goes_on = λ x n h. c.in_ok-number.ensures.goes_on x n (c.loop-name.invariant.goes_on x n h);
+      grown = grows_twice (λ x. among (texts c.args.channels.now) x) c.args.numbered.now c.loop-name.numbered c.number_for.new.numbered c.loop-name.invariant.grown c.in_ok-number.ensures.grown;
       numbers = λ before h.
           ap (λ (ns : List (List ℕ)). map (λ x. place_in new x) (before ++ ns)) next
           ∙ ap (map (λ x. place_in new x)) (sym (append_assoc before (take i names) (name ∷ [])))
-          ∙ one_more new (before ++ take i names) list name c.in_ok-number.number (still_numbers c.loop-name.numbered.numbers new c.in_ok-number.ensures.goes_on (before ++ take i names) list (c.loop-name.invariant.numbers before h)) c.in_ok-number.ensures.number
+          ∙ one_more new (before ++ take i names) list name c.in_ok-number.number (still_numbers c.loop-name.numbered.numbers new c.in_ok-number.ensures.grown.goes_on (before ++ take i names) list (c.loop-name.invariant.numbers before h)) c.in_ok-number.ensures.number
           ∙ ap (map (λ n. Some n)) (sym c.in_ok-push.ensures.ok);
     }

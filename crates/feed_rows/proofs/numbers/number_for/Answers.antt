@@ -1,21 +1,28 @@
-use Rattle.std.proofs.Common.{◌++◌, ◌∷◌, [], ◌∙◌, ap, sym, Bool}
+use Rattle.feed_rows.specs.Index.{place_in}
+use Rattle.std.specs.Str.{bytes_eq}
+use Rattle.std.proofs.Common.{◌≡◌, ◌++◌, ◌∷◌, [], ◌∙◌, ap, sym, ℕ, List, Bool, Some, None, length, if◌then◌else◌}
 use Rattle.sg_history.specs.History.{among}
 use Rattle.feed_rows.specs.Pass.{texts}
 use Rattle.feed_rows.proofs.Indexes.{place_added}
-use Rattle.feed_rows.proofs.Numberings.{next_goes_on, next_numbering, next_holds}
+use Rattle.feed_rows.proofs.Numberings.{grows_not, next_goes_on, next_numbering, next_holds}
 use Rattle.feed_rows.proofs.numbers.number_for.Goals as goal
 
-pub returns-clause-numbering : goal.returns-clause-numbering
-returns-clause-numbering c =
-    next_numbering c.args.numbered.now.numbers c.insert.new.self c.args.channel.now c.len-number.result (sym c.number_of.ensures ∙ c.in_default.is) (place_added c.args.numbered.now.numbers c.insert.new.self c.args.channel.now c.len-number.result c.in_ok-insert.ensures.updates)
-    c.args.numbered.now.held.items c.push.new.self.items c.has.result (c.len-number.ensures ∙ c.args.numbered.now.held.ok.0) c.in_ok-push.ensures.items
+pub returns-in-Some-clause-grown : goal.returns-in-Some-clause-grown
+returns-in-Some-clause-grown c = grows_not (λ x. among (texts c.args.channels.now) x) c.args.numbered.now
 
-pub returns-clause-held : goal.returns-clause-held
-returns-clause-held c = λ _.
-    next_holds c.args.numbered.now.numbers c.insert.new.self c.args.channel.now c.len-number.result (sym c.number_of.ensures ∙ c.in_default.is) (place_added c.args.numbered.now.numbers c.insert.new.self c.args.channel.now c.len-number.result c.in_ok-insert.ensures.updates)
-    (λ x. among (texts c.args.channels.now) x) c.args.numbered.now.held.items c.push.new.self.items (c.len-number.ensures ∙ c.args.numbered.now.held.ok.0)
-    (c.in_ok-push.ensures.items ∙ ap (λ (b : Bool). c.args.numbered.now.held.items ++ b ∷ []) c.has.ensures)
-
-pub returns-clause-goes_on : goal.returns-clause-goes_on
-returns-clause-goes_on c =
-    next_goes_on c.args.numbered.now.numbers c.insert.new.self c.args.channel.now c.len-number.result (sym c.number_of.ensures ∙ c.in_default.is) (place_added c.args.numbered.now.numbers c.insert.new.self c.args.channel.now c.len-number.result c.in_ok-insert.ensures.updates)
+pub returns-clause-grown : goal.returns-clause-grown
+returns-clause-grown c =
+    let old = c.args.numbered.now.numbers in
+    let new = c.insert.new.self in
+    let name = c.args.channel.now in
+    let held = c.args.numbered.now.held.items in
+    let later = c.push.new.self.items in
+    let k = c.len-number.result in
+    let free : place_in old name ≡ None = sym c.number_of.ensures ∙ c.in_default.is in
+    let added : (x : List ℕ) → place_in new x ≡ (if bytes_eq name x then Some k else place_in old x) = place_added old new name k c.in_ok-insert.ensures.updates in
+    let end : k ≡ length held = c.len-number.ensures ∙ c.args.numbered.now.held.ok.0 in
+    record {
+      numbering = next_numbering old new name k free added held later c.has.result end c.in_ok-push.ensures.items;
+      held = λ _. next_holds old new name k free added (λ x. among (texts c.args.channels.now) x) held later end (c.in_ok-push.ensures.items ∙ ap (λ (b : Bool). held ++ b ∷ []) c.has.ensures);
+      goes_on = next_goes_on old new name k free added;
+    }

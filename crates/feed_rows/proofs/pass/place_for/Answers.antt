@@ -27,7 +27,7 @@ returns-clause-documents c =
 pub returns-clause-places : goal.returns-clause-places
 returns-clause-places c =
     let P : List Document → Type 0 = λ items. IsIndex (map (λ d. d.name.now) items) c.add_place.new.places in
-    subst P (sym c.in_ok-push.ensures.items) (index_grown c.args.documents.now.items (record { name = c.args.name; latest = None; seen = Nothing; change = None; numbers = c.new.result; quiet = true }) c.args.places.now c.add_place.new.places c.len-place.result (c.len-place.ensures ∙ c.args.documents.now.ok.0) c.requires c.in_ok-add_place.ensures)
+    subst P (sym {A = List Document} c.in_ok-push.ensures.items) (index_grown c.args.documents.now.items (record { name = c.args.name; latest = None; seen = Nothing; change = None; numbers = c.new.result; quiet = true }) c.args.places.now c.add_place.new.places c.len-place.result (c.len-place.ensures ∙ c.args.documents.now.ok.0) c.requires c.in_ok-add_place.ensures)
 
 pub returns-clause-place : goal.returns-clause-place
 returns-clause-place c =

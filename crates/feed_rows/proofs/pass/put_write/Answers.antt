@@ -41,8 +41,8 @@ returns-clause-ready c =
     let P : List Noted → Type 0 = AreNoted user filter numbers in
     ready_write e w es user filter before c.requires.known c.requires.writes k placed c.in_ok-place.ensures.documents c.in_ok-place.ensures.place latest _
     (c.latest_after-latest.ensures ∙ ap (λ n. current_of (n + 1) (winner_among before.writes w)) (sym (length-reverse c.args.older.now)))
-    c.set_latest-before.ensures.documents c.in_ok-place.ensures.places c.in_ok-add_write.ensures refl refl (c.in_ok-numbers.ensures.numbering c.requires.known.numbering)
-    (subst P (sym c.set_latest-before.ensures.noted) (notes_set e w es user filter before c.requires.known c.requires.writes k placed c.in_ok-place.ensures.documents c.in_ok-place.ensures.place numbers c.in_ok-numbers.ensures.goes_on c.in_ok-place.ensures.noted latest c.in_ok-numbers.numbers.items c.is_quiet-quiet.result c.in_ok-numbers.ensures.numbers c.is_quiet-quiet.ensures))
+    c.set_latest-before.ensures.documents c.in_ok-place.ensures.places c.in_ok-add_write.ensures refl refl (c.in_ok-numbers.ensures.grown.numbering c.requires.known.numbering)
+    (subst P (sym c.set_latest-before.ensures.noted) (notes_set e w es user filter before c.requires.known c.requires.writes k placed c.in_ok-place.ensures.documents c.in_ok-place.ensures.place numbers c.in_ok-numbers.ensures.grown.goes_on c.in_ok-place.ensures.noted latest c.in_ok-numbers.numbers.items c.is_quiet-quiet.result c.in_ok-numbers.ensures.numbers c.is_quiet-quiet.ensures))
 
 pub returns-clause-had : goal.returns-clause-had
 returns-clause-had c =
@@ -55,7 +55,7 @@ returns-clause-had c =
     let held : Holds (λ x. among (texts names) x) before.numbered.numbers before.numbered.held.items = holds_same (λ x. has_channel es user x) (λ x. among (texts names) x) before.numbered.numbers before.numbered.held.items (λ x. sym (listed x)) c.requires.known.channels.held in
     record {
       listed = c.requires.known.channels.listed;
-      held = holds_same (λ x. among (texts names) x) (λ x. has_channel es user x) new.numbers new.held.items listed (c.in_ok-numbers.ensures.held c.requires.known.numbering held);
+      held = holds_same (λ x. among (texts names) x) (λ x. has_channel es user x) new.numbers new.held.items listed (c.in_ok-numbers.ensures.grown.held c.requires.known.numbering held);
     }
 
 pub returns-clause-place : goal.returns-clause-place
