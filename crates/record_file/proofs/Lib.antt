@@ -1,0 +1,5 @@
+pub mod Cuts
+pub mod Lines
+pub mod Owners
+pub mod Refusals
+pub mod Records
