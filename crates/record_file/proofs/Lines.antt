@@ -1,6 +1,6 @@
 -- lines of what a wire gave, cut one after another
-use Rattle.std.proofs.Common.{◌≡◌, ◌≢◌, ℕ, ◌+◌, ◌<◌, ◌/◌, ◌%◌, Bool, true, false, ◌&&◌, cond, List, [], ◌∷◌, ◌++◌, length, refl, sym, ap, ◌∙◌, arith, inl, inr, codes, append_assoc, Option, Some, None, map}
-use Rattle.std.specs.Prelude.{nat_eq, nat_lt, nat_le}
+use Rattle.std.proofs.Common.{◌≡◌, ◌≢◌, ℕ, ◌+◌, ◌<◌, ◌/◌, ◌%◌, Bool, true, false, ◌&&◌, cond, List, [], ◌∷◌, ◌++◌, length, refl, sym, ap, ◌∙◌, arith, inl, inr, codes, append_assoc, Some, None, map}
+use Rattle.std.specs.Prelude.{nat_lt, nat_le}
 use Rattle.std.specs.List.{list_all}
 use Rattle.std.specs.Str.{bytes_eq}
 use Rattle.std.proofs.lemmas.Bool.{and_parts, and_from, cases_lt, le-ltb, leb-true, lt-ltb, or_cases}
@@ -10,7 +10,6 @@ use Rattle.sg_names.proofs.PlainTexts.{plain_hex, plain_lacks}
 use Rattle.sg_names.proofs.Cuts.{cut_same, lacks_seam}
 use Rattle.sg_names.specs.Grammar.{lacks}
 use Rattle.sg_names.specs.Hex.{hex_digit, hex_text, is_hex, is_hex_digit, are_bytes}
-use Rattle.sg_history.specs.declared.fault.BadLine.{BadLine}
 use Rattle.sg_history.specs.declared.fault.Why.TheVariants as reason
 use Rattle.sg_history.specs.Pieces.{pieces}
 use Rattle.sg_history.proofs.PieceLemmas.{pieces-cut, pieces-lacking, pieces-some}

@@ -1,5 +1,5 @@
 -- the line that says whose session it is
-use Rattle.std.proofs.Common.{◌≡◌, ◌≢◌, ℕ, ◌<◌, Bool, true, false, inl, inr, ◌&&◌, not, List, [], ◌∷◌, ◌++◌, length, refl, sym, ap, ◌∙◌, arith, codes, append_assoc, IsUtf8, Option, Some, None}
+use Rattle.std.proofs.Common.{◌≡◌, ◌≢◌, ℕ, ◌<◌, true, false, inl, inr, ◌&&◌, not, List, [], ◌∷◌, ◌++◌, length, refl, sym, ap, ◌∙◌, arith, codes, IsUtf8, Option, Some, None}
 use Rattle.std.specs.Prelude.{nat_eq, nat_lt, nat_le, is_some, IfSome, IfNone, IsTrue}
 use denote.Ref.{Bor}
 use Rattle.std.specs.Str.{bytes_eq, is_utf8}
@@ -9,7 +9,6 @@ use Rattle.std.proofs.lemmas.List.Folds.{list_all-append}
 use Rattle.sg_names.proofs.PlainTexts.{plain_lacks}
 use Rattle.sg_names.proofs.Cuts.{cut_same}
 use Rattle.sg_names.specs.Grammar.{lacks, is_plain, is_plain_text, is_channel_name, is_name, is_dash}
-use Rattle.sg_history.specs.declared.fault.Why.{Why}
 use Rattle.sg_history.specs.declared.fault.Why.TheVariants as reason
 use Rattle.sg_history.specs.Pieces.{pieces}
 use Rattle.sg_history.proofs.PieceLemmas.{pieces-cut, pieces-lacking, pieces-some}

@@ -1,9 +1,8 @@
 -- the text of a recorded session
-use Rattle.std.proofs.Common.{◌≡◌, ◌≢◌, ℕ, ◌<◌, Bool, true, false, not, subst, List, [], ◌∷◌, ◌++◌, length, refl, sym, ap, ◌∙◌, arith, codes, append_assoc, Option, Some, None}
+use Rattle.std.proofs.Common.{◌≡◌, ℕ, ◌<◌, Bool, true, false, not, subst, List, [], ◌∷◌, ◌++◌, length, refl, sym, ap, ◌∙◌, arith, Option, Some, None}
 use Rattle.std.specs.Prelude.{Result, MatchResult}
-use Rattle.std.specs.List.{list_all}
 use Rattle.std.specs.Str.{bytes_eq}
-use Rattle.sg_names.proofs.Cuts.{cut_same, lacks_seam}
+use Rattle.sg_names.proofs.Cuts.{cut_same}
 use Rattle.sg_names.specs.Grammar.{lacks}
 use Rattle.sg_history.specs.declared.fault.BadLine.{BadLine}
 use Rattle.sg_history.specs.declared.fault.ReadLog.{ReadLog}
@@ -11,7 +10,7 @@ use Rattle.sg_history.specs.declared.fault.Why.TheVariants as reason
 use Rattle.sg_history.specs.Pieces.{pieces}
 use Rattle.sg_history.proofs.PieceLemmas.{pieces-cut, pieces-lacking, pieces-some}
 use Rattle.record_file.specs.declared.record.Recorded.{Recorded}
-use Rattle.record_file.specs.Record.{header, owner_text, items_text, is_item, record_text, Spells}
+use Rattle.record_file.specs.Record.{header, owner_text, items_text, Spells}
 use Rattle.record_file.specs.Faults.{at_place, bad_among, bad_item, bad_line, bad_owner, owner_fault, Tells}
 use Rattle.record_file.proofs.Lines.{items_fine, items_same}
 use Rattle.record_file.proofs.Owners.{owner_fine, owner_lacks, owner_same}

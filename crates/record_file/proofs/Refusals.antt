@@ -1,5 +1,5 @@
 -- refusals of lines and of files
-use Rattle.std.proofs.Common.{◌≡◌, ℕ, refl, sym, ap, ◌∙◌, subst, Option, Some, None}
+use Rattle.std.proofs.Common.{◌≡◌, ℕ, ap, ◌∙◌, Option, Some, None}
 use Rattle.std.specs.Prelude.{Result, Ok, Err, IfErr, MatchResult}
 use Rattle.sg_history.specs.declared.fault.BadLine.{BadLine}
 use Rattle.sg_history.specs.declared.fault.Why.{Why}

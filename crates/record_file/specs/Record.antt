@@ -1,7 +1,7 @@
 -- Recorded sessions: the text of what a device's wire gave. The first line is `sgsession 1`, the second says whose
 -- session it is, and each further line is what one call of `recv` gave. Each line ends with a line feed.
-use Rattle.std.specs.Prelude.{◌≡◌, ℕ, ◌<◌, Bool, true, ◌&&◌, nat_lt, List, [], ◌∷◌, ◌++◌, length, map, codes, IsTrue, IsUtf8}
-use Rattle.std.specs.List.{flat_map, list_all}
+use Rattle.std.specs.Prelude.{◌≡◌, ℕ, Bool, true, ◌&&◌, nat_lt, List, [], ◌∷◌, ◌++◌, length, map, codes, IsTrue, IsUtf8}
+use Rattle.std.specs.List.{list_all}
 use Rattle.sg_names.specs.Grammar.{is_name}
 use Rattle.sg_names.specs.Hex.{hex_text, are_bytes}
 use Rattle.sg_outside.specs.declared.mem_wire.Input.{Input}

@@ -1,6 +1,6 @@
 use Rattle.std.proofs.Common.{rules, ◌∙◌, ap, sym}
 use Rattle.sg_history.specs.Pieces.{pieces}
-use Rattle.record_file.specs.Faults.{fields_fault, first_fault, name_fault, version_fault, TellsWhy}
+use Rattle.record_file.specs.Faults.{fields_fault, first_fault, name_fault, version_fault}
 use Rattle.record_file.proofs.Owners.{fields_cut, fields_few, fields_further, lacks_further}
 use Rattle.record_file.proofs.Refusals.{told_first, told_second}
 use Rattle.record_file.proofs.owner.read_fields.Goals as goal

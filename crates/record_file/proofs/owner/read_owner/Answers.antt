@@ -1,4 +1,4 @@
-use Rattle.std.proofs.Common.{rules, ◌∙◌, ap}
+use Rattle.std.proofs.Common.{rules, ◌∙◌}
 use Rattle.record_file.proofs.Owners.{owner_cut, owner_one}
 use Rattle.record_file.proofs.owner.read_owner.Goals as goal
 
