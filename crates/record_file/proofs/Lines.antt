@@ -63,6 +63,9 @@ item_fine (item.Frame bytes) is =
     rw (item_lacks 9 (omega arith) (item.Frame bytes) is) (frame_fine (hex_text bytes) (hex_is_some bytes is) (bytes_eq (hex_text bytes) (codes "idle")))
 item_fine item.Idle is = refl
 
+pub idle_fine : (line : List ℕ) → line ≡ codes "idle" → item_fault line ≡ None
+idle_fine line is = ap item_fault is
+
 -- nothing is wrong with the lines of items
 pub items_fine : (place : ℕ) (items : List Item) → list_all (λ i. is_item i) items ≡ true → bad_item place (pieces 10 (items_text items)) ≡ None
 items_fine place [] is = refl
