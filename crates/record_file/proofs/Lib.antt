@@ -1,0 +1,6 @@
+pub mod Cuts
+pub mod Lines
+pub mod Owners
+pub mod Refusals
+pub mod Records
+pub mod Found
