@@ -14,15 +14,10 @@ use Rattle.blip_frame.specs.declared.payload.PayloadFault.{PayloadFault}
 use Rattle.blip_mux.specs.declared.inbox.TakeFault.{TakeFault}
 use Rattle.blip_mux.specs.declared.inbox.TakeFault.TheVariants as faults
 use Rattle.blip_mux.specs.Standing.{Standing, new_standing, expecting}
-use Rattle.blip_mux.specs.Joining.{Event, came, expected, is_request, is_reply, may_come, with_fault, read_as, message_of, requests_in, is_awaited, Joined, followed_by, joined_after, joined, taken_after, taken_from}
+use Rattle.blip_mux.specs.Joining.{Event, came, expected, is_request, is_reply, may_come, with_fault, read_as, message_of, message_at, joined_as, requests_in, is_awaited, Joined, followed_by, joined_after, joined, taken_after, taken_from, StandsFor}
 use Rattle.blip_mux.specs.Order.{request_numbers, CountsFrom, replies_to, times_expected}
 
--- the standing says what the events before it gave
-record StandsFor (s : Standing) (before : List Event) : Type 0 where
-  requests : s.requests ≡ requests_in before
-  awaited : (number : ℕ) → set.contains s.expected number ≡ is_awaited before number
-
-stands_new : StandsFor new_standing []
+pub stands_new : StandsFor new_standing []
 stands_new = record { requests = refl; awaited = set.contains-empty nat_cmp }
 
 contains_removed : (e : set.FinSet nat_cmp) (k q : ℕ) → set.contains (set.remove e k) q ≡ (not (eqb q k) && set.contains e q)
@@ -45,17 +40,22 @@ awaited_after s kinds.Err n q a e = contains_removed s.expected n q ∙ ap (λ (
 awaited_after s kinds.AckMsg n q a e = e
 awaited_after s kinds.AckRpy n q a e = e
 
-stands_after : (s : Standing) (before : List Event) (f : FrameParts) → StandsFor s before → StandsFor (taken_after s f.kind f.number) (came f ∷ before)
+pub stands_after : (s : Standing) (before : List Event) (f : FrameParts) → StandsFor s before → StandsFor (taken_after s f.kind f.number) (came f ∷ before)
 stands_after s before f stands = record {
   requests = requests_after s f.kind f.number (requests_in before) stands.requests;
   awaited = λ q. awaited_after s f.kind f.number q (is_awaited before q) (stands.awaited q);
 }
 
-stands_expecting : (s : Standing) (before : List Event) (n : ℕ) → StandsFor s before → StandsFor (expecting s n) (expected n ∷ before)
+pub stands_expecting : (s : Standing) (before : List Event) (n : ℕ) → StandsFor s before → StandsFor (expecting s n) (expected n ∷ before)
 stands_expecting s before n stands = record {
   requests = stands.requests;
   awaited = λ q. contains_inserted s.expected n q ∙ ap (λ (b : Bool). eqb q n || b) (stands.awaited q);
 }
+
+-- the message of a frame by a standing is that by what came before
+pub same_message : (s : Standing) (before : List Event) (f : FrameParts) → StandsFor s before → message_at s f ≡ joined_as before f
+same_message s before f stands =
+    ap (λ (r : ℕ). message_of r (set.contains s.expected f.number) f) stands.requests ∙ ap (λ (b : Bool). message_of (requests_in before) b f) (stands.awaited f.number)
 
 taken_joined : (s : Standing) (before : List Event) → StandsFor s before → (events : List Event) → taken_from s events ≡ joined_after before events
 taken_joined s before stands [] = refl

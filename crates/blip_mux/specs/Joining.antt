@@ -1,5 +1,5 @@
 -- The messages that frames give, where each message is one frame.
-use Rattle.std.specs.Prelude.{ℕ, ◌+◌, Bool, true, false, not, ◌&&◌, ◌||◌, List, [], ◌∷◌, Option, Some, None, Result, Ok, Err, ◌==◌, if◌then◌else◌}
+use Rattle.std.specs.Prelude.{◌≡◌, ℕ, ◌+◌, Bool, true, false, not, ◌&&◌, ◌||◌, List, [], ◌∷◌, Option, Some, None, Result, Ok, Err, ◌==◌, if◌then◌else◌}
 use Rattle.std.specs.FinSet as set
 use Rattle.blip_frame.specs.Frame.{FrameParts}
 use Rattle.blip_frame.specs.Payload.{payload_at}
@@ -63,6 +63,10 @@ is_awaited [] number = false
 is_awaited (came f ∷ before) number = not (is_reply f.kind && number == f.number) && is_awaited before number
 is_awaited (expected other ∷ before) number = number == other || is_awaited before number
 
+-- the message of a frame that comes after these events, or its first fault
+abbrev pub joined_as : List Event → FrameParts → Result Message TakeFault
+joined_as before f = message_of (requests_in before) (is_awaited before f.number) f
+
 -- messages, and the fault that ends them where there is one
 abbrev pub Joined : Type 0
 Joined = List Message × Option TakeFault
@@ -75,7 +79,7 @@ followed_by (Err fault) rest = ([], Some fault)
 -- The messages of events up to the first fault, after what came before them.
 abbrev pub joined_after : List Event → List Event → Joined
 joined_after before [] = ([], None)
-joined_after before (came f ∷ events) = followed_by (message_of (requests_in before) (is_awaited before f.number) f) (joined_after (came f ∷ before) events)
+joined_after before (came f ∷ events) = followed_by (joined_as before f) (joined_after (came f ∷ before) events)
 joined_after before (expected number ∷ events) = joined_after (expected number ∷ before) events
 
 -- the messages of events from the beginning up to the first fault
@@ -101,3 +105,8 @@ abbrev pub taken_from : Standing → List Event → Joined
 taken_from s [] = ([], None)
 taken_from s (came f ∷ events) = followed_by (message_at s f) (taken_from (taken_after s f.kind f.number) events)
 taken_from s (expected number ∷ events) = taken_from (expecting s number) events
+
+-- a standing says what the events before it gave
+pub record StandsFor (s : Standing) (before : List Event) : Type 0 where
+  pub requests : s.requests ≡ requests_in before
+  pub awaited : (number : ℕ) → set.contains s.expected number ≡ is_awaited before number

@@ -1,10 +1,10 @@
 //! Laws of joining and cutting. Each function says one, and does nothing.
 
-ghost use Rattle.std.specs.Prelude.{◌≡◌, ◌≤◌, map, take, None, List, ℕ};
+ghost use Rattle.std.specs.Prelude.{◌≡◌, ◌≤◌, ◌∷◌, [], map, take, None, List, ℕ};
 ghost use Rattle.blip_frame.specs.Frame.{FrameParts};
 ghost use Rattle.blip_mux.specs.declared.message.Message.{Message};
-ghost use Rattle.blip_mux.specs.Standing.{new_standing};
-ghost use Rattle.blip_mux.specs.Joining.{Event, came, joined, joined_after, taken_from};
+ghost use Rattle.blip_mux.specs.Standing.{Standing, new_standing, expecting};
+ghost use Rattle.blip_mux.specs.Joining.{Event, came, expected, joined, joined_after, joined_as, message_at, taken_after, taken_from, StandsFor};
 ghost use Rattle.blip_mux.specs.Order.{request_numbers, CountsFrom, replies_to, times_expected};
 ghost use Rattle.blip_mux.specs.Sending.{Waiting};
 ghost use Rattle.blip_mux.specs.Cutting.{AreCut, HaveBytes, frames_of};
@@ -16,6 +16,15 @@ use blip_frame::laws::payloads;
 /// of each.
 pub fn joining()
     ensures { (events : List Event) → taken_from new_standing events ≡ joined events }
+{}
+
+/// A standing that says what the events before it gave still does once one more has come, and the message that it takes
+/// is the one that joining says.
+pub fn standing()
+    ensures new { StandsFor new_standing [] }
+    ensures came { (s : Standing) (before : List Event) (f : FrameParts) → StandsFor s before → StandsFor (taken_after s f.kind f.number) (came f ∷ before) }
+    ensures expected { (s : Standing) (before : List Event) (number : ℕ) → StandsFor s before → StandsFor (expecting s number) (expected number ∷ before) }
+    ensures message { (s : Standing) (before : List Event) (f : FrameParts) → StandsFor s before → message_at s f ≡ joined_as before f }
 {}
 
 /// The requests that are joined are numbered from 1 upward, and a request has no more replies than

@@ -4,5 +4,6 @@ pub mod LookLaws
 pub mod Maps
 pub mod OneLook
 pub mod RowsTell
+pub mod Said
 pub mod Same
 pub mod Winners

@@ -1,21 +1,38 @@
 //! Laws of looks. Each is the contract of a function that does nothing.
 
 ghost use Rattle.std.specs.Prelude.{◌≡◌, ◌≤◌, ℕ, List, length, take, IsTrue, Option, Some, None};
+ghost use Rattle.sg_names.specs.declared.key.Key.{Key};
 ghost use Rattle.sg_names.specs.declared.rev_id.RevId.{RevId};
 ghost use Rattle.sg_history.specs.declared.entries.Entry.{Entry};
 ghost use Rattle.sg_history.specs.declared.entries.Write.{Write};
+ghost use Rattle.sg_history.specs.declared.row.Options.{Options};
 ghost use Rattle.sg_history.specs.declared.row.Row.{Row};
 ghost use Rattle.sg_history.specs.Current.{Current, current, current_of};
 ghost use Rattle.sg_history.specs.View.{view, is_shown};
 ghost use Rattle.sg_history.specs.Feed.{changed};
 ghost use Rattle.repl_messages.specs.declared.looks.Body.TheVariants as answer;
-ghost use Rattle.repl_messages.specs.Looks.{winning_write, said_by, left_by_write, body_of};
+ghost use Rattle.repl_messages.specs.declared.looks.Bodies.{Bodies};
+ghost use Rattle.repl_messages.specs.declared.looks.Fed.{Fed};
+ghost use Rattle.repl_messages.specs.Looks.{IsFed, AreBodies, winning_write, said_by, left_by_write, body_of};
+ghost use Rattle.write_path.specs.Feed.{FeedAt};
+ghost use Rattle.write_path.specs.Bodies.{BodiesAt};
 ghost use Rattle.write_path.specs.Looks.{Later, IsLaterThanAll, Looks, WasLookedAt};
 
-/// A history goes on from itself, and from all that one goes on from which it goes on from.
+/// A history goes on from itself, and from all that one goes on from which it goes on from; and what was answered of a
+/// history is said of each that goes on from it.
 pub fn later()
     ensures reflexive { (h : List Entry) → Later h h }
     ensures transitive { (first second third : List Entry) → Later first second → Later second third → Later first third }
+    ensures feed { (earlier later : List Entry) (user : List ℕ) (since : Key) (options : Options) (fed : Fed) → Later earlier later → FeedAt earlier user since options fed → IsFed later user since options fed }
+    ensures bodies { (earlier later : List Entry) (user : List ℕ) (options : Options) (rows : List Row) (most : ℕ) (bodies : Bodies) → Later earlier later → BodiesAt earlier user options rows most bodies → AreBodies later user options rows most bodies }
+{}
+
+/// To look no further, or at first and then on, is to look; and what goes on from all that were met since goes on from
+/// all that were met before.
+pub fn looks()
+    ensures reflexive { (met : List (List Entry)) (floor : ℕ) → Looks met met floor floor }
+    ensures transitive { (first second third : List (List Entry)) (low middle high : ℕ) → Looks first second low middle → Looks second third middle high → Looks first third low high }
+    ensures before { (before after : List (List Entry)) (low high : ℕ) (h : List Entry) → Looks before after low high → IsLaterThanAll after h → IsLaterThanAll before h }
 {}
 
 /// What holds of each history that was looked at in between: it goes on from all that were met before, its length is

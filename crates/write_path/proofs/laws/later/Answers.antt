@@ -1,4 +1,5 @@
 use Rattle.write_path.proofs.LookLaws.{later_itself, later_than_later}
+use Rattle.write_path.proofs.Said.{fed_later, bodies_later}
 use Rattle.write_path.proofs.laws.later.Goals as goal
 
 pub returns-clause-reflexive : goal.returns-clause-reflexive
@@ -6,3 +7,9 @@ returns-clause-reflexive c = later_itself
 
 pub returns-clause-transitive : goal.returns-clause-transitive
 returns-clause-transitive c = later_than_later
+
+pub returns-clause-feed : goal.returns-clause-feed
+returns-clause-feed c = fed_later
+
+pub returns-clause-bodies : goal.returns-clause-bodies
+returns-clause-bodies c = bodies_later

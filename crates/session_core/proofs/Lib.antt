@@ -1,0 +1,8 @@
+pub mod Feeds
+pub mod Chosen
+pub mod Conducts
+pub mod Answering
+pub mod Wanting
+pub mod Keeping
+pub mod Beginning
+pub mod Exchanges

@@ -1,0 +1,9 @@
+use Rattle.std.proofs.Common.{◌≡◌, ◌++◌, ℕ, length}
+use Rattle.session_core.specs.Machine.{body_acts}
+use Rattle.session_core.proofs.bodies.bodies.Given as goal
+
+abbrev pub decreases-loop-rows : goal.decreases-loop-rows
+decreases-loop-rows l = length l.rows
+
+abbrev pub invariant-loop-rows : goal.invariant-loop-rows
+invariant-loop-rows l = l.acts.items ++ body_acts l.rows l.answers ≡ body_acts l.fn.rows l.fn.answers

@@ -1,0 +1,9 @@
+use Rattle.std.proofs.Common.{◌≡◌, ◌++◌, ℕ, length}
+use Rattle.session_core.specs.Puts.{chosen}
+use Rattle.session_core.proofs.bodies.choose.Given as goal
+
+abbrev pub decreases-loop-rows : goal.decreases-loop-rows
+decreases-loop-rows l = length l.rows
+
+abbrev pub invariant-loop-rows : goal.invariant-loop-rows
+invariant-loop-rows l = l.some ++ chosen l.rows l.flags ≡ chosen l.fn.rows l.fn.flags

@@ -1,0 +1,6 @@
+pub mod Running
+pub mod Puts
+pub mod Exchange
+pub mod Session
+pub mod Machine
+pub mod Conduct

@@ -1,0 +1,94 @@
+//! Acts that answer the rows that a device wants.
+
+ghost use Rattle.std.specs.Prelude.{◌≡◌, ◌≤◌, ◌++◌, true, length, IfOk, OnOk};
+ghost use Rattle.session_core.specs.Puts.{chosen, flagged};
+ghost use Rattle.session_core.specs.Machine.{body_act, body_acts};
+ghost use Rattle.session_core.specs.Conduct.{are_requests};
+
+use crate::act::Act;
+use repl_messages::{Body, write_norev, write_rev};
+use sg_history::{Row, Rows};
+use sg_outside::Memory;
+use std::alloc::Global;
+
+/// What stands for a document that is gone.
+const REMOVED: &[u8] = b"{\"_removed\":true}";
+
+/// Copies of the rows of which the flag is set.
+pub(crate) fn choose(alloc: Global, rows: &[Row], flags: &[bool]) -> Result<Rows, Memory>
+    ensures value { IfOk result (λ some. some ≡ chosen rows.now flags.now) }
+    ensures bound { IfOk result (λ some. length some ≤ length rows.now) }
+{
+    let mut some = Rows::new(alloc);
+    let mut rows = rows;
+    let mut flags = flags;
+    while let [row, later_rows @ ..] = rows {
+        let [flag, later_flags @ ..] = flags else {
+            return Ok(some);
+        };
+        push_flagged(alloc, *flag, row, &mut some)?;
+        rows = later_rows;
+        flags = later_flags;
+    }
+    Ok(some)
+}
+
+/// Puts a copy of the row at the end where its flag is set.
+fn push_flagged(alloc: Global, flag: bool, row: &Row, some: &mut Rows) -> Result<(), Memory>
+    ensures { OnOk result (some.new ≡ some.old ++ flagged flag row.now) }
+{
+    if flag {
+        some.push(row.copy(alloc)?)?;
+    }
+    Ok(())
+}
+
+/// Copies of rows.
+pub(crate) fn copy_rows(alloc: Global, rows: &[Row]) -> Result<Rows, Memory>
+    ensures { IfOk result (λ copies. copies ≡ rows.now) }
+{
+    let mut copies = Rows::new(alloc);
+    for row in rows {
+        copies.push(row.copy(alloc)?)?;
+    }
+    Ok(copies)
+}
+
+/// The message for a row that the device wants.
+fn body(alloc: Global, row: &Row, answer: &Body) -> Result<Act, Memory>
+    ensures { IfOk result (λ act. act ≡ body_act row.now answer.now) }
+{
+    match answer {
+        Body::Rev { ancestors, bytes } => Ok(Act::Request {
+            payload: write_rev(alloc, row, ancestors.as_slice(), bytes.as_slice())?,
+            no_reply: false,
+        }),
+        Body::Removed => Ok(Act::Request {
+            payload: write_rev(alloc, row, &[], REMOVED)?,
+            no_reply: false,
+        }),
+        Body::NoRev => Ok(Act::Request {
+            payload: write_norev(alloc, row)?,
+            no_reply: true,
+        }),
+    }
+}
+
+/// The messages for rows that the device wants, by their answers.
+pub(crate) fn bodies(alloc: Global, rows: &[Row], answers: &[Body]) -> Result<Vec<Act>, Memory>
+    ensures value { IfOk result (λ acts. acts.items ≡ body_acts rows.now answers.now) }
+    ensures requests { IfOk result (λ acts. are_requests acts.items ≡ true) }
+{
+    let mut acts = Vec::new(alloc);
+    let mut rows = rows;
+    let mut answers = answers;
+    while let [row, later_rows @ ..] = rows {
+        let [answer, later_answers @ ..] = answers else {
+            return Ok(acts);
+        };
+        acts.push(body(alloc, row, answer)?)?;
+        rows = later_rows;
+        answers = later_answers;
+    }
+    Ok(acts)
+}

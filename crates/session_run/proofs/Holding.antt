@@ -1,0 +1,217 @@
+-- A session that runs, from result to result.
+use Rattle.std.proofs.Common.{◌≡◌, ◌⊎◌, inl, inr, ℕ, ◌+◌, Bool, true, false, ◌&&◌, not, List, [], ◌∷◌, ◌++◌, length, map, Option, Some, None, Result, Ok, Err, refl, sym, ◌∙◌, ap, subst, if◌then◌else◌, arith, append-nil}
+use Rattle.std.proofs.lemmas.Bool.{false≢true}
+use Rattle.std.proofs.lemmas.List.{append_assoc, length-append}
+use Rattle.sg_outside.specs.Wire.{Traffic, ReceivesIfTold, Receives, received, after_next}
+use Rattle.sg_outside.specs.declared.wire.Got.{Got}
+use Rattle.sg_outside.specs.declared.wire.Got.TheVariants as got
+use Rattle.blip_frame.specs.Checksum.{checksum, after_bits}
+use Rattle.blip_frame.specs.Frame.{FrameParts, ◌>>=◌, frame_at, frames_at, with_first, with_front, AreWrittenAfter, all_sent}
+use Rattle.blip_frame.specs.Frame as frame
+use Rattle.blip_frame.specs.declared.frame.FrameFault.{FrameFault}
+use Rattle.blip_mux.specs.declared.message.Message.{Message}
+use Rattle.blip_mux.specs.declared.inbox.TakeFault.{TakeFault}
+use Rattle.blip_mux.specs.Between.{waiting_of}
+use Rattle.blip_mux.specs.Joining.{Event, came, expected, is_request, message_at, joined_as, taken_after, StandsFor}
+use Rattle.blip_mux.specs.Sending.{Waiting}
+use Rattle.blip_mux.specs.Standing.{Standing, new_standing, expecting}
+use Rattle.sg_history.specs.declared.entries.Entry.{Entry}
+use Rattle.repl_messages.specs.declared.request.Version.{Version}
+use Rattle.session_core.specs.declared.look.Look.{Look}
+use Rattle.session_core.specs.declared.machine.Pending.TheVariants as pending
+use Rattle.session_core.specs.Exchange.{Exchange, requests_among, requests_put}
+use Rattle.session_core.specs.Session.{Exchanged, AreExchanged, looks_of}
+use Rattle.session_core.specs.Machine.{Machine}
+use Rattle.session_core.specs.Conduct.{led_to}
+use Rattle.write_path.specs.Looks.{IsLaterThanAll}
+use Rattle.session_run.specs.declared.ended.End.{End}
+use Rattle.session_run.specs.declared.ended.End.TheVariants as end
+use Rattle.session_run.specs.declared.ended.FrameWhy.{FrameWhy}
+use Rattle.session_run.specs.declared.session.Session.{Session}
+use Rattle.session_run.specs.Exchanges.{Makes}
+use Rattle.session_run.specs.Frames.{IsBadFrame, IsBadMessage}
+use Rattle.session_run.specs.Held.{IsAtRest, Holds, Turns}
+use Rattle.session_run.specs.Sent.{Go, Tells, expecting_by, expecting_all}
+use Rattle.session_run.specs.Served.{are_frames, bytes_of, IsBadAfter, EndsBy, IsSentAt, IsSession}
+use Rattle.session_run.specs.Turns.{Turn, exchanges_of, frames_of, events_of, put_after, all_put_after, AreJoined, AreSent}
+use Rattle.session_run.proofs.Sending.{tells_on}
+
+-- ---- what is expected
+
+-- what the inbox keeps of what came, as its laws say
+abbrev pub Came : Type 0
+Came = (s : Standing) (before : List Event) (f : FrameParts) → StandsFor s before → StandsFor (taken_after s f.kind f.number) (came f ∷ before)
+
+abbrev pub Expects : Type 0
+Expects = (s : Standing) (before : List Event) (number : ℕ) → StandsFor s before → StandsFor (expecting s number) (expected number ∷ before)
+
+abbrev pub Joins : Type 0
+Joins = (s : Standing) (before : List Event) (f : FrameParts) → StandsFor s before → message_at s f ≡ joined_as before f
+
+one_stands : Expects → (s : Standing) (before : List Event) (m : Message) (b : Bool) → StandsFor s before
+    → StandsFor (if b then expecting s m.number else s) (if b then expected m.number ∷ before else before)
+one_stands law s before m true stands = law s before m.number stands
+one_stands law s before m false stands = stands
+
+all_stand : Expects → (messages : List Message) (s : Standing) (before : List Event) → StandsFor s before → StandsFor (expecting_all messages s) (all_put_after messages before)
+all_stand law [] s before stands = stands
+all_stand law (m ∷ messages) s before stands =
+    all_stand law messages (expecting_by m s) (put_after m before) (one_stands law s before m (is_request m.kind && not m.no_reply) stands)
+
+-- ---- what was read
+
+front_end : (frames : List FrameParts) (f : FrameParts) (read : Result (List FrameParts) FrameFault) → with_front (frames ++ f ∷ []) read ≡ with_front frames (with_first f read)
+front_end [] f read = refl
+front_end (g ∷ frames) f read = ap (with_first g) (front_end frames f read)
+
+pub front_ok : (frames more : List FrameParts) → with_front frames (Ok more) ≡ Ok (frames ++ more)
+front_ok [] more = refl
+front_ok (g ∷ frames) more = ap (with_first g) (front_ok frames more)
+
+pub front_err : (frames : List FrameParts) (fault : FrameFault) → with_front frames (Err fault) ≡ Err fault
+front_err [] fault = refl
+front_err (g ∷ frames) fault = ap (with_first g) (front_err frames fault)
+
+pub frames_on : (results : List Got) (bytes : List ℕ) → are_frames results ≡ true → are_frames (results ++ got.Frame bytes ∷ []) ≡ true
+frames_on [] bytes e = refl
+frames_on (got.Frame first ∷ results) bytes e = frames_on results bytes e
+frames_on (got.Text ∷ results) bytes e = absurd (false≢true e)
+frames_on (got.Idle ∷ results) bytes e = frames_on results bytes e
+frames_on (got.End ∷ results) bytes e = absurd (false≢true e)
+frames_on (got.Failed ∷ results) bytes e = absurd (false≢true e)
+frames_on (got.Memory ∷ results) bytes e = absurd (false≢true e)
+
+idle_on : (results : List Got) → are_frames results ≡ true → are_frames (results ++ got.Idle ∷ []) ≡ true
+idle_on [] e = refl
+idle_on (got.Frame first ∷ results) e = idle_on results e
+idle_on (got.Text ∷ results) e = absurd (false≢true e)
+idle_on (got.Idle ∷ results) e = idle_on results e
+idle_on (got.End ∷ results) e = absurd (false≢true e)
+idle_on (got.Failed ∷ results) e = absurd (false≢true e)
+idle_on (got.Memory ∷ results) e = absurd (false≢true e)
+
+bytes_on : (results more : List Got) → bytes_of (results ++ more) ≡ bytes_of results ++ bytes_of more
+bytes_on [] more = refl
+bytes_on (got.Frame first ∷ results) more = ap (λ bs. first ∷ bs) (bytes_on results more)
+bytes_on (got.Text ∷ results) more = bytes_on results more
+bytes_on (got.Idle ∷ results) more = bytes_on results more
+bytes_on (got.End ∷ results) more = bytes_on results more
+bytes_on (got.Failed ∷ results) more = bytes_on results more
+bytes_on (got.Memory ∷ results) more = bytes_on results more
+
+-- one frame more is read
+pub read_on : (results : List Got) (frames : List FrameParts) (f : FrameParts) (bytes : List ℕ) (value value_after : ℕ)
+    → ((later : List (List ℕ)) → frames_at 0 (bytes_of results ++ later) ≡ with_front frames (frames_at value later))
+    → frame_at value bytes ≡ Ok (f, value_after)
+    → (later : List (List ℕ)) → frames_at 0 (bytes_of (results ++ got.Frame bytes ∷ []) ++ later) ≡ with_front (frames ++ f ∷ []) (frames_at value_after later)
+read_on results frames f bytes value value_after read one later =
+    ap (λ bs. frames_at 0 (bs ++ later)) (bytes_on results (got.Frame bytes ∷ []))
+    ∙ ap (frames_at 0) (append_assoc (bytes_of results) (bytes ∷ []) later)
+    ∙ read (bytes ∷ later)
+    ∙ ap (λ r. with_front frames (r >>= λ found. with_first found.0 (frames_at found.1 later))) one
+    ∙ sym (front_end frames f (frames_at value_after later))
+
+-- ---- what was sent
+
+pub written_more : (sent : List ℕ) (texts more : List (List ℕ)) (frames others : List FrameParts)
+    → AreWrittenAfter sent texts frames → AreWrittenAfter (all_sent sent frames) more others → AreWrittenAfter sent (texts ++ more) (frames ++ others)
+written_more sent [] more [] others a b = b
+written_more sent [] more (f ∷ frames) others a b = absurd a
+written_more sent (text ∷ texts) more [] others a b = absurd a
+written_more sent (text ∷ texts) more (f ∷ frames) others (first, a) b = (first, written_more (frame.sent_after sent f) texts more frames others a b)
+
+sent_more : (sent : List ℕ) (frames others : List FrameParts) → all_sent sent (frames ++ others) ≡ all_sent (all_sent sent frames) others
+sent_more sent [] others = refl
+sent_more sent (f ∷ frames) others = sent_more (frame.sent_after sent f) frames others
+
+-- ---- from turn to turn
+
+-- what goes on from all that were met since goes on from all that were met before
+abbrev pub Extends : List (List Entry) → List (List Entry) → Type 0
+Extends before after = (h : List Entry) → IsLaterThanAll after h → IsLaterThanAll before h
+
+-- the exchange of a turn is the session's
+pub turn_exchanged : (user : List ℕ) (version : Version) (met after : List (List Entry)) (old new : Session) (turns : List Turn) (frames : List FrameParts) (results : List Got) (sent : List (List ℕ))
+    (bytes : List ℕ) (told told_after : Option Traffic) (t : Turn) (left : List Waiting)
+    → Holds user version met old turns frames results sent → Turns old new bytes after told told_after t left → Extends met after
+    → (h : List Entry) → IsLaterThanAll after h → Exchanged h user version (exchanges_of turns) t.exchange × (new.core ≡ led_to h user version (exchanges_of (t ∷ turns)))
+turn_exchanged user version met after old new turns frames results sent bytes told told_after t left held did extends h later =
+    did.made.leads h user version (exchanges_of turns) later (held.led h (extends h later))
+
+pub holds_on : Came → Expects → Joins
+    → (user : List ℕ) (version : Version) (met after : List (List Entry)) (old new : Session) (turns : List Turn) (frames : List FrameParts) (results : List Got) (sent : List (List ℕ))
+    (bytes : List ℕ) (told told_after : Option Traffic) (t : Turn)
+    → Holds user version met old turns frames results sent → Extends met after
+    → (did : Turns old new bytes after told told_after t []) → did.value ≡ new.mux.sent.value → IsAtRest new
+    → new.mux.inbox ≡ expecting_all t.exchange.puts (taken_after old.mux.inbox t.frame.kind t.frame.number)
+    → Holds user version after new (t ∷ turns) (frames ++ did.frames) (results ++ got.Frame bytes ∷ []) (sent ++ did.sent)
+holds_on law_came law_expects law_joins user version met after old new turns frames results sent bytes told told_after t held extends did value rest inbox =
+    let written : AreWrittenAfter (all_sent [] frames) did.sent did.frames × (did.value ≡ checksum (all_sent (all_sent [] frames) did.frames)) = did.written (all_sent [] frames) held.checked in
+    record {
+      user_is = did.made.user ∙ held.user_is;
+      version_is = did.made.version ∙ held.version_is;
+      requests = did.made.requests ∙ ap (λ n. requests_among t.exchange.puts + n) held.requests;
+      rest = rest;
+      exchanged = λ h later. ((turn_exchanged user version met after old new turns frames results sent bytes told told_after t [] held did extends h later).0, held.exchanged h (extends h later));
+      led = λ h later. (turn_exchanged user version met after old new turns frames results sent bytes told told_after t [] held did extends h later).1;
+      joined = (sym (law_joins old.mux.inbox (events_of turns) t.frame held.inbox) ∙ did.message, held.joined);
+      inbox = subst (λ s. StandsFor s (events_of (t ∷ turns))) (sym inbox)
+          (all_stand law_expects t.exchange.puts (taken_after old.mux.inbox t.frame.kind t.frame.number) (came t.frame ∷ events_of turns) (law_came old.mux.inbox (events_of turns) t.frame held.inbox));
+      looks = did.looks ∙ ap (λ (looks : List Look). looks ++ t.exchange.looks) held.looks;
+      count = omega (arith, did.count, held.count);
+      taken = frames_on results bytes held.taken;
+      read = read_on results (frames_of turns) t.frame bytes old.mux.received.value new.mux.received.value held.read did.read;
+      put = (frames, did.frames, refl, held.put, did.go);
+      written = written_more [] sent did.sent frames did.frames held.written written.0;
+      checked = sym value ∙ written.1 ∙ ap checksum (sym (sent_more [] frames did.frames));
+    }
+
+pub holds_idle : (user : List ℕ) (version : Version) (met : List (List Entry)) (s : Session) (turns : List Turn) (frames : List FrameParts) (results : List Got) (sent : List (List ℕ))
+    → Holds user version met s turns frames results sent → Holds user version met s turns frames (results ++ got.Idle ∷ []) sent
+holds_idle user version met s turns frames results sent held = record {
+  user_is = held.user_is;
+  version_is = held.version_is;
+  requests = held.requests;
+  rest = held.rest;
+  exchanged = held.exchanged;
+  led = held.led;
+  joined = held.joined;
+  inbox = held.inbox;
+  looks = held.looks;
+  count = held.count;
+  taken = idle_on results held.taken;
+  read = λ later. ap (λ bs. frames_at 0 (bs ++ later)) (bytes_on results (got.Idle ∷ []) ∙ append-nil (bytes_of results)) ∙ held.read later;
+  put = held.put;
+  written = held.written;
+  checked = held.checked;
+}
+
+-- ---- the beginning
+
+nothing_checked : 0 ≡ checksum []
+unfolding checksum after_bits
+nothing_checked = refl
+
+-- a session to which nothing has come
+pub holds_new : (user : List ℕ) (version : Version) (met : List (List Entry)) (s : Session)
+    → StandsFor new_standing []
+    → s.core ≡ record { user = user; version = version; requests = 0; feed = None; pending = pending.Nothing }
+    → s.mux.inbox ≡ new_standing → s.mux.outbox ≡ record { requests = 0; waiting = [] } → s.mux.received.value ≡ 0 → s.mux.sent.value ≡ 0 → s.looks ≡ [] → s.frames ≡ 0
+    → Holds user version met s [] [] [] []
+holds_new user version met s stands core inbox outbox received sent looks frames = record {
+  user_is = ap (λ (m : Machine). m.user) core;
+  version_is = ap (λ (m : Machine). m.version) core;
+  requests = ap (λ (m : Machine). m.requests) core;
+  rest = (ap (λ (m : Machine). m.pending) core, outbox ∙ ap (λ n. record { requests = n; waiting = [] }) (sym (ap (λ (m : Machine). m.requests) core)));
+  exchanged = λ h later. tt;
+  led = λ h later. core;
+  joined = tt;
+  inbox = subst (λ s. StandsFor s []) (sym inbox) stands;
+  looks = looks;
+  count = frames;
+  taken = refl;
+  read = λ later. ap (λ v. frames_at v later) (sym received);
+  put = (refl, refl);
+  written = tt;
+  checked = sent ∙ nothing_checked;
+}

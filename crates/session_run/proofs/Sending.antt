@@ -1,0 +1,203 @@
+-- Frames that go, one after another.
+use Rattle.std.proofs.Common.{◌≡◌, ◌≢◌, ◌≤◌, ◌<◌, ℕ, ◌+◌, Bool, true, false, List, [], ◌∷◌, ◌++◌, length, drop, take, Option, Some, None, refl, sym, ◌∙◌, ap, subst, if◌then◌else◌, nat_lt, arith, append-nil, le_trans}
+use Rattle.std.proofs.lemmas.Bool.{false≢true, ltb-true}
+use Rattle.std.proofs.lemmas.List.{length-drop, append_assoc}
+use Rattle.std.proofs.lemmas.Option.{none-some}
+use Rattle.sg_outside.specs.Sink.{Counts}
+use Rattle.sg_outside.specs.Wire.{Traffic, SendsIfTold, ReceivesIfTold, sent_after}
+use Rattle.sg_outside.specs.declared.sink.Gave.{Gave}
+use Rattle.sg_outside.specs.declared.sink.Gave.TheVariants as gave
+use Rattle.sg_outside.specs.declared.wire.Got.{Got}
+use Rattle.blip_frame.specs.Checksum.{checksum}
+use Rattle.blip_frame.specs.Frame as frame
+use Rattle.blip_frame.specs.Frame.{FrameParts, IsWrittenAfter, WritesAfter, AreWrittenAfter, all_sent, largest_written}
+use Rattle.blip_mux.specs.Sending.{Waiting, next_piece, after_piece, has_more, SendsAfter, Sends}
+use Rattle.blip_mux.specs.declared.outbox.Next.{Next}
+use Rattle.blip_mux.specs.declared.outbox.Next.TheVariants as nexts
+use Rattle.session_run.specs.Sent.{Go, AreWrittenFrom, Tells}
+use Rattle.session_run.specs.Muxed.{left_of, IsLeft}
+
+-- ---- what waits
+
+-- one frame more goes
+pub go_on : (waiting : List Waiting) (frames : List FrameParts) (left : List Waiting) (f : FrameParts) → Go waiting frames left → next_piece left ≡ Some f → Go waiting (frames ++ f ∷ []) (after_piece left)
+go_on waiting [] left f e next = (ap next_piece (sym e) ∙ next, ap after_piece e)
+go_on waiting (g ∷ frames) left f (first, rest) next = (first, go_on (after_piece waiting) frames left f rest next)
+
+-- there is a next frame where something waits
+pub none_next : (waiting : List Waiting) → next_piece waiting ≡ None → waiting ≡ []
+none_next [] e = refl
+none_next (w ∷ ws) e = absurd (none-some _ (sym e))
+
+-- the frame that goes leaves less
+less_left : (w : Waiting) (ws : List Waiting) (b : Bool) → has_more w ≡ b → left_of (if b then record w { rest = drop largest_written w.rest } ∷ ws else ws) < left_of (w ∷ ws)
+less_left w ws true e = omega (arith, length-drop largest_written w.rest, ltb-true largest_written (length w.rest) e)
+less_left w ws false e = omega arith
+
+pub goes_down : (waiting : List Waiting) → (waiting ≢ []) → left_of (after_piece waiting) < left_of waiting
+goes_down [] some = absurd (some refl)
+goes_down (w ∷ ws) some = less_left w ws (has_more w) refl
+
+-- ---- what is written
+
+written_on : (sent : List ℕ) (texts : List (List ℕ)) (frames : List FrameParts) (bytes : List ℕ) (f : FrameParts)
+    → AreWrittenAfter sent texts frames → IsWrittenAfter (all_sent sent frames) bytes f → AreWrittenAfter sent (texts ++ bytes ∷ []) (frames ++ f ∷ [])
+written_on sent [] [] bytes f all one = (one, tt)
+written_on sent [] (g ∷ frames) bytes f all one = absurd all
+written_on sent (text ∷ texts) [] bytes f all one = absurd all
+written_on sent (text ∷ texts) (g ∷ frames) bytes f (first, all) one = (first, written_on (frame.sent_after sent g) texts frames bytes f all one)
+
+sent_on : (sent : List ℕ) (frames : List FrameParts) (f : FrameParts) → all_sent sent (frames ++ f ∷ []) ≡ frame.sent_after (all_sent sent frames) f
+sent_on sent [] f = refl
+sent_on sent (g ∷ frames) f = sent_on (frame.sent_after sent g) frames f
+
+as_written : (sent bytes : List ℕ) (f : FrameParts) → WritesAfter sent [] bytes f → IsWrittenAfter sent bytes f
+as_written sent bytes f (text, one, e) = subst (λ b. IsWrittenAfter sent b f) (sym e) one
+
+-- one frame more is written
+write_one : (sent : List ℕ) (after : ℕ) (frames : List FrameParts) (texts : List (List ℕ)) (f : FrameParts) (bytes : List ℕ)
+    → AreWrittenAfter sent texts frames → SendsAfter (all_sent sent frames) (Some f) nexts.Frame after [] bytes
+    → AreWrittenAfter sent (texts ++ bytes ∷ []) (frames ++ f ∷ []) × (after ≡ checksum (all_sent sent (frames ++ f ∷ [])))
+write_one sent after frames texts f bytes all (value, written) = (
+  written_on sent texts frames bytes f all (as_written (all_sent sent frames) bytes f written),
+  value ∙ ap checksum (sym (sent_on sent frames f)),
+)
+
+pub write_on : (before value after : ℕ) (frames : List FrameParts) (texts : List (List ℕ)) (f : FrameParts) (bytes : List ℕ)
+    → AreWrittenFrom before frames texts value
+    → ((sent : List ℕ) → value ≡ checksum sent → SendsAfter sent (Some f) nexts.Frame after [] bytes)
+    → AreWrittenFrom before (frames ++ f ∷ []) (texts ++ bytes ∷ []) after
+write_on before value after frames texts f bytes all one sent e =
+    let old : AreWrittenAfter sent texts frames × (value ≡ checksum (all_sent sent frames)) = all sent e in
+    write_one sent after frames texts f bytes old.0 (one (all_sent sent frames) old.1)
+
+pub none_written : (value : ℕ) → AreWrittenFrom value [] [] value
+none_written value sent e = (tt, e)
+
+-- ---- what is told
+
+pub tells_none : (told : Option Traffic) → Tells told [] [] told
+tells_none None = refl
+tells_none (Some t) = (t, refl, sym (append-nil t.got), sym (append-nil t.sent))
+
+told_on : (t u : Traffic) (after : Option Traffic) (got more_got : List Got) (sent more_sent : List (List ℕ)) → u.got ≡ t.got ++ got → u.sent ≡ t.sent ++ sent
+    → Tells (Some u) more_got more_sent after → Tells (Some t) (got ++ more_got) (sent ++ more_sent) after
+told_on t u after got more_got sent more_sent got_is sent_is (v, e, more_got_is, more_sent_is) = (
+  v,
+  e,
+  more_got_is ∙ ap (λ g. g ++ more_got) got_is ∙ append_assoc t.got got more_got,
+  more_sent_is ∙ ap (λ s. s ++ more_sent) sent_is ∙ append_assoc t.sent sent more_sent,
+)
+
+pub tells_on : (told between after : Option Traffic) (got more_got : List Got) (sent more_sent : List (List ℕ))
+    → Tells told got sent between → Tells between more_got more_sent after → Tells told (got ++ more_got) (sent ++ more_sent) after
+tells_on None between after got more_got sent more_sent a b = subst (λ t. Tells t more_got more_sent after) a b
+tells_on (Some t) between after got more_got sent more_sent (u, e, got_is, sent_is) b = told_on t u after got more_got sent more_sent got_is sent_is (subst (λ t. Tells t more_got more_sent after) e b)
+
+-- a frame that was sent
+pub tells_sent : (told after : Option Traffic) (bytes : List ℕ) → SendsIfTold told bytes gave.Done after → Tells told [] (bytes ∷ []) after
+tells_sent None after bytes e = e
+tells_sent (Some t) after bytes e = (sent_after t bytes gave.Done, e, sym (append-nil t.got), refl)
+
+pub tells_failed : (told after : Option Traffic) (bytes : List ℕ) → SendsIfTold told bytes gave.Failed after → Tells told [] [] after
+tells_failed None after bytes e = e
+tells_failed (Some t) after bytes e = (sent_after t bytes gave.Failed, e, sym (append-nil t.got), sym (append-nil t.sent))
+
+pub tells_memory : (told after : Option Traffic) (bytes : List ℕ) → SendsIfTold told bytes gave.Memory after → Tells told [] [] after
+tells_memory None after bytes e = e
+tells_memory (Some t) after bytes e = (t, e, sym (append-nil t.got), sym (append-nil t.sent))
+
+-- ---- so far
+
+-- frames went, from what waited to what waits now
+abbrev pub Going : List Waiting → ℕ → Option Traffic → List Waiting → ℕ → Option Traffic → Type 0
+Going before value told waiting value_now told_now =
+    (frames : List FrameParts) × (texts : List (List ℕ)) × Go before frames waiting × AreWrittenFrom value frames texts value_now × Tells told [] texts told_now
+
+pub going_none : (waiting : List Waiting) (value : ℕ) (told : Option Traffic) → Going waiting value told waiting value told
+going_none waiting value told = ([], [], refl, none_written value, tells_none told)
+
+one_goes : (before : List Waiting) (value : ℕ) (told : Option Traffic) (waiting : List Waiting) (value_now : ℕ) (told_now : Option Traffic) (f : FrameParts) (value_after : ℕ) (bytes : List ℕ) (told_after : Option Traffic)
+    → next_piece waiting ≡ Some f
+    → ((sent : List ℕ) → value_now ≡ checksum sent → SendsAfter sent (Some f) nexts.Frame value_after [] bytes)
+    → Tells told_now [] (bytes ∷ []) told_after
+    → Going before value told waiting value_now told_now → Going before value told (after_piece waiting) value_after told_after
+one_goes before value told waiting value_now told_now f value_after bytes told_after next written tells (frames, texts, go, all_written, all_told) = (
+  frames ++ f ∷ [],
+  texts ++ bytes ∷ [],
+  go_on before frames waiting f go next,
+  write_on value value_now value_after frames texts f bytes all_written written,
+  tells_on told told_now told_after [] [] texts (bytes ∷ []) all_told tells,
+)
+
+piece_goes : (before : List Waiting) (value : ℕ) (told : Option Traffic) (waiting : List Waiting) (value_now : ℕ) (told_now : Option Traffic) (p : Option FrameParts) (value_after : ℕ) (bytes : List ℕ) (told_after : Option Traffic)
+    → next_piece waiting ≡ p
+    → Sends p nexts.Frame value_now value_after [] bytes
+    → ((sent : List ℕ) → value_now ≡ checksum sent → SendsAfter sent p nexts.Frame value_after [] bytes)
+    → Tells told_now [] (bytes ∷ []) told_after
+    → Going before value told waiting value_now told_now → Going before value told (after_piece waiting) value_after told_after
+piece_goes before value told waiting value_now told_now None value_after bytes told_after next sends written tells going = absurd sends
+piece_goes before value told waiting value_now told_now (Some f) value_after bytes told_after next sends written tells going =
+    one_goes before value told waiting value_now told_now f value_after bytes told_after next written tells going
+
+-- one frame more
+pub going_on : (before : List Waiting) (value : ℕ) (told : Option Traffic) (waiting : List Waiting) (value_now : ℕ) (told_now : Option Traffic) (value_after : ℕ) (bytes : List ℕ) (told_after : Option Traffic)
+    → Sends (next_piece waiting) nexts.Frame value_now value_after [] bytes
+    → ((sent : List ℕ) → value_now ≡ checksum sent → SendsAfter sent (next_piece waiting) nexts.Frame value_after [] bytes)
+    → Tells told_now [] (bytes ∷ []) told_after
+    → Going before value told waiting value_now told_now → Going before value told (after_piece waiting) value_after told_after
+going_on before value told waiting value_now told_now value_after bytes told_after sends written tells going =
+    piece_goes before value told waiting value_now told_now (next_piece waiting) value_after bytes told_after refl sends written tells going
+
+-- a frame that was written, and went or did not, was one of what waited
+some_next : (p : Option FrameParts) (value value_after : ℕ) (bytes : List ℕ) → Sends p nexts.Frame value value_after [] bytes → p ≢ None
+some_next None value value_after bytes sends e = absurd sends
+some_next (Some f) value value_after bytes sends e = none-some f (sym e)
+
+pub some_waits : (waiting : List Waiting) (value value_after : ℕ) (bytes : List ℕ) → Sends (next_piece waiting) nexts.Frame value value_after [] bytes → waiting ≢ []
+some_waits waiting value value_after bytes sends e = some_next (next_piece waiting) value value_after bytes sends (ap next_piece e)
+
+none_at : (p : Option FrameParts) (value value_after : ℕ) (bytes : List ℕ) → Sends p nexts.Idle value value_after [] bytes → (p ≡ None) × (value_after ≡ value)
+none_at None value value_after bytes sends = (refl, sends.0)
+none_at (Some f) value value_after bytes sends = absurd sends
+
+pub none_waits : (waiting : List Waiting) (value value_after : ℕ) (bytes : List ℕ) → Sends (next_piece waiting) nexts.Idle value value_after [] bytes → (waiting ≡ []) × (value_after ≡ value)
+none_waits waiting value value_after bytes sends =
+    let found : (next_piece waiting ≡ None) × (value_after ≡ value) = none_at (next_piece waiting) value value_after bytes sends in
+    (none_next waiting found.0, found.1)
+
+-- what went before the end
+pub gone : (before : List Waiting) (value : ℕ) (told : Option Traffic) (waiting : List Waiting) (value_now : ℕ) (told_now told_after : Option Traffic) (result : Gave) (now : ℕ)
+    → Tells told_now [] [] told_after → IsLeft result waiting value_now now
+    → Going before value told waiting value_now told_now
+    → (frames : List FrameParts) × (texts : List (List ℕ)) × (left : List Waiting) × (value_sent : ℕ)
+    × Go before frames left × AreWrittenFrom value frames texts value_sent × Tells told [] texts told_after × IsLeft result left value_sent now
+gone before value told waiting value_now told_now told_after result now tells is_left (frames, texts, go, written, all_told) =
+    (frames, texts, waiting, value_now, go, written, subst (λ t. Tells told [] t told_after) (append-nil texts) (tells_on told told_now told_after [] [] texts [] all_told tells), is_left)
+
+-- a frame that was not sent
+pub tells_other : (told after : Option Traffic) (bytes : List ℕ) (result : Gave) → result ≢ gave.Done → SendsIfTold told bytes result after → Tells told [] [] after
+tells_other told after bytes gave.Done other sent = absurd (other refl)
+tells_other told after bytes gave.Failed other sent = tells_failed told after bytes sent
+tells_other told after bytes gave.Memory other sent = tells_memory told after bytes sent
+
+pub other_left : (result : Gave) (left : List Waiting) (value now : ℕ) → result ≢ gave.Done → IsLeft result left value now
+other_left gave.Done left value now other = absurd (other refl)
+other_left gave.Failed left value now other = tt
+other_left gave.Memory left value now other = tt
+
+-- ---- what a call for the next frame did, from an empty buffer
+
+pub frame_sends : (p : Option FrameParts) (next : Next) (value value_after : ℕ) (old new : List ℕ) → next ≡ nexts.Frame → old ≡ [] → Sends p next value value_after old new → Sends p nexts.Frame value value_after [] new
+frame_sends p next value value_after old new is empty sends =
+    subst (λ o. Sends p nexts.Frame value value_after o new) empty (subst (λ n. Sends p n value value_after old new) is sends)
+
+pub frame_sends_after : (p : Option FrameParts) (next : Next) (value_after : ℕ) (old new sent : List ℕ) → next ≡ nexts.Frame → old ≡ [] → SendsAfter sent p next value_after old new → SendsAfter sent p nexts.Frame value_after [] new
+frame_sends_after p next value_after old new sent is empty sends =
+    subst (λ o. SendsAfter sent p nexts.Frame value_after o new) empty (subst (λ n. SendsAfter sent p n value_after old new) is sends)
+
+-- faults are counted on
+pub counts_on : (before between after : ℕ) (result : Gave) → before ≤ between → Counts between result after → Counts before result after
+counts_on before between after gave.Done a b = le_trans a b
+counts_on before between after gave.Failed a b = omega (arith, a, b)
+counts_on before between after gave.Memory a b = le_trans a b

@@ -1,0 +1,38 @@
+use Rattle.std.proofs.Common.{◌≡◌, ◌≤◌, ℕ, [], refl, sym, ◌∙◌, ap, subst, le_refl, arith}
+use Rattle.session_core.specs.Session.{RiseBetween}
+use Rattle.session_run.specs.declared.ended.End.TheVariants as end
+use Rattle.session_run.specs.Exchanges.{AreAtTold}
+use Rattle.session_run.specs.Held.{Ends, RunsOn}
+use Rattle.session_run.proofs.Sending.{tells_none}
+use Rattle.session_run.proofs.Ending.{run_ends, runs_new}
+use Rattle.session_run.proofs.Rising.{none_told}
+use Rattle.session_run.proofs.serve.serve_session.Goals as goal
+
+pub loop-received-init : goal.loop-received-init
+loop-received-init g c = record {
+  runs = runs_new c.args.setup.user c.args.setup.version (g.G.Ground.met c.args.ground) (g.W.Wire.told c.args.wire.now) c.new-session.result (c.new-session.ensures.new (g.G.Ground.met c.args.ground));
+  rest = (c.new-session.ensures.new (g.G.Ground.met c.args.ground)).rest;
+  room = subst (λ n. n ≤ 0) (sym c.new-session.ensures.requests) (le_refl 0);
+  count = subst (λ n. n ≤ 0) (sym c.new-session.ensures.frames) (le_refl 0);
+  looks = c.looks.ensures.reflexive (g.G.Ground.met c.args.ground) (g.G.Ground.floor c.args.ground);
+  told = refl;
+  rise = subst (λ looks. RiseBetween (g.G.Ground.floor c.args.ground) looks (g.G.Ground.floor c.args.ground)) (sym c.new-session.ensures.looks) (le_refl (g.G.Ground.floor c.args.ground));
+  at_told = subst (λ looks. AreAtTold (g.G.Ground.told c.args.ground) looks) (sym c.new-session.ensures.looks) (none_told (g.G.Ground.told c.args.ground));
+  faults = le_refl (g.W.Wire.faults c.args.wire.now);
+}
+
+pub returns-in-Some-clause-session : goal.returns-in-Some-clause-session
+returns-in-Some-clause-session g c =
+    subst (λ ended. Ends c.args.setup.user c.args.setup.version (g.G.Ground.met c.step.new.ground) (g.W.Wire.told c.args.wire.now) ended (g.W.Wire.told c.step.new.wire)) (sym c.ended.ensures)
+    (subst (λ result. RunsOn c.args.setup.user c.args.setup.version (g.G.Ground.met c.step.new.ground) (g.W.Wire.told c.args.wire.now) c.step.new.self (g.W.Wire.told c.step.new.wire) c.loop-received.received result) c.in-Some.is
+    (c.step.ensures.runs c.args.setup.user c.args.setup.version (g.W.Wire.told c.args.wire.now) c.loop-received.received c.loop-received.invariant.runs))
+
+pub returns-clause-session : goal.returns-clause-session
+returns-clause-session g c =
+    subst (λ ended. Ends c.args.setup.user c.args.setup.version (g.G.Ground.met c.loop-received.ground) (g.W.Wire.told c.args.wire.now) ended (g.W.Wire.told c.loop-received.wire)) (sym c.ended-2.ensures)
+    (run_ends c.args.setup.user c.args.setup.version (g.G.Ground.met c.loop-received.ground) (g.G.Ground.met c.loop-received.ground)
+    (g.W.Wire.told c.args.wire.now) (g.W.Wire.told c.loop-received.wire) (g.W.Wire.told c.loop-received.wire)
+    c.loop-received.session c.loop-received.received end.TurnsFull c.loop-received.session.looks [] (λ h later. later) refl
+    (λ turns frames results sent held counted. (refl, counted ∙ omega (arith, c.loop-received-test.false, c.loop-received.auto.received-end)))
+    (tells_none (g.W.Wire.told c.loop-received.wire))
+    c.loop-received.invariant.runs)

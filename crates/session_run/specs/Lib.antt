@@ -1,0 +1,7 @@
+pub mod Exchanges
+pub mod Frames
+pub mod Sent
+pub mod Turns
+pub mod Muxed
+pub mod Served
+pub mod Held

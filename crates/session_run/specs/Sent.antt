@@ -1,0 +1,33 @@
+-- The frames that go out.
+use Rattle.std.specs.Prelude.{◌≡◌, ℕ, ◌&&◌, not, List, [], ◌∷◌, ◌++◌, map, Option, Some, None, if◌then◌else◌}
+use Rattle.sg_outside.specs.Wire.{Traffic}
+use Rattle.sg_outside.specs.declared.wire.Got.{Got}
+use Rattle.blip_frame.specs.Checksum.{checksum}
+use Rattle.blip_frame.specs.Frame.{FrameParts, AreWrittenAfter, all_sent}
+use Rattle.blip_mux.specs.declared.message.Message.{Message}
+use Rattle.blip_mux.specs.Joining.{is_request}
+use Rattle.blip_mux.specs.Standing.{Standing, expecting}
+use Rattle.blip_mux.specs.Sending.{Waiting, next_piece, after_piece}
+
+-- frames go, each the next one of what waits, until this is left
+abbrev pub Go : List Waiting → List FrameParts → List Waiting → Type 0
+Go waiting [] left = left ≡ waiting
+Go waiting (f ∷ frames) left = (next_piece waiting ≡ Some f) × Go (after_piece waiting) frames left
+
+-- the texts are these frames, one after another, in a direction whose checksum goes from the one to the other
+abbrev pub AreWrittenFrom : ℕ → List FrameParts → List (List ℕ) → ℕ → Type 0
+AreWrittenFrom before frames texts after =
+    (sent : List ℕ) → before ≡ checksum sent → AreWrittenAfter sent texts frames × (after ≡ checksum (all_sent sent frames))
+
+-- the wire, where it tells, tells these further results and these further frames
+abbrev pub Tells : Option Traffic → List Got → List (List ℕ) → Option Traffic → Type 0
+Tells None got sent after = after ≡ None
+Tells (Some before) got sent after = (t : Traffic) × (after ≡ Some t) × (t.got ≡ before.got ++ got) × (t.sent ≡ before.sent ++ sent)
+
+-- an inbox once messages were put: the reply to each request that wants one is expected
+abbrev pub expecting_by : Message → Standing → Standing
+expecting_by m s = if is_request m.kind && not m.no_reply then expecting s m.number else s
+
+abbrev pub expecting_all : List Message → Standing → Standing
+expecting_all [] s = s
+expecting_all (m ∷ messages) s = expecting_all messages (expecting_by m s)

@@ -1,0 +1,186 @@
+//! A session that runs: frame by frame.
+
+ghost use Rattle.std.specs.Prelude.{◌≡◌, ◌≤◌, ◌<◌, ◌+◌, ◌++◌, [], true, List, ℕ, Option, None, Some, IfOk, OnOk, OnErr};
+ghost use Rattle.std.specs.Option.{option_to_list};
+ghost use Rattle.sg_outside.specs.Wire.{Traffic};
+ghost use Rattle.sg_history.specs.declared.entries.Entry.{Entry};
+ghost use Rattle.repl_messages.specs.declared.request.Version.{Version};
+ghost use Rattle.session_core.specs.declared.machine.Pending.{Pending};
+ghost use Rattle.session_core.specs.Conduct.{are_puts};
+ghost use Rattle.session_core.specs.Exchange.{Exchange};
+ghost use Rattle.session_core.specs.Session.{RiseBetween};
+ghost use Rattle.write_path.specs.Looks as met;
+ghost use Rattle.session_run.specs.declared.ended.End.{End};
+ghost use Rattle.session_run.specs.Exchanges.{Makes, AreAtTold};
+ghost use Rattle.session_run.specs.Held.{IsAtRest, Holds, Takes, Runs, RunsOn};
+
+use crate::ended::{End, Ended, FrameWhy};
+use crate::exchange::exchange;
+use crate::mux::{Mux, Took};
+use blip_mux::Message;
+use repl_messages::Version;
+use session_core::{Acts, Core, Look, Looks};
+use sg_history::Name;
+use sg_outside::{Gave, Got, Memory, Wire};
+use std::alloc::Global;
+use write_path::Ground;
+
+/// The session's machine, the wire's two directions, the looks that were taken, and how many frames were taken.
+#[derive(Drop)]
+pub(crate) struct Session {
+    pub(crate) core: Core,
+    pub(crate) mux: Mux,
+    pub(crate) looks: Looks,
+    pub(crate) frames: u64,
+}
+
+impl Session {
+    /// A session to which nothing has come. Takes no memory.
+    pub(crate) fn new(alloc: Global, user: Name, version: Version) -> Session
+        ensures new { (history : List (List Entry)) → Holds user version history result [] [] [] [] }
+        ensures looks { result.looks ≡ [] }
+        ensures requests { result.core.requests ≡ 0 }
+        ensures frames { result.frames ≡ 0 }
+    {
+        blip_mux::laws::standing();
+        Session {
+            core: Core::new(user, version),
+            mux: Mux::new(alloc),
+            looks: Looks::new(alloc),
+            frames: 0,
+        }
+    }
+
+    /// The end of the session.
+    pub(crate) fn ended(self, end: End) -> Ended
+        ensures { result ≡ record { end = end; looks = self.looks } }
+    {
+        Ended {
+            end,
+            looks: self.looks,
+        }
+    }
+
+    /// Lists the look that was taken, if one was.
+    fn list(&mut self, look: Option<Look>) -> Result<(), Memory>
+        ensures ok { OnOk result (self.new ≡ record self.old { looks = self.old.looks ++ option_to_list look }) }
+        ensures err { OnErr result (self.new ≡ self.old) }
+    {
+        if let Some(look) = look {
+            self.looks.push(look)?;
+        }
+        Ok(())
+    }
+
+    /// Takes the message of a frame: with a look at the history where it wants one, which is listed. Says what is to
+    /// be put.
+    fn take_message<G: Ground>(
+        &mut self,
+        alloc: Global,
+        ground: &mut G,
+        message: Message,
+    ) -> Result<Acts, Memory>
+        requires rest { self.old.core.pending ≡ Pending.Nothing }
+        requires room { self.old.core.requests ≤ 9223372036854775808 }
+        requires count { self.old.frames < 18446744073709551615 }
+        ensures looks { met.Looks (G.met ground.old) (G.met ground.new) (G.floor ground.old) (G.floor ground.new) }
+        ensures told { G.told ground.new ≡ G.told ground.old }
+        ensures made { IfOk result (λ acts. (x : Exchange) × Makes self.old.core message x.looks acts (G.met ground.new) self.new.core x × (self.new.looks ≡ self.old.looks ++ x.looks)) }
+        ensures rises { (low : ℕ) → RiseBetween low self.old.looks (G.floor ground.old) → RiseBetween low self.new.looks (G.floor ground.new) }
+        ensures at_told { AreAtTold (G.told ground.old) self.old.looks → AreAtTold (G.told ground.old) self.new.looks }
+        ensures rest { OnOk result (self.new.core.pending ≡ Pending.Nothing) }
+        ensures puts { IfOk result (λ acts. are_puts acts ≡ true) }
+        ensures few { OnOk result (self.new.core.requests ≤ self.old.core.requests + 10001) }
+        ensures count { OnOk result (self.new.frames ≡ self.old.frames + 1) }
+        ensures mux { self.new.mux ≡ self.old.mux }
+        ensures err { OnErr result (self.new.looks ≡ self.old.looks) }
+    {
+        let (acts, look) = exchange(alloc, ground, &mut self.core, message)?;
+        self.list(look)?;
+        self.frames += 1;
+        Ok(acts)
+    }
+
+    /// Takes a frame: its message is taken, and what is put for it is sent. Answers how the session ends, where it ends
+    /// here.
+    fn take_frame<W: Wire, G: Ground>(
+        &mut self,
+        alloc: Global,
+        ground: &mut G,
+        wire: &mut W,
+        bytes: &[u8],
+    ) -> Option<End>
+        requires rest { IsAtRest self.old }
+        requires room { self.old.core.requests ≤ 9223372036854775808 }
+        requires count { self.old.frames < 18446744073709551615 }
+        ensures looks { met.Looks (G.met ground.old) (G.met ground.new) (G.floor ground.old) (G.floor ground.new) }
+        ensures told { G.told ground.new ≡ G.told ground.old }
+        ensures takes { Takes self.old self.new bytes.now (G.met ground.new) (W.told wire.old) (W.told wire.new) result }
+        ensures rises { (low : ℕ) → RiseBetween low self.old.looks (G.floor ground.old) → RiseBetween low self.new.looks (G.floor ground.new) }
+        ensures at_told { AreAtTold (G.told ground.old) self.old.looks → AreAtTold (G.told ground.old) self.new.looks }
+        ensures faults { W.faults wire.old ≤ W.faults wire.new }
+        ensures fault { result ≡ Some End.WireFault → W.faults wire.old < W.faults wire.new }
+        ensures rest { result ≡ None → IsAtRest self.new }
+        ensures few { result ≡ None → self.new.core.requests ≤ self.old.core.requests + 10001 }
+        ensures count { result ≡ None → self.new.frames ≡ self.old.frames + 1 }
+    {
+        let message = match self.mux.take(alloc, bytes) {
+            Took::Whole(message) => message,
+            Took::Bad(why) => return Some(self.bad_frame(why)),
+            Took::Memory => return Some(End::Memory),
+        };
+        let Ok(acts) = self.take_message(alloc, ground, message) else {
+            return Some(End::Memory);
+        };
+        match self.mux.send(alloc, acts, wire) {
+            Gave::Done => None,
+            Gave::Failed => Some(End::WireFault),
+            Gave::Memory => Some(End::Memory),
+        }
+    }
+
+    /// Receives one result and takes it. Answers how the session ends, where it ends by it.
+    pub(crate) fn step<W: Wire, G: Ground>(
+        &mut self,
+        alloc: Global,
+        ground: &mut G,
+        wire: &mut W,
+    ) -> Option<End>
+        requires rest { IsAtRest self.old }
+        requires room { self.old.core.requests ≤ 9223372036854775808 }
+        requires count { self.old.frames < 18446744073709551615 }
+        ensures looks { met.Looks (G.met ground.old) (G.met ground.new) (G.floor ground.old) (G.floor ground.new) }
+        ensures told { G.told ground.new ≡ G.told ground.old }
+        ensures runs { (user : List ℕ) (version : Version) (told : Option Traffic) (count : ℕ) → Runs user version (G.met ground.old) told self.old (W.told wire.old) count
+            → RunsOn user version (G.met ground.new) told self.new (W.told wire.new) count result }
+        ensures rises { (low : ℕ) → RiseBetween low self.old.looks (G.floor ground.old) → RiseBetween low self.new.looks (G.floor ground.new) }
+        ensures at_told { AreAtTold (G.told ground.old) self.old.looks → AreAtTold (G.told ground.old) self.new.looks }
+        ensures faults { W.faults wire.old ≤ W.faults wire.new }
+        ensures fault { result ≡ Some End.WireFault → W.faults wire.old < W.faults wire.new }
+        ensures rest { result ≡ None → IsAtRest self.new }
+        ensures few { result ≡ None → self.new.core.requests ≤ self.old.core.requests + 10001 }
+        ensures count { result ≡ None → self.new.frames ≤ self.old.frames + 1 }
+    {
+        blip_mux::laws::standing();
+        write_path::laws::looks();
+        match wire.recv() {
+            Got::Frame(bytes) => self.take_frame(alloc, ground, wire, bytes.as_slice()),
+            Got::Text => Some(self.bad_frame(FrameWhy::NotBinary)),
+            Got::Idle => None,
+            Got::End => Some(End::Closed),
+            Got::Failed => Some(End::WireFault),
+            Got::Memory => Some(End::Memory),
+        }
+    }
+
+    /// The next frame is at fault.
+    fn bad_frame(&self, why: FrameWhy) -> End
+        requires count { self.now.frames < 18446744073709551615 }
+        ensures { result ≡ End.BadFrame (self.now.frames + 1) why }
+    {
+        End::BadFrame {
+            index: self.frames + 1,
+            why,
+        }
+    }
+}
