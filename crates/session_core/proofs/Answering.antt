@@ -1,5 +1,5 @@
 -- What a machine does for a reply is what the session calls for.
-use Rattle.std.proofs.Common.{◌≡◌, ◌≢◌, ℕ, suc, ◌+◌, Bool, true, false, List, [], ◌∷◌, ◌++◌, length, map, take, drop, Option, Some, None, Result, Ok, Err, refl, sym, ◌∙◌, ap, subst, if◌then◌else◌, arith, add-zero}
+use Rattle.std.proofs.Common.{◌≡◌, ℕ, suc, ◌+◌, Bool, true, false, List, [], ◌∷◌, ◌++◌, length, map, take, drop, Option, Some, None, refl, sym, ◌∙◌, ap, if◌then◌else◌, arith, add-zero}
 use Rattle.std.proofs.lemmas.Bool.{false≢true}
 use Rattle.blip_frame.specs.declared.payload.Payload.{Payload}
 use Rattle.blip_mux.specs.declared.message.Message.{Message}
@@ -10,19 +10,17 @@ use Rattle.sg_history.specs.History.{past}
 use Rattle.repl_messages.specs.declared.request.Version.{Version}
 use Rattle.repl_messages.specs.declared.looks.Body.{Body}
 use Rattle.repl_messages.specs.declared.looks.Body.TheVariants as body
-use Rattle.repl_messages.specs.declared.looks.Bodies.{Bodies}
 use Rattle.repl_messages.specs.Changes.{changes_payload}
 use Rattle.repl_messages.specs.Looks.{body_of}
 use Rattle.session_core.specs.declared.act.Act.{Act}
 use Rattle.session_core.specs.declared.act.Act.TheVariants as act
 use Rattle.session_core.specs.declared.look.Look.{Look}
 use Rattle.session_core.specs.declared.look.Purpose.TheVariants as purposes
-use Rattle.session_core.specs.declared.machine.Pending.{Pending}
 use Rattle.session_core.specs.declared.machine.Pending.TheVariants as pending
 use Rattle.session_core.specs.Running.{Running, answered}
-use Rattle.session_core.specs.Puts.{request_message, body_message, body_messages, offer, is_none}
-use Rattle.session_core.specs.Exchange.{Exchange, requests_among, running_after, answers}
-use Rattle.session_core.specs.Machine.{Machine, Stepped, on_reply, on_wanted, on_bodies, body_act, body_acts, offer_act}
+use Rattle.session_core.specs.Puts.{request_message, body_message, body_messages, is_none}
+use Rattle.session_core.specs.Exchange.{requests_among, running_after, answers}
+use Rattle.session_core.specs.Machine.{Machine, Stepped, on_reply, on_wanted, body_act, body_acts, offer_act}
 use Rattle.session_core.specs.Session.{looks_for, puts_for, wanted_of, most_ancestors, looks_for_reply, looks_for_wanted, puts_for_reply, puts_for_answer}
 use Rattle.session_core.specs.Conduct.{messages_from, at_rest}
 use Rattle.session_core.proofs.Conducts.{Done, exchange, unread, at_rest_only}

@@ -1,5 +1,5 @@
 -- What a machine does once the look for a feed has answered is what the session calls for.
-use Rattle.std.proofs.Common.{◌≡◌, ℕ, ◌+◌, Bool, true, false, nat_lt, ◌<◌, ◌≤◌, List, [], ◌∷◌, ◌++◌, length, take, Option, Some, None, Result, Ok, Err, refl, sym, ◌∙◌, ap, if◌then◌else◌, arith, not-le_of_lt}
+use Rattle.std.proofs.Common.{◌≡◌, ℕ, ◌+◌, Bool, true, false, nat_lt, ◌<◌, ◌≤◌, List, [], ◌∷◌, ◌++◌, take, None, Result, Ok, refl, ◌∙◌, ap, if◌then◌else◌, arith, not-le_of_lt}
 use Rattle.std.proofs.lemmas.Bool.{ltb-true, ltb-false}
 use Rattle.blip_frame.specs.declared.frame.Kind.TheVariants as kinds
 use Rattle.blip_frame.specs.declared.payload.Payload.{Payload}
@@ -24,14 +24,13 @@ use Rattle.repl_messages.specs.Looks.{IsFed}
 use Rattle.repl_messages.specs.Requests.{IsAnswer}
 use Rattle.session_core.specs.declared.act.Act.{Act}
 use Rattle.session_core.specs.declared.act.Act.TheVariants as act
-use Rattle.session_core.specs.declared.look.Look.{Look}
 use Rattle.session_core.specs.declared.look.Purpose.TheVariants as purposes
 use Rattle.session_core.specs.declared.machine.Asked.{Asked}
 use Rattle.session_core.specs.declared.machine.Pending.TheVariants as pending
 use Rattle.session_core.specs.Running.{running_with}
 use Rattle.session_core.specs.Puts.{request_message, reply_message, reply_to, is_none}
 use Rattle.session_core.specs.Exchange.{requests_among}
-use Rattle.session_core.specs.Machine.{Machine, Stepped, asker_of, reply_act, refusal_act, acceptance_act, offer_act, on_fed}
+use Rattle.session_core.specs.Machine.{Machine, Stepped, asker_of, acceptance_act, offer_act, on_fed}
 use Rattle.session_core.specs.Conduct.{messages_from, at_rest}
 use Rattle.session_core.proofs.Conducts.{Done, exchange, refused_done}
 

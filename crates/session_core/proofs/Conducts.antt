@@ -1,16 +1,11 @@
 -- What a machine does in one exchange is what the session calls for.
-use Rattle.std.proofs.Common.{◌≡◌, ◌≢◌, ◌⊎◌, inl, inr, ℕ, ◌+◌, Bool, true, false, ◌&&◌, nat_lt, ◌<◌, ◌≤◌, List, [], ◌∷◌, ◌++◌, length, map, take, drop, Option, Some, None, Result, Ok, Err, refl, sym, ◌∙◌, ap, subst, if◌then◌else◌, arith, zero-add, add-zero}
-use Rattle.std.proofs.lemmas.Bool.{false≢true}
+use Rattle.std.proofs.Common.{◌≡◌, ℕ, ◌+◌, Bool, true, false, List, [], ◌∷◌, map, Option, Some, None, Result, Ok, Err, refl, sym, ◌∙◌, ap, subst, if◌then◌else◌, zero-add}
 use Rattle.blip_frame.specs.declared.frame.Kind.{Kind}
 use Rattle.blip_frame.specs.declared.frame.Kind.TheVariants as kinds
 use Rattle.blip_frame.specs.declared.payload.Payload.{Payload}
 use Rattle.blip_mux.specs.declared.message.Message.{Message}
-use Rattle.blip_mux.specs.Joining.{is_request, is_reply}
+use Rattle.blip_mux.specs.Joining.{is_request}
 use Rattle.sg_history.specs.declared.entries.Entry.{Entry}
-use Rattle.sg_history.specs.declared.row.Row.{Row}
-use Rattle.sg_history.specs.declared.row.Options.{Options}
-use Rattle.sg_history.specs.History.{past}
-use Rattle.sg_names.specs.declared.key.Key.{Key}
 use Rattle.repl_messages.specs.declared.request.Version.{Version}
 use Rattle.repl_messages.specs.declared.request.Request.{Request}
 use Rattle.repl_messages.specs.declared.request.Request.TheVariants.{SubChanges}
@@ -25,11 +20,11 @@ use Rattle.session_core.specs.declared.act.Act.TheVariants as act
 use Rattle.session_core.specs.declared.look.Look.{Look}
 use Rattle.session_core.specs.declared.machine.Pending.{Pending}
 use Rattle.session_core.specs.declared.machine.Pending.TheVariants as pending
-use Rattle.session_core.specs.Running.{Running, answered}
-use Rattle.session_core.specs.Puts.{request_message, reply_message, reply_to, refusal, error_of}
+use Rattle.session_core.specs.Running.{Running}
+use Rattle.session_core.specs.Puts.{reply_message, reply_to, refusal, error_of}
 use Rattle.session_core.specs.Exchange.{Exchange, requests_among, running_after, answers}
-use Rattle.session_core.specs.Machine.{Machine, Stepped, asker_of, reply_act, refusal_act, on_request, on_reply, on_wanted}
-use Rattle.session_core.specs.Session.{looks_for, puts_for, wanted_of, front_of, looks_for_reply, puts_for_reply}
+use Rattle.session_core.specs.Machine.{Machine, Stepped, asker_of, reply_act, refusal_act, on_request}
+use Rattle.session_core.specs.Session.{looks_for, puts_for, front_of}
 use Rattle.session_core.specs.Conduct.{messages_from, at_rest}
 
 -- what holds of an exchange before which this feed ran and so many requests were put, and of where it leads

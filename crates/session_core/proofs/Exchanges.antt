@@ -1,5 +1,5 @@
 -- One exchange of a machine, from the message to where it leads.
-use Rattle.std.proofs.Common.{◌≡◌, ℕ, ◌+◌, Bool, true, false, List, [], ◌∷◌, length, map, Option, Some, None, Result, Ok, Err, refl, sym, ◌∙◌, ap, subst, if◌then◌else◌, suc-ne-zero}
+use Rattle.std.proofs.Common.{◌≡◌, ℕ, Bool, true, false, List, [], ◌∷◌, length, Option, Some, None, Result, Ok, Err, refl, sym, ◌∙◌, ap, subst, if◌then◌else◌, suc-ne-zero}
 use Rattle.blip_frame.specs.declared.frame.Kind.{Kind}
 use Rattle.blip_frame.specs.declared.frame.Kind.TheVariants as kinds
 use Rattle.blip_frame.specs.declared.payload.Payload.{Payload}
@@ -31,7 +31,7 @@ use Rattle.session_core.specs.Running.{Running}
 use Rattle.session_core.specs.Exchange.{Exchange, requests_put, running, answers}
 use Rattle.session_core.specs.Machine.{Machine, Stepped, Steps, StepsBy, StepsByMessage, IsFeed, asker_of, ask_for_feed, on_request, on_reply, on_wanted, on_fed, on_bodies}
 use Rattle.session_core.specs.Session.{Exchanged, wanted_of, most_ancestors}
-use Rattle.session_core.specs.Conduct.{messages_from, at_rest, led_to, Leads, Makes, Always}
+use Rattle.session_core.specs.Conduct.{led_to, Makes, Always}
 use Rattle.session_core.proofs.Conducts.{Done, exchange, unread, request_done}
 use Rattle.session_core.proofs.Answering.{no_look_done, bodies_done}
 use Rattle.session_core.proofs.Beginning.{fed_done}

@@ -1,9 +1,9 @@
 -- how a feed goes on
-use Rattle.std.proofs.Common.{◌≡◌, ℕ, ◌+◌, ◌<◌, List, [], ◌∷◌, length, drop, Option, Some, None, refl, sym, ◌∙◌, ap, subst, not-suc-le-zero, arith}
+use Rattle.std.proofs.Common.{◌≡◌, ℕ, ◌+◌, ◌<◌, List, [], ◌∷◌, length, drop, Some, refl, not-suc-le-zero, arith}
 use Rattle.std.proofs.lemmas.List.{drop-drop, length-drop}
 use Rattle.sg_history.specs.declared.row.Row.{Row}
 use Rattle.sg_history.specs.declared.row.Options.{Options}
-use Rattle.session_core.specs.Running.{Running, running_with, answered}
+use Rattle.session_core.specs.Running.{running_with, answered}
 
 -- a feed of rows that are some
 pub with_rows : (rows : List Row) (batch : ℕ) (options : Options) (number : ℕ) → 0 < length rows

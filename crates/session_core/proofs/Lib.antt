@@ -1,4 +1,5 @@
 pub mod Feeds
+pub mod Batching
 pub mod Chosen
 pub mod Conducts
 pub mod Answering

@@ -1,4 +1,5 @@
 pub mod Running
+pub mod Batches
 pub mod Puts
 pub mod Exchange
 pub mod Session

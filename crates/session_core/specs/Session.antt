@@ -1,10 +1,9 @@
 -- What a session puts, and when it looks at the history.
-use Rattle.std.specs.Prelude.{◌≡◌, ◌≤◌, ℕ, ◌+◌, Bool, true, false, nat_lt, List, [], ◌∷◌, ◌++◌, length, map, take, drop, codes, Option, Some, None, Result, Ok, Err, if◌then◌else◌}
+use Rattle.std.specs.Prelude.{◌≡◌, ◌≤◌, ℕ, ◌+◌, true, nat_lt, List, [], ◌∷◌, ◌++◌, length, map, take, drop, codes, Option, Some, None, Result, Ok, Err, if◌then◌else◌}
 use Rattle.blip_mux.specs.declared.message.Message.{Message}
 use Rattle.blip_mux.specs.Joining.{is_request}
 use Rattle.sg_history.specs.declared.entries.Entry.{Entry}
 use Rattle.sg_history.specs.declared.row.Row.{Row}
-use Rattle.sg_history.specs.declared.row.Options.{Options}
 use Rattle.sg_history.specs.History.{past}
 use Rattle.sg_history.specs.Feed.{feed}
 use Rattle.repl_messages.specs.declared.request.Version.{Version}
@@ -20,7 +19,7 @@ use Rattle.session_core.specs.declared.look.Look.{Look}
 use Rattle.session_core.specs.declared.look.Purpose.{Purpose}
 use Rattle.session_core.specs.declared.look.Purpose.TheVariants as purposes
 use Rattle.session_core.specs.Running.{Running}
-use Rattle.session_core.specs.Puts.{refusal, acceptance, error_of, offer, body_messages, chosen, is_none}
+use Rattle.session_core.specs.Puts.{refusal, acceptance, error_of, offer, body_messages, chosen}
 use Rattle.session_core.specs.Exchange.{Exchange, requests_put, running, answers}
 
 -- the front of the look that was taken

@@ -1,6 +1,7 @@
 //! Laws of sessions. Each is the contract of a function that does nothing.
 
-ghost use Rattle.std.specs.Prelude.{◌≡◌, ◌∷◌, ℕ, List, []};
+ghost use Rattle.std.specs.Prelude.{◌≡◌, ◌<◌, ◌≤◌, ◌∷◌, ℕ, List, [], length};
+ghost use Rattle.std.specs.List.{flat_map};
 ghost use Rattle.blip_mux.specs.declared.message.Message.{Message};
 ghost use Rattle.sg_history.specs.declared.row.Row.{Row};
 ghost use Rattle.sg_history.specs.declared.row.Options.{Options};
@@ -13,6 +14,8 @@ ghost use Rattle.session_core.specs.declared.event.Event.{Event};
 ghost use Rattle.session_core.specs.declared.look.Purpose.{Purpose};
 ghost use Rattle.session_core.specs.declared.machine.Asked.{Asked};
 ghost use Rattle.session_core.specs.declared.machine.Pending.{Pending};
+ghost use Rattle.session_core.specs.Batches.{offers, AreBatches};
+ghost use Rattle.session_core.specs.Running.{running_with};
 ghost use Rattle.session_core.specs.Machine.{Machine, Steps};
 ghost use Rattle.session_core.specs.Conduct.{Makes, Always};
 
@@ -31,4 +34,10 @@ pub fn exchanges()
         → asks ≡ Act.Want (Want.Bodies options rows most) ∷ []
         → Steps between (Event.Bodies answer) after acts
         → Makes m message (record { front = answer.front; purpose = Purpose.Bodies } ∷ []) acts (λ h user. AreBodies h user options rows most answer) after }
+{}
+
+/// The offers of a feed, one after another, are its rows in their order, each once; each but the last is a full batch.
+pub fn batches()
+    ensures rows { (k : ℕ) (rows : List Row) (batch : ℕ) (options : Options) (number : ℕ) → 0 < batch → length rows ≤ k → flat_map (λ (some : List Row). some) (offers k (running_with rows batch options number)) ≡ rows }
+    ensures full { (k : ℕ) (rows : List Row) (batch : ℕ) (options : Options) (number : ℕ) → 0 < batch → AreBatches batch (offers k (running_with rows batch options number)) }
 {}

@@ -1,11 +1,11 @@
 -- A session that ends.
-use Rattle.std.proofs.Common.{◌≡◌, ◌⊎◌, inl, inr, ℕ, ◌+◌, Bool, true, false, List, [], ◌∷◌, ◌++◌, length, Option, Some, None, Result, Ok, Err, refl, sym, ◌∙◌, ap, subst, arith, append-nil}
+use Rattle.std.proofs.Common.{◌≡◌, inl, inr, ℕ, ◌+◌, Bool, true, false, List, [], ◌∷◌, ◌++◌, length, Option, Some, None, Result, Ok, Err, refl, sym, ◌∙◌, ap, subst, arith, append-nil}
 use Rattle.std.proofs.lemmas.Bool.{false≢true}
-use Rattle.std.proofs.lemmas.List.{append_assoc, length-append}
-use Rattle.sg_outside.specs.Wire.{Traffic, ReceivesIfTold, Receives, received, after_next}
+use Rattle.std.proofs.lemmas.List.{length-append}
+use Rattle.sg_outside.specs.Wire.{Traffic, ReceivesIfTold}
 use Rattle.sg_outside.specs.declared.wire.Got.{Got}
 use Rattle.sg_outside.specs.declared.wire.Got.TheVariants as got
-use Rattle.blip_frame.specs.Frame.{FrameParts, ◌>>=◌, frame_at, frames_at, with_first, with_front, AreWrittenAfter, all_sent}
+use Rattle.blip_frame.specs.Frame.{FrameParts, ◌>>=◌, frame_at, frames_at, with_first, with_front, all_sent}
 use Rattle.blip_frame.specs.declared.frame.FrameFault.{FrameFault}
 use Rattle.blip_mux.specs.declared.message.Message.{Message}
 use Rattle.blip_mux.specs.declared.inbox.TakeFault.{TakeFault}
@@ -14,16 +14,15 @@ use Rattle.blip_mux.specs.Sending.{Waiting}
 use Rattle.sg_history.specs.declared.entries.Entry.{Entry}
 use Rattle.repl_messages.specs.declared.request.Version.{Version}
 use Rattle.session_core.specs.declared.look.Look.{Look}
-use Rattle.session_core.specs.Session.{looks_of}
 use Rattle.session_run.specs.declared.ended.End.{End}
 use Rattle.session_run.specs.declared.ended.End.TheVariants as end
 use Rattle.session_run.specs.declared.ended.FrameWhy.{FrameWhy}
 use Rattle.session_run.specs.declared.session.Session.{Session}
-use Rattle.session_run.specs.Frames.{IsBadFrame, IsBadMessage, why_of}
+use Rattle.session_run.specs.Frames.{IsBadFrame, IsBadMessage}
 use Rattle.session_run.specs.Held.{IsAtRest, Holds, Turns, Leaves, Takes, Runs, Ends, RunsOn}
 use Rattle.session_run.specs.Sent.{Tells, expecting_all}
-use Rattle.session_run.specs.Served.{are_frames, bytes_of, IsBadAfter, EndsBy, IsSentAt, IsSession}
-use Rattle.session_run.specs.Turns.{Turn, exchanges_of, frames_of, events_of}
+use Rattle.session_run.specs.Served.{bytes_of, IsBadAfter, EndsBy, IsSentAt, IsSession}
+use Rattle.session_run.specs.Turns.{Turn, frames_of, events_of}
 use Rattle.session_run.proofs.Holding.{Came, Expects, Joins, Extends, front_ok, front_err, frames_on, read_on, written_more, turn_exchanged, holds_on, holds_idle}
 use Rattle.session_run.proofs.Sending.{tells_on, tells_none}
 

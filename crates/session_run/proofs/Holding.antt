@@ -1,8 +1,8 @@
 -- A session that runs, from result to result.
-use Rattle.std.proofs.Common.{◌≡◌, ◌⊎◌, inl, inr, ℕ, ◌+◌, Bool, true, false, ◌&&◌, not, List, [], ◌∷◌, ◌++◌, length, map, Option, Some, None, Result, Ok, Err, refl, sym, ◌∙◌, ap, subst, if◌then◌else◌, arith, append-nil}
+use Rattle.std.proofs.Common.{◌≡◌, ℕ, ◌+◌, Bool, true, false, ◌&&◌, not, List, [], ◌∷◌, ◌++◌, Option, None, Result, Ok, Err, refl, sym, ◌∙◌, ap, subst, if◌then◌else◌, arith, append-nil}
 use Rattle.std.proofs.lemmas.Bool.{false≢true}
-use Rattle.std.proofs.lemmas.List.{append_assoc, length-append}
-use Rattle.sg_outside.specs.Wire.{Traffic, ReceivesIfTold, Receives, received, after_next}
+use Rattle.std.proofs.lemmas.List.{append_assoc}
+use Rattle.sg_outside.specs.Wire.{Traffic, received}
 use Rattle.sg_outside.specs.declared.wire.Got.{Got}
 use Rattle.sg_outside.specs.declared.wire.Got.TheVariants as got
 use Rattle.blip_frame.specs.Checksum.{checksum, after_bits}
@@ -10,8 +10,6 @@ use Rattle.blip_frame.specs.Frame.{FrameParts, ◌>>=◌, frame_at, frames_at, w
 use Rattle.blip_frame.specs.Frame as frame
 use Rattle.blip_frame.specs.declared.frame.FrameFault.{FrameFault}
 use Rattle.blip_mux.specs.declared.message.Message.{Message}
-use Rattle.blip_mux.specs.declared.inbox.TakeFault.{TakeFault}
-use Rattle.blip_mux.specs.Between.{waiting_of}
 use Rattle.blip_mux.specs.Joining.{Event, came, expected, is_request, message_at, joined_as, taken_after, StandsFor}
 use Rattle.blip_mux.specs.Sending.{Waiting}
 use Rattle.blip_mux.specs.Standing.{Standing, new_standing, expecting}
@@ -19,22 +17,16 @@ use Rattle.sg_history.specs.declared.entries.Entry.{Entry}
 use Rattle.repl_messages.specs.declared.request.Version.{Version}
 use Rattle.session_core.specs.declared.look.Look.{Look}
 use Rattle.session_core.specs.declared.machine.Pending.TheVariants as pending
-use Rattle.session_core.specs.Exchange.{Exchange, requests_among, requests_put}
-use Rattle.session_core.specs.Session.{Exchanged, AreExchanged, looks_of}
+use Rattle.session_core.specs.Exchange.{requests_among}
+use Rattle.session_core.specs.Session.{Exchanged}
 use Rattle.session_core.specs.Machine.{Machine}
 use Rattle.session_core.specs.Conduct.{led_to}
 use Rattle.write_path.specs.Looks.{IsLaterThanAll}
-use Rattle.session_run.specs.declared.ended.End.{End}
-use Rattle.session_run.specs.declared.ended.End.TheVariants as end
-use Rattle.session_run.specs.declared.ended.FrameWhy.{FrameWhy}
 use Rattle.session_run.specs.declared.session.Session.{Session}
-use Rattle.session_run.specs.Exchanges.{Makes}
-use Rattle.session_run.specs.Frames.{IsBadFrame, IsBadMessage}
 use Rattle.session_run.specs.Held.{IsAtRest, Holds, Turns}
-use Rattle.session_run.specs.Sent.{Go, Tells, expecting_by, expecting_all}
-use Rattle.session_run.specs.Served.{are_frames, bytes_of, IsBadAfter, EndsBy, IsSentAt, IsSession}
-use Rattle.session_run.specs.Turns.{Turn, exchanges_of, frames_of, events_of, put_after, all_put_after, AreJoined, AreSent}
-use Rattle.session_run.proofs.Sending.{tells_on}
+use Rattle.session_run.specs.Sent.{expecting_by, expecting_all}
+use Rattle.session_run.specs.Served.{are_frames, bytes_of}
+use Rattle.session_run.specs.Turns.{Turn, exchanges_of, frames_of, events_of, put_after, all_put_after}
 
 -- ---- what is expected
 

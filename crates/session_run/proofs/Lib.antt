@@ -6,3 +6,4 @@ pub mod Rising
 pub mod Turning
 pub mod Holding
 pub mod Ending
+pub mod Bodies

@@ -1,5 +1,5 @@
 -- Looks, one after another.
-use Rattle.std.proofs.Common.{◌≡◌, ◌≤◌, ℕ, List, [], ◌∷◌, ◌++◌, length, Option, Some, None, le_trans}
+use Rattle.std.proofs.Common.{◌≤◌, ℕ, List, [], ◌∷◌, ◌++◌, Option, Some, None, le_trans}
 use Rattle.sg_history.specs.declared.entries.Entry.{Entry}
 use Rattle.session_core.specs.declared.look.Look.{Look}
 use Rattle.session_core.specs.Session.{RiseBetween}

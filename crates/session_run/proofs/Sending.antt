@@ -1,10 +1,10 @@
 -- Frames that go, one after another.
-use Rattle.std.proofs.Common.{◌≡◌, ◌≢◌, ◌≤◌, ◌<◌, ℕ, ◌+◌, Bool, true, false, List, [], ◌∷◌, ◌++◌, length, drop, take, Option, Some, None, refl, sym, ◌∙◌, ap, subst, if◌then◌else◌, nat_lt, arith, append-nil, le_trans}
-use Rattle.std.proofs.lemmas.Bool.{false≢true, ltb-true}
+use Rattle.std.proofs.Common.{◌≡◌, ◌≢◌, ◌≤◌, ◌<◌, ℕ, Bool, true, false, List, [], ◌∷◌, ◌++◌, length, drop, Option, Some, None, refl, sym, ◌∙◌, ap, subst, if◌then◌else◌, arith, append-nil, le_trans}
+use Rattle.std.proofs.lemmas.Bool.{ltb-true}
 use Rattle.std.proofs.lemmas.List.{length-drop, append_assoc}
 use Rattle.std.proofs.lemmas.Option.{none-some}
 use Rattle.sg_outside.specs.Sink.{Counts}
-use Rattle.sg_outside.specs.Wire.{Traffic, SendsIfTold, ReceivesIfTold, sent_after}
+use Rattle.sg_outside.specs.Wire.{Traffic, SendsIfTold, sent_after}
 use Rattle.sg_outside.specs.declared.sink.Gave.{Gave}
 use Rattle.sg_outside.specs.declared.sink.Gave.TheVariants as gave
 use Rattle.sg_outside.specs.declared.wire.Got.{Got}

@@ -1,5 +1,5 @@
 -- What is done for one message.
-use Rattle.std.specs.Prelude.{◌≡◌, ℕ, ◌+◌, Bool, true, false, List, [], ◌∷◌, ◌++◌, length, Option, Some, None}
+use Rattle.std.specs.Prelude.{◌≡◌, ℕ, ◌+◌, Bool, true, false, List, [], ◌∷◌, length, Option, Some, None}
 use Rattle.blip_mux.specs.declared.message.Message.{Message}
 use Rattle.sg_history.specs.declared.entries.Entry.{Entry}
 use Rattle.sg_names.specs.declared.key.Key.{Key}

@@ -1,6 +1,6 @@
 -- The frames that are received, and why one is at fault.
-use Rattle.std.specs.Prelude.{◌≡◌, ℕ, List, Result, Ok, Err}
-use Rattle.blip_frame.specs.Frame.{FrameParts, frame_at}
+use Rattle.std.specs.Prelude.{◌≡◌, ℕ, Result, Ok, Err}
+use Rattle.blip_frame.specs.Frame.{FrameParts}
 use Rattle.blip_frame.specs.declared.frame.FrameFault.{FrameFault}
 use Rattle.blip_frame.specs.declared.frame.FrameFault.TheVariants as frame_faults
 use Rattle.blip_mux.specs.declared.message.Message.{Message}

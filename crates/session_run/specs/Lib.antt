@@ -3,5 +3,6 @@ pub mod Frames
 pub mod Sent
 pub mod Turns
 pub mod Muxed
+pub mod Own
 pub mod Served
 pub mod Held

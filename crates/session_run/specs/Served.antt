@@ -1,5 +1,6 @@
 -- What a session was, from the first frame to its end.
-use Rattle.std.specs.Prelude.{◌≡◌, ◌⊎◌, ℕ, ◌+◌, Bool, true, false, List, [], ◌∷◌, ◌++◌, length, Option, Some, None, Result, Ok, Err}
+use Rattle.std.specs.Prelude.{◌≡◌, ◌⊎◌, ℕ, ◌+◌, Bool, true, false, List, [], ◌∷◌, ◌++◌, length, Option, Result, Ok, Err}
+use Rattle.sg_outside.specs.Wire.{Traffic}
 use Rattle.sg_outside.specs.declared.wire.Got.{Got}
 use Rattle.sg_outside.specs.declared.wire.Got.TheVariants as got
 use Rattle.blip_frame.specs.Frame.{FrameParts, frames_at, AreWrittenAfter}
@@ -16,6 +17,8 @@ use Rattle.session_run.specs.declared.ended.Ended.{Ended}
 use Rattle.session_run.specs.declared.ended.FrameWhy.{FrameWhy}
 use Rattle.session_run.specs.declared.ended.FrameWhy.TheVariants as why
 use Rattle.session_run.specs.Frames.{IsBadMessage, why_of}
+use Rattle.session_run.specs.Own.{HaveOwnBodies}
+use Rattle.session_run.specs.Sent.{Tells}
 use Rattle.session_run.specs.Turns.{Turn, exchanges_of, frames_of, events_of, AreJoined, AreSent}
 
 -- ---- what was received
@@ -98,3 +101,9 @@ pub record IsSession (user : List ℕ) (version : Version) (met : List (List Ent
   pub written : AreWrittenAfter [] sent frames
   pub whole : IsSentAt ended.end left
   pub ends : EndsBy turns ended.end taken last
+
+-- The wire, as far as it tells, was served with a session of this user, in which no body was put that is not shown to the user.
+abbrev pub IsServed : List ℕ → Version → List (List Entry) → Option Traffic → Ended → Option Traffic → Type 0
+IsServed user version met told ended told_after =
+    (results : List Got) × (sent : List (List ℕ)) × (session : IsSession user version met ended results sent) × Tells told results sent told_after
+    × ((h : List Entry) → IsLaterThanAll met h → HaveOwnBodies h user (exchanges_of session.turns))

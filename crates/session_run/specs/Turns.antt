@@ -1,5 +1,5 @@
 -- A session, frame by frame.
-use Rattle.std.specs.Prelude.{◌≡◌, ℕ, ◌&&◌, not, List, [], ◌∷◌, ◌++◌, map, Ok, if◌then◌else◌}
+use Rattle.std.specs.Prelude.{◌≡◌, ◌&&◌, not, List, [], ◌∷◌, ◌++◌, map, Ok, if◌then◌else◌}
 use Rattle.blip_frame.specs.Frame.{FrameParts}
 use Rattle.blip_mux.specs.declared.message.Message.{Message}
 use Rattle.blip_mux.specs.Between.{waiting_of}

@@ -6,7 +6,7 @@ ghost use Rattle.session_core.specs.Session.{RiseBetween};
 ghost use Rattle.write_path.specs.Looks as met;
 ghost use Rattle.session_run.specs.declared.ended.End.{End};
 ghost use Rattle.session_run.specs.Exchanges.{AreAtTold};
-ghost use Rattle.session_run.specs.Held.{Ends};
+ghost use Rattle.session_run.specs.Served.{IsServed};
 
 use crate::ended::{End, Ended};
 use crate::mux::Mux;
@@ -37,9 +37,10 @@ pub fn serve_session<W: Wire, G: Ground>(
     setup: Setup,
     wire: &mut W,
 ) -> (G, Ended)
-    // What was received and sent is a session of this user over every history that goes on from all that the ground
-    // has met, as far as the wire tells, and the end has its cause.
-    ensures session { Ends setup.user setup.version (G.met result.0) (W.told wire.old) result.1 (W.told wire.new) }
+    // What was received and sent, as far as the wire tells, is a session of this user over every history that goes on
+    // from all that the ground has met; no body was put that is not shown to the user at the look for it, and the end
+    // has its cause.
+    ensures session { IsServed setup.user setup.version (G.met result.0) (W.told wire.old) result.1 (W.told wire.new) }
 
     // The looks: what the ground has met since, its history where nobody else changes it, and fronts that don't fall.
     ensures ground { met.Looks (G.met ground) (G.met result.0) (G.floor ground) (G.floor result.0) }
@@ -53,6 +54,8 @@ pub fn serve_session<W: Wire, G: Ground>(
     let mut ground = ground;
     let mut session = Session::new(alloc, setup.user, setup.version);
     write_path::laws::looks();
+    write_path::laws::no_foreign_body();
+    write_path::laws::removals();
     for received in 0..MOST_RESULTS {
         if let Some(end) = session.step(alloc, &mut ground, wire) {
             return (ground, session.ended(end));

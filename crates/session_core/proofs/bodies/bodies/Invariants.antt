@@ -1,4 +1,4 @@
-use Rattle.std.proofs.Common.{◌≡◌, ◌++◌, ℕ, length}
+use Rattle.std.proofs.Common.{◌≡◌, ◌++◌, length}
 use Rattle.session_core.specs.Machine.{body_acts}
 use Rattle.session_core.proofs.bodies.bodies.Given as goal
 

@@ -1,6 +1,5 @@
 use Rattle.std.proofs.Common.{◌≡◌, List, ◌∷◌, [], ap, sym, ◌∙◌, subst}
 use Rattle.session_core.specs.declared.act.Act.TheVariants as act
-use Rattle.session_core.specs.declared.act.Want.TheVariants as want
 use Rattle.sg_history.specs.declared.entries.Entry.{Entry}
 use Rattle.repl_messages.specs.declared.looks.Bodies.{Bodies}
 use Rattle.repl_messages.specs.Looks.{AreBodies}

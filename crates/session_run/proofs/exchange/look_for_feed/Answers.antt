@@ -1,7 +1,5 @@
-use Rattle.std.proofs.Common.{◌≡◌, ap, sym, ◌∙◌, subst, ◌≤◌, ℕ}
-use Rattle.session_core.specs.declared.look.Look.{Look}
+use Rattle.std.proofs.Common.{ap, ◌∙◌, subst}
 use Rattle.session_core.specs.declared.look.Purpose.TheVariants as purposes
-use Rattle.repl_messages.specs.Looks as looked
 use Rattle.repl_messages.specs.Looks.{IsFed}
 use Rattle.write_path.specs.Feed.{FeedAt}
 use Rattle.session_run.proofs.Looking.{said_later, front_within}

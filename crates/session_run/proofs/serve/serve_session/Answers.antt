@@ -1,8 +1,9 @@
-use Rattle.std.proofs.Common.{◌≡◌, ◌≤◌, ℕ, [], refl, sym, ◌∙◌, ap, subst, le_refl, arith}
+use Rattle.std.proofs.Common.{◌≤◌, [], refl, sym, ◌∙◌, subst, le_refl, arith}
 use Rattle.session_core.specs.Session.{RiseBetween}
 use Rattle.session_run.specs.declared.ended.End.TheVariants as end
 use Rattle.session_run.specs.Exchanges.{AreAtTold}
 use Rattle.session_run.specs.Held.{Ends, RunsOn}
+use Rattle.session_run.proofs.Bodies.{served}
 use Rattle.session_run.proofs.Sending.{tells_none}
 use Rattle.session_run.proofs.Ending.{run_ends, runs_new}
 use Rattle.session_run.proofs.Rising.{none_told}
@@ -23,16 +24,18 @@ loop-received-init g c = record {
 
 pub returns-in-Some-clause-session : goal.returns-in-Some-clause-session
 returns-in-Some-clause-session g c =
-    subst (λ ended. Ends c.args.setup.user c.args.setup.version (g.G.Ground.met c.step.new.ground) (g.W.Wire.told c.args.wire.now) ended (g.W.Wire.told c.step.new.wire)) (sym c.ended.ensures)
+    served c.no_foreign_body.ensures.shown c.no_foreign_body.ensures.winner c.removals.ensures.gone c.args.setup.user c.args.setup.version (g.G.Ground.met c.step.new.ground) (g.W.Wire.told c.args.wire.now) c.ended.result (g.W.Wire.told c.step.new.wire)
+    (subst (λ ended. Ends c.args.setup.user c.args.setup.version (g.G.Ground.met c.step.new.ground) (g.W.Wire.told c.args.wire.now) ended (g.W.Wire.told c.step.new.wire)) (sym c.ended.ensures)
     (subst (λ result. RunsOn c.args.setup.user c.args.setup.version (g.G.Ground.met c.step.new.ground) (g.W.Wire.told c.args.wire.now) c.step.new.self (g.W.Wire.told c.step.new.wire) c.loop-received.received result) c.in-Some.is
-    (c.step.ensures.runs c.args.setup.user c.args.setup.version (g.W.Wire.told c.args.wire.now) c.loop-received.received c.loop-received.invariant.runs))
+    (c.step.ensures.runs c.args.setup.user c.args.setup.version (g.W.Wire.told c.args.wire.now) c.loop-received.received c.loop-received.invariant.runs)))
 
 pub returns-clause-session : goal.returns-clause-session
 returns-clause-session g c =
-    subst (λ ended. Ends c.args.setup.user c.args.setup.version (g.G.Ground.met c.loop-received.ground) (g.W.Wire.told c.args.wire.now) ended (g.W.Wire.told c.loop-received.wire)) (sym c.ended-2.ensures)
+    served c.no_foreign_body.ensures.shown c.no_foreign_body.ensures.winner c.removals.ensures.gone c.args.setup.user c.args.setup.version (g.G.Ground.met c.loop-received.ground) (g.W.Wire.told c.args.wire.now) c.ended-2.result (g.W.Wire.told c.loop-received.wire)
+    (subst (λ ended. Ends c.args.setup.user c.args.setup.version (g.G.Ground.met c.loop-received.ground) (g.W.Wire.told c.args.wire.now) ended (g.W.Wire.told c.loop-received.wire)) (sym c.ended-2.ensures)
     (run_ends c.args.setup.user c.args.setup.version (g.G.Ground.met c.loop-received.ground) (g.G.Ground.met c.loop-received.ground)
     (g.W.Wire.told c.args.wire.now) (g.W.Wire.told c.loop-received.wire) (g.W.Wire.told c.loop-received.wire)
     c.loop-received.session c.loop-received.received end.TurnsFull c.loop-received.session.looks [] (λ h later. later) refl
     (λ turns frames results sent held counted. (refl, counted ∙ omega (arith, c.loop-received-test.false, c.loop-received.auto.received-end)))
     (tells_none (g.W.Wire.told c.loop-received.wire))
-    c.loop-received.invariant.runs)
+    c.loop-received.invariant.runs))

@@ -1,4 +1,4 @@
-use Rattle.std.proofs.Common.{◌≡◌, ◌≤◌, ◌+◌, ◌*◌}
+use Rattle.std.proofs.Common.{◌≡◌, ◌≤◌, ◌*◌}
 use Rattle.session_core.specs.Session.{RiseBetween}
 use Rattle.write_path.specs.Looks.{Looks}
 use Rattle.session_run.specs.Exchanges.{AreAtTold}

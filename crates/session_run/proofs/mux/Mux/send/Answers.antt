@@ -1,9 +1,8 @@
-use Rattle.std.proofs.Common.{◌≡◌, ◌+◌, ℕ, List, [], map, refl, sym, ◌∙◌, ap, subst, arith}
+use Rattle.std.proofs.Common.{◌+◌, List, [], map, refl, ◌∙◌, ap, subst, arith}
 use Rattle.blip_frame.specs.declared.crc.Crc.{Crc}
 use Rattle.blip_mux.specs.Between.{waiting_of}
 use Rattle.blip_mux.specs.Sending.{Waiting}
 use Rattle.session_core.specs.Conduct.{messages_from}
-use Rattle.session_core.specs.Exchange.{requests_among}
 use Rattle.session_run.specs.Muxed.{HaveGone}
 use Rattle.session_run.proofs.Putting.{count_puts, puts_wait, puts_counted, puts_expected}
 use Rattle.session_run.proofs.Sending.{none_written, tells_none}

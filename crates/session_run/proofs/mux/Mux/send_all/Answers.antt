@@ -1,7 +1,6 @@
-use Rattle.std.proofs.Common.{◌≡◌, ◌≢◌, ◌≤◌, ◌<◌, List, [], ℕ, refl, ap, sym, ◌∙◌, subst, le_refl, le_trans}
+use Rattle.std.proofs.Common.{◌≡◌, ◌<◌, List, [], refl, ap, sym, ◌∙◌, subst, le_refl, le_trans}
 use Rattle.sg_outside.specs.Sink.{Counts}
 use Rattle.sg_outside.specs.Wire.{SendsIfTold}
-use Rattle.sg_outside.specs.declared.sink.Gave.TheVariants as gave
 use Rattle.blip_mux.specs.Sending.{Sending, Waiting, next_piece, after_piece, Sends, SendsAfter}
 use Rattle.blip_mux.specs.declared.outbox.Next.TheVariants as nexts
 use Rattle.session_run.specs.Muxed.{left_of}

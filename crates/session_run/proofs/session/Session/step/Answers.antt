@@ -1,11 +1,9 @@
-use Rattle.std.proofs.Common.{◌≡◌, ◌+◌, ℕ, List, [], ◌∷◌, refl, sym, ◌∙◌, ap, subst, inl, inr}
-use Rattle.std.proofs.lemmas.Bool.{false≢true}
+use Rattle.std.proofs.Common.{◌+◌, [], ◌∷◌, refl, sym, ap, subst, inl, inr}
 use Rattle.sg_outside.specs.Wire.{ReceivesIfTold}
 use Rattle.sg_outside.specs.declared.wire.Got.TheVariants as got
 use Rattle.session_run.specs.declared.ended.End.TheVariants as end
 use Rattle.session_run.specs.declared.ended.FrameWhy.TheVariants as why
 use Rattle.session_run.specs.Held.{Ends, Takes}
-use Rattle.session_run.specs.Served.{EndsBy}
 use Rattle.session_run.proofs.Ending.{run_ends, runs_idle, frame_taken, tells_received, tells_not_received, not_memory}
 use Rattle.session_run.proofs.session.Session.step.Goals as goal
 

@@ -1,5 +1,4 @@
-use Rattle.std.proofs.Common.{◌≡◌, ◌+◌, ◌∙◌, ap, sym, subst, inl}
-use Rattle.sg_outside.specs.declared.sink.Gave.TheVariants as gave
+use Rattle.std.proofs.Common.{◌+◌, ◌∙◌, ap, sym, subst, inl}
 use Rattle.session_core.specs.Conduct.{messages_from}
 use Rattle.session_run.specs.declared.mux.Mux.{Mux}
 use Rattle.session_run.specs.declared.mux.Took.TheVariants as took

@@ -1,4 +1,4 @@
-use Rattle.std.proofs.Common.{◌≡◌, ◌++◌, sym, ap, subst}
+use Rattle.std.proofs.Common.{sym, ap, subst}
 use Rattle.std.specs.Option.{option_to_list}
 use Rattle.session_core.specs.Session.{RiseBetween}
 use Rattle.session_run.specs.declared.session.Session.{Session}
