@@ -1,21 +1,26 @@
 -- Messages cut into frames, and joined again.
-use Rattle.std.proofs.Common.{◌≡◌, ℕ, zero, suc, ◌+◌, ◌/◌, ◌%◌, ◌^◌, ◌<◌, ◌≤◌, Bool, true, false, cond, ltb, List, [], ◌∷◌, ◌++◌, length, take, drop, Result, Ok, Err, None, refl, sym, ap, subst, ◌∙◌, arith, inl, inr}
-use Rattle.std.specs.Prelude.{map}
+use Rattle.std.proofs.Common.{◌&&◌, ◌||◌, eqb, ◌≡◌, ℕ, zero, suc, ◌+◌, ◌/◌, ◌%◌, ◌^◌, ◌<◌, ◌≤◌, Bool, true, false, cond, ltb, List, [], ◌∷◌, ◌++◌, length, take, drop, Result, Ok, Err, None, refl, sym, ap, subst, ◌∙◌, arith, inl, inr}
+use Rattle.std.specs.Prelude.{map, Option}
 use Rattle.std.specs.List.{flat_map}
 use Rattle.std.proofs.lemmas.Bool.{ltb-true, ltb-false, lt-ltb, le-ltb, cases_Bool}
 use Rattle.std.proofs.lemmas.List.{append-nil, take_at, drop_at, take_all, take-append-drop, length-append, length-drop, length-take-le}
-use Rattle.blip_frame.specs.Frame.{FrameParts, largest_written}
+use Rattle.blip_frame.specs.Frame.{FrameParts, largest_written, has_checksum}
+use Rattle.blip_frame.specs.declared.frame.Kind.{Kind}
+use Rattle.blip_frame.specs.declared.frame.Kind.TheVariants as kinds
 use Rattle.blip_frame.specs.Props.{Pair}
 use Rattle.blip_frame.specs.Payload.{AreProps, block_of, payload_at, payload_text}
-use Rattle.blip_frame.specs.Varint.{varint, varint_within}
+use Rattle.blip_frame.specs.Varint.{varint, varint_within, number_at}
 use Rattle.blip_mux.specs.declared.message.Message.{Message}
 use Rattle.blip_frame.specs.declared.payload.PayloadFault.{PayloadFault}
+use Rattle.blip_mux.specs.declared.inbox.Taken.{Taken}
+use Rattle.blip_mux.specs.declared.inbox.Taken.TheVariants as takens
 use Rattle.blip_mux.specs.declared.inbox.TakeFault.{TakeFault}
 use Rattle.blip_mux.specs.declared.inbox.TakeFault.TheVariants as faults
-use Rattle.blip_mux.specs.Joining.{Event, came, requests_in, is_awaited, message_of, followed_by, joined_after, may_come, with_fault, read_as}
+use Rattle.blip_mux.specs.Begun.{Begun}
+use Rattle.blip_mux.specs.Joining.{Event, came, is_request, is_reply, requests_in, is_awaited, begun_by, may_begin, given_by, part_by, message_by, whole, acknowledged, count_in, answer_to, answer_in, followed_by, joined_after, with_fault, read_as}
 use Rattle.blip_mux.specs.Sending.{Waiting, piece, has_more, first_piece, without_piece, after_piece}
 use Rattle.blip_mux.specs.Cutting.{AreFull, AreOf, IsCut, AreCut, HaveBytes, frames_of}
-use Rattle.blip_mux.specs.Between.{waiting_of, IsOneFrame, AreOneFrame, AreInOrder}
+use Rattle.blip_mux.specs.Between.{waiting_of, MayBegin, IsOneFrame, AreOneFrame, AreInOrder}
 
 -- ---- a payload has bytes
 
@@ -152,23 +157,38 @@ ReadsAgain = (props : List Pair) (body : List ℕ) → length (block_of props) <
 below_of : (a b c : List ℕ) → length (a ++ (b ++ c)) ≤ largest_written → length b < 2 ^ 64
 below_of a b c h = omega (arith, length-append a (b ++ c), length-append b c)
 
-taken_whole : ReadsAgain → (r : ℕ) (a : Bool) (m : Message) → IsOneFrame m → may_come r a (first_piece (waiting_of m)) ≡ true → message_of r a (first_piece (waiting_of m)) ≡ Ok m
-taken_whole again r a m fits may =
+with_checksum : (k : Kind) (x a : Bool) → ((is_request k && x) || (is_reply k && a)) ≡ true → has_checksum k ≡ true
+with_checksum kinds.Msg x a e = refl
+with_checksum kinds.Rpy x a e = refl
+with_checksum kinds.Err x a e = refl
+with_checksum kinds.AckMsg x a e = absurd cc
+with_checksum kinds.AckRpy x a e = absurd cc
+
+taken_whole : ReadsAgain → (before : List Event) (m : Message) → IsOneFrame m → MayBegin before m → answer_in before (first_piece (waiting_of m)) ≡ Ok (takens.Whole m)
+taken_whole again before m fits may =
     let text = payload_text m.payload.props m.payload.body in
+    let f = first_piece (waiting_of m) in
+    let r = requests_in before in
+    let a = is_awaited before m.number in
     let below : length (block_of m.payload.props) < 2 ^ 64 = below_of (varint (length (block_of m.payload.props))) (block_of m.payload.props) m.payload.body fits.1 in
-    ap (λ (b : Bool). cond b (read_as (first_piece (waiting_of m)) (with_fault (payload_at (take largest_written text)))) (Err (faults.OutOfOrder m.number))) may
-    ∙ ap (λ (xs : List ℕ). read_as (first_piece (waiting_of m)) (with_fault (payload_at xs))) (take_all largest_written text fits.1)
-    ∙ ap (λ (x : Result (List Pair × List ℕ) PayloadFault). read_as (first_piece (waiting_of m)) (with_fault x)) (again m.payload.props m.payload.body below fits.0)
+    let kept : has_checksum m.kind ≡ true = with_checksum m.kind (eqb m.number (r + 1)) a may.1 in
+    let last : has_more (waiting_of m) ≡ false = le-ltb largest_written (length text) fits.1 in
+    ap (λ (o : Option Begun). answer_to r a o f) may.0
+    ∙ ap (λ (b : Bool). cond b (cond (may_begin r a f) (given_by (begun_by f) f) (Err (faults.OutOfOrder m.number))) (acknowledged f (count_in (number_at f.payload)))) kept
+    ∙ ap (λ (b : Bool). cond b (given_by (begun_by f) f) (Err (faults.OutOfOrder m.number))) may.1
+    ∙ ap (λ (b : Bool). cond b (Ok (part_by (begun_by f) f)) (whole (message_by (begun_by f) f))) last
+    ∙ ap (λ (xs : List ℕ). whole (read_as m.number (begun_by f) (with_fault (payload_at xs)))) (take_all largest_written text fits.1)
+    ∙ ap (λ (x : Result (List Pair × List ℕ) PayloadFault). whole (read_as m.number (begun_by f) (with_fault x))) (again m.payload.props m.payload.body below fits.0)
 
 pub joined_again : ReadsAgain → (before : List Event) (messages : List Message) (frames : List FrameParts) → AreOneFrame messages → AreInOrder before messages
-    → AreCut (map waiting_of messages) frames → joined_after before (map came frames) ≡ (messages, None)
+    → AreCut (map waiting_of messages) frames → joined_after before (map came frames) ≡ (map takens.Whole messages, None)
 joined_again again before [] frames fits order cut = ap (λ (fs : List FrameParts). joined_after before (map came fs)) cut
 joined_again again before (m ∷ messages) frames fits order cut =
     let w = waiting_of m in
     let s = step w (map waiting_of messages) frames cut in
-    let no : has_more w ≡ false = le-ltb largest_written (length w.rest) fits.0.1 in
+    let no_more : has_more w ≡ false = le-ltb largest_written (length w.rest) fits.0.1 in
     let others : AreCut (map waiting_of messages) s.rest =
-    subst (λ (b : Bool). AreCut (cond b (without_piece w ∷ map waiting_of messages) (map waiting_of messages)) s.rest) no s.others in
+    subst (λ (b : Bool). AreCut (cond b (without_piece w ∷ map waiting_of messages) (map waiting_of messages)) s.rest) no_more s.others in
     ap (λ (fs : List FrameParts). joined_after before (map came fs)) s.begins
-    ∙ ap (λ (r : Result Message TakeFault). followed_by r (joined_after (came (first_piece w) ∷ before) (map came s.rest))) (taken_whole again (requests_in before) (is_awaited before m.number) m fits.0 order.0)
-    ∙ ap (followed_by (Ok m)) (joined_again again (came (first_piece w) ∷ before) messages s.rest fits.1 order.1 others)
+    ∙ ap (λ (r : Result Taken TakeFault). followed_by r (joined_after (came (first_piece w) ∷ before) (map came s.rest))) (taken_whole again before m fits.0 order.0)
+    ∙ ap (λ (j : List Taken × Option TakeFault). (takens.Whole m ∷ j.0, j.1)) (joined_again again (came (first_piece w) ∷ before) messages s.rest fits.1 order.1 others)

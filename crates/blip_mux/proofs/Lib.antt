@@ -1,4 +1,6 @@
-pub mod Joins
-pub mod Cuts
 pub mod Sets
+pub mod Maps
+pub mod Joins
+pub mod Orders
+pub mod Cuts
 pub mod Pieces

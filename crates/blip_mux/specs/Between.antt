@@ -1,9 +1,9 @@
 -- Messages of one frame each, from an outbox to an inbox.
-use Rattle.std.specs.Prelude.{◌≡◌, ◌≤◌, true, List, [], ◌∷◌, length}
+use Rattle.std.specs.Prelude.{◌≡◌, ◌≤◌, true, None, List, [], ◌∷◌, length}
 use Rattle.blip_frame.specs.Frame.{largest_written}
 use Rattle.blip_frame.specs.Payload.{AreProps, payload_text}
 use Rattle.blip_mux.specs.declared.message.Message.{Message}
-use Rattle.blip_mux.specs.Joining.{Event, came, is_awaited, may_come, requests_in}
+use Rattle.blip_mux.specs.Joining.{Event, came, is_awaited, may_begin, requests_in, so_far_in}
 use Rattle.blip_mux.specs.Sending.{Waiting, first_piece}
 
 -- a message that waits, none of which was sent
@@ -18,8 +18,11 @@ abbrev pub AreOneFrame : List Message → Type 0
 AreOneFrame [] = Unit {0}
 AreOneFrame (m ∷ messages) = IsOneFrame m × AreOneFrame messages
 
--- each message may come once those before it have come, after what came before them
+-- a message may begin after these events, and has not begun
+abbrev pub MayBegin : List Event → Message → Type 0
+MayBegin before m = (so_far_in before (first_piece (waiting_of m)) ≡ None) × (may_begin (requests_in before) (is_awaited before m.number) (first_piece (waiting_of m)) ≡ true)
+
+-- each message may begin once those before it have come, after what came before them
 abbrev pub AreInOrder : List Event → List Message → Type 0
 AreInOrder before [] = Unit {0}
-AreInOrder before (m ∷ messages) =
-    (may_come (requests_in before) (is_awaited before m.number) (first_piece (waiting_of m)) ≡ true) × AreInOrder (came (first_piece (waiting_of m)) ∷ before) messages
+AreInOrder before (m ∷ messages) = MayBegin before m × AreInOrder (came (first_piece (waiting_of m)) ∷ before) messages

@@ -1,11 +1,12 @@
 //! Laws of joining and cutting. Each function says one, and does nothing.
 
-ghost use Rattle.std.specs.Prelude.{◌≡◌, ◌≤◌, map, take, None, List, ℕ};
+ghost use Rattle.std.specs.Prelude.{◌≡◌, ◌≤◌, [], map, take, None, List, ℕ};
 ghost use Rattle.blip_frame.specs.Frame.{FrameParts};
 ghost use Rattle.blip_mux.specs.declared.message.Message.{Message};
-ghost use Rattle.blip_mux.specs.Standing.{new_standing};
-ghost use Rattle.blip_mux.specs.Joining.{Event, came, joined, joined_after, taken_from};
-ghost use Rattle.blip_mux.specs.Order.{request_numbers, CountsFrom, replies_to, times_expected};
+ghost use Rattle.blip_mux.specs.declared.inbox.Taken.TheVariants.{Whole};
+ghost use Rattle.blip_mux.specs.Standing.{new_standing, taken_from};
+ghost use Rattle.blip_mux.specs.Joining.{Event, came, joined, joined_after, is_request, is_reply};
+ghost use Rattle.blip_mux.specs.Order.{messages_in, times_in, times_expected, beginnings, CountsFrom};
 ghost use Rattle.blip_mux.specs.Sending.{Waiting};
 ghost use Rattle.blip_mux.specs.Cutting.{AreCut, HaveBytes, frames_of};
 ghost use Rattle.blip_mux.specs.Between.{AreInOrder, AreOneFrame, waiting_of};
@@ -18,11 +19,12 @@ pub fn joining()
     ensures { (events : List Event) → taken_from new_standing events ≡ joined events }
 {}
 
-/// The requests that are joined are numbered from 1 upward, and a request has no more replies than
-/// times that one was expected.
+/// Where no frame is refused, requests begin in the order 1, 2, 3 and so on. A request comes whole at
+/// most once, and has no more replies than times that one was expected.
 pub fn order()
-    ensures requests { (events : List Event) → CountsFrom 1 (request_numbers (joined events).0) }
-    ensures replies { (number : ℕ) (events : List Event) → replies_to number (joined events).0 ≤ times_expected number events }
+    ensures beginnings { (events : List Event) → (joined events).1 ≡ None → CountsFrom 1 (beginnings [] events) }
+    ensures once { (number : ℕ) (events : List Event) → times_in is_request number (messages_in (joined events).0) ≤ 1 }
+    ensures replies { (number : ℕ) (events : List Event) → times_in is_reply number (messages_in (joined events).0) ≤ times_expected number events }
 {}
 
 /// Waiting messages are cut in one way, and call after call gives the frames of it.
@@ -35,7 +37,7 @@ pub fn cutting()
 /// each may come after those before it.
 pub fn one_frame()
     ensures { (before : List Event) (messages : List Message) (frames : List FrameParts) → AreOneFrame messages → AreInOrder before messages
-        → AreCut (map waiting_of messages) frames → joined_after before (map came frames) ≡ (messages, None) }
+        → AreCut (map waiting_of messages) frames → joined_after before (map came frames) ≡ (map Whole messages, None) }
 {
     payloads();
 }

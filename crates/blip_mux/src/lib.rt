@@ -6,6 +6,8 @@ pub mod laws;
 pub mod message;
 mod numbers;
 pub mod outbox;
+mod part;
+mod parts;
 mod waiting;
 
 pub use inbox::{Inbox, TakeFault, Taken};
