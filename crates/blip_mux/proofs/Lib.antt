@@ -2,5 +2,8 @@ pub mod Sets
 pub mod Maps
 pub mod Joins
 pub mod Orders
-pub mod Cuts
 pub mod Pieces
+pub mod Payloads
+pub mod Places
+pub mod Cuts
+pub mod Shares

@@ -1,17 +1,12 @@
 //! Laws of joining and cutting. Each function says one, and does nothing.
 
-ghost use Rattle.std.specs.Prelude.{◌≡◌, ◌≤◌, [], map, take, None, List, ℕ};
+ghost use Rattle.std.specs.Prelude.{◌≡◌, ◌≤◌, ◌++◌, true, [], take, None, List, ℕ};
 ghost use Rattle.blip_frame.specs.Frame.{FrameParts};
-ghost use Rattle.blip_mux.specs.declared.message.Message.{Message};
-ghost use Rattle.blip_mux.specs.declared.inbox.Taken.TheVariants.{Whole};
 ghost use Rattle.blip_mux.specs.Standing.{new_standing, taken_from};
-ghost use Rattle.blip_mux.specs.Joining.{Event, came, joined, joined_after, is_request, is_reply};
+ghost use Rattle.blip_mux.specs.Joining.{Event, joined, is_request, is_reply};
 ghost use Rattle.blip_mux.specs.Order.{messages_in, times_in, times_expected, beginnings, CountsFrom};
-ghost use Rattle.blip_mux.specs.Sending.{Waiting};
-ghost use Rattle.blip_mux.specs.Cutting.{AreCut, HaveBytes, frames_of};
-ghost use Rattle.blip_mux.specs.Between.{AreInOrder, AreOneFrame, waiting_of};
-
-use blip_frame::laws::payloads;
+ghost use Rattle.blip_mux.specs.Sending.{Sending};
+ghost use Rattle.blip_mux.specs.Cutting.{Deed, AreCut, ArePicked, AreAllPicked, frames_after, are_acknowledgements, bytes_sent, bytes_left, times_waiting};
 
 /// What a new inbox answers to events, one after another, is what joining all that came before says
 /// of each.
@@ -27,17 +22,21 @@ pub fn order()
     ensures replies { (number : ℕ) (events : List Event) → times_in is_reply number (messages_in (joined events).0) ≤ times_expected number events }
 {}
 
-/// Waiting messages are cut in one way, and call after call gives the frames of it.
+/// Whatever is put and acknowledged, messages are cut in one way, and call after call gives the
+/// frames of it.
 pub fn cutting()
-    ensures some { (waiting : List Waiting) → HaveBytes waiting → (frames : List FrameParts) × AreCut waiting frames }
-    ensures calls { (k : ℕ) (waiting : List Waiting) (frames : List FrameParts) → AreCut waiting frames → frames_of k waiting ≡ take k frames }
+    ensures some { (s : Sending) (deeds : List Deed) → (frames : List FrameParts) × AreCut s deeds frames }
+    ensures one { (s : Sending) (deeds : List Deed) (frames others : List FrameParts) → AreCut s deeds frames → AreCut s deeds others → frames ≡ others }
+    ensures calls { (k : ℕ) (s : Sending) (frames : List FrameParts) (left : Sending) → AreAllPicked s frames left → frames_after k s ≡ take k frames }
 {}
 
-/// The frames of messages that each fit one are joined to the same messages, in their order, where
-/// each may come after those before it.
-pub fn one_frame()
-    ensures { (before : List Event) (messages : List Message) (frames : List FrameParts) → AreOneFrame messages → AreInOrder before messages
-        → AreCut (map waiting_of messages) frames → joined_after before (map came frames) ≡ (map Whole messages, None) }
-{
-    payloads();
-}
+/// Of a request, and of a reply, of which no other of its number waits, the bytes that were picked and
+/// those that are left are the ones that waited.
+pub fn shares()
+    ensures requests { (number : ℕ) (s : Sending) (frames : List FrameParts) (left : Sending) → ArePicked s frames left
+        → are_acknowledgements s.acknowledgements ≡ true → times_waiting is_request number s.waiting ≤ 1
+        → bytes_sent is_request number frames ++ bytes_left is_request number left.waiting ≡ bytes_left is_request number s.waiting }
+    ensures replies { (number : ℕ) (s : Sending) (frames : List FrameParts) (left : Sending) → ArePicked s frames left
+        → are_acknowledgements s.acknowledgements ≡ true → times_waiting is_reply number s.waiting ≤ 1
+        → bytes_sent is_reply number frames ++ bytes_left is_reply number left.waiting ≡ bytes_left is_reply number s.waiting }
+{}
