@@ -7,3 +7,6 @@ pub mod Payloads
 pub mod Places
 pub mod Cuts
 pub mod Shares
+pub mod Pending
+pub mod Choices
+pub mod Trips

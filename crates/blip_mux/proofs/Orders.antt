@@ -79,7 +79,7 @@ by_message P r a o f rest bad ack part last = go (has_checksum f.kind) (may_come
 
 -- ---- requests come whole once
 
-abbrev has_some : List FrameParts → Bool
+abbrev pub has_some : List FrameParts → Bool
 has_some [] = false
 has_some (f ∷ fs) = true
 
@@ -117,7 +117,7 @@ of_replies kinds.AckMsg xs ys is = absurd cc
 of_replies kinds.AckRpy xs ys is = absurd cc
 
 -- a frame of a request that may come is one of a message that has begun, or the first of the next request
-request_comes : (before : List Event) (f : FrameParts) → is_request f.kind ≡ true → may_come (requests_in before) (is_awaited before f.number) (so_far_in before f) f ≡ true
+pub request_comes : (before : List Event) (f : FrameParts) → is_request f.kind ≡ true → may_come (requests_in before) (is_awaited before f.number) (so_far_in before f) f ≡ true
     → (has_some (frames_of is_request f.number before) ≡ true) ⊎ (f.number ≡ requests_in before + 1)
 request_comes before f is may = go (so_far_in before f) (ap brought_by (of_requests f.kind (frames_of is_request f.number before) (frames_of is_reply f.number before) is)) may where
   go : (o : Option Begun) → o ≡ brought_by (frames_of is_request f.number before) → may_come (requests_in before) (is_awaited before f.number) o f ≡ true
@@ -137,11 +137,11 @@ reply_comes before f is may = go (so_far_in before f) (ap brought_by (of_replies
 -- ---- what holds while no frame was refused
 
 -- a request that has begun has a number up to the last one's, and a reply that has begun is awaited
-record IsSound (before : List Event) : Type 0 where
-  requests : (q : ℕ) → has_some (frames_of is_request q before) ≡ true → (1 ≤ q) × (q ≤ requests_in before)
-  replies : (q : ℕ) → has_some (frames_of is_reply q before) ≡ true → is_awaited before q ≡ true
+pub record IsSound (before : List Event) : Type 0 where
+  pub requests : (q : ℕ) → has_some (frames_of is_request q before) ≡ true → (1 ≤ q) × (q ≤ requests_in before)
+  pub replies : (q : ℕ) → has_some (frames_of is_reply q before) ≡ true → is_awaited before q ≡ true
 
-sound_start : IsSound []
+pub sound_start : IsSound []
 sound_start = record { requests = λ q e. absurd cc; replies = λ q e. absurd cc }
 
 request_sound : (k : Kind) (t more : Bool) (f : FrameParts) (fs : List FrameParts) (q n r : ℕ) → (t ≡ true → q ≡ n) → (has_some fs ≡ true → (1 ≤ q) × (q ≤ r)) → (is_request k ≡ true → 1 ≤ n)
@@ -183,21 +183,21 @@ or_true : (b a : Bool) → a ≡ true → (b || a) ≡ true
 or_true true a e = refl
 or_true false a e = e
 
-sound_expected : (before : List Event) (n : ℕ) → IsSound before → IsSound (expected n ∷ before)
+pub sound_expected : (before : List Event) (n : ℕ) → IsSound before → IsSound (expected n ∷ before)
 sound_expected before n sound = record {
   requests = sound.requests;
   replies = λ q e. or_true (eqb q n) (is_awaited before q) (sound.replies q e);
 }
 
 -- an acknowledgement is no frame of a message
-no_request : (k : Kind) → has_checksum k ≡ false → is_request k ≡ false
+pub no_request : (k : Kind) → has_checksum k ≡ false → is_request k ≡ false
 no_request kinds.Msg e = absurd cc
 no_request kinds.Rpy e = refl
 no_request kinds.Err e = refl
 no_request kinds.AckMsg e = refl
 no_request kinds.AckRpy e = refl
 
-no_reply_kind : (k : Kind) → has_checksum k ≡ false → is_reply k ≡ false
+pub no_reply_kind : (k : Kind) → has_checksum k ≡ false → is_reply k ≡ false
 no_reply_kind kinds.Msg e = refl
 no_reply_kind kinds.Rpy e = absurd cc
 no_reply_kind kinds.Err e = absurd cc
@@ -344,11 +344,11 @@ false_true : (b : Bool) (P : Type 0) → b ≡ false → b ≡ true → P
 false_true b P e h = absurd cc
 
 -- what holds goes on to hold with a frame that may come
-sound_came : (before : List Event) (f : FrameParts) → IsSound before → may_come (requests_in before) (is_awaited before f.number) (so_far_in before f) f ≡ true → IsSound (came f ∷ before)
+pub sound_came : (before : List Event) (f : FrameParts) → IsSound before → may_come (requests_in before) (is_awaited before f.number) (so_far_in before f) f ≡ true → IsSound (came f ∷ before)
 sound_came before f sound may = sound_after before f sound (λ is. request_comes before f is may) (λ is. reply_comes before f is may)
 
 -- and with an acknowledgement
-sound_acknowledged : (before : List Event) (f : FrameParts) → IsSound before → has_checksum f.kind ≡ false → IsSound (came f ∷ before)
+pub sound_acknowledged : (before : List Event) (f : FrameParts) → IsSound before → has_checksum f.kind ≡ false → IsSound (came f ∷ before)
 sound_acknowledged before f sound none =
     sound_after before f sound (λ is. false_true (is_request f.kind) _ (no_request f.kind none) is) (λ is. false_true (is_reply f.kind) _ (no_reply_kind f.kind none) is)
 

@@ -6,3 +6,4 @@ pub mod Order
 pub mod Told
 pub mod Sending
 pub mod Cutting
+pub mod Between

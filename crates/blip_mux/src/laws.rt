@@ -5,8 +5,11 @@ ghost use Rattle.blip_frame.specs.Frame.{FrameParts};
 ghost use Rattle.blip_mux.specs.Standing.{new_standing, taken_from};
 ghost use Rattle.blip_mux.specs.Joining.{Event, joined, is_request, is_reply};
 ghost use Rattle.blip_mux.specs.Order.{messages_in, times_in, times_expected, beginnings, CountsFrom};
-ghost use Rattle.blip_mux.specs.Sending.{Sending};
+ghost use Rattle.blip_mux.specs.Sending.{Sending, new_sending};
 ghost use Rattle.blip_mux.specs.Cutting.{Deed, AreCut, ArePicked, AreAllPicked, frames_after, are_acknowledgements, bytes_sent, bytes_left, times_waiting};
+ghost use Rattle.blip_mux.specs.Between.{Step, AreAllowed, sending_in, events_in, put_in, messages_of};
+
+use blip_frame::laws::{payloads, varints};
 
 /// What a new inbox answers to events, one after another, is what joining all that came before says
 /// of each.
@@ -40,3 +43,17 @@ pub fn shares()
         → are_acknowledgements s.acknowledgements ≡ true → times_waiting is_reply number s.waiting ≤ 1
         → bytes_sent is_reply number frames ++ bytes_left is_reply number left.waiting ≡ bytes_left is_reply number s.waiting }
 {}
+
+/// What an outbox cuts, an inbox joins, however the frames of messages are interleaved: where messages
+/// are put in their turn, no frame is refused, and of each number at which no message waits any more
+/// the messages that come are those that were put, in order.
+pub fn round_trip()
+    ensures accepted { (steps : List Step) → AreAllowed new_sending [] steps → (joined (events_in new_sending steps)).1 ≡ None }
+    ensures requests { (number : ℕ) (steps : List Step) → AreAllowed new_sending [] steps → times_waiting is_request number (sending_in new_sending steps).waiting ≡ 0
+        → messages_of is_request number (messages_in (joined (events_in new_sending steps)).0) ≡ messages_of is_request number (put_in steps) }
+    ensures replies { (number : ℕ) (steps : List Step) → AreAllowed new_sending [] steps → times_waiting is_reply number (sending_in new_sending steps).waiting ≡ 0
+        → messages_of is_reply number (messages_in (joined (events_in new_sending steps)).0) ≡ messages_of is_reply number (put_in steps) }
+{
+    payloads();
+    varints();
+}

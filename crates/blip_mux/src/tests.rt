@@ -365,7 +365,9 @@ fn carried(alloc: Global, outbox: &mut Outbox) -> Result<Vec<Gave>, Fail> {
 #[test]
 fn two_requests_in_turn(rt: HostRuntime) -> Result<(), Fail> {
     let mut outbox = with_request(rt.alloc(), 16_385)?;
-    outbox.put_request(zeros(rt.alloc(), 16_384)?, true)?;
+    if outbox.requests() < u64::MAX {
+        outbox.put_request(zeros(rt.alloc(), 16_384)?, true)?;
+    }
     let given = carried(rt.alloc(), &mut outbox)?;
     let want = [
         Gave::Nothing,
