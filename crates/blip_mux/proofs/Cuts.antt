@@ -1,16 +1,13 @@
 -- Messages cut into frames.
-use Rattle.std.proofs.Common.{◌≡◌, ℕ, zero, suc, ◌+◌, ◌<◌, ◌≤◌, Bool, true, false, ◌&&◌, cond, eqb, ltb, List, [], ◌∷◌, ◌++◌, length, take, drop, Some, None, refl, sym, ap, subst, ◌∙◌, arith, ◌⊎◌, inl, inr, append_assoc}
+use Rattle.std.proofs.Common.{◌≡◌, ℕ, zero, suc, ◌+◌, ◌<◌, Bool, true, false, ◌&&◌, cond, List, [], ◌∷◌, ◌++◌, length, take, Some, None, refl, sym, ap, subst, ◌∙◌, arith, ◌⊎◌, inl, inr}
 use Rattle.std.specs.Prelude.{Option, option_map}
 use Rattle.std.specs.Option.{option_or, option_map_or, option_to_list}
-use Rattle.std.proofs.lemmas.Bool.{ltb-true, ltb-false, cases_Bool}
-use Rattle.std.proofs.lemmas.List.{append-nil, take_all, take-append-drop, length-append, length-drop}
+use Rattle.std.proofs.lemmas.Bool.{ltb-true}
+use Rattle.std.proofs.lemmas.List.{length-drop}
 use Rattle.blip_frame.specs.Frame.{FrameParts, largest_written}
-use Rattle.blip_frame.specs.declared.frame.Kind.{Kind}
-use Rattle.blip_frame.specs.declared.frame.Kind.TheVariants as kinds
-use Rattle.blip_mux.specs.Joining.{is_request, is_reply}
 use Rattle.blip_mux.specs.Told.{Acknowledgement, told_by}
 use Rattle.blip_mux.specs.Sending.{Waiting, Sending, may_send, has_more, first_piece, without_piece, back, taken_out, chosen, next_piece, after_piece, picked, picked_of, after_picked, picked_from}
-use Rattle.blip_mux.specs.Cutting.{Deed, after_deed, ArePicked, AreAllPicked, AreCut, frames_after, bytes_sent, bytes_left, times_waiting}
+use Rattle.blip_mux.specs.Cutting.{Deed, after_deed, AreAllPicked, AreCut, frames_after}
 
 abbrev pub Found : Type 0
 Found = Option (Waiting × List Waiting)

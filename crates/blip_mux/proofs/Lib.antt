@@ -10,3 +10,4 @@ pub mod Shares
 pub mod Pending
 pub mod Choices
 pub mod Trips
+pub mod Apart

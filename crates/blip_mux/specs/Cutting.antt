@@ -1,5 +1,5 @@
 -- How messages are cut into frames.
-use Rattle.std.specs.Prelude.{◌≡◌, ℕ, ◌+◌, zero, suc, Bool, true, not, ◌&&◌, List, [], ◌∷◌, ◌++◌, length, max, Option, Some, None, ◌==◌, if◌then◌else◌}
+use Rattle.std.specs.Prelude.{◌≡◌, ℕ, ◌+◌, zero, suc, Bool, true, not, ◌&&◌, List, [], ◌∷◌, ◌++◌, max, Some, None, ◌==◌, if◌then◌else◌}
 use Rattle.std.specs.Option.{option_to_list}
 use Rattle.blip_frame.specs.Frame.{FrameParts, has_checksum}
 use Rattle.blip_frame.specs.declared.frame.Kind.{Kind}

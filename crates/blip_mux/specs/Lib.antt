@@ -7,3 +7,4 @@ pub mod Told
 pub mod Sending
 pub mod Cutting
 pub mod Between
+pub mod Apart

@@ -1,12 +1,18 @@
 //! Laws of joining and cutting. Each function says one, and does nothing.
 
-ghost use Rattle.std.specs.Prelude.{◌≡◌, ◌≤◌, ◌++◌, true, [], take, None, List, ℕ};
+ghost use Rattle.std.specs.Prelude.{◌≡◌, ◌≤◌, ◌++◌, ◌∷◌, true, false, [], take, None, List, ℕ, Ok};
+ghost use Rattle.std.specs.List.{list_any};
 ghost use Rattle.blip_frame.specs.Frame.{FrameParts};
-ghost use Rattle.blip_mux.specs.Standing.{new_standing, taken_from};
-ghost use Rattle.blip_mux.specs.Joining.{Event, joined, is_request, is_reply};
+ghost use Rattle.blip_frame.specs.declared.frame.Kind.{Kind};
+ghost use Rattle.blip_mux.specs.declared.message.Message.{Message};
+ghost use Rattle.blip_mux.specs.declared.inbox.Taken.{Taken};
+ghost use Rattle.blip_mux.specs.Remembered.{Standing};
+ghost use Rattle.blip_mux.specs.Standing.{new_standing, expecting, answer_at, taken_after, taken_from, StandsFor};
+ghost use Rattle.blip_mux.specs.Joining.{Event, came, expected, answer_in, joined, is_request, is_reply};
 ghost use Rattle.blip_mux.specs.Order.{messages_in, times_in, times_expected, beginnings, CountsFrom};
-ghost use Rattle.blip_mux.specs.Sending.{Sending, new_sending};
-ghost use Rattle.blip_mux.specs.Cutting.{Deed, AreCut, ArePicked, AreAllPicked, frames_after, are_acknowledgements, bytes_sent, bytes_left, times_waiting};
+ghost use Rattle.blip_mux.specs.Apart.{HasCome, AreApart};
+ghost use Rattle.blip_mux.specs.Sending.{Waiting, Sending, new_sending, is_reply_to, heard_in, after_picked};
+ghost use Rattle.blip_mux.specs.Cutting.{Deed, with_message, AreCut, ArePicked, AreAllPicked, frames_after, are_acknowledgements, bytes_sent, bytes_left, times_waiting};
 ghost use Rattle.blip_mux.specs.Between.{Step, AreAllowed, sending_in, events_in, put_in, messages_of};
 
 use blip_frame::laws::{payloads, varints};
@@ -15,6 +21,27 @@ use blip_frame::laws::{payloads, varints};
 /// of each.
 pub fn joining()
     ensures { (events : List Event) → taken_from new_standing events ≡ joined events }
+{}
+
+/// A standing that says what the events before it gave still does once one more has come, and what it answers to a
+/// frame is what joining says.
+pub fn standing()
+    ensures new { StandsFor new_standing [] }
+    ensures came { (s : Standing) (before : List Event) (f : FrameParts) → StandsFor s before → StandsFor (taken_after s f) (came f ∷ before) }
+    ensures expected { (s : Standing) (before : List Event) (number : ℕ) → StandsFor s before → StandsFor (expecting s number) (expected number ∷ before) }
+    ensures answer { (s : Standing) (before : List Event) (f : FrameParts) → StandsFor s before → answer_at s f ≡ answer_in before f }
+{}
+
+/// Each reply that waits is to a request that has come, from the beginning on, whatever comes and goes: so where a request
+/// comes whole, no reply to it waits, and it may be put.
+pub fn replies()
+    ensures new { AreApart new_standing new_sending }
+    ensures taken { (s : Standing) (out : Sending) (f : FrameParts) (taken : Taken) → answer_at s f ≡ Ok taken → AreApart s out → AreApart (taken_after s f) out }
+    ensures whole { (s : Standing) (out : Sending) (f : FrameParts) (message : Message) → answer_at s f ≡ Ok (Taken.Whole message) → is_request message.kind ≡ true → AreApart s out
+        → (list_any (is_reply_to message.number) out.waiting ≡ false) × HasCome (taken_after s f) message.number }
+    ensures put { (s : Standing) (out : Sending) (w : Waiting) → AreApart s out → (is_reply w.kind ≡ true → HasCome s w.number) → AreApart s (with_message out w) }
+    ensures heard { (s : Standing) (out : Sending) (kind : Kind) (number bytes : ℕ) → AreApart s out → AreApart s (record out { waiting = heard_in kind number bytes out.waiting }) }
+    ensures picked { (s : Standing) (out : Sending) → AreApart s out → AreApart s (after_picked out) }
 {}
 
 /// Where no frame is refused, requests begin in the order 1, 2, 3 and so on. A request comes whole at
