@@ -1,5 +1,5 @@
 -- Standings and what came before them.
-use Rattle.std.proofs.Common.{◌≡◌, ℕ, ◌+◌, Bool, true, false, ◌&&◌, ◌||◌, cond, eqb, List, [], ◌∷◌, Result, Ok, Err, Some, None, refl, sym, ap, ◌∙◌}
+use Rattle.std.proofs.Common.{◌≡◌, ℕ, Bool, true, false, ◌&&◌, ◌||◌, cond, eqb, List, [], ◌∷◌, Some, None, refl, sym, ap, ◌∙◌}
 use Rattle.std.specs.Prelude.{not, max, Option}
 use Rattle.std.specs.Ordering.{nat_cmp}
 use Rattle.std.specs.Cmp.{nat_cmp_total, unsigned_tied}
@@ -12,7 +12,7 @@ use Rattle.blip_frame.specs.declared.frame.Kind.TheVariants as kinds
 use Rattle.blip_mux.specs.Begun.{Begun}
 use Rattle.blip_mux.specs.Remembered.{Standing, Unfinished}
 use Rattle.blip_mux.specs.Standing.{new_standing, expecting, begun_after, so_far_at, answer_at, taken_after, taken_from}
-use Rattle.blip_mux.specs.Joining.{Event, came, expected, is_request, is_reply, begun_or, with_frame, brought_by, answer_to, answer_in, frames_of, so_far_in, requests_in, is_awaited, Joined, followed_by, joined_after, joined}
+use Rattle.blip_mux.specs.Joining.{Event, came, expected, is_request, is_reply, begun_or, with_frame, brought_by, answer_to, answer_in, frames_of, requests_in, is_awaited, Joined, followed_by, joined_after, joined}
 
 -- ---- the standing says what the events before it gave
 

@@ -1,6 +1,6 @@
 -- The order of the messages that come.
-use Rattle.std.proofs.Common.{◌≡◌, ℕ, ◌+◌, ◌<◌, ◌≤◌, Bool, true, false, ◌&&◌, ◌||◌, cond, eqb, ltb, leb, List, [], ◌∷◌, ◌++◌, length, Result, Ok, Err, Some, None, refl, sym, ap, subst, ◌∙◌, arith, ◌⊎◌, inl, inr}
-use Rattle.std.specs.Prelude.{not, max, Option, is_some}
+use Rattle.std.proofs.Common.{◌≡◌, ℕ, ◌+◌, ◌≤◌, Bool, true, false, ◌&&◌, ◌||◌, cond, eqb, ltb, leb, List, [], ◌∷◌, ◌++◌, length, Result, Ok, Err, Some, None, refl, sym, ap, subst, ◌∙◌, arith, ◌⊎◌, inl, inr}
+use Rattle.std.specs.Prelude.{not, max, Option}
 use Rattle.std.proofs.lemmas.Bool.{eqb-true, eq-eqb, ltb-true, lt-ltb, le-ltb}
 use Rattle.blip_frame.specs.Frame.{FrameParts, kind_number, has_checksum}
 use Rattle.blip_frame.specs.Payload.{payload_at}
@@ -10,12 +10,11 @@ use Rattle.blip_frame.specs.declared.frame.Kind.{Kind}
 use Rattle.blip_frame.specs.declared.frame.Kind.TheVariants as kinds
 use Rattle.blip_frame.specs.declared.payload.PayloadFault.{PayloadFault}
 use Rattle.blip_mux.specs.declared.message.Message.{Message}
-use Rattle.blip_mux.specs.declared.inbox.Taken.{Taken}
 use Rattle.blip_mux.specs.declared.inbox.Taken.TheVariants as takens
 use Rattle.blip_mux.specs.declared.inbox.TakeFault.{TakeFault}
 use Rattle.blip_mux.specs.declared.inbox.TakeFault.TheVariants as faults
 use Rattle.blip_mux.specs.Begun.{Begun}
-use Rattle.blip_mux.specs.Joining.{Event, came, expected, is_request, is_reply, acknowledges, acknowledge_after, begun_or, brought_by, count_in, acknowledged, with_fault, read_as, part_by, whole, message_by, given_by, may_begin, may_come, answer_to, answer_in, frames_of, so_far_in, requests_in, is_awaited, Joined, followed_by, joined_after, joined}
+use Rattle.blip_mux.specs.Joining.{Event, came, expected, is_request, is_reply, acknowledges, acknowledge_after, begun_or, brought_by, count_in, acknowledged, with_fault, read_as, part_by, whole, may_come, answer_to, frames_of, so_far_in, requests_in, is_awaited, Joined, followed_by, joined_after, joined}
 use Rattle.blip_mux.specs.Order.{messages_in, times_in, times_expected, is_among, beginnings, CountsFrom}
 
 -- ---- what an answer tells

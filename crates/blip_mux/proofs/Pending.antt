@@ -1,7 +1,7 @@
 -- Messages under way from an outbox to an inbox.
-use Rattle.std.proofs.Common.{◌^◌, ◌≡◌, ℕ, zero, suc, ◌+◌, ◌<◌, ◌≤◌, Bool, true, false, ◌&&◌, ◌||◌, cond, eqb, ltb, List, [], ◌∷◌, ◌++◌, length, take, drop, Result, Ok, Err, Some, None, refl, sym, ap, subst, ◌∙◌, arith, ◌⊎◌, inl, inr}
-use Rattle.std.specs.Prelude.{not, map, max, Option, unwrap_or}
-use Rattle.std.proofs.lemmas.Bool.{eqb-true, eq-eqb, ltb-false}
+use Rattle.std.proofs.Common.{◌^◌, ◌≡◌, ℕ, ◌+◌, ◌<◌, Bool, true, false, ◌&&◌, ◌||◌, cond, eqb, List, [], ◌∷◌, ◌++◌, length, take, drop, Result, Ok, Err, Some, None, refl, sym, ap, subst, ◌∙◌, arith}
+use Rattle.std.specs.Prelude.{not, Option}
+use Rattle.std.proofs.lemmas.Bool.{eq-eqb, ltb-false}
 use Rattle.std.proofs.lemmas.List.{take_all, take-append-drop, drop-drop}
 use Rattle.std.proofs.Math.Seq.{take-add}
 use Rattle.blip_frame.specs.Frame.{FrameParts, kind_number, has_checksum, largest_written}
@@ -11,12 +11,11 @@ use Rattle.blip_frame.specs.declared.frame.Kind.{Kind}
 use Rattle.blip_frame.specs.declared.frame.Kind.TheVariants as kinds
 use Rattle.blip_frame.specs.declared.payload.PayloadFault.{PayloadFault}
 use Rattle.blip_mux.specs.declared.message.Message.{Message}
-use Rattle.blip_mux.specs.declared.inbox.Taken.{Taken}
 use Rattle.blip_mux.specs.declared.inbox.Taken.TheVariants as takens
 use Rattle.blip_mux.specs.declared.inbox.TakeFault.{TakeFault}
 use Rattle.blip_mux.specs.declared.inbox.TakeFault.TheVariants as faults
 use Rattle.blip_mux.specs.Begun.{Begun}
-use Rattle.blip_mux.specs.Joining.{Event, came, expected, is_request, is_reply, begun_by, begun_or, with_frame, brought_by, with_fault, read_as, part_by, whole, message_by, given_by, may_begin, may_come, answer_to, answer_in, acknowledged, count_in, frames_of, so_far_in, requests_in, is_awaited}
+use Rattle.blip_mux.specs.Joining.{Event, came, expected, is_request, is_reply, begun_by, begun_or, with_frame, brought_by, with_fault, read_as, part_by, whole, message_by, given_by, may_come, answer_in, acknowledged, count_in, frames_of, requests_in, is_awaited}
 use Rattle.blip_frame.specs.Varint.{number_at}
 use Rattle.blip_mux.specs.Sending.{Waiting, has_more, first_piece, without_piece}
 use Rattle.blip_mux.specs.Between.{CanBeRead}

@@ -1,8 +1,7 @@
 -- One message among others, as frames are picked.
-use Rattle.std.proofs.Common.{◌≡◌, ℕ, suc, ◌+◌, ◌≤◌, Bool, true, false, ◌&&◌, cond, eqb, List, [], ◌∷◌, ◌++◌, length, take, drop, Some, None, refl, sym, ap, subst, ◌∙◌, arith, append_assoc}
-use Rattle.std.specs.Prelude.{not, Option, option_map}
+use Rattle.std.proofs.Common.{◌≡◌, ℕ, ◌+◌, ◌≤◌, Bool, true, false, ◌&&◌, cond, eqb, List, [], ◌∷◌, ◌++◌, length, take, drop, Some, None, refl, sym, ap, ◌∙◌, arith, append_assoc}
+use Rattle.std.specs.Prelude.{not, option_map}
 use Rattle.std.specs.Option.{option_map_or}
-use Rattle.std.specs.List.{list_all}
 use Rattle.std.proofs.lemmas.Bool.{ltb-false, and_parts, not-true}
 use Rattle.std.proofs.lemmas.List.{append-nil, take_all, take-append-drop}
 use Rattle.blip_frame.specs.Frame.{FrameParts, largest_written, has_checksum}
@@ -10,7 +9,7 @@ use Rattle.blip_frame.specs.declared.frame.Kind.{Kind}
 use Rattle.blip_frame.specs.declared.frame.Kind.TheVariants as kinds
 use Rattle.blip_mux.specs.Joining.{is_request, is_reply}
 use Rattle.blip_mux.specs.Told.{Acknowledgement, told_by}
-use Rattle.blip_mux.specs.Sending.{Waiting, Sending, has_more, first_piece, without_piece, back, chosen, next_piece, after_piece, picked, picked_of, after_picked, picked_from}
+use Rattle.blip_mux.specs.Sending.{Waiting, Sending, has_more, first_piece, without_piece, back, chosen, picked_of, after_picked, picked_from}
 use Rattle.blip_mux.specs.Cutting.{ArePicked, are_acknowledgements, bytes_sent, bytes_left, times_waiting}
 use Rattle.blip_mux.proofs.Cuts.{Found, Split, split_chosen, some_same}
 

@@ -1,6 +1,6 @@
 -- From an outbox to an inbox, step by step.
-use Rattle.std.proofs.Common.{◌≡◌, ℕ, zero, suc, ◌+◌, ◌^◌, ◌<◌, ◌≤◌, Bool, true, false, ◌&&◌, ◌||◌, cond, eqb, leb, List, [], ◌∷◌, ◌++◌, length, take, drop, Result, Ok, Err, Some, None, refl, sym, ap, subst, ◌∙◌, arith, ◌⊎◌, inl, inr, append_assoc}
-use Rattle.std.specs.Prelude.{not, map, max, Option, option_map}
+use Rattle.std.proofs.Common.{◌≡◌, ℕ, ◌+◌, ◌^◌, ◌<◌, ◌≤◌, Bool, true, false, ◌&&◌, cond, eqb, leb, List, [], ◌∷◌, ◌++◌, length, Result, Ok, Err, Some, None, refl, sym, ap, subst, ◌∙◌, arith, ◌⊎◌, inl, inr, append_assoc}
+use Rattle.std.specs.Prelude.{map, max, Option, option_map}
 use Rattle.std.specs.Option.{option_map_or}
 use Rattle.std.proofs.lemmas.Bool.{eqb-true, eq-eqb, ne_eqb, cases_Bool, both_ways, and_parts}
 use Rattle.std.proofs.lemmas.List.{append-nil, length-append}
@@ -15,16 +15,16 @@ use Rattle.blip_mux.specs.declared.inbox.Taken.TheVariants as takens
 use Rattle.blip_mux.specs.declared.inbox.TakeFault.{TakeFault}
 use Rattle.blip_mux.specs.declared.inbox.TakeFault.TheVariants as faults
 use Rattle.blip_mux.specs.Begun.{Begun}
-use Rattle.blip_mux.specs.Joining.{Event, came, expected, is_request, is_reply, begun_or, brought_by, acknowledges, acknowledge_after, given_by, part_by, may_come, answer_to, answer_in, acknowledged, count_in, frames_of, so_far_in, requests_in, is_awaited, Joined, followed_by, joined_after, joined}
+use Rattle.blip_mux.specs.Joining.{Event, came, expected, is_request, is_reply, begun_or, brought_by, acknowledges, acknowledge_after, given_by, part_by, may_come, answer_in, acknowledged, count_in, frames_of, so_far_in, requests_in, is_awaited, Joined, followed_by, joined_after, joined}
 use Rattle.blip_mux.specs.Order.{messages_in, CountsFrom}
 use Rattle.blip_mux.specs.Told.{Acknowledgement, told_by}
 use Rattle.blip_mux.specs.Sending.{Waiting, Sending, new_sending, has_more, first_piece, without_piece, back, chosen, next_piece, after_piece, picked, after_picked, is_of, heard, heard_in}
-use Rattle.blip_mux.specs.Cutting.{with_message, with_acknowledgement, times_waiting}
-use Rattle.blip_mux.specs.Between.{Step, put, owe, hear, send, expect, waiting_of, sending_after, sending_in, sent_to, before_next, events_in, put_in, messages_of, CanBeRead, HasItsTurn, IsAllowed, AreAllowed}
-use Rattle.blip_mux.proofs.Cuts.{Found, Split}
+use Rattle.blip_mux.specs.Cutting.{times_waiting}
+use Rattle.blip_mux.specs.Between.{Step, put, owe, hear, send, expect, waiting_of, sending_in, sent_to, events_in, put_in, messages_of, CanBeRead, HasItsTurn, AreAllowed}
+use Rattle.blip_mux.proofs.Cuts.{Found}
 use Rattle.blip_mux.proofs.Orders.{IsSound, sound_start, sound_came, sound_acknowledged, sound_expected, has_some, no_request, no_reply_kind}
-use Rattle.blip_mux.proofs.Shares.{times-append, times_split, times_back, times_after}
-use Rattle.blip_mux.proofs.Pending.{Pending, waits, further, text, got, IsGot, IsPending, class_of, ReadsAgain, may_come_next, answer_more, answer_last, pending_further, pending_beside, pending_expected, pending_acked}
+use Rattle.blip_mux.proofs.Shares.{times-append, times_split, times_after}
+use Rattle.blip_mux.proofs.Pending.{Pending, waits, further, got, IsGot, IsPending, class_of, ReadsAgain, may_come_next, answer_more, answer_last, pending_further, pending_beside, pending_expected, pending_acked}
 use Rattle.blip_mux.proofs.Choices.{map-append, is_fresh, fresh, fresh-append, Choice, choice, split_of, goes_back, back_is, counts-append, fresh_before, fresh_after}
 
 -- ---- lists of messages under way

@@ -1,5 +1,5 @@
 -- From an outbox to an inbox.
-use Rattle.std.specs.Prelude.{◌≡◌, ℕ, ◌+◌, ◌^◌, ◌<◌, Bool, true, false, ◌&&◌, List, [], ◌∷◌, ◌++◌, length, Option, Some, None, ◌==◌, if◌then◌else◌}
+use Rattle.std.specs.Prelude.{◌≡◌, ℕ, ◌+◌, ◌^◌, ◌<◌, Bool, true, false, ◌&&◌, List, [], ◌∷◌, length, Option, Some, None, ◌==◌, if◌then◌else◌}
 use Rattle.blip_frame.specs.Frame.{FrameParts, has_checksum}
 use Rattle.blip_frame.specs.Payload.{AreProps, block_of, payload_text}
 use Rattle.blip_frame.specs.declared.frame.Kind.{Kind}

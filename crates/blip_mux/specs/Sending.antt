@@ -1,5 +1,5 @@
 -- What an outbox still has to send, and the next frame of it.
-use Rattle.std.specs.Prelude.{◌≡◌, ℕ, ◌+◌, ◌-◌, Bool, ◌&&◌, ◌||◌, true, false, List, [], ◌∷◌, ◌++◌, length, take, drop, max, find, Option, Some, None, option_map, nat_lt, nat_le, ◌==◌, if◌then◌else◌}
+use Rattle.std.specs.Prelude.{◌≡◌, ℕ, ◌+◌, ◌-◌, Bool, ◌&&◌, ◌||◌, false, List, [], ◌∷◌, ◌++◌, length, take, drop, max, find, Option, Some, None, option_map, nat_lt, nat_le, ◌==◌, if◌then◌else◌}
 use Rattle.std.specs.Option.{option_or, option_map_or}
 use Rattle.blip_frame.specs.Checksum.{checksum}
 use Rattle.blip_frame.specs.Frame.{FrameParts, largest_written, sent_after, spelling, value_after, WritesAfter}

@@ -1,10 +1,9 @@
 -- What an inbox remembers of the frames that came.
-use Rattle.std.specs.Prelude.{ℕ, ◌+◌, Bool, not, max, Option, List, ◌∷◌, [], Result, Ok, Err, None, if◌then◌else◌}
+use Rattle.std.specs.Prelude.{ℕ, max, Option, List, ◌∷◌, [], Result, None, if◌then◌else◌}
 use Rattle.std.specs.Ordering.{nat_cmp}
 use Rattle.std.specs.FinSet as set
 use Rattle.std.specs.FinMap as map
-use Rattle.blip_frame.specs.Frame.{FrameParts, has_checksum}
-use Rattle.blip_frame.specs.declared.frame.Kind.{Kind}
+use Rattle.blip_frame.specs.Frame.{FrameParts}
 use Rattle.blip_mux.specs.declared.inbox.Taken.{Taken}
 use Rattle.blip_mux.specs.declared.inbox.TakeFault.{TakeFault}
 use Rattle.blip_mux.specs.Begun.{Begun}

@@ -1,5 +1,5 @@
 -- Acknowledgements that wait to be sent.
-use Rattle.std.specs.Prelude.{ℕ, Bool, true, false}
+use Rattle.std.specs.Prelude.{ℕ, true, false}
 use Rattle.blip_frame.specs.Frame.{FrameParts}
 use Rattle.blip_frame.specs.Varint.{varint}
 use Rattle.blip_frame.specs.declared.frame.Kind.{Kind}

@@ -1,4 +1,4 @@
-use Rattle.std.proofs.Common.{deque_len, inl, inr, ◌≡◌, [], ℕ, IfOk, sym, ap, subst, ◌∙◌, arith}
+use Rattle.std.proofs.Common.{deque_len, inl, inr, ◌≡◌, [], IfOk, sym, ap, subst, ◌∙◌, arith}
 use Rattle.std.proofs.lemmas.Bool.{cases_lt}
 use Rattle.blip_mux.specs.Sending.{Sending, Sends, next_piece}
 use Rattle.blip_mux.proofs.Places.{paused_none, none_paused, idle_none, no_first}

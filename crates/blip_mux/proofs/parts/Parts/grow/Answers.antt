@@ -1,8 +1,5 @@
-use Rattle.std.proofs.Common.{rules, refl, ◌≡◌, Some, None, Ok, Err, IfOk, OnOk, OnErr, Result, option_map, ap, sym, subst, ◌∙◌}
-use Rattle.std.specs.Option.{option_map_or}
+use Rattle.std.proofs.Common.{rules, refl, Some, Ok, Err, OnErr, Result, ap, sym, ◌∙◌}
 use Rattle.std.specs.FinMap as map
-use Rattle.blip_frame.specs.Frame.{parts_of}
-use Rattle.blip_mux.specs.Joining.{with_frame, part_by}
 use Rattle.blip_mux.proofs.Maps.{read, written, written_again}
 use Rattle.blip_mux.proofs.parts.Parts.grow.Goals as goal
 use Rattle.blip_mux.proofs.parts.Parts.grow.Goals.{in-Some+in_ok-take-in-Some, in-None}

@@ -1,4 +1,4 @@
-use Rattle.std.proofs.Common.{rules, refl, Some, ap, sym, ◌∙◌}
+use Rattle.std.proofs.Common.{rules, Some, ap, sym, ◌∙◌}
 use Rattle.std.specs.FinMap as map
 use Rattle.blip_mux.proofs.Maps.{read, written_again}
 use Rattle.blip_mux.proofs.parts.Parts.message_with.Goals as goal
