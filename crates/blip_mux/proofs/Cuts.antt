@@ -1,13 +1,14 @@
 -- Messages cut into frames.
-use Rattle.std.proofs.Common.{◌≡◌, ℕ, zero, suc, ◌+◌, ◌<◌, Bool, true, false, ◌&&◌, cond, List, [], ◌∷◌, ◌++◌, length, take, Some, None, refl, sym, ap, subst, ◌∙◌, arith, ◌⊎◌, inl, inr}
+use Rattle.std.proofs.Common.{◌≡◌, ℕ, zero, suc, ◌+◌, ◌<◌, ◌≤◌, Bool, true, false, ◌&&◌, cond, List, [], ◌∷◌, ◌++◌, length, take, Some, None, refl, sym, ap, subst, ◌∙◌, arith, ◌⊎◌, inl, inr}
 use Rattle.std.specs.Prelude.{Option, option_map}
 use Rattle.std.specs.Option.{option_or, option_map_or, option_to_list}
-use Rattle.std.proofs.lemmas.Bool.{ltb-true}
-use Rattle.std.proofs.lemmas.List.{length-drop}
+use Rattle.std.proofs.lemmas.Bool.{ltb-true, ltb-false, cases_Bool, both_ways}
+use Rattle.std.proofs.lemmas.List.{take_all, length-drop, length-take-le}
 use Rattle.blip_frame.specs.Frame.{FrameParts, largest_written}
 use Rattle.blip_mux.specs.Told.{Acknowledgement, told_by}
 use Rattle.blip_mux.specs.Sending.{Waiting, Sending, may_send, has_more, first_piece, without_piece, back, taken_out, chosen, next_piece, after_piece, picked, picked_of, after_picked, picked_from}
-use Rattle.blip_mux.specs.Cutting.{Deed, after_deed, AreAllPicked, AreCut, frames_after}
+use Rattle.blip_mux.specs.Cutting.{Deed, after_deed, ArePicked, AreAllPicked, AreCut, AreFull, frames_after}
+use Rattle.blip_mux.proofs.Payloads.{varint_fits}
 
 abbrev pub Found : Type 0
 Found = Option (Waiting × List Waiting)
@@ -151,3 +152,33 @@ calls_cut zero s frames left all = refl
 calls_cut (suc k) s [] left all = none_after (suc k) s (ap picked (sym all.0) ∙ all.1)
 calls_cut (suc k) s (f ∷ fs) left all =
     ap (λ (o : Option FrameParts). option_to_list o ++ frames_after k (after_picked s)) all.0.0 ∙ ap (λ (hs : List FrameParts). f ∷ hs) (calls_cut k (after_picked s) fs left (all.0.1, all.1))
+
+-- ---- frames are full
+
+full_piece : (w : Waiting) → (length (take largest_written w.rest) ≤ largest_written) × (has_more w ≡ true → length (take largest_written w.rest) ≡ largest_written)
+full_piece w = elim (cases_Bool (has_more w)) [
+  | inl more ↦
+      let long = ltb-true largest_written (length w.rest) more in
+      let full = length-take-le largest_written w.rest (omega arith) in
+      (omega arith, λ _. full)
+  | inr last ↦
+      let short = ltb-false largest_written (length w.rest) last in
+      let all = ap length (take_all largest_written w.rest short) in
+      (omega arith, λ more. absurd (both_ways (has_more w) last more))
+]
+
+full_frame : (s : Sending) (f : FrameParts) → picked s ≡ Some f → (length f.payload ≤ largest_written) × (f.more ≡ true → length f.payload ≡ largest_written)
+full_frame s f is = go s.acknowledgements is where
+  by_choice : (o : Found) → option_map (λ found. first_piece found.0) o ≡ Some f → (length f.payload ≤ largest_written) × (f.more ≡ true → length f.payload ≡ largest_written)
+  by_choice None e = absurd cc
+  by_choice (Some (w, others)) e =
+      subst (λ (g : FrameParts). (length g.payload ≤ largest_written) × (g.more ≡ true → length g.payload ≡ largest_written)) (some_same (first_piece w) f e) (full_piece w)
+
+  go : (acks : List Acknowledgement) → picked_of acks s.waiting ≡ Some f → (length f.payload ≤ largest_written) × (f.more ≡ true → length f.payload ≡ largest_written)
+  go (a ∷ acks) e =
+      subst (λ (g : FrameParts). (length g.payload ≤ largest_written) × (g.more ≡ true → length g.payload ≡ largest_written)) (some_same (told_by a) f e) (varint_fits a.bytes, λ more. absurd cc)
+  go [] e = by_choice (chosen s.waiting) e
+
+pub all_full : (s : Sending) (frames : List FrameParts) (left : Sending) → ArePicked s frames left → AreFull frames
+all_full s [] left all = tt
+all_full s (f ∷ frames) left all = let full = full_frame s f all.0 in (full.0, full.1, all_full (after_picked s) frames left all.1)

@@ -1,7 +1,7 @@
 -- How messages are cut into frames.
-use Rattle.std.specs.Prelude.{◌≡◌, ℕ, ◌+◌, zero, suc, Bool, true, not, ◌&&◌, List, [], ◌∷◌, ◌++◌, max, Some, None, ◌==◌, if◌then◌else◌}
+use Rattle.std.specs.Prelude.{◌≡◌, ℕ, ◌+◌, ◌≤◌, zero, suc, Bool, true, not, ◌&&◌, List, [], ◌∷◌, ◌++◌, length, max, Some, None, ◌==◌, if◌then◌else◌}
 use Rattle.std.specs.Option.{option_to_list}
-use Rattle.blip_frame.specs.Frame.{FrameParts, has_checksum}
+use Rattle.blip_frame.specs.Frame.{FrameParts, has_checksum, largest_written}
 use Rattle.blip_frame.specs.declared.frame.Kind.{Kind}
 use Rattle.blip_mux.specs.Joining.{is_request}
 use Rattle.blip_mux.specs.Told.{Acknowledgement}
@@ -50,6 +50,11 @@ AreCut s (deed ∷ deeds) frames =
 abbrev pub frames_after : ℕ → Sending → List FrameParts
 frames_after zero s = []
 frames_after (suc k) s = option_to_list (picked s) ++ frames_after k (after_picked s)
+
+-- no frame is longer than the longest, and one with more to come is as long
+abbrev pub AreFull : List FrameParts → Type 0
+AreFull [] = Unit {0}
+AreFull (f ∷ frames) = (length f.payload ≤ largest_written) × (f.more ≡ true → length f.payload ≡ largest_written) × AreFull frames
 
 -- ---- one message among others
 

@@ -12,7 +12,7 @@ ghost use Rattle.blip_mux.specs.Joining.{Event, came, expected, answer_in, joine
 ghost use Rattle.blip_mux.specs.Order.{messages_in, times_in, times_expected, beginnings, CountsFrom};
 ghost use Rattle.blip_mux.specs.Apart.{HasCome, AreApart};
 ghost use Rattle.blip_mux.specs.Sending.{Waiting, Sending, new_sending, is_reply_to, heard_in, after_picked};
-ghost use Rattle.blip_mux.specs.Cutting.{Deed, with_message, AreCut, ArePicked, AreAllPicked, frames_after, are_acknowledgements, bytes_sent, bytes_left, times_waiting};
+ghost use Rattle.blip_mux.specs.Cutting.{Deed, with_message, AreCut, AreFull, ArePicked, AreAllPicked, frames_after, are_acknowledgements, bytes_sent, bytes_left, times_waiting};
 ghost use Rattle.blip_mux.specs.Between.{Step, AreAllowed, sending_in, events_in, put_in, messages_of};
 
 use blip_frame::laws::{payloads, varints};
@@ -53,11 +53,12 @@ pub fn order()
 {}
 
 /// Whatever is put and acknowledged, messages are cut in one way, and call after call gives the
-/// frames of it.
+/// frames of it: none is longer than 16,384 bytes, and each with more to come is as long.
 pub fn cutting()
     ensures some { (s : Sending) (deeds : List Deed) → (frames : List FrameParts) × AreCut s deeds frames }
     ensures one { (s : Sending) (deeds : List Deed) (frames others : List FrameParts) → AreCut s deeds frames → AreCut s deeds others → frames ≡ others }
     ensures calls { (k : ℕ) (s : Sending) (frames : List FrameParts) (left : Sending) → AreAllPicked s frames left → frames_after k s ≡ take k frames }
+    ensures full { (s : Sending) (frames : List FrameParts) (left : Sending) → ArePicked s frames left → AreFull frames }
 {}
 
 /// Of a request, and of a reply, of which no other of its number waits, the bytes that were picked and
