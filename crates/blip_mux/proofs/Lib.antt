@@ -11,3 +11,4 @@ pub mod Pending
 pub mod Choices
 pub mod Trips
 pub mod Apart
+pub mod AckKinds

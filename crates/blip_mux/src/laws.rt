@@ -2,7 +2,7 @@
 
 ghost use Rattle.std.specs.Prelude.{◌≡◌, ◌≤◌, ◌++◌, ◌∷◌, true, false, [], take, None, List, ℕ, Ok};
 ghost use Rattle.std.specs.List.{list_any};
-ghost use Rattle.blip_frame.specs.Frame.{FrameParts};
+ghost use Rattle.blip_frame.specs.Frame.{FrameParts, has_checksum};
 ghost use Rattle.blip_frame.specs.declared.frame.Kind.{Kind};
 ghost use Rattle.blip_mux.specs.declared.message.Message.{Message};
 ghost use Rattle.blip_mux.specs.declared.inbox.Taken.{Taken};
@@ -42,6 +42,12 @@ pub fn replies()
     ensures put { (s : Standing) (out : Sending) (w : Waiting) → AreApart s out → (is_reply w.kind ≡ true → HasCome s w.number) → AreApart s (with_message out w) }
     ensures heard { (s : Standing) (out : Sending) (kind : Kind) (number bytes : ℕ) → AreApart s out → AreApart s (record out { waiting = heard_in kind number bytes out.waiting }) }
     ensures picked { (s : Standing) (out : Sending) → AreApart s out → AreApart s (after_picked out) }
+{}
+
+/// The kind of an acknowledgement that has come, and of one that is owed, is an acknowledgement's.
+pub fn acknowledgements()
+    ensures heard { (s : Standing) (f : FrameParts) (kind : Kind) (number bytes : ℕ) → answer_at s f ≡ Ok (Taken.Ack kind number bytes) → has_checksum kind ≡ false }
+    ensures owed { (s : Standing) (f : FrameParts) (kind : Kind) (number bytes : ℕ) → answer_at s f ≡ Ok (Taken.Owed kind number bytes) → has_checksum kind ≡ false }
 {}
 
 /// Where no frame is refused, requests begin in the order 1, 2, 3 and so on. A request comes whole at
