@@ -11,18 +11,12 @@ use Rattle.blip_frame.specs.declared.frame.Kind.{Kind}
 use Rattle.blip_frame.specs.declared.frame.Kind.TheVariants as kinds
 use Rattle.blip_mux.specs.Begun.{Begun}
 use Rattle.blip_mux.specs.Remembered.{Standing, Unfinished}
-use Rattle.blip_mux.specs.Standing.{new_standing, expecting, begun_after, so_far_at, answer_at, taken_after, taken_from}
+use Rattle.blip_mux.specs.Standing.{StandsFor, new_standing, expecting, begun_after, so_far_at, answer_at, taken_after, taken_from}
 use Rattle.blip_mux.specs.Joining.{Event, came, expected, is_request, is_reply, begun_or, with_frame, brought_by, answer_to, answer_in, frames_of, requests_in, is_awaited, Joined, followed_by, joined_after, joined}
 
 -- ---- the standing says what the events before it gave
 
-record StandsFor (s : Standing) (before : List Event) : Type 0 where
-  requests : s.requests ≡ requests_in before
-  awaited : (number : ℕ) → set.contains s.expected number ≡ is_awaited before number
-  requests_begun : (number : ℕ) → map.get s.requests_begun number ≡ brought_by (frames_of is_request number before)
-  replies_begun : (number : ℕ) → map.get s.replies_begun number ≡ brought_by (frames_of is_reply number before)
-
-stands_new : StandsFor new_standing []
+pub stands_new : StandsFor new_standing []
 stands_new = record {
   requests = refl;
   awaited = set.contains-empty nat_cmp;
@@ -101,7 +95,7 @@ replies_begun_taken s n r kinds.Err begun replied e q t after before now was = n
 replies_begun_taken s n r kinds.AckMsg begun replied e q t after before now was = was
 replies_begun_taken s n r kinds.AckRpy begun replied e q t after before now was = was
 
-stands_after : (s : Standing) (before : List Event) (f : FrameParts) → StandsFor s before → StandsFor (taken_after s f) (came f ∷ before)
+pub stands_after : (s : Standing) (before : List Event) (f : FrameParts) → StandsFor s before → StandsFor (taken_after s f) (came f ∷ before)
 stands_after s before f stands = record {
   requests = requests_taken s f f.kind (begun_after s.requests_begun f) (begun_after s.replies_begun f) (cond f.more s.expected (set.remove s.expected f.number)) (requests_in before) stands.requests;
   awaited = λ q. awaited_taken s f.number f.more f.kind (begun_after s.requests_begun f) (begun_after s.replies_begun f) q (is_awaited before q) (stands.awaited q);
@@ -111,7 +105,7 @@ stands_after s before f stands = record {
       (cond f.more (f ∷ frames_of is_reply q before) []) (frames_of is_reply q before) (begun_of_class s.replies_begun is_reply before f q stands.replies_begun) (stands.replies_begun q);
 }
 
-stands_expecting : (s : Standing) (before : List Event) (n : ℕ) → StandsFor s before → StandsFor (expecting s n) (expected n ∷ before)
+pub stands_expecting : (s : Standing) (before : List Event) (n : ℕ) → StandsFor s before → StandsFor (expecting s n) (expected n ∷ before)
 stands_expecting s before n stands = record {
   requests = stands.requests;
   awaited = λ q. contains_inserted s.expected n q ∙ ap (λ (b : Bool). eqb q n || b) (stands.awaited q);
@@ -123,7 +117,7 @@ so_far_by : (b : Bool) (m n : Unfinished) (q : ℕ) (xs ys : List FrameParts) �
 so_far_by true m n q xs ys d e = d
 so_far_by false m n q xs ys d e = e
 
-same_answer : (s : Standing) (before : List Event) (f : FrameParts) → StandsFor s before → answer_at s f ≡ answer_in before f
+pub same_answer : (s : Standing) (before : List Event) (f : FrameParts) → StandsFor s before → answer_at s f ≡ answer_in before f
 same_answer s before f stands =
     ap (λ (r : ℕ). answer_to r (set.contains s.expected f.number) (so_far_at s f) f) stands.requests
     ∙ ap (λ (b : Bool). answer_to (requests_in before) b (so_far_at s f) f) (stands.awaited f.number)

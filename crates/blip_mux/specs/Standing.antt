@@ -1,5 +1,5 @@
 -- What an inbox remembers of the frames that came.
-use Rattle.std.specs.Prelude.{ℕ, max, Option, List, ◌∷◌, [], Result, None, if◌then◌else◌}
+use Rattle.std.specs.Prelude.{◌≡◌, ℕ, max, Option, List, ◌∷◌, [], Result, None, if◌then◌else◌}
 use Rattle.std.specs.Ordering.{nat_cmp}
 use Rattle.std.specs.FinSet as set
 use Rattle.std.specs.FinMap as map
@@ -8,7 +8,7 @@ use Rattle.blip_mux.specs.declared.inbox.Taken.{Taken}
 use Rattle.blip_mux.specs.declared.inbox.TakeFault.{TakeFault}
 use Rattle.blip_mux.specs.Begun.{Begun}
 use Rattle.blip_mux.specs.Remembered.{Standing}
-use Rattle.blip_mux.specs.Joining.{Event, came, expected, Joined, answer_to, followed_by, is_request, is_reply, begun_or, with_frame}
+use Rattle.blip_mux.specs.Joining.{Event, came, expected, Joined, answer_to, followed_by, is_request, is_reply, begun_or, with_frame, brought_by, frames_of, requests_in, is_awaited}
 
 -- the standing of an inbox to which nothing has come
 abbrev pub new_standing : Standing
@@ -42,3 +42,10 @@ abbrev pub taken_from : Standing → List Event → Joined
 taken_from s [] = ([], None)
 taken_from s (came f ∷ events) = followed_by (answer_at s f) (taken_from (taken_after s f) events)
 taken_from s (expected number ∷ events) = taken_from (expecting s number) events
+
+-- A standing says what the events before it gave.
+pub record StandsFor (s : Standing) (before : List Event) : Type 0 where
+  pub requests : s.requests ≡ requests_in before
+  pub awaited : (number : ℕ) → set.contains s.expected number ≡ is_awaited before number
+  pub requests_begun : (number : ℕ) → map.get s.requests_begun number ≡ brought_by (frames_of is_request number before)
+  pub replies_begun : (number : ℕ) → map.get s.replies_begun number ≡ brought_by (frames_of is_reply number before)

@@ -1,9 +1,10 @@
 //! Laws of joining and cutting. Each function says one, and does nothing.
 
-ghost use Rattle.std.specs.Prelude.{◌≡◌, ◌≤◌, ◌++◌, true, [], take, None, List, ℕ};
+ghost use Rattle.std.specs.Prelude.{◌≡◌, ◌≤◌, ◌∷◌, ◌++◌, true, [], take, None, List, ℕ};
 ghost use Rattle.blip_frame.specs.Frame.{FrameParts};
-ghost use Rattle.blip_mux.specs.Standing.{new_standing, taken_from};
-ghost use Rattle.blip_mux.specs.Joining.{Event, joined, is_request, is_reply};
+ghost use Rattle.blip_mux.specs.Remembered.{Standing};
+ghost use Rattle.blip_mux.specs.Standing.{StandsFor, new_standing, expecting, answer_at, taken_after, taken_from};
+ghost use Rattle.blip_mux.specs.Joining.{Event, came, expected, answer_in, joined, is_request, is_reply};
 ghost use Rattle.blip_mux.specs.Order.{messages_in, times_in, times_expected, beginnings, CountsFrom};
 ghost use Rattle.blip_mux.specs.Sending.{Sending, new_sending};
 ghost use Rattle.blip_mux.specs.Cutting.{Deed, AreCut, AreFull, ArePicked, AreAllPicked, frames_after, are_acknowledgements, bytes_sent, bytes_left, times_waiting};
@@ -17,6 +18,15 @@ pub fn joining()
     ensures { (events : List Event) → taken_from new_standing events ≡ joined events }
 {}
 
+/// A standing that says what the events before it gave still does once one more has come, and what it
+/// answers to a frame is what joining says of it.
+pub fn standing()
+    ensures new { StandsFor new_standing [] }
+    ensures came { (s : Standing) (before : List Event) (f : FrameParts) → StandsFor s before → StandsFor (taken_after s f) (came f ∷ before) }
+    ensures expected { (s : Standing) (before : List Event) (number : ℕ) → StandsFor s before → StandsFor (expecting s number) (expected number ∷ before) }
+    ensures answer { (s : Standing) (before : List Event) (f : FrameParts) → StandsFor s before → answer_at s f ≡ answer_in before f }
+{}
+
 /// Where no frame is refused, requests begin in the order 1, 2, 3 and so on. A request comes whole at
 /// most once, and has no more replies than times that one was expected.
 pub fn order()
@@ -28,8 +38,8 @@ pub fn order()
 /// Whatever is put and acknowledged, messages are cut in one way, and call after call gives the
 /// frames of it: none is longer than 16,384 bytes, and each with more to come is as long.
 pub fn cutting()
-    ensures some { (s : Sending) (deeds : List Deed) → (frames : List FrameParts) × AreCut s deeds frames }
-    ensures one { (s : Sending) (deeds : List Deed) (frames others : List FrameParts) → AreCut s deeds frames → AreCut s deeds others → frames ≡ others }
+    ensures some { (s : Sending) (turns : List (List Deed)) → (frames : List FrameParts) × AreCut s turns frames }
+    ensures one { (s : Sending) (turns : List (List Deed)) (frames others : List FrameParts) → AreCut s turns frames → AreCut s turns others → frames ≡ others }
     ensures calls { (k : ℕ) (s : Sending) (frames : List FrameParts) (left : Sending) → AreAllPicked s frames left → frames_after k s ≡ take k frames }
     ensures full { (s : Sending) (frames : List FrameParts) (left : Sending) → ArePicked s frames left → AreFull frames }
 {}
