@@ -7,7 +7,7 @@ use Rattle.std.proofs.lemmas.List.{take_all, length-drop, length-take-le}
 use Rattle.blip_frame.specs.Frame.{FrameParts, largest_written}
 use Rattle.blip_mux.specs.Told.{Acknowledgement, told_by}
 use Rattle.blip_mux.specs.Sending.{Waiting, Sending, may_send, has_more, first_piece, without_piece, back, taken_out, chosen, next_piece, after_piece, picked, picked_of, after_picked, picked_from}
-use Rattle.blip_mux.specs.Cutting.{Deed, after_deed, ArePicked, AreAllPicked, AreCut, AreFull, frames_after}
+use Rattle.blip_mux.specs.Cutting.{Deed, after_deeds, ArePicked, AreAllPicked, AreCut, AreFull, frames_after}
 use Rattle.blip_mux.proofs.Payloads.{varint_fits}
 
 abbrev pub Found : Type 0
@@ -106,11 +106,11 @@ picks (suc k) s less = elim (picked_lighter s) [
       record { frames = some.0 ∷ rest.frames; left = rest.left; all = ((some.1, rest.all.0), rest.all.1) }
 ]
 
-pub can_cut : (s : Sending) (deeds : List Deed) → (frames : List FrameParts) × AreCut s deeds frames
+pub can_cut : (s : Sending) (turns : List (List Deed)) → (frames : List FrameParts) × AreCut s turns frames
 can_cut s [] = ([], refl)
-can_cut s (deed ∷ deeds) =
-    let first = picks (suc (total (after_deed s deed))) (after_deed s deed) (omega arith) in
-    let rest = can_cut first.left deeds in
+can_cut s (deeds ∷ turns) =
+    let first = picks (suc (total (after_deeds s deeds))) (after_deeds s deeds) (omega arith) in
+    let rest = can_cut first.left turns in
     (first.frames ++ rest.0, (first.frames, rest.0, first.left, refl, first.all, rest.1))
 
 not_both : (f : FrameParts) (o : Option FrameParts) (P : Type 0) → o ≡ Some f → o ≡ None → P
@@ -125,11 +125,11 @@ picked_once s (f ∷ fs) (g ∷ gs) left also a b =
     let rest = picked_once (after_picked s) fs gs left also (a.0.1, a.1) (b.0.1, b.1) in
     (ap (λ (h : FrameParts). h ∷ fs) same ∙ ap (λ (hs : List FrameParts). g ∷ hs) rest.0, rest.1)
 
-pub cut_once : (s : Sending) (deeds : List Deed) (frames others : List FrameParts) → AreCut s deeds frames → AreCut s deeds others → frames ≡ others
+pub cut_once : (s : Sending) (turns : List (List Deed)) (frames others : List FrameParts) → AreCut s turns frames → AreCut s turns others → frames ≡ others
 cut_once s [] frames others a b = a ∙ sym b
-cut_once s (deed ∷ deeds) frames others a b =
-    let first = picked_once (after_deed s deed) a.0 b.0 a.2 b.2 a.4 b.4 in
-    let rest = cut_once b.2 deeds a.1 b.1 (subst (λ (t : Sending). AreCut t deeds a.1) first.1 a.5) b.5 in
+cut_once s (deeds ∷ turns) frames others a b =
+    let first = picked_once (after_deeds s deeds) a.0 b.0 a.2 b.2 a.4 b.4 in
+    let rest = cut_once b.2 turns a.1 b.1 (subst (λ (t : Sending). AreCut t turns a.1) first.1 a.5) b.5 in
     a.3 ∙ ap (λ (xs : List FrameParts). xs ++ a.1) first.0 ∙ ap (λ (xs : List FrameParts). b.0 ++ xs) rest ∙ sym b.3
 
 -- ---- call after call

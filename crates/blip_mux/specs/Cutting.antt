@@ -31,6 +31,10 @@ after_deed s (puts w) = with_message s w
 after_deed s (owes a) = with_acknowledgement s a
 after_deed s (hears kind number bytes) = record s { waiting = heard_in kind number bytes s.waiting }
 
+abbrev pub after_deeds : Sending → List Deed → Sending
+after_deeds s [] = s
+after_deeds s (deed ∷ deeds) = after_deeds (after_deed s deed) deeds
+
 -- these frames are picked one after another, and this is left
 abbrev pub ArePicked : Sending → List FrameParts → Sending → Type 0
 ArePicked s [] left = left ≡ s
@@ -40,11 +44,11 @@ ArePicked s (f ∷ frames) left = (picked s ≡ Some f) × ArePicked (after_pick
 abbrev pub AreAllPicked : Sending → List FrameParts → Sending → Type 0
 AreAllPicked s frames left = ArePicked s frames left × (picked left ≡ None)
 
--- The frames that are sent, where after each deed frames are picked until there is none.
-abbrev pub AreCut : Sending → List Deed → List FrameParts → Type 0
+-- The frames that are sent, where frames are picked until there is none once all deeds of a turn are done, turn by turn.
+abbrev pub AreCut : Sending → List (List Deed) → List FrameParts → Type 0
 AreCut s [] frames = frames ≡ []
-AreCut s (deed ∷ deeds) frames =
-    (first : List FrameParts) × (rest : List FrameParts) × (left : Sending) × (frames ≡ first ++ rest) × AreAllPicked (after_deed s deed) first left × AreCut left deeds rest
+AreCut s (deeds ∷ turns) frames =
+    (first : List FrameParts) × (rest : List FrameParts) × (left : Sending) × (frames ≡ first ++ rest) × AreAllPicked (after_deeds s deeds) first left × AreCut left turns rest
 
 -- the frames of so many calls for the next frame
 abbrev pub frames_after : ℕ → Sending → List FrameParts

@@ -61,8 +61,8 @@ pub fn order()
 /// Whatever is put and acknowledged, messages are cut in one way, and call after call gives the
 /// frames of it: none is longer than 16,384 bytes, and each with more to come is as long.
 pub fn cutting()
-    ensures some { (s : Sending) (deeds : List Deed) → (frames : List FrameParts) × AreCut s deeds frames }
-    ensures one { (s : Sending) (deeds : List Deed) (frames others : List FrameParts) → AreCut s deeds frames → AreCut s deeds others → frames ≡ others }
+    ensures some { (s : Sending) (turns : List (List Deed)) → (frames : List FrameParts) × AreCut s turns frames }
+    ensures one { (s : Sending) (turns : List (List Deed)) (frames others : List FrameParts) → AreCut s turns frames → AreCut s turns others → frames ≡ others }
     ensures calls { (k : ℕ) (s : Sending) (frames : List FrameParts) (left : Sending) → AreAllPicked s frames left → frames_after k s ≡ take k frames }
     ensures full { (s : Sending) (frames : List FrameParts) (left : Sending) → ArePicked s frames left → AreFull frames }
 {}

@@ -8,7 +8,7 @@ use Rattle.blip_frame.specs.declared.payload.Payload.{Payload}
 use Rattle.blip_mux.specs.declared.message.Message.{Message}
 use Rattle.blip_mux.specs.Apart.{AreApart, HasCome}
 use Rattle.blip_mux.specs.Between.{waiting_of}
-use Rattle.blip_mux.specs.Cutting.{Deed, puts, with_message, ArePicked}
+use Rattle.blip_mux.specs.Cutting.{Deed, puts, with_message, ArePicked, after_deeds}
 use Rattle.blip_mux.specs.Joining.{is_request, is_reply}
 use Rattle.blip_mux.specs.Remembered.{Standing}
 use Rattle.blip_mux.specs.Standing.{expecting}
@@ -24,7 +24,7 @@ use Rattle.session_run.specs.declared.mux.Mux.{Mux}
 use Rattle.session_run.specs.Exchanges.{Answers}
 use Rattle.session_run.specs.Muxed.{MayPut, MayPutAll, put_one, put_all, requests_in}
 use Rattle.session_run.specs.Sent.{expecting_by, expecting_all}
-use Rattle.session_run.specs.Turns.{after_deeds}
+
 
 -- messages that are put
 abbrev pub put_deeds : List Message → List Deed

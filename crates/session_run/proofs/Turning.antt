@@ -12,7 +12,7 @@ use Rattle.blip_mux.specs.declared.message.Message.{Message}
 use Rattle.blip_mux.specs.declared.inbox.Taken.{Taken}
 use Rattle.blip_mux.specs.declared.inbox.Taken.TheVariants as takens
 use Rattle.blip_mux.specs.Apart.{AreApart, HasCome}
-use Rattle.blip_mux.specs.Cutting.{Deed, after_deed, ArePicked}
+use Rattle.blip_mux.specs.Cutting.{Deed, after_deed, ArePicked, after_deeds}
 use Rattle.blip_mux.specs.Joining.{is_request}
 use Rattle.blip_mux.specs.Remembered.{Standing}
 use Rattle.blip_mux.specs.Standing.{answer_at, taken_after}
@@ -30,7 +30,7 @@ use Rattle.session_run.specs.Exchanges.{Makes, Answers}
 use Rattle.session_run.specs.Held.{IsAtRest, IsMade, Turns, Goes, GoesOn, IsEndOf, Takes}
 use Rattle.session_run.specs.Muxed.{Gives, IsPart, HaveGone, put_all, requests_in}
 use Rattle.session_run.specs.Sent.{AreWrittenFrom, Tells, expecting_all}
-use Rattle.session_run.specs.Turns.{message_in, puts_in, puts_of, acknowledged_by, after_deeds}
+use Rattle.session_run.specs.Turns.{message_in, puts_in, puts_of, acknowledged_by}
 use Rattle.session_run.proofs.Putting.{PutsApart, PicksApart, put_as, acts_put, acts_counted, count_puts, answers_apart, picked_apart, picked_requests}
 use Rattle.session_run.proofs.Sending.{none_written, tells_none}
 

@@ -8,7 +8,7 @@ use Rattle.blip_frame.specs.Checksum.{checksum}
 use Rattle.blip_frame.specs.Frame.{FrameParts, frame_at, frames_at, with_front, AreWrittenAfter, all_sent}
 use Rattle.blip_mux.specs.declared.message.Message.{Message}
 use Rattle.blip_mux.specs.Apart.{AreApart}
-use Rattle.blip_mux.specs.Cutting.{ArePicked}
+use Rattle.blip_mux.specs.Cutting.{ArePicked, after_deeds}
 use Rattle.blip_mux.specs.Standing.{answer_at, taken_after, StandsFor}
 use Rattle.blip_mux.specs.Sending.{Sending, picked}
 use Rattle.sg_history.specs.declared.entries.Entry.{Entry}
@@ -27,7 +27,7 @@ use Rattle.session_run.specs.Exchanges.{Makes}
 use Rattle.session_run.specs.Frames.{IsBadFrame}
 use Rattle.session_run.specs.Sent.{AreWrittenFrom, Tells, expecting_all}
 use Rattle.session_run.specs.Served.{are_frames, bytes_of, IsSession}
-use Rattle.session_run.specs.Turns.{Turn, message_in, puts_in, puts_of, exchanges_of, frames_of, events_of, deeds_of, after_deeds, IsHeard, AreJoined, AreSent}
+use Rattle.session_run.specs.Turns.{Turn, message_in, puts_in, puts_of, exchanges_of, frames_of, events_of, deeds_of, IsHeard, AreJoined, AreSent}
 
 -- nothing waits that may be sent, machine and outbox count the same requests, and the replies that wait are to requests that have come
 pub record IsAtRest (s : Session) : Type 0 where

@@ -11,7 +11,7 @@ use Rattle.blip_mux.specs.declared.inbox.Taken.TheVariants as takens
 use Rattle.blip_mux.specs.declared.inbox.TakeFault.{TakeFault}
 use Rattle.blip_mux.specs.declared.inbox.TakeFault.TheVariants as take_faults
 use Rattle.blip_mux.specs.Between.{waiting_of}
-use Rattle.blip_mux.specs.Cutting.{with_message, ArePicked}
+use Rattle.blip_mux.specs.Cutting.{with_message, ArePicked, after_deeds}
 use Rattle.blip_mux.specs.Joining.{is_reply}
 use Rattle.blip_mux.specs.Standing.{expecting, answer_at, taken_after}
 use Rattle.blip_mux.specs.Sending.{Waiting, Sending, is_reply_to, picked, is_bad_ack, sent_of, heard_in}
@@ -25,7 +25,7 @@ use Rattle.session_run.specs.declared.mux.Took.{Took}
 use Rattle.session_run.specs.declared.mux.Took.TheVariants as took
 use Rattle.session_run.specs.Frames.{IsBadFrame, IsFault}
 use Rattle.session_run.specs.Sent.{AreWrittenFrom, Tells}
-use Rattle.session_run.specs.Turns.{acknowledged_by, after_deeds, IsHeard}
+use Rattle.session_run.specs.Turns.{acknowledged_by, IsHeard}
 
 -- the frame gave this, and its acknowledgement did what is due
 pub record Gives (m : Mux) (bytes : List ℕ) (given : Taken) (after : Mux) : Type 0 where

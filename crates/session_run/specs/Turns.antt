@@ -5,7 +5,7 @@ use Rattle.blip_mux.specs.declared.message.Message.{Message}
 use Rattle.blip_mux.specs.declared.inbox.Taken.{Taken}
 use Rattle.blip_mux.specs.declared.inbox.Taken.TheVariants as takens
 use Rattle.blip_mux.specs.Between.{waiting_of}
-use Rattle.blip_mux.specs.Cutting.{Deed, puts, owes, hears, after_deed, ArePicked}
+use Rattle.blip_mux.specs.Cutting.{Deed, puts, owes, hears, after_deeds, ArePicked}
 use Rattle.blip_mux.specs.Joining.{Event, came, expected, is_request, answer_in}
 use Rattle.blip_mux.specs.Sending.{Sending, new_sending, picked, is_bad_ack}
 use Rattle.session_core.specs.Exchange.{Exchange}
@@ -78,10 +78,6 @@ puts_of x = map (λ m. puts (waiting_of m)) (puts_in x)
 -- and what all of a turn does
 abbrev pub deeds_of : Turn → List Deed
 deeds_of t = acknowledged_by t.given ++ puts_of t.exchange
-
-abbrev pub after_deeds : Sending → List Deed → Sending
-after_deeds s [] = s
-after_deeds s (deed ∷ deeds) = after_deeds (after_deed s deed) deeds
 
 -- an acknowledgement that has come can be true of what was sent
 abbrev pub IsHeard : Taken → Sending → Type 0
