@@ -25,7 +25,6 @@ use Rattle.session_run.specs.Exchanges.{Answers}
 use Rattle.session_run.specs.Muxed.{MayPut, MayPutAll, put_one, put_all, requests_in}
 use Rattle.session_run.specs.Sent.{expecting_by, expecting_all}
 
-
 -- messages that are put
 abbrev pub put_deeds : List Message → List Deed
 put_deeds messages = map (λ m. puts (waiting_of m)) messages
