@@ -239,8 +239,9 @@ fn a_feed_without_rows_is_over_at_once(rt: HostRuntime) -> Result<(), Fail> {
             message(alloc, number, Kind::Msg, &ASK, "")?,
         )?;
         let none = Rows::new(alloc);
-        let acts = core.step(
+        let acts = step(
             alloc,
+            &mut core,
             Event::Fed(Fed::Rows {
                 front: 4,
                 rows: none,
