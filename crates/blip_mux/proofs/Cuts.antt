@@ -1,174 +1,184 @@
--- Messages cut into frames, and joined again.
-use Rattle.std.proofs.Common.{◌≡◌, ℕ, zero, suc, ◌+◌, ◌/◌, ◌%◌, ◌^◌, ◌<◌, ◌≤◌, Bool, true, false, cond, ltb, List, [], ◌∷◌, ◌++◌, length, take, drop, Result, Ok, Err, None, refl, sym, ap, subst, ◌∙◌, arith, inl, inr}
-use Rattle.std.specs.Prelude.{map}
-use Rattle.std.specs.List.{flat_map}
-use Rattle.std.proofs.lemmas.Bool.{ltb-true, ltb-false, lt-ltb, le-ltb, cases_Bool}
-use Rattle.std.proofs.lemmas.List.{append-nil, take_at, drop_at, take_all, take-append-drop, length-append, length-drop, length-take-le}
+-- Messages cut into frames.
+use Rattle.std.proofs.Common.{◌≡◌, ℕ, zero, suc, ◌+◌, ◌<◌, ◌≤◌, Bool, true, false, ◌&&◌, cond, List, [], ◌∷◌, ◌++◌, length, take, Some, None, refl, sym, ap, subst, ◌∙◌, arith, ◌⊎◌, inl, inr}
+use Rattle.std.specs.Prelude.{Option, option_map}
+use Rattle.std.specs.Option.{option_or, option_map_or, option_to_list}
+use Rattle.std.proofs.lemmas.Bool.{ltb-true, ltb-false, cases_Bool, both_ways}
+use Rattle.std.proofs.lemmas.List.{take_all, length-drop, length-take-le}
 use Rattle.blip_frame.specs.Frame.{FrameParts, largest_written}
-use Rattle.blip_frame.specs.Props.{Pair}
-use Rattle.blip_frame.specs.Payload.{AreProps, block_of, payload_at, payload_text}
-use Rattle.blip_frame.specs.Varint.{varint, varint_within}
-use Rattle.blip_mux.specs.declared.message.Message.{Message}
-use Rattle.blip_frame.specs.declared.payload.PayloadFault.{PayloadFault}
-use Rattle.blip_mux.specs.declared.inbox.TakeFault.{TakeFault}
-use Rattle.blip_mux.specs.declared.inbox.TakeFault.TheVariants as faults
-use Rattle.blip_mux.specs.Joining.{Event, came, requests_in, is_awaited, message_of, followed_by, joined_after, may_come, with_fault, read_as}
-use Rattle.blip_mux.specs.Sending.{Waiting, piece, has_more, first_piece, without_piece, after_piece}
-use Rattle.blip_mux.specs.Cutting.{AreFull, AreOf, IsCut, AreCut, HaveBytes, frames_of}
-use Rattle.blip_mux.specs.Between.{waiting_of, IsOneFrame, AreOneFrame, AreInOrder}
+use Rattle.blip_mux.specs.Told.{Acknowledgement, told_by}
+use Rattle.blip_mux.specs.Sending.{Waiting, Sending, may_send, has_more, first_piece, without_piece, back, taken_out, chosen, next_piece, after_piece, picked, picked_of, after_picked, picked_from}
+use Rattle.blip_mux.specs.Cutting.{Deed, after_deeds, ArePicked, AreAllPicked, AreCut, AreFull, frames_after}
+use Rattle.blip_mux.proofs.Payloads.{varint_fits}
 
--- ---- a payload has bytes
+abbrev pub Found : Type 0
+Found = Option (Waiting × List Waiting)
 
-cond_some : (b : Bool) (x y : List ℕ) → 0 < length x → 0 < length y → 0 < length (cond b x y)
-cond_some true x y p q = p
-cond_some false x y p q = q
+pub some_same : {X : Type 0} (x y : X) → Some x ≡ Some y → x ≡ y
+some_same x y e = ap (λ o. option_map_or (λ z. z) o x) e
 
-varint-some : (n : ℕ) → 0 < length (varint n)
-unfolding varint varint_within
-varint-some n = cond_some (ltb n 128) (n ∷ []) ((n % 128 + 128) ∷ varint_within 8 (n / 128)) (omega arith) (omega arith)
+-- ---- the message that is chosen
 
--- a payload has at least the first byte of its length
-pub payload_some : (props : List Pair) (body : List ℕ) → 0 < length (payload_text props body)
-payload_some props body =
-    omega (arith, length-append (varint (length (block_of props))) (block_of props ++ body), varint-some (length (block_of props)))
+-- a message, those before it and those after it
+pub record Split (ws : List Waiting) (w : Waiting) (others : List Waiting) : Type 0 where
+  pub front : List Waiting
+  pub rear : List Waiting
+  pub whole : ws ≡ front ++ w ∷ rear
+  pub left : others ≡ front ++ rear
 
--- ---- the first frame
+split_next : (x : Waiting) (xs : List Waiting) (w : Waiting) (others : List Waiting) → Split xs w others → Split (x ∷ xs) w (x ∷ others)
+split_next x xs w others s = record {
+  front = x ∷ s.front;
+  rear = s.rear;
+  whole = ap (λ (ys : List Waiting). x ∷ ys) s.whole;
+  left = ap (λ (ys : List Waiting). x ∷ ys) s.left;
+}
 
-abbrev bytes_in : List FrameParts → List ℕ
-bytes_in frames = flat_map (λ (f : FrameParts). f.payload) frames
+split_out : (p : Waiting → Bool) (ws : List Waiting) (w : Waiting) (others : List Waiting) → taken_out p ws ≡ Some (w, others) → Split ws w others
+split_out p [] w others e = absurd cc
+split_out p (x ∷ xs) w others e = go (p x) (taken_out p xs) e (λ v rest is. split_out p xs v rest is) where
+  go : (b : Bool) (o : Found) → cond {A = Found} b (Some (x, xs)) (option_map (λ found. (found.0, x ∷ found.1)) o) ≡ Some (w, others)
+      → ((v : Waiting) (rest : List Waiting) → o ≡ Some (v, rest) → Split xs v rest) → Split (x ∷ xs) w others
+  go true o e rest =
+      let same : ◌≡◌ {A = Waiting × List Waiting} (x, xs) (w, others) = some_same (x, xs) (w, others) e in
+      record { front = []; rear = xs; whole = ap (λ (v : Waiting). v ∷ xs) (ap (λ (q : Waiting × List Waiting). q.0) same); left = sym (ap (λ (q : Waiting × List Waiting). q.1) same) }
+  go false None e rest = absurd cc
+  go false (Some (v, vs)) e rest =
+      let same : ◌≡◌ {A = Waiting × List Waiting} (v, x ∷ vs) (w, others) = some_same (v, x ∷ vs) (w, others) e in
+      subst (λ (q : Waiting × List Waiting). Split (x ∷ xs) q.0 q.1) same (split_next x xs v vs (rest v vs refl))
 
-full_some : (frames : List FrameParts) → AreFull frames → 0 < length (bytes_in frames)
-full_some [] full = absurd full
-full_some (f ∷ []) full = omega (arith, length-append f.payload [], full.1)
-full_some (f ∷ g ∷ frames) full = omega (arith, length-append f.payload (bytes_in (g ∷ frames)), full_some (g ∷ frames) full.2)
+pub split_chosen : (ws : List Waiting) (w : Waiting) (others : List Waiting) → chosen ws ≡ Some (w, others) → Split ws w others
+split_chosen ws w others e = go (taken_out (λ v. v.urgent && may_send v) ws) refl e where
+  go : (o : Found) → taken_out (λ v. v.urgent && may_send v) ws ≡ o → option_or o (taken_out may_send ws) ≡ Some (w, others) → Split ws w others
+  go (Some found) is e = split_out (λ v. v.urgent && may_send v) ws w others (is ∙ e)
+  go None is e = split_out may_send ws w others e
 
-of_rest : (w : Waiting) (rest : List ℕ) (frames : List FrameParts) → AreOf w frames → AreOf (record w { rest = rest }) frames
-of_rest w rest [] of = tt
-of_rest w rest (f ∷ frames) of = (of.0, of_rest w rest frames of.1)
+-- ---- there always are frames, and they are the only ones
 
--- the one frame of a message that fits it
-last_piece : (w : Waiting) (f : FrameParts) → f ≡ piece w f.more f.payload → f.more ≡ false → f.payload ++ [] ≡ w.rest → length f.payload ≤ largest_written
-    → (has_more w ≡ false) × (f ≡ first_piece w)
-last_piece w f marks last whole small =
-    let bytes : f.payload ≡ w.rest = sym (append-nil f.payload) ∙ whole in
-    let fits : length w.rest ≤ largest_written = subst (λ (xs : List ℕ). length xs ≤ largest_written) bytes small in
-    let no : has_more w ≡ false = le-ltb largest_written (length w.rest) fits in
-    let taken : f.payload ≡ take largest_written w.rest = bytes ∙ sym (take_all largest_written w.rest fits) in
-    (no, marks ∙ ap (λ (b : Bool). piece w b f.payload) (last ∙ sym no) ∙ ap (λ (xs : List ℕ). piece w (has_more w) xs) taken)
+-- how many bytes and messages wait at most
+abbrev weight : List Waiting → ℕ
+weight [] = 0
+weight (w ∷ ws) = suc (length w.rest) + weight ws
 
--- a full frame, before the frames of what is left
-full_piece : (w : Waiting) (f : FrameParts) (later : List ℕ) → f ≡ piece w f.more f.payload → f.more ≡ true → length f.payload ≡ largest_written → f.payload ++ later ≡ w.rest → 0 < length later
-    → (has_more w ≡ true) × (f ≡ first_piece w) × (later ≡ drop largest_written w.rest)
-full_piece w f later marks more size whole some =
-    let yes : has_more w ≡ true = lt-ltb largest_written (length w.rest) (omega (arith, length-append f.payload later, ap length whole)) in
-    let taken : f.payload ≡ take largest_written w.rest = sym (take_at f.payload later largest_written size) ∙ ap (take largest_written) whole in
-    (yes, marks ∙ ap (λ (b : Bool). piece w b f.payload) (more ∙ sym yes) ∙ ap (λ (xs : List ℕ). piece w (has_more w) xs) taken, sym (drop_at f.payload later largest_written size) ∙ ap (drop largest_written) whole)
+weight-append : (xs ys : List Waiting) → weight (xs ++ ys) ≡ weight xs + weight ys
+weight-append [] ys = omega arith
+weight-append (x ∷ xs) ys = omega (arith, weight-append xs ys)
 
--- the first frame is the next piece, and the others are cut from what it leaves
-record Step (w : Waiting) (ws : List Waiting) (frames : List FrameParts) : Type 0 where
-  rest : List FrameParts
-  begins : frames ≡ first_piece w ∷ rest
-  others : AreCut (after_piece (w ∷ ws)) rest
+back_lighter : (w : Waiting) → weight (back w) < suc (length w.rest)
+back_lighter w = go (has_more w) (λ m. ltb-true largest_written (length w.rest) m) where
+  go : (b : Bool) → (b ≡ true → largest_written < length w.rest) → weight (cond b (without_piece w ∷ []) []) < suc (length w.rest)
+  go true long = omega (arith, long refl, length-drop largest_written w.rest)
+  go false long = omega arith
 
-step_of : (w : Waiting) (ws : List Waiting) (frames first rest : List FrameParts) → frames ≡ first ++ rest → IsCut w first → AreCut ws rest → Step w ws frames
-step_of w ws frames [] rest e is others = absurd is.full
-step_of w ws frames (f ∷ []) rest e is others =
-    let last = last_piece w f is.marks.0 is.full.0 is.whole is.full.2 in
-    record {
-      rest = rest;
-      begins = e ∙ ap (λ (g : FrameParts). g ∷ rest) last.1;
-      others = subst (λ (b : Bool). AreCut (cond b (without_piece w ∷ ws) ws) rest) (sym last.0) others;
-    }
-step_of w ws frames (f ∷ g ∷ more) rest e is others =
-    let full = full_piece w f (bytes_in (g ∷ more)) is.marks.0 is.full.0 is.full.1 is.whole (full_some (g ∷ more) is.full.2) in
-    record {
-      rest = (g ∷ more) ++ rest;
-      begins = e ∙ ap (λ (h : FrameParts). h ∷ ((g ∷ more) ++ rest)) full.1;
-      others = subst (λ (b : Bool). AreCut (cond b (without_piece w ∷ ws) ws) ((g ∷ more) ++ rest)) (sym full.0)
-          (g ∷ more, rest, refl, record { marks = of_rest w (drop largest_written w.rest) (g ∷ more) is.marks.1; whole = full.2; full = is.full.2 }, others);
-    }
+lighter : (ws : List Waiting) (w : Waiting) (others : List Waiting) → Split ws w others → weight (others ++ back w) < weight ws
+lighter ws w others s =
+    omega (arith, ap weight s.whole, ap weight s.left, weight-append s.front (w ∷ s.rear), weight-append s.front s.rear, weight-append others (back w), back_lighter w)
 
-step : (w : Waiting) (ws : List Waiting) (frames : List FrameParts) → AreCut (w ∷ ws) frames → Step w ws frames
-step w ws frames cut = step_of w ws frames cut.0 cut.1 cut.2 cut.3 cut.4
+abbrev total : Sending → ℕ
+total s = length s.acknowledgements + weight s.waiting
+
+-- either none is picked, or less is left
+picked_lighter : (s : Sending) → (picked s ≡ None) ⊎ ((f : FrameParts) × (picked s ≡ Some f) × (total (after_picked s) < total s))
+picked_lighter s = go s.acknowledgements refl where
+  by_choice : (o : Found) → chosen s.waiting ≡ o → (next_piece s.waiting ≡ None) ⊎ ((f : FrameParts) × (next_piece s.waiting ≡ Some f) × (weight (after_piece s.waiting) < weight s.waiting))
+  by_choice None e = inl (ap (option_map (λ found. first_piece found.0)) e)
+  by_choice (Some (w, others)) e =
+      inr (first_piece w, ap (option_map (λ found. first_piece found.0)) e, subst (λ (o : Found). weight (option_map_or (λ found. found.1 ++ back found.0) o s.waiting) < weight s.waiting) (sym e) (lighter s.waiting w others (split_chosen s.waiting w others e)))
+
+  go : (acks : List Acknowledgement) → s.acknowledgements ≡ acks → (picked_of acks s.waiting ≡ None) ⊎ ((f : FrameParts) × (picked_of acks s.waiting ≡ Some f) × (total (picked_from acks s) < length acks + weight s.waiting))
+  go (a ∷ acks) e = inr (told_by a, refl, omega arith)
+  go [] e = elim (by_choice (chosen s.waiting) refl) [
+    | inl none ↦ inl none
+    | inr some ↦ inr (some.0, some.1, omega (arith, some.2, ap length e))
+  ]
+
+-- frames can be picked until there is none
+record Picks (s : Sending) : Type 0 where
+  frames : List FrameParts
+  left : Sending
+  all : AreAllPicked s frames left
+
+picks : (k : ℕ) (s : Sending) → total s < k → Picks s
+picks zero s less = absurd (omega arith)
+picks (suc k) s less = elim (picked_lighter s) [
+  | inl none ↦ record { frames = []; left = s; all = (refl, none) }
+  | inr some ↦
+      let rest = picks k (after_picked s) (omega (arith, some.2)) in
+      record { frames = some.0 ∷ rest.frames; left = rest.left; all = ((some.1, rest.all.0), rest.all.1) }
+]
+
+pub can_cut : (s : Sending) (turns : List (List Deed)) → (frames : List FrameParts) × AreCut s turns frames
+can_cut s [] = ([], refl)
+can_cut s (deeds ∷ turns) =
+    let first = picks (suc (total (after_deeds s deeds))) (after_deeds s deeds) (omega arith) in
+    let rest = can_cut first.left turns in
+    (first.frames ++ rest.0, (first.frames, rest.0, first.left, refl, first.all, rest.1))
+
+not_both : (f : FrameParts) (o : Option FrameParts) (P : Type 0) → o ≡ Some f → o ≡ None → P
+not_both f o P some none = absurd (let h = sym some ∙ none in cc)
+
+picked_once : (s : Sending) (frames others : List FrameParts) (left also : Sending) → AreAllPicked s frames left → AreAllPicked s others also → (frames ≡ others) × (left ≡ also)
+picked_once s [] [] left also a b = (refl, a.0 ∙ sym b.0)
+picked_once s [] (g ∷ gs) left also a b = not_both g (picked s) _ b.0.0 (ap picked (sym a.0) ∙ a.1)
+picked_once s (f ∷ fs) [] left also a b = not_both f (picked s) _ a.0.0 (ap picked (sym b.0) ∙ b.1)
+picked_once s (f ∷ fs) (g ∷ gs) left also a b =
+    let same : f ≡ g = some_same f g (sym a.0.0 ∙ b.0.0) in
+    let rest = picked_once (after_picked s) fs gs left also (a.0.1, a.1) (b.0.1, b.1) in
+    (ap (λ (h : FrameParts). h ∷ fs) same ∙ ap (λ (hs : List FrameParts). g ∷ hs) rest.0, rest.1)
+
+pub cut_once : (s : Sending) (turns : List (List Deed)) (frames others : List FrameParts) → AreCut s turns frames → AreCut s turns others → frames ≡ others
+cut_once s [] frames others a b = a ∙ sym b
+cut_once s (deeds ∷ turns) frames others a b =
+    let first = picked_once (after_deeds s deeds) a.0 b.0 a.2 b.2 a.4 b.4 in
+    let rest = cut_once b.2 turns a.1 b.1 (subst (λ (t : Sending). AreCut t turns a.1) first.1 a.5) b.5 in
+    a.3 ∙ ap (λ (xs : List FrameParts). xs ++ a.1) first.0 ∙ ap (λ (xs : List FrameParts). b.0 ++ xs) rest ∙ sym b.3
 
 -- ---- call after call
 
-frames_none : (k : ℕ) → frames_of k [] ≡ []
-frames_none zero = refl
-frames_none (suc k) = frames_none k
+none_after : (k : ℕ) (s : Sending) → picked s ≡ None → frames_after k s ≡ []
+none_after zero s none = refl
+none_after (suc k) s none = ap (λ (o : Option FrameParts). option_to_list o ++ frames_after k (after_picked s)) none ∙ none_after k (after_picked s) (stays s.acknowledgements refl) where
+  by_choice : (o : Found) → chosen s.waiting ≡ o → option_map (λ found. first_piece found.0) o ≡ None → after_piece s.waiting ≡ s.waiting
+  by_choice None e h = ap (λ (o : Found). option_map_or (λ found. found.1 ++ back found.0) o s.waiting) e
+  by_choice (Some x) e h = absurd cc
 
-pub calls_cut : (k : ℕ) (waiting : List Waiting) (frames : List FrameParts) → AreCut waiting frames → frames_of k waiting ≡ take k frames
-calls_cut zero waiting frames cut = refl
-calls_cut (suc k) [] frames cut = frames_none k ∙ sym (ap (take (suc k)) cut)
-calls_cut (suc k) (w ∷ ws) frames cut =
-    let s = step w ws frames cut in
-    ap (λ (fs : List FrameParts). first_piece w ∷ fs) (calls_cut k (after_piece (w ∷ ws)) s.rest s.others) ∙ sym (ap (take (suc k)) s.begins)
+  stays : (acks : List Acknowledgement) → s.acknowledgements ≡ acks → picked (picked_from acks s) ≡ None
+  stays (a ∷ acks) e = absurd (let h = sym (ap (λ (xs : List Acknowledgement). picked_of xs s.waiting) e) ∙ none in cc)
+  stays [] e =
+      let next : next_piece s.waiting ≡ None = ap (λ (xs : List Acknowledgement). picked_of xs s.waiting) (sym e) ∙ none in
+      ap (λ (xs : List Acknowledgement). picked_of xs (after_piece s.waiting)) e ∙ ap next_piece (by_choice (chosen s.waiting) refl next) ∙ next
 
--- ---- each message can be cut
+pub calls_cut : (k : ℕ) (s : Sending) (frames : List FrameParts) (left : Sending) → AreAllPicked s frames left → frames_after k s ≡ take k frames
+calls_cut zero s frames left all = refl
+calls_cut (suc k) s [] left all = none_after (suc k) s (ap picked (sym all.0) ∙ all.1)
+calls_cut (suc k) s (f ∷ fs) left all =
+    ap (λ (o : Option FrameParts). option_to_list o ++ frames_after k (after_picked s)) all.0.0 ∙ ap (λ (hs : List FrameParts). f ∷ hs) (calls_cut k (after_picked s) fs left (all.0.1, all.1))
 
-put_first : (w : Waiting) (frames : List FrameParts) → has_more w ≡ true → IsCut (without_piece w) frames → IsCut w (first_piece w ∷ frames)
-put_first w [] more is = absurd is.full
-put_first w (g ∷ frames) more is = record {
-  marks = (refl, of_rest (without_piece w) w.rest (g ∷ frames) is.marks);
-  whole = ap (λ (xs : List ℕ). take largest_written w.rest ++ xs) is.whole ∙ take-append-drop largest_written w.rest;
-  full = (more, length-take-le largest_written w.rest (omega (arith, ltb-true largest_written (length w.rest) more)), is.full);
-}
+-- ---- frames are full
 
-put_last : (w : Waiting) → 0 < length w.rest → has_more w ≡ false → IsCut w (first_piece w ∷ [])
-put_last w some last =
-    let fits : length w.rest ≤ largest_written = ltb-false largest_written (length w.rest) last in
-    let all : take largest_written w.rest ≡ w.rest = take_all largest_written w.rest fits in
-    record {
-      marks = (refl, tt);
-      whole = append-nil (take largest_written w.rest) ∙ all;
-      full = (last, subst (λ (xs : List ℕ). 0 < length xs) (sym all) some, subst (λ (xs : List ℕ). length xs ≤ largest_written) (sym all) fits);
-    }
+full_piece : (w : Waiting) → (length (take largest_written w.rest) ≤ largest_written) × (has_more w ≡ true → length (take largest_written w.rest) ≡ largest_written)
+full_piece w = elim (cases_Bool (has_more w)) [
+  | inl more ↦
+      let long = ltb-true largest_written (length w.rest) more in
+      let full = length-take-le largest_written w.rest (omega arith) in
+      (omega arith, λ _. full)
+  | inr last ↦
+      let short = ltb-false largest_written (length w.rest) last in
+      let all = ap length (take_all largest_written w.rest short) in
+      (omega arith, λ more. absurd (both_ways (has_more w) last more))
+]
 
-cut_message : (k : ℕ) (w : Waiting) → 0 < length w.rest → length w.rest ≤ k → (frames : List FrameParts) × IsCut w frames
-cut_message zero w some small = absurd (omega arith)
-cut_message (suc k) w some small =
-    elim (cases_Bool (has_more w)) as (λ _. (frames : List FrameParts) × IsCut w frames) [
-      | inl more ↦
-          let long : largest_written < length w.rest = ltb-true largest_written (length w.rest) more in
-          let left = length-drop largest_written w.rest in
-          let rest = cut_message k (without_piece w) (omega (arith, left)) (omega (arith, left)) in
-          (first_piece w ∷ rest.0, put_first w rest.0 more rest.1)
-      | inr last ↦ (first_piece w ∷ [], put_last w some last)
-    ]
+full_frame : (s : Sending) (f : FrameParts) → picked s ≡ Some f → (length f.payload ≤ largest_written) × (f.more ≡ true → length f.payload ≡ largest_written)
+full_frame s f is = go s.acknowledgements is where
+  by_choice : (o : Found) → option_map (λ found. first_piece found.0) o ≡ Some f → (length f.payload ≤ largest_written) × (f.more ≡ true → length f.payload ≡ largest_written)
+  by_choice None e = absurd cc
+  by_choice (Some (w, others)) e =
+      subst (λ (g : FrameParts). (length g.payload ≤ largest_written) × (g.more ≡ true → length g.payload ≡ largest_written)) (some_same (first_piece w) f e) (full_piece w)
 
-pub can_cut : (waiting : List Waiting) → HaveBytes waiting → (frames : List FrameParts) × AreCut waiting frames
-can_cut [] some = ([], refl)
-can_cut (w ∷ ws) some =
-    let first = cut_message (length w.rest) w some.0 (omega arith) in
-    let rest = can_cut ws some.1 in
-    (first.0 ++ rest.0, (first.0, rest.0, refl, first.1, rest.1))
+  go : (acks : List Acknowledgement) → picked_of acks s.waiting ≡ Some f → (length f.payload ≤ largest_written) × (f.more ≡ true → length f.payload ≡ largest_written)
+  go (a ∷ acks) e =
+      subst (λ (g : FrameParts). (length g.payload ≤ largest_written) × (g.more ≡ true → length g.payload ≡ largest_written)) (some_same (told_by a) f e) (varint_fits a.bytes, λ more. absurd cc)
+  go [] e = by_choice (chosen s.waiting) e
 
--- ---- messages of one frame are joined again
-
--- the law of payloads
-abbrev pub ReadsAgain : Type 0
-ReadsAgain = (props : List Pair) (body : List ℕ) → length (block_of props) < 2 ^ 64 → AreProps props → payload_at (payload_text props body) ≡ Ok (props, body)
-
-below_of : (a b c : List ℕ) → length (a ++ (b ++ c)) ≤ largest_written → length b < 2 ^ 64
-below_of a b c h = omega (arith, length-append a (b ++ c), length-append b c)
-
-taken_whole : ReadsAgain → (r : ℕ) (a : Bool) (m : Message) → IsOneFrame m → may_come r a (first_piece (waiting_of m)) ≡ true → message_of r a (first_piece (waiting_of m)) ≡ Ok m
-taken_whole again r a m fits may =
-    let text = payload_text m.payload.props m.payload.body in
-    let below : length (block_of m.payload.props) < 2 ^ 64 = below_of (varint (length (block_of m.payload.props))) (block_of m.payload.props) m.payload.body fits.1 in
-    ap (λ (b : Bool). cond b (read_as (first_piece (waiting_of m)) (with_fault (payload_at (take largest_written text)))) (Err (faults.OutOfOrder m.number))) may
-    ∙ ap (λ (xs : List ℕ). read_as (first_piece (waiting_of m)) (with_fault (payload_at xs))) (take_all largest_written text fits.1)
-    ∙ ap (λ (x : Result (List Pair × List ℕ) PayloadFault). read_as (first_piece (waiting_of m)) (with_fault x)) (again m.payload.props m.payload.body below fits.0)
-
-pub joined_again : ReadsAgain → (before : List Event) (messages : List Message) (frames : List FrameParts) → AreOneFrame messages → AreInOrder before messages
-    → AreCut (map waiting_of messages) frames → joined_after before (map came frames) ≡ (messages, None)
-joined_again again before [] frames fits order cut = ap (λ (fs : List FrameParts). joined_after before (map came fs)) cut
-joined_again again before (m ∷ messages) frames fits order cut =
-    let w = waiting_of m in
-    let s = step w (map waiting_of messages) frames cut in
-    let no : has_more w ≡ false = le-ltb largest_written (length w.rest) fits.0.1 in
-    let others : AreCut (map waiting_of messages) s.rest =
-    subst (λ (b : Bool). AreCut (cond b (without_piece w ∷ map waiting_of messages) (map waiting_of messages)) s.rest) no s.others in
-    ap (λ (fs : List FrameParts). joined_after before (map came fs)) s.begins
-    ∙ ap (λ (r : Result Message TakeFault). followed_by r (joined_after (came (first_piece w) ∷ before) (map came s.rest))) (taken_whole again (requests_in before) (is_awaited before m.number) m fits.0 order.0)
-    ∙ ap (followed_by (Ok m)) (joined_again again (came (first_piece w) ∷ before) messages s.rest fits.1 order.1 others)
+pub all_full : (s : Sending) (frames : List FrameParts) (left : Sending) → ArePicked s frames left → AreFull frames
+all_full s [] left all = tt
+all_full s (f ∷ frames) left all = let full = full_frame s f all.0 in (full.0, full.1, all_full (after_picked s) frames left all.1)

@@ -1,24 +1,28 @@
 -- Standings and what came before them.
-use Rattle.std.proofs.Common.{◌≡◌, ℕ, ◌+◌, ◌≤◌, Bool, true, false, ◌&&◌, ◌||◌, cond, eqb, List, [], ◌∷◌, Result, Ok, Err, refl, sym, ap, ◌∙◌, arith}
-use Rattle.std.specs.Prelude.{not}
+use Rattle.std.proofs.Common.{◌≡◌, ℕ, Bool, true, false, ◌&&◌, ◌||◌, cond, eqb, List, [], ◌∷◌, Some, None, refl, sym, ap, ◌∙◌}
+use Rattle.std.specs.Prelude.{not, max, Option}
 use Rattle.std.specs.Ordering.{nat_cmp}
 use Rattle.std.specs.Cmp.{nat_cmp_total, unsigned_tied}
 use Rattle.std.specs.FinSet as set
+use Rattle.std.specs.FinMap as map
 use Rattle.std.proofs.lemmas.Bool.{eqb-true}
 use Rattle.blip_frame.specs.Frame.{FrameParts}
-use Rattle.blip_frame.specs.Payload.{payload_at}
-use Rattle.blip_frame.specs.Props.{Pair}
 use Rattle.blip_frame.specs.declared.frame.Kind.{Kind}
 use Rattle.blip_frame.specs.declared.frame.Kind.TheVariants as kinds
-use Rattle.blip_frame.specs.declared.payload.PayloadFault.{PayloadFault}
-use Rattle.blip_mux.specs.declared.inbox.TakeFault.{TakeFault}
-use Rattle.blip_mux.specs.declared.inbox.TakeFault.TheVariants as faults
-use Rattle.blip_mux.specs.Standing.{Standing, new_standing, expecting}
-use Rattle.blip_mux.specs.Joining.{Event, came, expected, is_request, is_reply, may_come, with_fault, read_as, message_of, message_at, joined_as, requests_in, is_awaited, Joined, followed_by, joined_after, joined, taken_after, taken_from, StandsFor}
-use Rattle.blip_mux.specs.Order.{request_numbers, CountsFrom, replies_to, times_expected}
+use Rattle.blip_mux.specs.Begun.{Begun}
+use Rattle.blip_mux.specs.Remembered.{Standing, Unfinished}
+use Rattle.blip_mux.specs.Standing.{new_standing, expecting, begun_after, so_far_at, answer_at, taken_after, taken_from, StandsFor}
+use Rattle.blip_mux.specs.Joining.{Event, came, expected, is_request, is_reply, begun_or, with_frame, brought_by, answer_to, answer_in, frames_of, requests_in, is_awaited, Joined, followed_by, joined_after, joined}
+
+-- ---- the standing says what the events before it gave
 
 pub stands_new : StandsFor new_standing []
-stands_new = record { requests = refl; awaited = set.contains-empty nat_cmp }
+stands_new = record {
+  requests = refl;
+  awaited = set.contains-empty nat_cmp;
+  requests_begun = λ q. map.get-empty nat_cmp q;
+  replies_begun = λ q. map.get-empty nat_cmp q;
+}
 
 contains_removed : (e : set.FinSet nat_cmp) (k q : ℕ) → set.contains (set.remove e k) q ≡ (not (eqb q k) && set.contains e q)
 contains_removed e k q = set.contains-remove nat_cmp_total e k q ∙ ap (λ (b : Bool). not b && set.contains e q) (unsigned_tied q k)
@@ -26,121 +30,106 @@ contains_removed e k q = set.contains-remove nat_cmp_total e k q ∙ ap (λ (b :
 contains_inserted : (e : set.FinSet nat_cmp) (k q : ℕ) → set.contains (set.insert e k) q ≡ (eqb q k || set.contains e q)
 contains_inserted e k q = set.contains-insert nat_cmp_total e k q ∙ ap (λ (b : Bool). b || set.contains e q) (unsigned_tied q k)
 
-requests_after : (s : Standing) (k : Kind) (n r : ℕ) → s.requests ≡ r → (taken_after s k n).requests ≡ cond (is_request k) (r + 1) r
-requests_after s kinds.Msg n r e = ap (λ (m : ℕ). m + 1) e
-requests_after s kinds.Rpy n r e = e
-requests_after s kinds.Err n r e = e
-requests_after s kinds.AckMsg n r e = e
-requests_after s kinds.AckRpy n r e = e
+get_inserted : (m : Unfinished) (k q : ℕ) (b : Begun) → map.get (map.insert m k b) q ≡ cond (eqb q k) (Some b) (map.get m q)
+get_inserted m k q b = map.get-insert nat_cmp_total m k b q ∙ ap (λ (t : Bool). cond t (Some b) (map.get m q)) (unsigned_tied q k)
 
-awaited_after : (s : Standing) (k : Kind) (n q : ℕ) (a : Bool) → set.contains s.expected q ≡ a → set.contains (taken_after s k n).expected q ≡ (not (is_reply k && eqb q n) && a)
-awaited_after s kinds.Msg n q a e = e
-awaited_after s kinds.Rpy n q a e = contains_removed s.expected n q ∙ ap (λ (b : Bool). not (eqb q n) && b) e
-awaited_after s kinds.Err n q a e = contains_removed s.expected n q ∙ ap (λ (b : Bool). not (eqb q n) && b) e
-awaited_after s kinds.AckMsg n q a e = e
-awaited_after s kinds.AckRpy n q a e = e
+get_removed : (m : Unfinished) (k q : ℕ) → map.get (map.remove m k) q ≡ cond (eqb q k) None (map.get m q)
+get_removed m k q = map.get-remove nat_cmp_total m k q ∙ ap (λ (t : Bool). cond t None (map.get m q)) (unsigned_tied q k)
 
-pub stands_after : (s : Standing) (before : List Event) (f : FrameParts) → StandsFor s before → StandsFor (taken_after s f.kind f.number) (came f ∷ before)
+-- a frame more of the message, or the last one
+by_last : (more t : Bool) (b : Begun) (o : Option Begun) (f : FrameParts) (fs : List FrameParts) → o ≡ brought_by fs → (t ≡ true → Some b ≡ brought_by (f ∷ fs))
+    → cond more (cond t (Some b) o) (cond t None o) ≡ brought_by (cond t (cond more (f ∷ fs) []) fs)
+by_last true true b o f fs e grown = grown refl
+by_last true false b o f fs e grown = e
+by_last false true b o f fs e grown = refl
+by_last false false b o f fs e grown = e
+
+pub got : (more : Bool) (m : Unfinished) (k q : ℕ) (b : Begun)
+    → map.get (cond more (map.insert m k b) (map.remove m k)) q ≡ cond more (cond (eqb q k) (Some b) (map.get m q)) (cond (eqb q k) None (map.get m q))
+got true m k q b = get_inserted m k q b
+got false m k q b = get_removed m k q
+
+begun_of_class : (m : Unfinished) (class : Kind → Bool) (before : List Event) (f : FrameParts) (q : ℕ)
+    → ((number : ℕ) → map.get m number ≡ brought_by (frames_of class number before))
+    → map.get (begun_after m f) q ≡ brought_by (cond (eqb q f.number) (cond f.more (f ∷ frames_of class q before) []) (frames_of class q before))
+begun_of_class m class before f q each =
+    got f.more m f.number q (with_frame (begun_or (map.get m f.number) f) f)
+    ∙ by_last f.more (eqb q f.number) (with_frame (begun_or (map.get m f.number) f) f) (map.get m q) f (frames_of class q before) (each q)
+    (λ t. ap (λ (n : ℕ). Some (with_frame (begun_or (map.get m n) f) f)) (sym (eqb-true q f.number t)) ∙ ap (λ (o : Option Begun). Some (with_frame (begun_or o f) f)) (each q))
+
+-- ---- frame by frame
+
+requests_taken : (s : Standing) (f : FrameParts) (k : Kind) (begun replied : Unfinished) (e : set.FinSet nat_cmp) (r : ℕ) → s.requests ≡ r
+    → (cond (is_request k) (record s { requests = max f.number s.requests; requests_begun = begun }) (cond (is_reply k) (record s { expected = e; replies_begun = replied }) s)).requests ≡ cond (is_request k) (max f.number r) r
+requests_taken s f kinds.Msg begun replied e r is = ap (max f.number) is
+requests_taken s f kinds.Rpy begun replied e r is = is
+requests_taken s f kinds.Err begun replied e r is = is
+requests_taken s f kinds.AckMsg begun replied e r is = is
+requests_taken s f kinds.AckRpy begun replied e r is = is
+
+awaited_taken : (s : Standing) (n : ℕ) (more : Bool) (k : Kind) (begun replied : Unfinished) (q : ℕ) (a : Bool) → set.contains s.expected q ≡ a
+    → set.contains (cond (is_request k) (record s { requests = max n s.requests; requests_begun = begun }) (cond (is_reply k) (record s { expected = cond more s.expected (set.remove s.expected n); replies_begun = replied }) s)).expected q ≡ (not (is_reply k && not more && eqb q n) && a)
+awaited_taken s n more kinds.Msg begun replied q a is = is
+awaited_taken s n true kinds.Rpy begun replied q a is = is
+awaited_taken s n false kinds.Rpy begun replied q a is = contains_removed s.expected n q ∙ ap (λ (b : Bool). not (eqb q n) && b) is
+awaited_taken s n true kinds.Err begun replied q a is = is
+awaited_taken s n false kinds.Err begun replied q a is = contains_removed s.expected n q ∙ ap (λ (b : Bool). not (eqb q n) && b) is
+awaited_taken s n more kinds.AckMsg begun replied q a is = is
+awaited_taken s n more kinds.AckRpy begun replied q a is = is
+
+requests_begun_taken : (s : Standing) (n r : ℕ) (k : Kind) (begun replied : Unfinished) (e : set.FinSet nat_cmp) (q : ℕ) (t : Bool) (after before : List FrameParts)
+    → map.get begun q ≡ brought_by (cond t after before) → map.get s.requests_begun q ≡ brought_by before
+    → map.get (cond (is_request k) (record s { requests = r; requests_begun = begun }) (cond (is_reply k) (record s { expected = e; replies_begun = replied }) s)).requests_begun q ≡ brought_by (cond (is_request k && t) after before)
+requests_begun_taken s n r kinds.Msg begun replied e q t after before now was = now
+requests_begun_taken s n r kinds.Rpy begun replied e q t after before now was = was
+requests_begun_taken s n r kinds.Err begun replied e q t after before now was = was
+requests_begun_taken s n r kinds.AckMsg begun replied e q t after before now was = was
+requests_begun_taken s n r kinds.AckRpy begun replied e q t after before now was = was
+
+replies_begun_taken : (s : Standing) (n r : ℕ) (k : Kind) (begun replied : Unfinished) (e : set.FinSet nat_cmp) (q : ℕ) (t : Bool) (after before : List FrameParts)
+    → map.get replied q ≡ brought_by (cond t after before) → map.get s.replies_begun q ≡ brought_by before
+    → map.get (cond (is_request k) (record s { requests = r; requests_begun = begun }) (cond (is_reply k) (record s { expected = e; replies_begun = replied }) s)).replies_begun q ≡ brought_by (cond (is_reply k && t) after before)
+replies_begun_taken s n r kinds.Msg begun replied e q t after before now was = was
+replies_begun_taken s n r kinds.Rpy begun replied e q t after before now was = now
+replies_begun_taken s n r kinds.Err begun replied e q t after before now was = now
+replies_begun_taken s n r kinds.AckMsg begun replied e q t after before now was = was
+replies_begun_taken s n r kinds.AckRpy begun replied e q t after before now was = was
+
+pub stands_after : (s : Standing) (before : List Event) (f : FrameParts) → StandsFor s before → StandsFor (taken_after s f) (came f ∷ before)
 stands_after s before f stands = record {
-  requests = requests_after s f.kind f.number (requests_in before) stands.requests;
-  awaited = λ q. awaited_after s f.kind f.number q (is_awaited before q) (stands.awaited q);
+  requests = requests_taken s f f.kind (begun_after s.requests_begun f) (begun_after s.replies_begun f) (cond f.more s.expected (set.remove s.expected f.number)) (requests_in before) stands.requests;
+  awaited = λ q. awaited_taken s f.number f.more f.kind (begun_after s.requests_begun f) (begun_after s.replies_begun f) q (is_awaited before q) (stands.awaited q);
+  requests_begun = λ q. requests_begun_taken s f.number (max f.number s.requests) f.kind (begun_after s.requests_begun f) (begun_after s.replies_begun f) (cond f.more s.expected (set.remove s.expected f.number)) q (eqb q f.number)
+      (cond f.more (f ∷ frames_of is_request q before) []) (frames_of is_request q before) (begun_of_class s.requests_begun is_request before f q stands.requests_begun) (stands.requests_begun q);
+  replies_begun = λ q. replies_begun_taken s f.number (max f.number s.requests) f.kind (begun_after s.requests_begun f) (begun_after s.replies_begun f) (cond f.more s.expected (set.remove s.expected f.number)) q (eqb q f.number)
+      (cond f.more (f ∷ frames_of is_reply q before) []) (frames_of is_reply q before) (begun_of_class s.replies_begun is_reply before f q stands.replies_begun) (stands.replies_begun q);
 }
 
 pub stands_expecting : (s : Standing) (before : List Event) (n : ℕ) → StandsFor s before → StandsFor (expecting s n) (expected n ∷ before)
 stands_expecting s before n stands = record {
   requests = stands.requests;
   awaited = λ q. contains_inserted s.expected n q ∙ ap (λ (b : Bool). eqb q n || b) (stands.awaited q);
+  requests_begun = stands.requests_begun;
+  replies_begun = stands.replies_begun;
 }
 
--- the message of a frame by a standing is that by what came before
-pub same_message : (s : Standing) (before : List Event) (f : FrameParts) → StandsFor s before → message_at s f ≡ joined_as before f
-same_message s before f stands =
-    ap (λ (r : ℕ). message_of r (set.contains s.expected f.number) f) stands.requests ∙ ap (λ (b : Bool). message_of (requests_in before) b f) (stands.awaited f.number)
+so_far_by : (b : Bool) (m n : Unfinished) (q : ℕ) (xs ys : List FrameParts) → map.get m q ≡ brought_by xs → map.get n q ≡ brought_by ys → cond b (map.get m q) (map.get n q) ≡ brought_by (cond b xs ys)
+so_far_by true m n q xs ys d e = d
+so_far_by false m n q xs ys d e = e
+
+pub same_answer : (s : Standing) (before : List Event) (f : FrameParts) → StandsFor s before → answer_at s f ≡ answer_in before f
+same_answer s before f stands =
+    ap (λ (r : ℕ). answer_to r (set.contains s.expected f.number) (so_far_at s f) f) stands.requests
+    ∙ ap (λ (b : Bool). answer_to (requests_in before) b (so_far_at s f) f) (stands.awaited f.number)
+    ∙ ap (λ (o : Option Begun). answer_to (requests_in before) (is_awaited before f.number) o f)
+    (so_far_by (is_request f.kind) s.requests_begun s.replies_begun f.number (frames_of is_request f.number before) (frames_of is_reply f.number before) (stands.requests_begun f.number) (stands.replies_begun f.number))
 
 taken_joined : (s : Standing) (before : List Event) → StandsFor s before → (events : List Event) → taken_from s events ≡ joined_after before events
 taken_joined s before stands [] = refl
 taken_joined s before stands (came f ∷ events) =
-    ap (λ (r : ℕ). followed_by (message_of r (set.contains s.expected f.number) f) (taken_from (taken_after s f.kind f.number) events)) stands.requests
-    ∙ ap (λ (b : Bool). followed_by (message_of (requests_in before) b f) (taken_from (taken_after s f.kind f.number) events)) (stands.awaited f.number)
-    ∙ ap (λ (j : Joined). followed_by (message_of (requests_in before) (is_awaited before f.number) f) j) (taken_joined (taken_after s f.kind f.number) (came f ∷ before) (stands_after s before f stands) events)
+    ap (λ x. followed_by x (taken_from (taken_after s f) events)) (same_answer s before f stands)
+    ∙ ap (λ (j : Joined). followed_by (answer_in before f) j) (taken_joined (taken_after s f) (came f ∷ before) (stands_after s before f stands) events)
 taken_joined s before stands (expected n ∷ events) = taken_joined (expecting s n) (expected n ∷ before) (stands_expecting s before n stands) events
 
 pub new_joined : (events : List Event) → taken_from new_standing events ≡ joined events
 new_joined events = taken_joined new_standing [] stands_new events
-
--- ---- the order of requests
-
-or_false : (b : Bool) → (b || false) ≡ true → b ≡ true
-or_false true e = refl
-or_false false e = e
-
-number_next : (k : Kind) (n r : ℕ) (more a : Bool) (rest : List ℕ) → (not more && ((is_request k && eqb n (r + 1)) || (is_reply k && a))) ≡ true
-    → CountsFrom (cond (is_request k) (r + 1) r + 1) rest → CountsFrom (r + 1) (cond (is_request k) (n ∷ rest) rest)
-number_next kinds.Msg n r true a rest e h = absurd cc
-number_next kinds.Msg n r false a rest e h = (eqb-true n (r + 1) (or_false (eqb n (r + 1)) e), h)
-number_next kinds.Rpy n r more a rest e h = h
-number_next kinds.Err n r more a rest e h = h
-number_next kinds.AckMsg n r more a rest e h = h
-number_next kinds.AckRpy n r more a rest e h = h
-
--- what follows a frame holds of its message and of what follows it
-by_message : (P : Joined → Type 0) (r : ℕ) (a : Bool) (f : FrameParts) (rest : Joined)
-    → ((fault : TakeFault) → P (followed_by (Err fault) rest))
-    → (may_come r a f ≡ true → (read : List Pair × List ℕ) → P (followed_by (read_as f (Ok read)) rest))
-    → P (followed_by (message_of r a f) rest)
-by_message P r a f rest bad good = go (may_come r a f) (payload_at f.payload) (λ e. good e) where
-  go : (b : Bool) (read : Result (List Pair × List ℕ) PayloadFault) → (b ≡ true → (x : List Pair × List ℕ) → P (followed_by (read_as f (Ok x)) rest))
-      → P (followed_by (cond b (read_as f (with_fault read)) (Err (faults.OutOfOrder f.number))) rest)
-  go false read good = bad (faults.OutOfOrder f.number)
-  go true (Err fault) good = bad (faults.Payload fault)
-  go true (Ok x) good = good refl x
-
-counted : (before events : List Event) → CountsFrom (requests_in before + 1) (request_numbers (joined_after before events).0)
-counted before [] = tt
-counted before (came f ∷ events) =
-    by_message (λ j. CountsFrom (requests_in before + 1) (request_numbers j.0)) (requests_in before) (is_awaited before f.number) f (joined_after (came f ∷ before) events)
-    (λ _. tt)
-    (λ e _. number_next f.kind f.number (requests_in before) f.more (is_awaited before f.number) (request_numbers (joined_after (came f ∷ before) events).0) e (counted (came f ∷ before) events))
-counted before (expected n ∷ events) = counted (expected n ∷ before) events
-
-pub requests_counted : (events : List Event) → CountsFrom 1 (request_numbers (joined events).0)
-requests_counted events = counted [] events
-
--- ---- the replies to a request
-
-reply_tested : (t a b : Bool) (rest times : ℕ) → (t ≡ true → a ≡ b) → a ≡ true → rest ≤ times + cond (not t && b) 1 0 → cond t 1 0 + rest ≤ times + cond b 1 0
-reply_tested true a true rest times same awaited h = omega arith
-reply_tested true a false rest times same awaited h = absurd (let e = same refl in cc)
-reply_tested false a true rest times same awaited h = omega arith
-reply_tested false a false rest times same awaited h = omega arith
-
-awaited_so : (x a : Bool) (more : Bool) → (not more && ((false && x) || (true && a))) ≡ true → a ≡ true
-awaited_so x a true e = absurd cc
-awaited_so x a false e = e
-
-reply_next : (k : Kind) (n q r : ℕ) (more a b : Bool) (rest times : ℕ) → (not more && ((is_request k && eqb n (r + 1)) || (is_reply k && a))) ≡ true
-    → (eqb q n ≡ true → a ≡ b) → rest ≤ times + cond (not (is_reply k && eqb q n) && b) 1 0 → cond (is_reply k && eqb q n) 1 0 + rest ≤ times + cond b 1 0
-reply_next kinds.Msg n q r more a b rest times e same h = omega arith
-reply_next kinds.Rpy n q r more a b rest times e same h = reply_tested (eqb q n) a b rest times same (awaited_so (eqb n (r + 1)) a more e) h
-reply_next kinds.Err n q r more a b rest times e same h = reply_tested (eqb q n) a b rest times same (awaited_so (eqb n (r + 1)) a more e) h
-reply_next kinds.AckMsg n q r more a b rest times e same h = omega arith
-reply_next kinds.AckRpy n q r more a b rest times e same h = omega arith
-
-expected_next : (t b : Bool) (rest times : ℕ) → rest ≤ times + cond (t || b) 1 0 → rest ≤ (cond t 1 0 + times) + cond b 1 0
-expected_next true true rest times h = omega arith
-expected_next true false rest times h = omega arith
-expected_next false true rest times h = omega arith
-expected_next false false rest times h = omega arith
-
-replied : (q : ℕ) (before events : List Event) → replies_to q (joined_after before events).0 ≤ times_expected q events + cond (is_awaited before q) 1 0
-replied q before [] = omega arith
-replied q before (came f ∷ events) =
-    by_message (λ j. replies_to q j.0 ≤ times_expected q events + cond (is_awaited before q) 1 0) (requests_in before) (is_awaited before f.number) f (joined_after (came f ∷ before) events)
-    (λ _. omega arith)
-    (λ e _. reply_next f.kind f.number q (requests_in before) f.more (is_awaited before f.number) (is_awaited before q) (replies_to q (joined_after (came f ∷ before) events).0) (times_expected q events) e
-    (λ t. ap (is_awaited before) (sym (eqb-true q f.number t))) (replied q (came f ∷ before) events))
-replied q before (expected n ∷ events) =
-    expected_next (eqb q n) (is_awaited before q) (replies_to q (joined_after (expected n ∷ before) events).0) (times_expected q events) (replied q (expected n ∷ before) events)
-
-pub replies_expected : (q : ℕ) (events : List Event) → replies_to q (joined events).0 ≤ times_expected q events
-replies_expected q events = let h = replied q [] events in omega arith

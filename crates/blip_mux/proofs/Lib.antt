@@ -1,4 +1,14 @@
-pub mod Joins
-pub mod Cuts
 pub mod Sets
+pub mod Maps
+pub mod Joins
+pub mod Orders
 pub mod Pieces
+pub mod Payloads
+pub mod Places
+pub mod Cuts
+pub mod Shares
+pub mod Pending
+pub mod Choices
+pub mod Trips
+pub mod Apart
+pub mod AckKinds

@@ -14,7 +14,7 @@ and_of : (b x : Bool) → cond b false x ≡ (not b && x)
 and_of true x = refl
 and_of false x = refl
 
-tied_both : (k q : ℕ) → eq_by_cmp nat_cmp k q ≡ eq_by_cmp nat_cmp q k
+pub tied_both : (k q : ℕ) → eq_by_cmp nat_cmp k q ≡ eq_by_cmp nat_cmp q k
 tied_both k q = unsigned_tied k q ∙ nat_eq_equiv.symm k q ∙ sym (unsigned_tied q k)
 
 pub inserted : (old new : List ℕ) (k : ℕ)

@@ -1,38 +1,83 @@
 -- How messages are cut into frames.
-use Rattle.std.specs.Prelude.{◌≡◌, ℕ, zero, suc, ◌<◌, ◌≤◌, true, false, List, [], ◌∷◌, ◌++◌, length}
-use Rattle.std.specs.List.{flat_map}
+use Rattle.std.specs.Prelude.{◌≡◌, ℕ, ◌+◌, ◌≤◌, zero, suc, Bool, true, not, ◌&&◌, List, [], ◌∷◌, ◌++◌, length, max, Some, None, ◌==◌, if◌then◌else◌}
 use Rattle.std.specs.Option.{option_to_list}
-use Rattle.blip_frame.specs.Frame.{FrameParts, largest_written}
-use Rattle.blip_mux.specs.Sending.{Waiting, piece, next_piece, after_piece}
+use Rattle.blip_frame.specs.Frame.{FrameParts, has_checksum, largest_written}
+use Rattle.blip_frame.specs.declared.frame.Kind.{Kind}
+use Rattle.blip_mux.specs.Joining.{is_request}
+use Rattle.blip_mux.specs.Told.{Acknowledgement}
+use Rattle.blip_mux.specs.Sending.{Waiting, Sending, picked, after_picked, heard_in}
 
--- each frame but the last is full and has more to come, and the last has at least one byte
-abbrev pub AreFull : List FrameParts → Type 0
-AreFull [] = ⊥
-AreFull (f ∷ []) = (f.more ≡ false) × (0 < length f.payload) × (length f.payload ≤ largest_written)
-AreFull (f ∷ g ∷ frames) = (f.more ≡ true) × (length f.payload ≡ largest_written) × AreFull (g ∷ frames)
+-- what is done to an outbox: a message or an acknowledgement is put, or an acknowledgement has come, which tells so many bytes of the message of a kind and a number
+pub data Deed : Type 0 where
+  puts : Waiting → Deed
+  owes : Acknowledgement → Deed
+  hears : Kind → ℕ → ℕ → Deed
 
--- the frames have the number, the kind and the marks of the message
-abbrev pub AreOf : Waiting → List FrameParts → Type 0
-AreOf w [] = Unit {0}
-AreOf w (f ∷ frames) = (f ≡ piece w f.more f.payload) × AreOf w frames
+-- with a message put last
+abbrev pub with_message : Sending → Waiting → Sending
+with_message s w = record s {
+  requests = (if is_request w.kind then w.number else s.requests);
+  replies = (if is_request w.kind then s.replies else max w.number s.replies);
+  waiting = s.waiting ++ w ∷ [];
+}
 
--- The frames are a message: all have its number, its kind and its marks, together they are its bytes, and each but the last is full.
-pub record IsCut (w : Waiting) (frames : List FrameParts) : Type 0 where
-  pub marks : AreOf w frames
-  pub whole : flat_map (λ f. f.payload) frames ≡ w.rest
-  pub full : AreFull frames
+-- with an acknowledgement put last
+abbrev pub with_acknowledgement : Sending → Acknowledgement → Sending
+with_acknowledgement s a = record s { acknowledgements = s.acknowledgements ++ a ∷ [] }
 
--- the frames are the waiting messages, one message after another
-abbrev pub AreCut : List Waiting → List FrameParts → Type 0
-AreCut [] frames = frames ≡ []
-AreCut (w ∷ ws) frames = (first : List FrameParts) × (rest : List FrameParts) × (frames ≡ first ++ rest) × IsCut w first × AreCut ws rest
+-- once it was done
+abbrev pub after_deed : Sending → Deed → Sending
+after_deed s (puts w) = with_message s w
+after_deed s (owes a) = with_acknowledgement s a
+after_deed s (hears kind number bytes) = record s { waiting = heard_in kind number bytes s.waiting }
+
+abbrev pub after_deeds : Sending → List Deed → Sending
+after_deeds s [] = s
+after_deeds s (deed ∷ deeds) = after_deeds (after_deed s deed) deeds
+
+-- these frames are picked one after another, and this is left
+abbrev pub ArePicked : Sending → List FrameParts → Sending → Type 0
+ArePicked s [] left = left ≡ s
+ArePicked s (f ∷ frames) left = (picked s ≡ Some f) × ArePicked (after_picked s) frames left
+
+-- they are picked until there is none
+abbrev pub AreAllPicked : Sending → List FrameParts → Sending → Type 0
+AreAllPicked s frames left = ArePicked s frames left × (picked left ≡ None)
+
+-- The frames that are sent, where frames are picked until there is none once all deeds of a turn are done, turn by turn.
+abbrev pub AreCut : Sending → List (List Deed) → List FrameParts → Type 0
+AreCut s [] frames = frames ≡ []
+AreCut s (deeds ∷ turns) frames =
+    (first : List FrameParts) × (rest : List FrameParts) × (left : Sending) × (frames ≡ first ++ rest) × AreAllPicked (after_deeds s deeds) first left × AreCut left turns rest
 
 -- the frames of so many calls for the next frame
-abbrev pub frames_of : ℕ → List Waiting → List FrameParts
-frames_of zero waiting = []
-frames_of (suc k) waiting = option_to_list (next_piece waiting) ++ frames_of k (after_piece waiting)
+abbrev pub frames_after : ℕ → Sending → List FrameParts
+frames_after zero s = []
+frames_after (suc k) s = option_to_list (picked s) ++ frames_after k (after_picked s)
 
--- each message has bytes to send
-abbrev pub HaveBytes : List Waiting → Type 0
-HaveBytes [] = Unit {0}
-HaveBytes (w ∷ ws) = (0 < length w.rest) × HaveBytes ws
+-- no frame is longer than the longest, and one with more to come is as long
+abbrev pub AreFull : List FrameParts → Type 0
+AreFull [] = Unit {0}
+AreFull (f ∷ frames) = (length f.payload ≤ largest_written) × (f.more ≡ true → length f.payload ≡ largest_written) × AreFull frames
+
+-- ---- one message among others
+
+-- acknowledgements have their kinds
+abbrev pub are_acknowledgements : List Acknowledgement → Bool
+are_acknowledgements [] = true
+are_acknowledgements (a ∷ acknowledgements) = not (has_checksum a.kind) && are_acknowledgements acknowledgements
+
+-- the bytes of the frames of this class and this number, in order
+abbrev pub bytes_sent : (Kind → Bool) → ℕ → List FrameParts → List ℕ
+bytes_sent class number [] = []
+bytes_sent class number (f ∷ frames) = (if class f.kind && number == f.number then f.payload else []) ++ bytes_sent class number frames
+
+-- the bytes that are still to be sent of this class and this number
+abbrev pub bytes_left : (Kind → Bool) → ℕ → List Waiting → List ℕ
+bytes_left class number [] = []
+bytes_left class number (w ∷ ws) = (if class w.kind && number == w.number then w.rest else []) ++ bytes_left class number ws
+
+-- how many messages of this class and this number wait
+abbrev pub times_waiting : (Kind → Bool) → ℕ → List Waiting → ℕ
+times_waiting class number [] = 0
+times_waiting class number (w ∷ ws) = (if class w.kind && number == w.number then 1 else 0) + times_waiting class number ws

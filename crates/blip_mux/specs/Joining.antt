@@ -1,16 +1,21 @@
--- The messages that frames give, where each message is one frame.
-use Rattle.std.specs.Prelude.{◌≡◌, ℕ, ◌+◌, Bool, true, false, not, ◌&&◌, ◌||◌, List, [], ◌∷◌, Option, Some, None, Result, Ok, Err, ◌==◌, if◌then◌else◌}
-use Rattle.std.specs.FinSet as set
-use Rattle.blip_frame.specs.Frame.{FrameParts}
+-- The messages that frames give.
+use Rattle.std.specs.Prelude.{ℕ, ◌+◌, Bool, true, false, not, ◌&&◌, ◌||◌, List, [], ◌∷◌, ◌++◌, length, max, nat_le, Option, Some, None, Result, Ok, Err, unwrap_or, ◌==◌, if◌then◌else◌}
+use Rattle.blip_frame.specs.Frame.{FrameParts, kind_number, has_checksum}
 use Rattle.blip_frame.specs.Payload.{payload_at}
 use Rattle.blip_frame.specs.Props.{Pair}
+use Rattle.blip_frame.specs.Varint.{number_at}
 use Rattle.blip_frame.specs.declared.frame.Kind.{Kind}
 use Rattle.blip_frame.specs.declared.frame.Kind.TheVariants as kinds
 use Rattle.blip_frame.specs.declared.payload.PayloadFault.{PayloadFault}
+use Rattle.blip_frame.specs.declared.varint.VarintFault.{VarintFault}
 use Rattle.blip_mux.specs.declared.message.Message.{Message}
+use Rattle.blip_mux.specs.declared.inbox.Taken.{Taken}
+use Rattle.blip_mux.specs.declared.inbox.Taken.TheVariants as takens
 use Rattle.blip_mux.specs.declared.inbox.TakeFault.{TakeFault}
 use Rattle.blip_mux.specs.declared.inbox.TakeFault.TheVariants as faults
-use Rattle.blip_mux.specs.Standing.{Standing, expecting}
+use Rattle.blip_mux.specs.Begun.{Begun}
+
+-- ---- kinds
 
 abbrev pub is_request : Kind → Bool
 is_request kinds.Msg = true
@@ -26,23 +31,100 @@ is_reply kinds.Err = true
 is_reply kinds.AckMsg = false
 is_reply kinds.AckRpy = false
 
--- Whether a frame is a message that may come: the whole of a request with the number after the last one's, or the whole of a reply that is awaited.
-abbrev pub may_come : ℕ → Bool → FrameParts → Bool
-may_come requests awaited f = not f.more && ((is_request f.kind && f.number == requests + 1) || (is_reply f.kind && awaited))
+-- the kind of the acknowledgements of a message of this kind
+abbrev pub acknowledges : Kind → Kind
+acknowledges kinds.Msg = kinds.AckMsg
+acknowledges kinds.Rpy = kinds.AckRpy
+acknowledges kinds.Err = kinds.AckRpy
+acknowledges kinds.AckMsg = kinds.AckMsg
+acknowledges kinds.AckRpy = kinds.AckRpy
+
+-- ---- what has come of one message
+
+-- so many bytes after the last acknowledgement the next one is owed
+abbrev pub acknowledge_after : ℕ
+acknowledge_after = 50000
+
+-- how many bytes are not acknowledged, where an acknowledgement that is owed is counted as sent
+abbrev pub once_owed : ℕ → ℕ
+once_owed bytes = if nat_le acknowledge_after bytes then 0 else bytes
+
+-- before its first frame, whose number, kind and marks a message has
+abbrev pub begun_by : FrameParts → Begun
+begun_by f = record { kind = f.kind; urgent = f.urgent; no_reply = f.no_reply; bytes = []; unacknowledged = 0 }
+
+-- what had come, or nothing yet
+abbrev pub begun_or : Option Begun → FrameParts → Begun
+begun_or so_far f = unwrap_or so_far (begun_by f)
+
+-- with one frame more
+abbrev pub with_frame : Begun → FrameParts → Begun
+with_frame b f = record b { bytes = b.bytes ++ f.payload; unacknowledged = once_owed (b.unacknowledged + length f.payload) }
+
+-- what came with these frames of a message, the newest of which is the first of the list
+abbrev pub brought_by : List FrameParts → Option Begun
+brought_by [] = None
+brought_by (f ∷ before) = Some (with_frame (begun_or (brought_by before) f) f)
+
+-- ---- what one frame gives
+
+-- how many bytes an acknowledgement tells, whose payload is exactly one varint
+abbrev pub alone : ℕ → List ℕ → Option ℕ
+alone n [] = Some n
+alone n (b ∷ bytes) = None
+
+abbrev pub count_in : Result (ℕ × List ℕ) VarintFault → Option ℕ
+count_in (Ok found) = alone found.0 found.1
+count_in (Err fault) = None
+
+abbrev pub acknowledged : FrameParts → Option ℕ → Result Taken TakeFault
+acknowledged f (Some bytes) = Ok (takens.Ack f.kind f.number bytes)
+acknowledged f None = Err faults.BadAckPayload
 
 -- what was read of a payload, or its fault, as one of the frame
 abbrev pub with_fault : Result (List Pair × List ℕ) PayloadFault → Result (List Pair × List ℕ) TakeFault
 with_fault (Ok read) = Ok read
 with_fault (Err fault) = Err (faults.Payload fault)
 
--- the message of a frame with these properties and this body, or the fault of its payload
-abbrev pub read_as : FrameParts → Result (List Pair × List ℕ) TakeFault → Result Message TakeFault
-read_as f (Ok read) = Ok (record { number = f.number; kind = f.kind; urgent = f.urgent; no_reply = f.no_reply; payload = record { props = read.0; body = read.1 } })
-read_as f (Err fault) = Err fault
+-- a message with these properties and this body, or the fault of its payload
+abbrev pub read_as : ℕ → Begun → Result (List Pair × List ℕ) TakeFault → Result Message TakeFault
+read_as number b (Ok read) = Ok (record { number = number; kind = b.kind; urgent = b.urgent; no_reply = b.no_reply; payload = record { props = read.0; body = read.1 } })
+read_as number b (Err fault) = Err fault
 
--- The message of a frame, or its first fault, where so many requests have come, and a reply of its number is awaited or is not.
-abbrev pub message_of : ℕ → Bool → FrameParts → Result Message TakeFault
-message_of requests awaited f = if may_come requests awaited f then read_as f (with_fault (payload_at f.payload)) else Err (faults.OutOfOrder f.number)
+-- the message, where the last frame of it comes
+abbrev pub message_by : Begun → FrameParts → Result Message TakeFault
+message_by b f = read_as f.number b (with_fault (payload_at (b.bytes ++ f.payload)))
+
+abbrev pub whole : Result Message TakeFault → Result Taken TakeFault
+whole (Ok message) = Ok (takens.Whole message)
+whole (Err fault) = Err fault
+
+-- what a frame gives that is not the last of its message: an acknowledgement of all bytes so far is owed, or nothing
+abbrev pub part_by : Begun → FrameParts → Taken
+part_by b f =
+    if nat_le acknowledge_after (b.unacknowledged + length f.payload)
+    then takens.Owed (acknowledges f.kind) f.number (length (b.bytes ++ f.payload))
+    else takens.Nothing
+
+-- what a frame gives that may come
+abbrev pub given_by : Begun → FrameParts → Result Taken TakeFault
+given_by b f = if f.more then Ok (part_by b f) else whole (message_by b f)
+
+-- Whether a frame may begin a message: a request with the number after the last one's, or a reply that is awaited.
+abbrev pub may_begin : ℕ → Bool → FrameParts → Bool
+may_begin requests awaited f = (is_request f.kind && f.number == requests + 1) || (is_reply f.kind && awaited)
+
+-- Whether a frame may come: as one more of a message of its kind, or as the first.
+abbrev pub may_come : ℕ → Bool → Option Begun → FrameParts → Bool
+may_come requests awaited (Some b) f = kind_number b.kind == kind_number f.kind
+may_come requests awaited None f = may_begin requests awaited f
+
+-- What a frame gives, or its first fault: where so many requests have begun, a reply of its number is awaited or is not, and so much of its message has come.
+abbrev pub answer_to : ℕ → Bool → Option Begun → FrameParts → Result Taken TakeFault
+answer_to requests awaited so_far f =
+    if has_checksum f.kind
+    then (if may_come requests awaited so_far f then given_by (begun_or so_far f) f else Err (faults.OutOfOrder f.number))
+    else acknowledged f (count_in (number_at f.payload))
 
 -- ---- over all that has come
 
@@ -51,62 +133,48 @@ pub data Event : Type 0 where
   came : FrameParts → Event
   expected : ℕ → Event
 
--- how many requests have come; the last event is the first of the list
+-- the greatest number of the requests that have begun; the last event is the first of the list
 abbrev pub requests_in : List Event → ℕ
 requests_in [] = 0
-requests_in (came f ∷ before) = if is_request f.kind then requests_in before + 1 else requests_in before
+requests_in (came f ∷ before) = if is_request f.kind then max f.number (requests_in before) else requests_in before
 requests_in (expected number ∷ before) = requests_in before
 
--- whether a reply to the request of this number is expected and has not come since; the last event is the first of the list
+-- whether a reply to the request of this number is expected, and none has come whole since; the last event is the first of the list
 abbrev pub is_awaited : List Event → ℕ → Bool
 is_awaited [] number = false
-is_awaited (came f ∷ before) number = not (is_reply f.kind && number == f.number) && is_awaited before number
+is_awaited (came f ∷ before) number = not (is_reply f.kind && not f.more && number == f.number) && is_awaited before number
 is_awaited (expected other ∷ before) number = number == other || is_awaited before number
 
--- the message of a frame that comes after these events, or its first fault
-abbrev pub joined_as : List Event → FrameParts → Result Message TakeFault
-joined_as before f = message_of (requests_in before) (is_awaited before f.number) f
+-- the frames of the message of this class and this number that has begun and is not whole, the newest first; the last event is the first of the list
+abbrev pub frames_of : (Kind → Bool) → ℕ → List Event → List FrameParts
+frames_of class number [] = []
+frames_of class number (came f ∷ before) =
+    if class f.kind && number == f.number then (if f.more then f ∷ frames_of class number before else []) else frames_of class number before
+frames_of class number (expected other ∷ before) = frames_of class number before
 
--- messages, and the fault that ends them where there is one
+-- what has come of the message that a frame is part of
+abbrev pub so_far_in : List Event → FrameParts → Option Begun
+so_far_in before f = brought_by (if is_request f.kind then frames_of is_request f.number before else frames_of is_reply f.number before)
+
+-- what a frame gives after these events, or its first fault
+abbrev pub answer_in : List Event → FrameParts → Result Taken TakeFault
+answer_in before f = answer_to (requests_in before) (is_awaited before f.number) (so_far_in before f) f
+
+-- what each frame gives, and the fault that ends them where there is one
 abbrev pub Joined : Type 0
-Joined = List Message × Option TakeFault
+Joined = List Taken × Option TakeFault
 
--- a message before those that follow, or a fault, which nothing follows
-abbrev pub followed_by : Result Message TakeFault → Joined → Joined
-followed_by (Ok message) rest = (message ∷ rest.0, rest.1)
+-- what a frame gives before what those give that follow, or a fault, which nothing follows
+abbrev pub followed_by : Result Taken TakeFault → Joined → Joined
+followed_by (Ok taken) rest = (taken ∷ rest.0, rest.1)
 followed_by (Err fault) rest = ([], Some fault)
 
--- The messages of events up to the first fault, after what came before them.
+-- What the frames among events give up to the first fault, after what came before them.
 abbrev pub joined_after : List Event → List Event → Joined
 joined_after before [] = ([], None)
-joined_after before (came f ∷ events) = followed_by (joined_as before f) (joined_after (came f ∷ before) events)
+joined_after before (came f ∷ events) = followed_by (answer_in before f) (joined_after (came f ∷ before) events)
 joined_after before (expected number ∷ events) = joined_after (expected number ∷ before) events
 
--- the messages of events from the beginning up to the first fault
+-- what the frames among events give from the beginning up to the first fault
 abbrev pub joined : List Event → Joined
 joined events = joined_after [] events
-
--- ---- from one standing to the next
-
--- the message that an inbox takes, or the first fault
-abbrev pub message_at : Standing → FrameParts → Result Message TakeFault
-message_at s f = message_of s.requests (set.contains s.expected f.number) f
-
--- the standing once a frame of this kind and number was taken
-abbrev pub taken_after : Standing → Kind → ℕ → Standing
-taken_after s kinds.Msg number = record s { requests = s.requests + 1 }
-taken_after s kinds.Rpy number = record s { expected = set.remove s.expected number }
-taken_after s kinds.Err number = record s { expected = set.remove s.expected number }
-taken_after s kinds.AckMsg number = s
-taken_after s kinds.AckRpy number = s
-
--- what an inbox answers to events, one after another, up to the first fault
-abbrev pub taken_from : Standing → List Event → Joined
-taken_from s [] = ([], None)
-taken_from s (came f ∷ events) = followed_by (message_at s f) (taken_from (taken_after s f.kind f.number) events)
-taken_from s (expected number ∷ events) = taken_from (expecting s number) events
-
--- a standing says what the events before it gave
-pub record StandsFor (s : Standing) (before : List Event) : Type 0 where
-  pub requests : s.requests ≡ requests_in before
-  pub awaited : (number : ℕ) → set.contains s.expected number ≡ is_awaited before number

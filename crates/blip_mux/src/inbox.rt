@@ -1,16 +1,17 @@
-//! Messages that come: each is one frame, which is taken where its number is the next one.
+//! Messages that come, of many frames each, however these are interleaved.
 
-ghost use Rattle.std.specs.Prelude.{◌≡◌, ◌≢◌, ◌+◌, false, Ok, Err, IfOk, IfErr, OnOk, OnErr};
+ghost use Rattle.std.specs.Prelude.{◌≡◌, ◌≢◌, false, true, option_map, Ok, Err, IfOk, IfErr, OnOk, OnErr};
 ghost use Rattle.std.specs.FinSet as set;
-ghost use Rattle.blip_frame.specs.Frame.{parts_of};
-ghost use Rattle.blip_frame.specs.Payload.{payload_at};
-ghost use Rattle.blip_mux.specs.declared.message.Message.{Message};
-ghost use Rattle.blip_mux.specs.Standing.{new_standing, expecting};
-ghost use Rattle.blip_mux.specs.Joining.{message_at, with_fault, may_come, taken_after};
+ghost use Rattle.std.specs.FinMap as map;
+ghost use Rattle.blip_frame.specs.Frame.{parts_of, has_checksum};
+ghost use Rattle.blip_frame.specs.Varint.{number_at};
+ghost use Rattle.blip_mux.specs.Joining.{begun_or, given_by, may_begin, may_come, acknowledged, count_in};
+ghost use Rattle.blip_mux.specs.Standing.{new_standing, expecting, so_far_at, answer_at, taken_after};
 
 use crate::message::Message;
 use crate::numbers::Numbers;
-use blip_frame::{Frame, Kind, Payload, PayloadFault, read_payload};
+use crate::parts::Parts;
+use blip_frame::{Frame, Kind, PayloadFault, read_varint};
 use sg_outside::Memory;
 use std::alloc::{AllocError, Global};
 use std::marker::Model;
@@ -22,7 +23,7 @@ pub enum Taken {
     Nothing,
     /// How many bytes of a message that was sent have come.
     Ack { kind: Kind, number: u64, bytes: u64 },
-    /// An acknowledgement of so many bytes must be sent.
+    /// A part of a message, after which an acknowledgement of so many bytes must be sent.
     Owed { kind: Kind, number: u64, bytes: u64 },
     /// A message.
     Whole(Message),
@@ -31,7 +32,7 @@ pub enum Taken {
 /// Why a frame is not taken.
 #[derive(Clone, Copy, Debug, PartialEq, Eq)]
 pub enum TakeFault {
-    /// The frame is no message, or not the one that may come now.
+    /// The frame is of no message that may come now.
     OutOfOrder { number: u64 },
     /// The payload of the message is none. Never with want of memory.
     Payload(PayloadFault),
@@ -41,22 +42,24 @@ pub enum TakeFault {
     Memory,
 }
 
-/// What has come in one direction. Contracts see how many requests have come, and the numbers of the
-/// sent requests whose reply is expected.
+/// What has come in one direction. Contracts see which requests have begun, the numbers of the sent
+/// requests whose reply is expected, and what has come of the messages that are not whole.
 #[derive(Drop)]
 pub struct Inbox {
     requests: u64,
     expected: Numbers,
+    requests_begun: Parts,
+    replies_begun: Parts,
 }
 
 impl Model for Inbox {
-    ghost use Rattle.blip_mux.specs.Standing.{Standing, standing_code};
+    ghost use Rattle.blip_mux.specs.Remembered.{Standing, standing_code};
 
     ghost Value = { Standing };
 
     ghost coded = { standing_code };
 
-    ghost view = { λ i. record { requests = i.requests; expected = i.expected } };
+    ghost view = { λ i. record { requests = i.requests; expected = i.expected; requests_begun = i.requests_begun; replies_begun = i.replies_begun } };
 }
 
 impl Inbox {
@@ -67,6 +70,8 @@ impl Inbox {
         Inbox {
             requests: 0,
             expected: Numbers::new(alloc),
+            requests_begun: Parts::new(alloc),
+            replies_begun: Parts::new(alloc),
         }
     }
 
@@ -79,41 +84,58 @@ impl Inbox {
         self.expected.insert(number)
     }
 
-    /// Takes a frame: a request, whose number is one more than that of the last, or a reply that is
-    /// expected. At a fault the inbox stays as it was.
+    /// Takes a frame: one of a message that has begun, the first of the next request or of a reply
+    /// that is expected, or an acknowledgement. At a fault the inbox stays as it was.
     pub fn take(&mut self, alloc: Global, frame: &Frame<'_>) -> Result<Taken, TakeFault>
-        // The message is that of the frame, and a fault is the first one, unless memory runs out.
-        ensures whole { IfOk result (λ taken. (message : Message) × (taken ≡ Taken.Whole message)
-            × (message_at self.old (parts_of frame.now) ≡ Ok message)) }
-        ensures fault { IfErr result (λ fault. fault ≢ TakeFault.Memory → message_at self.old (parts_of frame.now) ≡ Err fault) }
-        ensures order { may_come self.old.requests (set.contains self.old.expected frame.now.number) (parts_of frame.now) ≡ false
-            → result ≡ Err (TakeFault.OutOfOrder frame.now.number) }
+        // The answer is that of the frame, and a fault is the first one, unless memory runs out.
+        ensures taken { IfOk result (λ taken. answer_at self.old (parts_of frame.now) ≡ Ok taken) }
+        ensures fault { IfErr result (λ fault. fault ≢ TakeFault.Memory → answer_at self.old (parts_of frame.now) ≡ Err fault) }
         ensures memory { IfErr result (λ fault. fault ≢ TakeFault.Payload PayloadFault.Memory) }
-        ensures after { OnOk result (self.new ≡ taken_after self.old frame.now.kind frame.now.number) }
+        ensures after { OnOk result (self.new ≡ taken_after self.old (parts_of frame.now)) }
         ensures unchanged { OnErr result (self.new ≡ self.old) }
+
+        // What takes no memory.
+        ensures acknowledgement { has_checksum frame.now.kind ≡ false → result ≡ answer_at self.old (parts_of frame.now) }
+        ensures order { has_checksum frame.now.kind ≡ true
+            → may_come self.old.requests (set.contains self.old.expected frame.now.number) (so_far_at self.old (parts_of frame.now)) (parts_of frame.now) ≡ false
+            → result ≡ Err (TakeFault.OutOfOrder frame.now.number) }
     {
+        if !frame.kind.has_checksum() {
+            return acknowledgement_of(frame);
+        }
         if !self.may_take(frame) {
             return Err(TakeFault::OutOfOrder {
                 number: frame.number,
             });
         }
-        let payload = payload_of(alloc, frame.payload)?;
-        self.note(frame.kind, frame.number);
-        Ok(Taken::Whole(Message {
-            number: frame.number,
-            kind: frame.kind,
-            urgent: frame.urgent,
-            no_reply: frame.no_reply,
-            payload,
-        }))
+        self.take_part(alloc, frame)
     }
 
     fn may_take(&self, frame: &Frame<'_>) -> bool
-        ensures { result ≡ may_come self.now.requests (set.contains self.now.expected frame.now.number) (parts_of frame.now) }
+        requires { has_checksum frame.now.kind ≡ true }
+        ensures { result ≡ may_come self.now.requests (set.contains self.now.expected frame.now.number) (so_far_at self.now (parts_of frame.now)) (parts_of frame.now) }
     {
-        if frame.more {
-            return false;
+        match self.begun_kind(frame) {
+            Some(kind) => kind == frame.kind,
+            None => self.may_begin(frame),
         }
+    }
+
+    /// The kind of the message that a frame is part of.
+    fn begun_kind(&self, frame: &Frame<'_>) -> Option<Kind>
+        ensures { result ≡ option_map (λ b. b.kind) (so_far_at self.now (parts_of frame.now)) }
+    {
+        match frame.kind {
+            Kind::Msg => self.requests_begun.kind_of(frame.number),
+            Kind::Rpy | Kind::Err | Kind::AckMsg | Kind::AckRpy => {
+                self.replies_begun.kind_of(frame.number)
+            }
+        }
+    }
+
+    fn may_begin(&self, frame: &Frame<'_>) -> bool
+        ensures { result ≡ may_begin self.now.requests (set.contains self.now.expected frame.now.number) (parts_of frame.now) }
+    {
         match frame.kind {
             Kind::Msg => self.requests.checked_add(1) == Some(frame.number),
             Kind::Rpy | Kind::Err => self.expected.contains(frame.number),
@@ -121,38 +143,39 @@ impl Inbox {
         }
     }
 
-    /// Notes that a message of this kind and number has come.
-    fn note(&mut self, kind: Kind, number: u64)
-        requires { kind ≡ Kind.Msg → number ≡ self.old.requests + 1 }
-        ensures { self.new ≡ taken_after self.old kind number }
+    /// Takes a frame that may come.
+    fn take_part(&mut self, alloc: Global, frame: &Frame<'_>) -> Result<Taken, TakeFault>
+        requires { has_checksum frame.now.kind ≡ true }
+        ensures taken { IfOk result (λ taken. given_by (begun_or (so_far_at self.old (parts_of frame.now)) (parts_of frame.now)) (parts_of frame.now) ≡ Ok taken) }
+        ensures fault { IfErr result (λ fault. fault ≢ TakeFault.Memory
+            → given_by (begun_or (so_far_at self.old (parts_of frame.now)) (parts_of frame.now)) (parts_of frame.now) ≡ Err fault) }
+        ensures memory { IfErr result (λ fault. fault ≢ TakeFault.Payload PayloadFault.Memory) }
+        ensures after { OnOk result (self.new ≡ taken_after self.old (parts_of frame.now)) }
+        ensures unchanged { OnErr result (self.new ≡ self.old) }
     {
-        match kind {
-            Kind::Msg => self.requests = number,
-            Kind::Rpy | Kind::Err => self.expected.remove(number),
-            Kind::AckMsg | Kind::AckRpy => {}
+        if frame.kind == Kind::Msg {
+            let taken = self.requests_begun.take(alloc, frame)?;
+            self.requests = self.requests.max(frame.number);
+            return Ok(taken);
         }
+        let taken = self.replies_begun.take(alloc, frame)?;
+        if !frame.more {
+            self.expected.remove(frame.number);
+        }
+        Ok(taken)
     }
 }
 
-fn payload_of(alloc: Global, bytes: &[u8]) -> Result<Payload, TakeFault>
-    ensures ok { IfOk result (λ p. payload_at bytes.now ≡ Ok (p.props, p.body)) }
-    ensures err { IfErr result (λ fault. fault ≢ TakeFault.Memory → with_fault (payload_at bytes.now) ≡ Err fault) }
-    ensures memory { IfErr result (λ fault. fault ≢ TakeFault.Payload PayloadFault.Memory) }
+/// What an acknowledgement tells.
+fn acknowledgement_of(frame: &Frame<'_>) -> Result<Taken, TakeFault>
+    ensures { result ≡ acknowledged (parts_of frame.now) (count_in (number_at frame.now.payload.now)) }
 {
-    match read_payload(alloc, bytes) {
-        Ok(payload) => Ok(payload),
-        Err(fault) => Err(fault_of(fault)),
-    }
-}
-
-/// A fault of the payload, as one of the frame.
-fn fault_of(fault: PayloadFault) -> TakeFault
-    ensures value { result ≢ TakeFault.Memory → result ≡ TakeFault.Payload fault }
-    ensures other { result ≢ TakeFault.Memory → fault ≢ PayloadFault.Memory }
-    ensures memory { result ≢ TakeFault.Payload PayloadFault.Memory }
-{
-    match fault {
-        PayloadFault::Memory => TakeFault::Memory,
-        other => TakeFault::Payload(other),
+    match read_varint(frame.payload) {
+        Ok((bytes, [])) => Ok(Taken::Ack {
+            kind: frame.kind,
+            number: frame.number,
+            bytes,
+        }),
+        Ok(_) | Err(_) => Err(TakeFault::BadAckPayload),
     }
 }

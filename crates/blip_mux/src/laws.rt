@@ -1,16 +1,21 @@
 //! Laws of joining and cutting. Each function says one, and does nothing.
 
-ghost use Rattle.std.specs.Prelude.{◌≡◌, ◌≤◌, ◌∷◌, [], map, take, None, List, ℕ};
-ghost use Rattle.blip_frame.specs.Frame.{FrameParts};
+ghost use Rattle.std.specs.Prelude.{◌≡◌, ◌≤◌, ◌++◌, ◌∷◌, true, false, [], take, None, List, ℕ, Ok};
+ghost use Rattle.std.specs.List.{list_any};
+ghost use Rattle.blip_frame.specs.Frame.{FrameParts, has_checksum};
+ghost use Rattle.blip_frame.specs.declared.frame.Kind.{Kind};
 ghost use Rattle.blip_mux.specs.declared.message.Message.{Message};
-ghost use Rattle.blip_mux.specs.Standing.{Standing, new_standing, expecting};
-ghost use Rattle.blip_mux.specs.Joining.{Event, came, expected, joined, joined_after, joined_as, message_at, taken_after, taken_from, StandsFor};
-ghost use Rattle.blip_mux.specs.Order.{request_numbers, CountsFrom, replies_to, times_expected};
-ghost use Rattle.blip_mux.specs.Sending.{Waiting};
-ghost use Rattle.blip_mux.specs.Cutting.{AreCut, HaveBytes, frames_of};
-ghost use Rattle.blip_mux.specs.Between.{AreInOrder, AreOneFrame, waiting_of};
+ghost use Rattle.blip_mux.specs.declared.inbox.Taken.{Taken};
+ghost use Rattle.blip_mux.specs.Remembered.{Standing};
+ghost use Rattle.blip_mux.specs.Standing.{new_standing, expecting, answer_at, taken_after, taken_from, StandsFor};
+ghost use Rattle.blip_mux.specs.Joining.{Event, came, expected, answer_in, joined, is_request, is_reply};
+ghost use Rattle.blip_mux.specs.Order.{messages_in, times_in, times_expected, beginnings, CountsFrom};
+ghost use Rattle.blip_mux.specs.Apart.{HasCome, AreApart};
+ghost use Rattle.blip_mux.specs.Sending.{Waiting, Sending, new_sending, is_reply_to, heard_in, after_picked};
+ghost use Rattle.blip_mux.specs.Cutting.{Deed, with_message, AreCut, AreFull, ArePicked, AreAllPicked, frames_after, are_acknowledgements, bytes_sent, bytes_left, times_waiting};
+ghost use Rattle.blip_mux.specs.Between.{Step, AreAllowed, sending_in, events_in, put_in, messages_of};
 
-use blip_frame::laws::payloads;
+use blip_frame::laws::{payloads, varints};
 
 /// What a new inbox answers to events, one after another, is what joining all that came before says
 /// of each.
@@ -18,33 +23,71 @@ pub fn joining()
     ensures { (events : List Event) → taken_from new_standing events ≡ joined events }
 {}
 
-/// A standing that says what the events before it gave still does once one more has come, and the message that it takes
-/// is the one that joining says.
+/// A standing that says what the events before it gave still does once one more has come, and what it answers to a
+/// frame is what joining says.
 pub fn standing()
     ensures new { StandsFor new_standing [] }
-    ensures came { (s : Standing) (before : List Event) (f : FrameParts) → StandsFor s before → StandsFor (taken_after s f.kind f.number) (came f ∷ before) }
+    ensures came { (s : Standing) (before : List Event) (f : FrameParts) → StandsFor s before → StandsFor (taken_after s f) (came f ∷ before) }
     ensures expected { (s : Standing) (before : List Event) (number : ℕ) → StandsFor s before → StandsFor (expecting s number) (expected number ∷ before) }
-    ensures message { (s : Standing) (before : List Event) (f : FrameParts) → StandsFor s before → message_at s f ≡ joined_as before f }
+    ensures answer { (s : Standing) (before : List Event) (f : FrameParts) → StandsFor s before → answer_at s f ≡ answer_in before f }
 {}
 
-/// The requests that are joined are numbered from 1 upward, and a request has no more replies than
-/// times that one was expected.
+/// Each reply that waits is to a request that has come, from the beginning on, whatever comes and goes: so where a request
+/// comes whole, no reply to it waits, and it may be put.
+pub fn replies()
+    ensures new { AreApart new_standing new_sending }
+    ensures taken { (s : Standing) (out : Sending) (f : FrameParts) (taken : Taken) → answer_at s f ≡ Ok taken → AreApart s out → AreApart (taken_after s f) out }
+    ensures whole { (s : Standing) (out : Sending) (f : FrameParts) (message : Message) → answer_at s f ≡ Ok (Taken.Whole message) → is_request message.kind ≡ true → AreApart s out
+        → (list_any (is_reply_to message.number) out.waiting ≡ false) × HasCome (taken_after s f) message.number }
+    ensures put { (s : Standing) (out : Sending) (w : Waiting) → AreApart s out → (is_reply w.kind ≡ true → HasCome s w.number) → AreApart s (with_message out w) }
+    ensures heard { (s : Standing) (out : Sending) (kind : Kind) (number bytes : ℕ) → AreApart s out → AreApart s (record out { waiting = heard_in kind number bytes out.waiting }) }
+    ensures picked { (s : Standing) (out : Sending) → AreApart s out → AreApart s (after_picked out) }
+{}
+
+/// The kind of an acknowledgement that has come, and of one that is owed, is an acknowledgement's.
+pub fn acknowledgements()
+    ensures heard { (s : Standing) (f : FrameParts) (kind : Kind) (number bytes : ℕ) → answer_at s f ≡ Ok (Taken.Ack kind number bytes) → has_checksum kind ≡ false }
+    ensures owed { (s : Standing) (f : FrameParts) (kind : Kind) (number bytes : ℕ) → answer_at s f ≡ Ok (Taken.Owed kind number bytes) → has_checksum kind ≡ false }
+{}
+
+/// Where no frame is refused, requests begin in the order 1, 2, 3 and so on. A request comes whole at
+/// most once, and has no more replies than times that one was expected.
 pub fn order()
-    ensures requests { (events : List Event) → CountsFrom 1 (request_numbers (joined events).0) }
-    ensures replies { (number : ℕ) (events : List Event) → replies_to number (joined events).0 ≤ times_expected number events }
+    ensures beginnings { (events : List Event) → (joined events).1 ≡ None → CountsFrom 1 (beginnings [] events) }
+    ensures once { (number : ℕ) (events : List Event) → times_in is_request number (messages_in (joined events).0) ≤ 1 }
+    ensures replies { (number : ℕ) (events : List Event) → times_in is_reply number (messages_in (joined events).0) ≤ times_expected number events }
 {}
 
-/// Waiting messages are cut in one way, and call after call gives the frames of it.
+/// Whatever is put and acknowledged, messages are cut in one way, and call after call gives the
+/// frames of it: none is longer than 16,384 bytes, and each with more to come is as long.
 pub fn cutting()
-    ensures some { (waiting : List Waiting) → HaveBytes waiting → (frames : List FrameParts) × AreCut waiting frames }
-    ensures calls { (k : ℕ) (waiting : List Waiting) (frames : List FrameParts) → AreCut waiting frames → frames_of k waiting ≡ take k frames }
+    ensures some { (s : Sending) (turns : List (List Deed)) → (frames : List FrameParts) × AreCut s turns frames }
+    ensures one { (s : Sending) (turns : List (List Deed)) (frames others : List FrameParts) → AreCut s turns frames → AreCut s turns others → frames ≡ others }
+    ensures calls { (k : ℕ) (s : Sending) (frames : List FrameParts) (left : Sending) → AreAllPicked s frames left → frames_after k s ≡ take k frames }
+    ensures full { (s : Sending) (frames : List FrameParts) (left : Sending) → ArePicked s frames left → AreFull frames }
 {}
 
-/// The frames of messages that each fit one are joined to the same messages, in their order, where
-/// each may come after those before it.
-pub fn one_frame()
-    ensures { (before : List Event) (messages : List Message) (frames : List FrameParts) → AreOneFrame messages → AreInOrder before messages
-        → AreCut (map waiting_of messages) frames → joined_after before (map came frames) ≡ (messages, None) }
+/// Of a request, and of a reply, of which no other of its number waits, the bytes that were picked and
+/// those that are left are the ones that waited.
+pub fn shares()
+    ensures requests { (number : ℕ) (s : Sending) (frames : List FrameParts) (left : Sending) → ArePicked s frames left
+        → are_acknowledgements s.acknowledgements ≡ true → times_waiting is_request number s.waiting ≤ 1
+        → bytes_sent is_request number frames ++ bytes_left is_request number left.waiting ≡ bytes_left is_request number s.waiting }
+    ensures replies { (number : ℕ) (s : Sending) (frames : List FrameParts) (left : Sending) → ArePicked s frames left
+        → are_acknowledgements s.acknowledgements ≡ true → times_waiting is_reply number s.waiting ≤ 1
+        → bytes_sent is_reply number frames ++ bytes_left is_reply number left.waiting ≡ bytes_left is_reply number s.waiting }
+{}
+
+/// What an outbox cuts, an inbox joins, however the frames of messages are interleaved: where messages
+/// are put in their turn, no frame is refused, and of each number at which no message waits any more
+/// the messages that come are those that were put, in order.
+pub fn round_trip()
+    ensures accepted { (steps : List Step) → AreAllowed new_sending [] steps → (joined (events_in new_sending steps)).1 ≡ None }
+    ensures requests { (number : ℕ) (steps : List Step) → AreAllowed new_sending [] steps → times_waiting is_request number (sending_in new_sending steps).waiting ≡ 0
+        → messages_of is_request number (messages_in (joined (events_in new_sending steps)).0) ≡ messages_of is_request number (put_in steps) }
+    ensures replies { (number : ℕ) (steps : List Step) → AreAllowed new_sending [] steps → times_waiting is_reply number (sending_in new_sending steps).waiting ≡ 0
+        → messages_of is_reply number (messages_in (joined (events_in new_sending steps)).0) ≡ messages_of is_reply number (put_in steps) }
 {
     payloads();
+    varints();
 }

@@ -1,14 +1,17 @@
-//! Messages that wait to be sent: one after another, each cut into frames.
+//! What waits to be sent: acknowledgements, and messages that are cut into frames in turn.
 
-ghost use Rattle.std.specs.Prelude.{◌≡◌, ◌∷◌, ◌++◌, ◌+◌, ◌<◌, [], true, false, length, List, ℕ, Ok, IfOk, OnOk, OnErr};
-ghost use Rattle.std.specs.List.{list_any};
+ghost use Rattle.std.specs.Prelude.{◌≡◌, ◌∷◌, ◌++◌, ◌+◌, ◌<◌, ◌≤◌, [], true, false, length, max, List, ℕ, Ok, IfOk, IfErr, OnOk, OnErr, MatchResult, None};
+ghost use Rattle.std.specs.List.{list_any, list_all};
 ghost use Rattle.blip_frame.specs.Checksum.{checksum};
+ghost use Rattle.blip_frame.specs.Frame.{has_checksum};
 ghost use Rattle.blip_frame.specs.Payload.{payload_text};
 ghost use Rattle.blip_mux.specs.Joining.{is_reply};
-ghost use Rattle.blip_mux.specs.Sending.{next_piece, after_piece, is_reply_to, Sends, SendsAfter};
+ghost use Rattle.blip_mux.specs.Sending.{new_sending, unsent, picked, after_picked, is_reply_to, is_paused, last_put, sent_of, is_bad_ack, heard_in, Sends, SendsAfter};
 
-use crate::waiting::WaitingMessage;
-use blip_frame::{Crc, Kind, Payload, write_frame, write_payload};
+use crate::acknowledgement::Acknowledgement;
+use crate::queue::Queue;
+use crate::waiting::{WaitingMessage, is_told_by};
+use blip_frame::{Crc, Kind, Payload, write_payload};
 use sg_outside::{Bytes, Memory};
 use std::alloc::{AllocError, Global};
 use std::collections::VecDeque;
@@ -19,17 +22,29 @@ use std::marker::Model;
 pub enum Next {
     /// One was written.
     Frame,
-    /// Nothing waits.
+    /// Nothing waits that may be sent.
     Idle,
 }
 
-/// What waits to be sent in one direction. Contracts see how many requests were put, and the messages
-/// that wait, each with the bytes that are still to be sent.
+/// An acknowledgement that can't be true.
+#[derive(Clone, Copy, Debug, PartialEq, Eq)]
+pub struct BadAck {
+    /// The number and the count of the acknowledgement.
+    pub number: u64,
+    pub bytes: u64,
+    /// How many bytes were sent of the message that waits; 0 where none does.
+    pub sent: u64,
+}
+
+/// What waits to be sent in one direction. Contracts see how many requests and which replies were put,
+/// and the acknowledgements and messages that wait.
 #[derive(Drop)]
 pub struct Outbox {
     alloc: Global,
     requests: u64,
-    waiting: VecDeque<WaitingMessage>,
+    replies: u64,
+    acknowledgements: VecDeque<Acknowledgement>,
+    waiting: Queue,
 }
 
 impl Model for Outbox {
@@ -37,18 +52,20 @@ impl Model for Outbox {
 
     ghost Value = { Sending };
 
-    ghost view = { λ o. record { requests = o.requests; waiting = o.waiting.items } };
+    ghost view = { λ o. record { requests = o.requests; replies = o.replies; acknowledgements = o.acknowledgements.items; waiting = o.waiting } };
 }
 
 impl Outbox {
     /// An outbox in which nothing waits. Takes no memory.
     pub fn new(alloc: Global) -> Outbox
-        ensures { result ≡ record { requests = 0; waiting = [] } }
+        ensures { result ≡ new_sending }
     {
         Outbox {
             alloc,
             requests: 0,
-            waiting: VecDeque::new(alloc),
+            replies: 0,
+            acknowledgements: VecDeque::new(alloc),
+            waiting: Queue::new(alloc),
         }
     }
 
@@ -64,16 +81,16 @@ impl Outbox {
     pub fn put_request(&mut self, payload: Payload, no_reply: bool) -> Result<u64, Memory>
         requires { self.old.requests < 18446744073709551615 }
         ensures number { IfOk result (λ number. number ≡ self.old.requests + 1) }
-        ensures ok { IfOk result (λ number. self.new ≡ record {
+        ensures ok { IfOk result (λ number. self.new ≡ record self.old {
           requests = number;
-          waiting = self.old.waiting ++ record { number = number; kind = Kind.Msg; urgent = false; no_reply = no_reply; rest = payload_text payload.props payload.body } ∷ [];
+          waiting = self.old.waiting ++ unsent number Kind.Msg false no_reply (payload_text payload.props payload.body) ∷ [];
         }) }
         ensures err { OnErr result (self.new ≡ self.old) }
     {
         let number = self.requests + 1;
         let bytes = written(self.alloc, &payload)?;
         let message = WaitingMessage::new(number, Kind::Msg, false, no_reply, bytes);
-        self.waiting.push_back(message)?;
+        self.waiting.push(message)?;
         self.requests = number;
         Ok(number)
     }
@@ -88,15 +105,16 @@ impl Outbox {
     ) -> Result<(), Memory>
         requires kind { is_reply kind ≡ true }
         requires alone { list_any (is_reply_to number) self.old.waiting ≡ false }
-        ensures ok { OnOk result (self.new ≡ record {
-          requests = self.old.requests;
-          waiting = self.old.waiting ++ record { number = number; kind = kind; urgent = urgent; no_reply = false; rest = payload_text payload.props payload.body } ∷ [];
+        ensures ok { OnOk result (self.new ≡ record self.old {
+          replies = max number self.old.replies;
+          waiting = self.old.waiting ++ unsent number kind urgent false (payload_text payload.props payload.body) ∷ [];
         }) }
         ensures err { OnErr result (self.new ≡ self.old) }
     {
         let bytes = written(self.alloc, &payload)?;
         let message = WaitingMessage::new(number, kind, urgent, false, bytes);
-        self.waiting.push_back(message)?;
+        self.waiting.push(message)?;
+        self.replies = number.max(self.replies);
         Ok(())
     }
 
@@ -104,43 +122,74 @@ impl Outbox {
     pub fn has_reply(&self, number: u64) -> bool
         ensures { result ≡ list_any (is_reply_to number) self.now.waiting }
     {
-        self.waiting
-            .iter()
-            .any(|message| message.is_reply_to(number))
+        self.waiting.has_reply(number)
     }
 
-    /// Puts the next frame at the end of `out`, which is of the message that waits first: its next
-    /// 16,384 bytes, or the rest. At want of memory outbox, checksum and `out` stay as they were.
+    /// Puts an acknowledgement behind those that wait: that so many bytes of a message have come. At
+    /// want of memory the outbox stays as it was.
+    pub fn put_ack(&mut self, kind: Kind, number: u64, bytes: u64) -> Result<(), Memory>
+        requires { has_checksum kind ≡ false }
+        ensures ok { OnOk result (self.new ≡ record self.old {
+          acknowledgements = self.old.acknowledgements ++ record { kind = kind; number = number; bytes = bytes } ∷ [];
+        }) }
+        ensures err { OnErr result (self.new ≡ self.old) }
+    {
+        self.acknowledgements
+            .push_back(Acknowledgement::new(kind, number, bytes))?;
+        Ok(())
+    }
+
+    /// Puts the next frame at the end of `out`: the first acknowledgement that waits, else the next
+    /// 16,384 bytes, or the rest, of the first urgent message that may send, else of the first message
+    /// that may send. A message with more to come goes to the back of the list. At want of memory
+    /// outbox, checksum and `out` stay as they were.
     pub fn next_frame(&mut self, crc: &mut Crc, out: &mut Bytes) -> Result<Next, Memory>
-        ensures frame { IfOk result (λ next. Sends (next_piece self.old.waiting) next crc.old.value crc.new.value out.old out.new) }
-        ensures after { OnOk result (self.new ≡ record self.old { waiting = after_piece self.old.waiting }) }
-        ensures idle { self.old.waiting ≡ [] → result ≡ Ok Next.Idle }
+        ensures frame { IfOk result (λ next. Sends (picked self.old) next crc.old.value crc.new.value out.old out.new) }
+        ensures after { OnOk result (self.new ≡ after_picked self.old) }
+
+        // No memory is taken where no acknowledgement waits and each message is over its limit.
+        ensures idle { self.old.acknowledgements ≡ [] → list_all is_paused self.old.waiting ≡ true → result ≡ Ok Next.Idle }
+        ensures only { result ≡ Ok Next.Idle → (self.old.acknowledgements ≡ []) × (list_all is_paused self.old.waiting ≡ true) }
 
         // In a direction in which these bytes were sent.
         ensures sent { (sent : List ℕ) → crc.old.value ≡ checksum sent
-            → IfOk result (λ next. SendsAfter sent (next_piece self.old.waiting) next crc.new.value out.old out.new) }
+            → IfOk result (λ next. SendsAfter sent (picked self.old) next crc.new.value out.old out.new) }
         ensures err { OnErr result ((self.new ≡ self.old) × (crc.new ≡ crc.old) × (out.new ≡ out.old)) }
     {
-        let Some(first) = self.waiting.front() else {
-            return Ok(Next::Idle);
-        };
-        write_frame(crc, &first.next_frame(), out)?;
-        go_on(&mut self.waiting);
-        Ok(Next::Frame)
-    }
-}
-
-/// Notes that the next frame has gone.
-fn go_on(waiting: &mut VecDeque<WaitingMessage>)
-    ensures { waiting.new.items ≡ after_piece waiting.old.items }
-{
-    if let Some(first) = waiting.front_mut() {
-        if first.has_more() {
-            first.go_on();
-            return;
+        if let Some(first) = self.acknowledgements.front() {
+            first.write(self.alloc, crc, out)?;
+            self.acknowledgements.pop_front();
+            return Ok(Next::Frame);
         }
+        self.waiting.write_next(crc, out)
     }
-    waiting.pop_front();
+
+    /// Takes an acknowledgement that has come: so many bytes of a message that was sent. The greatest
+    /// count is kept; one for a message that does not wait is passed over. Takes no memory.
+    pub fn acked(&mut self, kind: Kind, number: u64, bytes: u64) -> Result<(), BadAck>
+        requires { has_checksum kind ≡ false }
+        ensures answer { MatchResult result (λ _. is_bad_ack kind number bytes self.old ≡ false) (λ _. is_bad_ack kind number bytes self.old ≡ true) }
+        ensures bad { IfErr result (λ bad. bad ≡ record { number = number; bytes = bytes; sent = sent_of kind number self.old.waiting }) }
+        ensures ok { OnOk result (self.new ≡ record self.old { waiting = heard_in kind number bytes self.old.waiting }) }
+        ensures unchanged { OnErr result (self.new ≡ self.old) }
+    {
+        let last = if is_told_by(kind, Kind::Msg) {
+            self.requests
+        } else {
+            self.replies
+        };
+        let sent = self.waiting.sent_of(kind, number);
+        let passes = sent.is_some_and(|sent| bytes > sent);
+        if number == 0 || number > last || passes {
+            return Err(BadAck {
+                number,
+                bytes,
+                sent: sent.unwrap_or(0),
+            });
+        }
+        self.waiting.heard(kind, number, bytes);
+        Ok(())
+    }
 }
 
 /// The bytes of a payload.

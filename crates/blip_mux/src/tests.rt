@@ -1,7 +1,7 @@
 //! Examples from outside: checksums of zlib, frames of BLIP, and each fault once.
 
-use crate::{Inbox, Message, Next, Outbox, TakeFault, Taken};
-use blip_frame::{Crc, Frame, Kind, Payload, PayloadFault, Props};
+use crate::{BadAck, Inbox, Next, Outbox, TakeFault, Taken};
+use blip_frame::{Crc, Frame, Kind, Payload, PayloadFault, Props, read_frame};
 use sg_outside::Bytes;
 use std::alloc::{AllocError, Global};
 use std::test::Fail;
@@ -14,11 +14,18 @@ fn zeros(alloc: Global, body: usize) -> Result<Payload, AllocError> {
     })
 }
 
-/// The frames of all that waits, of which there are at most four.
+/// An outbox with one request of so many bytes.
+fn with_request(alloc: Global, bytes: usize) -> Result<Outbox, AllocError> {
+    let mut outbox = Outbox::new(alloc);
+    outbox.put_request(zeros(alloc, bytes.saturating_sub(1))?, false)?;
+    Ok(outbox)
+}
+
+/// The frames of all that may be sent, of which there are at most twenty.
 fn frames(alloc: Global, outbox: &mut Outbox) -> Result<Vec<Bytes>, AllocError> {
     let mut crc = Crc::new();
     let mut frames = Vec::new(alloc);
-    for _ in 0..5 {
+    for _ in 0..20 {
         let mut out = Bytes::new(alloc);
         match outbox.next_frame(&mut crc, &mut out)? {
             Next::Frame => frames.push(out)?,
@@ -28,122 +35,346 @@ fn frames(alloc: Global, outbox: &mut Outbox) -> Result<Vec<Bytes>, AllocError> 
     Ok(frames)
 }
 
+/// The first byte of each, which is the number.
+fn numbers(alloc: Global, outbox: &mut Outbox) -> Result<Vec<u8>, AllocError> {
+    let mut numbers = Vec::new(alloc);
+    for frame in &frames(alloc, outbox)? {
+        numbers.push(frame.as_slice().first().copied().unwrap_or(0))?;
+    }
+    Ok(numbers)
+}
+
 #[test]
 fn cut_at_16384_bytes(rt: HostRuntime) -> Result<(), Fail> {
-    // Bytes of the body; for each frame its length, how it begins and its checksum.
-    let one: [(usize, [u8; 3], [u8; 4]); 1] = [(16_390, [1, 0, 0], [0xab, 0x54, 0xd2, 0x86])];
-    let two: [(usize, [u8; 3], [u8; 4]); 2] = [
-        (16_390, [1, 0x40, 0], [0xab, 0x54, 0xd2, 0x86]),
-        (7, [1, 0, 0], [0xd6, 0x72, 0x9d, 0x4a]),
+    // How each frame begins, and its checksum.
+    let want: [([u8; 3], [u8; 4]); 2] = [
+        ([1, 0x40, 0], [0xab, 0x54, 0xd2, 0x86]),
+        ([1, 0, 0], [0xd6, 0x72, 0x9d, 0x4a]),
     ];
-    let table: [(usize, &[(usize, [u8; 3], [u8; 4])]); 2] = [(16_383, &one), (16_384, &two)];
-    for (body, want) in table {
-        let mut outbox = Outbox::new(rt.alloc());
-        let number = outbox.put_request(zeros(rt.alloc(), body)?, false)?;
-        assert_eq!(rt; number, 1);
-        let sent = frames(rt.alloc(), &mut outbox)?;
-        assert_eq!(rt; sent.len(), want.len());
-        for (frame, (len, begins, ends)) in sent.as_slice().iter().zip(want) {
-            assert_eq!(rt; frame.len(), *len);
-            assert!(rt; frame.as_slice().starts_with(begins));
-            assert!(rt; frame.as_slice().ends_with(ends));
-        }
+    let sent = frames(rt.alloc(), &mut with_request(rt.alloc(), 16_385)?)?;
+    assert_eq!(rt; sent.len(), want.len());
+    for (frame, (begins, ends)) in sent.as_slice().iter().zip(&want) {
+        assert!(rt; frame.as_slice().starts_with(begins));
+        assert!(rt; frame.as_slice().ends_with(ends));
     }
     Ok(())
 }
 
 #[test]
-fn one_after_another(rt: HostRuntime) -> Result<(), Fail> {
-    let alloc = rt.alloc();
-    let mut outbox = Outbox::new(alloc);
-    outbox.put_reply(1, Kind::Rpy, false, zeros(alloc, 0)?)?;
-    assert!(rt; outbox.has_reply(1));
-    assert!(rt; !outbox.has_reply(2));
-    let first = outbox.put_request(zeros(alloc, 0)?, true)?;
-    let second = outbox.put_request(zeros(alloc, 0)?, false)?;
-    assert_eq!(rt; (first, second), (1, 2));
-    assert_eq!(rt; outbox.requests(), 2);
-    let sent = frames(alloc, &mut outbox)?;
-    // CRC-32 of one zero, of two and of three.
-    let want: [&[u8]; 3] = [
-        b"\x01\x01\x00\xd2\x02\xef\x8d",
-        b"\x01\x20\x00\x41\xd9\x12\xff",
-        b"\x02\x00\x00\xff\x41\xd9\x12",
+fn paused_above_128000_bytes(rt: HostRuntime) -> Result<(), Fail> {
+    // The bytes of a request, how many frames go, and how many more once they are acknowledged.
+    let table: [(usize, usize, usize); 4] = [
+        (16_384, 1, 0),
+        (16_385, 2, 0),
+        (131_072, 8, 0),
+        (131_073, 8, 1),
     ];
-    assert_eq!(rt; sent.len(), want.len());
-    for (frame, want) in sent.as_slice().iter().zip(want) {
-        assert_eq!(rt; frame.as_slice(), want);
+    for (bytes, first, then) in table {
+        let mut outbox = with_request(rt.alloc(), bytes)?;
+        assert_eq!(rt; frames(rt.alloc(), &mut outbox)?.len(), first);
+        assert!(rt; outbox.acked(Kind::AckMsg, 1, 131_072).is_ok());
+        let rest = frames(rt.alloc(), &mut outbox)?;
+        assert_eq!(rt; rest.len(), then);
     }
     Ok(())
 }
 
-fn frame(number: u64, kind: Kind, more: bool, payload: &[u8]) -> Frame<'_> {
-    Frame {
+/// Three waiting: request 1 of two frames, the urgent reply 9 of two, and an acknowledgement of request 3.
+fn three(alloc: Global) -> Result<Outbox, AllocError> {
+    let mut outbox = with_request(alloc, 16_385)?;
+    outbox.put_ack(Kind::AckMsg, 3, 65_536)?;
+    if !outbox.has_reply(9) {
+        outbox.put_reply(9, Kind::Rpy, true, zeros(alloc, 16_384)?)?;
+    }
+    Ok(outbox)
+}
+
+#[test]
+fn acknowledgements_and_urgent_messages_first(rt: HostRuntime) -> Result<(), Fail> {
+    let sent = numbers(rt.alloc(), &mut three(rt.alloc())?)?;
+    assert_eq!(rt; sent.as_slice(), [3, 9, 9, 1, 1].as_slice());
+    let sent = frames(rt.alloc(), &mut three(rt.alloc())?)?;
+    let first = sent.as_slice().first().map(|frame| frame.as_slice());
+    assert_eq!(rt; first, Some(b"\x03\x34\x80\x80\x04".as_slice()));
+    Ok(())
+}
+
+#[test]
+fn acknowledgements_that_can_not_be_true(rt: HostRuntime) -> Result<(), Fail> {
+    let mut outbox = with_request(rt.alloc(), 131_073)?;
+    assert_eq!(rt; outbox.requests(), 1);
+    if !outbox.has_reply(5) {
+        outbox.put_reply(5, Kind::Err, false, zeros(rt.alloc(), 0)?)?;
+    }
+    let _sent = frames(rt.alloc(), &mut outbox)?;
+    // Of the last column's bytes that were sent, where the acknowledgement is refused.
+    let table: [(Kind, u64, u64, Option<u64>); 9] = [
+        (Kind::AckMsg, 0, 0, Some(0)),
+        (Kind::AckMsg, 2, 0, Some(0)),
+        (Kind::AckMsg, 1, 131_073, Some(131_072)),
+        (Kind::AckMsg, 1, 131_072, None),
+        (Kind::AckMsg, 1, 0, None),
+        (Kind::AckRpy, 0, 0, Some(0)),
+        (Kind::AckRpy, 6, 0, Some(0)),
+        (Kind::AckRpy, 5, 1_000_000, None),
+        (Kind::AckRpy, 4, 7, None),
+    ];
+    for (kind, number, bytes, refused) in table {
+        let want = refused.map(|sent| BadAck {
+            number,
+            bytes,
+            sent,
+        });
+        assert_eq!(rt; heard(&mut outbox, kind, number, bytes), want);
+    }
+    Ok(())
+}
+
+fn heard(outbox: &mut Outbox, kind: Kind, number: u64, bytes: u64) -> Option<BadAck> {
+    if kind.has_checksum() {
+        return None;
+    }
+    outbox.acked(kind, number, bytes).err()
+}
+
+/// What a frame gave, of a message its kind, number, marks and the first byte of the body.
+#[derive(Clone, Copy, Debug, PartialEq, Eq)]
+enum Gave {
+    Nothing,
+    Ack(Kind, u64, u64),
+    Owed(Kind, u64, u64),
+    Whole(Kind, u64, bool, bool, Option<u8>),
+    Refused(TakeFault),
+}
+
+fn answer(inbox: &mut Inbox, alloc: Global, frame: &Frame<'_>) -> Gave {
+    match inbox.take(alloc, frame) {
+        Ok(Taken::Nothing) => Gave::Nothing,
+        Ok(
+            Taken::Ack {
+                kind,
+                number,
+                bytes,
+            },
+        ) => Gave::Ack(kind, number, bytes),
+        Ok(
+            Taken::Owed {
+                kind,
+                number,
+                bytes,
+            },
+        ) => Gave::Owed(kind, number, bytes),
+        Ok(Taken::Whole(message)) => Gave::Whole(
+            message.kind,
+            message.number,
+            message.urgent,
+            message.no_reply,
+            message.payload.body.as_slice().first().copied(),
+        ),
+        Err(fault) => Gave::Refused(fault),
+    }
+}
+
+/// A frame of request 1 to 4 or so: urgent where it is said to be, and with no reply else.
+fn take(
+    inbox: &mut Inbox,
+    alloc: Global,
+    number: u64,
+    kind: Kind,
+    urgent: bool,
+    more: bool,
+    payload: &[u8],
+) -> Gave {
+    let frame = Frame {
         number,
         kind,
-        urgent: true,
-        no_reply: false,
+        urgent,
+        no_reply: !urgent,
         more,
         payload,
-    }
-}
-
-fn whole(taken: Taken) -> Option<Message> {
-    match taken {
-        Taken::Whole(message) => Some(message),
-        _ => None,
-    }
+    };
+    answer(inbox, alloc, &frame)
 }
 
 #[test]
-fn out_of_order(rt: HostRuntime) -> Result<(), Fail> {
+fn frames_that_do_not_fit(rt: HostRuntime) -> Result<(), Fail> {
     let alloc = rt.alloc();
     let mut inbox = Inbox::new(alloc);
+    inbox.expect(5)?;
     inbox.expect(7)?;
-    let request = inbox.take(alloc, &frame(1, Kind::Msg, false, b"\x00"));
-    assert!(rt; request.is_ok());
-    let table: [(u64, Kind, bool); 10] = [
+    let out_of_order: [(u64, Kind, bool); 16] = [
+        // Request 1 comes whole, request 2 and the error reply 5 begin.
+        (1, Kind::Msg, false),
+        (2, Kind::Msg, true),
+        (5, Kind::Err, true),
+        // Requests of no number, of one that came whole, and of one after the next.
         (0, Kind::Msg, false),
         (1, Kind::Msg, false),
-        (3, Kind::Msg, false),
-        (2, Kind::Msg, true),
+        (1, Kind::Msg, true),
+        (4, Kind::Msg, false),
+        (4, Kind::Msg, true),
+        // Requests of the numbers of expected replies.
+        (5, Kind::Msg, false),
         (7, Kind::Msg, false),
+        // A reply of another kind than it began with, and replies that are not expected.
+        (5, Kind::Rpy, false),
+        (5, Kind::Rpy, true),
         (2, Kind::Rpy, false),
-        (8, Kind::Err, false),
-        (7, Kind::Rpy, true),
-        (1, Kind::AckMsg, false),
-        (7, Kind::AckRpy, false),
+        (8, Kind::Err, true),
+        (0, Kind::Rpy, false),
+        (6, Kind::Err, false),
     ];
-    for (number, kind, more) in table {
-        let taken = inbox.take(alloc, &frame(number, kind, more, b"\x00"));
-        assert_eq!(rt;
-            taken.err(),
-            Some(TakeFault::OutOfOrder { number }),
-            "{number} {kind:?} {more}"
-        );
+    for (i, (number, kind, more)) in out_of_order.iter().enumerate() {
+        let gave = take(&mut inbox, alloc, *number, *kind, false, *more, b"\x00");
+        let refused = gave == Gave::Refused(TakeFault::OutOfOrder { number: *number });
+        assert_eq!(rt; refused, i >= 3, "{number} {kind:?} {more}");
     }
-    let reply = inbox.take(alloc, &frame(7, Kind::Err, false, b"\x00"));
-    assert!(rt; reply.is_ok());
-    let again = inbox.take(alloc, &frame(7, Kind::Rpy, false, b"\x00"));
-    assert_eq!(rt; again.err(), Some(TakeFault::OutOfOrder { number: 7 }));
+    // What was refused left the inbox as it was; the reply has come whole once.
+    let reply = take(&mut inbox, alloc, 5, Kind::Err, true, false, b"c");
+    assert_eq!(rt; reply, Gave::Whole(Kind::Err, 5, false, true, Some(b'c')));
+    let again = take(&mut inbox, alloc, 5, Kind::Err, true, false, b"\x00");
+    assert_eq!(rt; again, Gave::Refused(TakeFault::OutOfOrder { number: 5 }));
     Ok(())
 }
 
 #[test]
-fn messages_of_one_frame(rt: HostRuntime) -> Result<(), Fail> {
-    let alloc = rt.alloc();
+fn request_two_before_one(rt: HostRuntime) -> Result<(), Fail> {
+    let mut inbox = Inbox::new(rt.alloc());
+    let gave = take(&mut inbox, rt.alloc(), 2, Kind::Msg, true, false, b"\x00");
+    assert_eq!(rt; gave, Gave::Refused(TakeFault::OutOfOrder { number: 2 }));
+    Ok(())
+}
+
+#[test]
+fn payloads_of_acknowledgements(rt: HostRuntime) -> Result<(), Fail> {
+    let bad = Gave::Refused(TakeFault::BadAckPayload);
+    let table: [(&[u8], Gave); 6] = [
+        (b"\x80\x01", Gave::Ack(Kind::AckRpy, 3, 128)),
+        (b"\x85\x00", Gave::Ack(Kind::AckRpy, 3, 5)),
+        (b"", bad),
+        (b"\x80", bad),
+        (b"\x05\x00", bad),
+        (b"\xff\xff\xff\xff\xff\xff\xff\xff\xff\xff\x01", bad),
+    ];
+    let mut inbox = Inbox::new(rt.alloc());
+    for (payload, want) in &table {
+        let gave = take(&mut inbox, rt.alloc(), 3, Kind::AckRpy, true, true, payload);
+        assert_eq!(rt; gave, *want);
+    }
+    Ok(())
+}
+
+#[test]
+fn acknowledgements_owed(rt: HostRuntime) -> Result<(), Fail> {
+    let mut inbox = Inbox::new(rt.alloc());
+    inbox.expect(1)?;
+    let piece = vec![in rt.alloc(); 0; 16_384]?;
+    let table: [(Kind, Gave); 9] = [
+        (Kind::Msg, Gave::Nothing),
+        (Kind::Rpy, Gave::Nothing),
+        (Kind::Msg, Gave::Nothing),
+        (Kind::Msg, Gave::Nothing),
+        (Kind::Msg, Gave::Owed(Kind::AckMsg, 1, 65_536)),
+        (Kind::Rpy, Gave::Nothing),
+        (Kind::Msg, Gave::Nothing),
+        (Kind::Rpy, Gave::Nothing),
+        (Kind::Rpy, Gave::Owed(Kind::AckRpy, 1, 65_536)),
+    ];
+    for (kind, want) in table {
+        let gave = take(
+            &mut inbox,
+            rt.alloc(),
+            1,
+            kind,
+            true,
+            true,
+            piece.as_slice(),
+        );
+        assert_eq!(rt; gave, want);
+    }
+    Ok(())
+}
+
+#[test]
+fn joined_whatever_comes_between(rt: HostRuntime) -> Result<(), Fail> {
+    let mut inbox = Inbox::new(rt.alloc());
+    inbox.expect(1)?;
+    let short = Gave::Refused(TakeFault::Payload(PayloadFault::Short));
+    // The marks are those of the first frame. A faulty payload leaves the inbox as it was.
+    let table: [(u64, Kind, bool, bool, &[u8], Gave); 9] = [
+        (1, Kind::Msg, true, true, b"", Gave::Nothing),
+        (2, Kind::Msg, false, true, b"\x08k\0va", Gave::Nothing),
+        (1, Kind::Rpy, true, true, b"\x00ab", Gave::Nothing),
+        (1, Kind::Msg, false, true, b"\x00", Gave::Nothing),
+        (2, Kind::Msg, true, true, b"lue\0", Gave::Nothing),
+        (3, Kind::Msg, true, false, b"\x05", short),
+        (
+            2,
+            Kind::Msg,
+            true,
+            false,
+            b"body",
+            Gave::Whole(Kind::Msg, 2, false, true, Some(b'b')),
+        ),
+        (
+            1,
+            Kind::Rpy,
+            false,
+            false,
+            b"",
+            Gave::Whole(Kind::Rpy, 1, true, false, Some(b'a')),
+        ),
+        (
+            1,
+            Kind::Msg,
+            true,
+            false,
+            b"",
+            Gave::Whole(Kind::Msg, 1, true, false, None),
+        ),
+    ];
+    for (number, kind, urgent, more, payload, want) in &table {
+        let gave = take(
+            &mut inbox,
+            rt.alloc(),
+            *number,
+            *kind,
+            *urgent,
+            *more,
+            payload,
+        );
+        assert_eq!(rt; gave, *want);
+    }
+    Ok(())
+}
+
+/// What an inbox answers to the frames of an outbox.
+fn carried(alloc: Global, outbox: &mut Outbox) -> Result<Vec<Gave>, Fail> {
     let mut inbox = Inbox::new(alloc);
-    // A faulty payload leaves the inbox as it was.
-    let refused = inbox.take(alloc, &frame(1, Kind::Msg, false, b"\x05"));
-    let fault = TakeFault::Payload(PayloadFault::Short);
-    assert_eq!(rt; refused.err(), Some(fault));
-    let bytes = b"\x08k\0value\0body";
-    let taken = inbox.take(alloc, &frame(1, Kind::Msg, false, bytes));
-    let message = whole(taken.ok().ok_or("fault")?).ok_or("part")?;
-    assert_eq!(rt; message.number, 1);
-    assert_eq!(rt; message.kind, Kind::Msg);
-    assert!(rt; message.urgent && !message.no_reply);
-    assert_eq!(rt; message.payload.props.get("k"), Some("value"));
-    assert_eq!(rt; message.payload.body.as_slice(), b"body".as_slice());
+    let mut crc = Crc::new();
+    let mut given = Vec::new(alloc);
+    for bytes in &frames(alloc, outbox)? {
+        match read_frame(&mut crc, bytes.as_slice()) {
+            Ok(frame) => given.push(answer(&mut inbox, alloc, &frame))?,
+            Err(_) => return Err("no frame")?,
+        }
+    }
+    Ok(given)
+}
+
+#[test]
+fn two_requests_in_turn(rt: HostRuntime) -> Result<(), Fail> {
+    let mut outbox = with_request(rt.alloc(), 16_385)?;
+    if outbox.requests() < u64::MAX {
+        outbox.put_request(zeros(rt.alloc(), 16_384)?, true)?;
+    }
+    let given = carried(rt.alloc(), &mut outbox)?;
+    let want = [
+        Gave::Nothing,
+        Gave::Nothing,
+        Gave::Whole(Kind::Msg, 1, false, false, Some(0)),
+        Gave::Whole(Kind::Msg, 2, false, true, Some(0)),
+    ];
+    assert_eq!(rt; given.as_slice(), want.as_slice());
     Ok(())
 }

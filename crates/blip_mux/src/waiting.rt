@@ -2,7 +2,7 @@
 
 ghost use Rattle.std.specs.Prelude.{◌≡◌, ◌<◌, ◌≤◌, length, take, true};
 ghost use Rattle.blip_frame.specs.Frame.{parts_of, has_checksum, largest_written};
-ghost use Rattle.blip_mux.specs.Sending.{is_reply_to, has_more, first_piece, without_piece};
+ghost use Rattle.blip_mux.specs.Sending.{is_reply_to, is_of, is_told_by, has_more, first_piece, without_piece, may_send, unsent, heard};
 
 use blip_frame::{Frame, Kind};
 use sg_outside::Bytes;
@@ -11,7 +11,10 @@ use std::marker::Model;
 /// The most bytes of a payload that one frame carries.
 const LARGEST_PIECE: usize = 16_384;
 
-/// A message, its bytes, and how many of them were sent.
+/// Above so many bytes that were sent and not acknowledged a message pauses.
+const PAUSE_ABOVE: u64 = 128_000;
+
+/// A message, its bytes, how many of them were sent, and how many the other side has told to have.
 #[derive(Drop)]
 pub(crate) struct WaitingMessage {
     number: u64,
@@ -20,18 +23,19 @@ pub(crate) struct WaitingMessage {
     no_reply: bool,
     bytes: Bytes,
     sent: usize,
+    acknowledged: u64,
 }
 
 impl Model for WaitingMessage {
-    ghost use Rattle.std.specs.Prelude.{◌≡◌, ◌<◌, length, drop, true};
+    ghost use Rattle.std.specs.Prelude.{◌≡◌, ◌<◌, ◌≤◌, length, drop, true};
     ghost use Rattle.blip_frame.specs.Frame.{has_checksum};
     ghost use Rattle.blip_mux.specs.Sending.{Waiting};
 
     ghost Value = { Waiting };
 
-    ghost view = { λ w. record { number = w.number; kind = w.kind; urgent = w.urgent; no_reply = w.no_reply; rest = drop w.sent w.bytes } };
+    ghost view = { λ w. record { number = w.number; kind = w.kind; urgent = w.urgent; no_reply = w.no_reply; sent = w.sent; acknowledged = w.acknowledged; rest = drop w.sent w.bytes } };
 
-    ghost invariant = { λ w. (w.sent < length w.bytes) × (has_checksum w.kind ≡ true) };
+    ghost invariant = { λ w. (w.sent < length w.bytes) × (has_checksum w.kind ≡ true) × (w.acknowledged ≤ w.sent) };
 }
 
 impl WaitingMessage {
@@ -45,7 +49,7 @@ impl WaitingMessage {
     ) -> WaitingMessage
         requires some { 0 < length bytes }
         requires kind { has_checksum kind ≡ true }
-        ensures { result ≡ record { number = number; kind = kind; urgent = urgent; no_reply = no_reply; rest = bytes } }
+        ensures { result ≡ unsent number kind urgent no_reply bytes }
     {
         WaitingMessage {
             number,
@@ -54,7 +58,28 @@ impl WaitingMessage {
             no_reply,
             bytes,
             sent: 0,
+            acknowledged: 0,
         }
+    }
+
+    pub(crate) fn is_urgent(&self) -> bool
+        ensures { result ≡ self.now.urgent }
+    {
+        self.urgent
+    }
+
+    /// How many bytes were sent.
+    pub(crate) fn sent(&self) -> u64
+        ensures { result ≡ self.now.sent }
+    {
+        self.sent as u64
+    }
+
+    /// Whether so little of it is not acknowledged that it may send.
+    pub(crate) fn may_send(&self) -> bool
+        ensures { result ≡ may_send self.now }
+    {
+        self.sent as u64 - self.acknowledged <= PAUSE_ABOVE
     }
 
     /// Whether it is a reply to the request of this number.
@@ -62,6 +87,21 @@ impl WaitingMessage {
         ensures { result ≡ is_reply_to number self.now }
     {
         matches!(self.kind, Kind::Rpy | Kind::Err) && self.number == number
+    }
+
+    /// Whether an acknowledgement of this kind and this number is of it.
+    pub(crate) fn is_of(&self, kind: Kind, number: u64) -> bool
+        ensures { result ≡ is_of kind number self.now }
+    {
+        is_told_by(kind, self.kind) && self.number == number
+    }
+
+    /// Notes that so many of its bytes have come, of those that were sent.
+    pub(crate) fn heard(&mut self, bytes: u64)
+        requires { bytes ≤ self.old.sent }
+        ensures { self.new ≡ heard bytes self.old }
+    {
+        self.acknowledged = bytes.max(self.acknowledged);
     }
 
     /// Whether more bytes are left than one frame carries.
@@ -97,6 +137,16 @@ impl WaitingMessage {
         let left = self.bytes.len() - self.sent;
         prove!(left > LARGEST_PIECE);
         self.sent += LARGEST_PIECE;
+    }
+}
+
+/// Whether acknowledgements of the one kind are of messages of the other.
+pub(crate) fn is_told_by(kind: Kind, of: Kind) -> bool
+    ensures { result ≡ is_told_by kind of }
+{
+    match kind {
+        Kind::Msg | Kind::AckMsg => of == Kind::Msg,
+        Kind::Rpy | Kind::Err | Kind::AckRpy => matches!(of, Kind::Rpy | Kind::Err),
     }
 }
 

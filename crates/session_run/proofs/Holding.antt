@@ -1,8 +1,8 @@
 -- A session that runs, from result to result.
-use Rattle.std.proofs.Common.{◌≡◌, ℕ, ◌+◌, Bool, true, false, ◌&&◌, not, List, [], ◌∷◌, ◌++◌, Option, None, Result, Ok, Err, refl, sym, ◌∙◌, ap, subst, if◌then◌else◌, arith, append-nil}
+use Rattle.std.proofs.Common.{◌≡◌, ℕ, ◌+◌, Bool, true, false, ◌&&◌, not, List, [], ◌∷◌, ◌++◌, Option, Some, None, Result, Ok, Err, refl, sym, ◌∙◌, ap, subst, if◌then◌else◌, arith, append-nil}
 use Rattle.std.proofs.lemmas.Bool.{false≢true}
 use Rattle.std.proofs.lemmas.List.{append_assoc}
-use Rattle.sg_outside.specs.Wire.{Traffic, received}
+use Rattle.sg_outside.specs.Wire.{Traffic}
 use Rattle.sg_outside.specs.declared.wire.Got.{Got}
 use Rattle.sg_outside.specs.declared.wire.Got.TheVariants as got
 use Rattle.blip_frame.specs.Checksum.{checksum, after_bits}
@@ -10,35 +10,37 @@ use Rattle.blip_frame.specs.Frame.{FrameParts, ◌>>=◌, frame_at, frames_at, w
 use Rattle.blip_frame.specs.Frame as frame
 use Rattle.blip_frame.specs.declared.frame.FrameFault.{FrameFault}
 use Rattle.blip_mux.specs.declared.message.Message.{Message}
-use Rattle.blip_mux.specs.Joining.{Event, came, expected, is_request, message_at, joined_as, taken_after, StandsFor}
-use Rattle.blip_mux.specs.Sending.{Waiting}
-use Rattle.blip_mux.specs.Standing.{Standing, new_standing, expecting}
+use Rattle.blip_mux.specs.Apart.{AreApart}
+use Rattle.blip_mux.specs.Joining.{Event, came, expected, is_request, answer_in}
+use Rattle.blip_mux.specs.Remembered.{Standing}
+use Rattle.blip_mux.specs.Standing.{new_standing, expecting, answer_at, taken_after, StandsFor}
+use Rattle.blip_mux.specs.Sending.{Sending, new_sending, picked}
 use Rattle.sg_history.specs.declared.entries.Entry.{Entry}
 use Rattle.repl_messages.specs.declared.request.Version.{Version}
 use Rattle.session_core.specs.declared.look.Look.{Look}
 use Rattle.session_core.specs.declared.machine.Pending.TheVariants as pending
-use Rattle.session_core.specs.Exchange.{requests_among}
-use Rattle.session_core.specs.Session.{Exchanged}
+use Rattle.session_core.specs.Exchange.{Exchange, requests_among, requests_put}
+use Rattle.session_core.specs.Session.{Exchanged, AreExchanged, looks_of}
 use Rattle.session_core.specs.Machine.{Machine}
 use Rattle.session_core.specs.Conduct.{led_to}
 use Rattle.write_path.specs.Looks.{IsLaterThanAll}
 use Rattle.session_run.specs.declared.session.Session.{Session}
-use Rattle.session_run.specs.Held.{IsAtRest, Holds, Turns}
+use Rattle.session_run.specs.Held.{IsAtRest, IsMade, Holds, Turns}
 use Rattle.session_run.specs.Sent.{expecting_by, expecting_all}
 use Rattle.session_run.specs.Served.{are_frames, bytes_of}
-use Rattle.session_run.specs.Turns.{Turn, exchanges_of, frames_of, events_of, put_after, all_put_after}
+use Rattle.session_run.specs.Turns.{Turn, puts_in, with_exchange, exchanges_of, frames_of, events_of, put_after, all_put_after}
 
 -- ---- what is expected
 
 -- what the inbox keeps of what came, as its laws say
 abbrev pub Came : Type 0
-Came = (s : Standing) (before : List Event) (f : FrameParts) → StandsFor s before → StandsFor (taken_after s f.kind f.number) (came f ∷ before)
+Came = (s : Standing) (before : List Event) (f : FrameParts) → StandsFor s before → StandsFor (taken_after s f) (came f ∷ before)
 
 abbrev pub Expects : Type 0
 Expects = (s : Standing) (before : List Event) (number : ℕ) → StandsFor s before → StandsFor (expecting s number) (expected number ∷ before)
 
 abbrev pub Joins : Type 0
-Joins = (s : Standing) (before : List Event) (f : FrameParts) → StandsFor s before → message_at s f ≡ joined_as before f
+Joins = (s : Standing) (before : List Event) (f : FrameParts) → StandsFor s before → answer_at s f ≡ answer_in before f
 
 one_stands : Expects → (s : Standing) (before : List Event) (m : Message) (b : Bool) → StandsFor s before
     → StandsFor (if b then expecting s m.number else s) (if b then expected m.number ∷ before else before)
@@ -122,38 +124,63 @@ sent_more sent (f ∷ frames) others = sent_more (frame.sent_after sent f) frame
 abbrev pub Extends : List (List Entry) → List (List Entry) → Type 0
 Extends before after = (h : List Entry) → IsLaterThanAll after h → IsLaterThanAll before h
 
--- the exchange of a turn is the session's
+-- what holds of an exchange, where one was begun
+made_user : (old new : Session) (met : List (List Entry)) (x : Option Exchange) → IsMade old new met x → new.core.user ≡ old.core.user
+made_user old new met None made = ap (λ (m : Machine). m.user) made.0
+made_user old new met (Some x) (acts, made, looks) = made.user
+
+made_version : (old new : Session) (met : List (List Entry)) (x : Option Exchange) → IsMade old new met x → new.core.version ≡ old.core.version
+made_version old new met None made = ap (λ (m : Machine). m.version) made.0
+made_version old new met (Some x) (acts, made, looks) = made.version
+
+made_requests : (old new : Session) (met : List (List Entry)) (x : Option Exchange) (earlier : List Exchange) → IsMade old new met x → old.core.requests ≡ requests_put earlier → new.core.requests ≡ requests_put (with_exchange x earlier)
+made_requests old new met None earlier made e = ap (λ (m : Machine). m.requests) made.0 ∙ e
+made_requests old new met (Some x) earlier (acts, made, looks) e = made.requests ∙ ap (λ n. requests_among x.puts + n) e
+
+pub made_looks : (old new : Session) (met : List (List Entry)) (x : Option Exchange) (earlier : List Exchange) → IsMade old new met x → old.looks ≡ looks_of earlier → new.looks ≡ looks_of (with_exchange x earlier)
+made_looks old new met None earlier made e = made.1 ∙ e
+made_looks old new met (Some x) earlier (acts, made, looks) e = looks ∙ ap (λ (l : List Look). l ++ x.looks) e
+
+made_led : (h : List Entry) (user : List ℕ) (version : Version) (old new : Session) (met : List (List Entry)) (x : Option Exchange) (earlier : List Exchange) → IsMade old new met x → IsLaterThanAll met h
+    → old.core ≡ led_to h user version earlier → AreExchanged h user version earlier
+    → AreExchanged h user version (with_exchange x earlier) × (new.core ≡ led_to h user version (with_exchange x earlier))
+made_led h user version old new met None earlier made later led all = (all, made.0 ∙ led)
+made_led h user version old new met (Some x) earlier (acts, made, looks) later led all =
+    let made_now : Exchanged h user version earlier x × (new.core ≡ led_to h user version (x ∷ earlier)) = made.leads h user version earlier later led in
+    ((made_now.0, all), made_now.1)
+
+-- the exchanges of a turn are the session's
 pub turn_exchanged : (user : List ℕ) (version : Version) (met after : List (List Entry)) (old new : Session) (turns : List Turn) (frames : List FrameParts) (results : List Got) (sent : List (List ℕ))
-    (bytes : List ℕ) (told told_after : Option Traffic) (t : Turn) (left : List Waiting)
+    (bytes : List ℕ) (told told_after : Option Traffic) (t : Turn) (left : Sending)
     → Holds user version met old turns frames results sent → Turns old new bytes after told told_after t left → Extends met after
-    → (h : List Entry) → IsLaterThanAll after h → Exchanged h user version (exchanges_of turns) t.exchange × (new.core ≡ led_to h user version (exchanges_of (t ∷ turns)))
+    → (h : List Entry) → IsLaterThanAll after h → AreExchanged h user version (exchanges_of (t ∷ turns)) × (new.core ≡ led_to h user version (exchanges_of (t ∷ turns)))
 turn_exchanged user version met after old new turns frames results sent bytes told told_after t left held did extends h later =
-    did.made.leads h user version (exchanges_of turns) later (held.led h (extends h later))
+    made_led h user version old new after t.exchange (exchanges_of turns) did.made later (held.led h (extends h later)) (held.exchanged h (extends h later))
 
 pub holds_on : Came → Expects → Joins
     → (user : List ℕ) (version : Version) (met after : List (List Entry)) (old new : Session) (turns : List Turn) (frames : List FrameParts) (results : List Got) (sent : List (List ℕ))
     (bytes : List ℕ) (told told_after : Option Traffic) (t : Turn)
     → Holds user version met old turns frames results sent → Extends met after
-    → (did : Turns old new bytes after told told_after t []) → did.value ≡ new.mux.sent.value → IsAtRest new
-    → new.mux.inbox ≡ expecting_all t.exchange.puts (taken_after old.mux.inbox t.frame.kind t.frame.number)
+    → (did : Turns old new bytes after told told_after t new.mux.outbox) → did.value ≡ new.mux.sent.value → IsAtRest new
+    → new.mux.inbox ≡ expecting_all (puts_in t.exchange) (taken_after old.mux.inbox t.frame)
     → Holds user version after new (t ∷ turns) (frames ++ did.frames) (results ++ got.Frame bytes ∷ []) (sent ++ did.sent)
 holds_on law_came law_expects law_joins user version met after old new turns frames results sent bytes told told_after t held extends did value rest inbox =
     let written : AreWrittenAfter (all_sent [] frames) did.sent did.frames × (did.value ≡ checksum (all_sent (all_sent [] frames) did.frames)) = did.written (all_sent [] frames) held.checked in
     record {
-      user_is = did.made.user ∙ held.user_is;
-      version_is = did.made.version ∙ held.version_is;
-      requests = did.made.requests ∙ ap (λ n. requests_among t.exchange.puts + n) held.requests;
+      user_is = made_user old new after t.exchange did.made ∙ held.user_is;
+      version_is = made_version old new after t.exchange did.made ∙ held.version_is;
+      requests = made_requests old new after t.exchange (exchanges_of turns) did.made held.requests;
       rest = rest;
-      exchanged = λ h later. ((turn_exchanged user version met after old new turns frames results sent bytes told told_after t [] held did extends h later).0, held.exchanged h (extends h later));
-      led = λ h later. (turn_exchanged user version met after old new turns frames results sent bytes told told_after t [] held did extends h later).1;
-      joined = (sym (law_joins old.mux.inbox (events_of turns) t.frame held.inbox) ∙ did.message, held.joined);
+      exchanged = λ h later. (turn_exchanged user version met after old new turns frames results sent bytes told told_after t new.mux.outbox held did extends h later).0;
+      led = λ h later. (turn_exchanged user version met after old new turns frames results sent bytes told told_after t new.mux.outbox held did extends h later).1;
+      joined = (sym (law_joins old.mux.inbox (events_of turns) t.frame held.inbox) ∙ did.answer, did.given, held.joined);
       inbox = subst (λ s. StandsFor s (events_of (t ∷ turns))) (sym inbox)
-          (all_stand law_expects t.exchange.puts (taken_after old.mux.inbox t.frame.kind t.frame.number) (came t.frame ∷ events_of turns) (law_came old.mux.inbox (events_of turns) t.frame held.inbox));
-      looks = did.looks ∙ ap (λ (looks : List Look). looks ++ t.exchange.looks) held.looks;
+          (all_stand law_expects (puts_in t.exchange) (taken_after old.mux.inbox t.frame) (came t.frame ∷ events_of turns) (law_came old.mux.inbox (events_of turns) t.frame held.inbox));
+      looks = made_looks old new after t.exchange (exchanges_of turns) did.made held.looks;
       count = omega (arith, did.count, held.count);
       taken = frames_on results bytes held.taken;
       read = read_on results (frames_of turns) t.frame bytes old.mux.received.value new.mux.received.value held.read did.read;
-      put = (frames, did.frames, refl, held.put, did.go);
+      put = (frames, did.frames, old.mux.outbox, refl, held.put, held.rest.idle, did.heard, did.go);
       written = written_more [] sent did.sent frames did.frames held.written written.0;
       checked = sym value ∙ written.1 ∙ ap checksum (sym (sent_more [] frames did.frames));
     }
@@ -186,15 +213,20 @@ nothing_checked = refl
 
 -- a session to which nothing has come
 pub holds_new : (user : List ℕ) (version : Version) (met : List (List Entry)) (s : Session)
-    → StandsFor new_standing []
+    → StandsFor new_standing [] → AreApart new_standing new_sending
     → s.core ≡ record { user = user; version = version; requests = 0; feed = None; pending = pending.Nothing }
-    → s.mux.inbox ≡ new_standing → s.mux.outbox ≡ record { requests = 0; waiting = [] } → s.mux.received.value ≡ 0 → s.mux.sent.value ≡ 0 → s.looks ≡ [] → s.frames ≡ 0
+    → s.mux.inbox ≡ new_standing → s.mux.outbox ≡ new_sending → s.mux.received.value ≡ 0 → s.mux.sent.value ≡ 0 → s.looks ≡ [] → s.frames ≡ 0
     → Holds user version met s [] [] [] []
-holds_new user version met s stands core inbox outbox received sent looks frames = record {
+holds_new user version met s stands apart core inbox outbox received sent looks frames = record {
   user_is = ap (λ (m : Machine). m.user) core;
   version_is = ap (λ (m : Machine). m.version) core;
   requests = ap (λ (m : Machine). m.requests) core;
-  rest = (ap (λ (m : Machine). m.pending) core, outbox ∙ ap (λ n. record { requests = n; waiting = [] }) (sym (ap (λ (m : Machine). m.requests) core)));
+  rest = record {
+    pending = ap (λ (m : Machine). m.pending) core;
+    requests = ap (λ (o : Sending). o.requests) outbox ∙ sym (ap (λ (m : Machine). m.requests) core);
+    idle = ap picked outbox;
+    apart = subst (λ i. AreApart i s.mux.outbox) (sym inbox) (subst (AreApart new_standing) (sym outbox) apart);
+  };
   exchanged = λ h later. tt;
   led = λ h later. core;
   joined = tt;
@@ -203,7 +235,7 @@ holds_new user version met s stands core inbox outbox received sent looks frames
   count = frames;
   taken = refl;
   read = λ later. ap (λ v. frames_at v later) (sym received);
-  put = (refl, refl);
+  put = (refl, outbox);
   written = tt;
   checked = sent ∙ nothing_checked;
 }

@@ -1,4 +1,5 @@
 pub mod Exchanging
+pub mod Answering
 pub mod Looking
 pub mod Sending
 pub mod Putting

@@ -1,5 +1,7 @@
 -- Frames that go, one after another.
-use Rattle.std.proofs.Common.{◌≡◌, ◌≢◌, ◌≤◌, ◌<◌, ℕ, Bool, true, false, List, [], ◌∷◌, ◌++◌, length, drop, Option, Some, None, refl, sym, ◌∙◌, ap, subst, if◌then◌else◌, arith, append-nil, le_trans}
+use Rattle.std.proofs.Common.{◌≡◌, ◌≢◌, ◌≤◌, ◌<◌, ℕ, ◌+◌, Bool, true, false, ◌&&◌, List, [], ◌∷◌, ◌++◌, length, Option, Some, None, refl, sym, ◌∙◌, ap, subst, if◌then◌else◌, arith, append-nil, zero-add, le_trans}
+use Rattle.std.specs.Prelude.{option_map}
+use Rattle.std.specs.Option.{option_or, option_map_or}
 use Rattle.std.proofs.lemmas.Bool.{ltb-true}
 use Rattle.std.proofs.lemmas.List.{length-drop, append_assoc}
 use Rattle.std.proofs.lemmas.Option.{none-some}
@@ -11,32 +13,61 @@ use Rattle.sg_outside.specs.declared.wire.Got.{Got}
 use Rattle.blip_frame.specs.Checksum.{checksum}
 use Rattle.blip_frame.specs.Frame as frame
 use Rattle.blip_frame.specs.Frame.{FrameParts, IsWrittenAfter, WritesAfter, AreWrittenAfter, all_sent, largest_written}
-use Rattle.blip_mux.specs.Sending.{Waiting, next_piece, after_piece, has_more, SendsAfter, Sends}
+use Rattle.blip_mux.specs.Told.{Acknowledgement, told_by}
+use Rattle.blip_mux.specs.Cutting.{ArePicked}
+use Rattle.blip_mux.specs.Sending.{Waiting, Sending, first_piece, after_piece, has_more, without_piece, back, may_send, taken_out, chosen, picked, picked_of, picked_from, after_picked, SendsAfter, Sends}
 use Rattle.blip_mux.specs.declared.outbox.Next.{Next}
 use Rattle.blip_mux.specs.declared.outbox.Next.TheVariants as nexts
-use Rattle.session_run.specs.Sent.{Go, AreWrittenFrom, Tells}
-use Rattle.session_run.specs.Muxed.{left_of, IsLeft}
+use Rattle.session_run.specs.Sent.{AreWrittenFrom, Tells}
+use Rattle.session_run.specs.Muxed.{left_of, all_left_of, IsLeft, HaveGone}
 
 -- ---- what waits
 
 -- one frame more goes
-pub go_on : (waiting : List Waiting) (frames : List FrameParts) (left : List Waiting) (f : FrameParts) → Go waiting frames left → next_piece left ≡ Some f → Go waiting (frames ++ f ∷ []) (after_piece left)
-go_on waiting [] left f e next = (ap next_piece (sym e) ∙ next, ap after_piece e)
-go_on waiting (g ∷ frames) left f (first, rest) next = (first, go_on (after_piece waiting) frames left f rest next)
+pub go_on : (s : Sending) (frames : List FrameParts) (left : Sending) (f : FrameParts) → ArePicked s frames left → picked left ≡ Some f → ArePicked s (frames ++ f ∷ []) (after_picked left)
+go_on s [] left f e next = (ap picked (sym e) ∙ next, ap after_picked e)
+go_on s (g ∷ frames) left f (first, rest) next = (first, go_on (after_picked s) frames left f rest next)
 
--- there is a next frame where something waits
-pub none_next : (waiting : List Waiting) → next_piece waiting ≡ None → waiting ≡ []
-none_next [] e = refl
-none_next (w ∷ ws) e = absurd (none-some _ (sym e))
+-- what was taken out of messages, and the others, are as much as they
+abbrev OutLeft : List Waiting → Option (Waiting × List Waiting) → Type 0
+OutLeft ws None = Unit {0}
+OutLeft ws (Some found) = left_of (found.0 ∷ found.1) ≡ left_of ws
 
--- the frame that goes leaves less
-less_left : (w : Waiting) (ws : List Waiting) (b : Bool) → has_more w ≡ b → left_of (if b then record w { rest = drop largest_written w.rest } ∷ ws else ws) < left_of (w ∷ ws)
-less_left w ws true e = omega (arith, length-drop largest_written w.rest, ltb-true largest_written (length w.rest) e)
-less_left w ws false e = omega arith
+out_step : (w : Waiting) (ws : List Waiting) (o : Option (Waiting × List Waiting)) → OutLeft ws o → OutLeft (w ∷ ws) (option_map (λ found. (found.0, w ∷ found.1)) o)
+out_step w ws None h = tt
+out_step w ws (Some found) h = omega (arith, h)
 
-pub goes_down : (waiting : List Waiting) → (waiting ≢ []) → left_of (after_piece waiting) < left_of waiting
-goes_down [] some = absurd (some refl)
-goes_down (w ∷ ws) some = less_left w ws (has_more w) refl
+out_left : (passes : Waiting → Bool) (ws : List Waiting) → OutLeft ws (taken_out passes ws)
+out_left passes [] = tt
+out_left passes (w ∷ ws) =
+    elim (passes w) as (λ b. OutLeft (w ∷ ws) (if b then Some (w, ws) else option_map (λ found. (found.0, w ∷ found.1)) (taken_out passes ws)))
+    [ true ↦ refl | false ↦ out_step w ws (taken_out passes ws) (out_left passes ws) ]
+
+out_or : (ws : List Waiting) (a b : Option (Waiting × List Waiting)) → OutLeft ws a → OutLeft ws b → OutLeft ws (option_or a b)
+out_or ws None b h k = k
+out_or ws (Some found) b h k = h
+
+left_behind : (xs ys : List Waiting) → left_of (xs ++ ys) ≡ left_of xs + left_of ys
+left_behind [] ys = sym (zero-add (left_of ys))
+left_behind (w ∷ xs) ys = omega (arith, left_behind xs ys)
+
+less_back : (w : Waiting) (b : Bool) → has_more w ≡ b → left_of (if b then without_piece w ∷ [] else []) < left_of (w ∷ [])
+less_back w true e = omega (arith, length-drop largest_written w.rest, ltb-true largest_written (length w.rest) e)
+less_back w false e = omega arith
+
+less_after : (ws : List Waiting) (o : Option (Waiting × List Waiting)) → OutLeft ws o → (option_map (λ found. first_piece found.0) o ≢ None) → left_of (option_map_or (λ found. found.1 ++ back found.0) o ws) < left_of ws
+less_after ws None h some = absurd (some refl)
+less_after ws (Some found) h some = omega (arith, h, left_behind found.1 (back found.0), less_back found.0 (has_more found.0) refl)
+
+less_picked : (s : Sending) (acknowledgements : List Acknowledgement) → s.acknowledgements ≡ acknowledgements → picked_of acknowledgements s.waiting ≢ None → all_left_of (picked_from acknowledgements s) < all_left_of s
+less_picked s [] is some =
+    let less : left_of (after_piece s.waiting) < left_of s.waiting =
+    less_after s.waiting (chosen s.waiting) (out_or s.waiting (taken_out (λ w. w.urgent && may_send w) s.waiting) (taken_out may_send s.waiting) (out_left (λ w. w.urgent && may_send w) s.waiting) (out_left may_send s.waiting)) some in
+    omega (arith, less)
+less_picked s (a ∷ acknowledgements) is some = omega (arith, ap length is)
+
+pub goes_down : (s : Sending) → (picked s ≢ None) → all_left_of (after_picked s) < all_left_of s
+goes_down s some = less_picked s s.acknowledgements refl some
 
 -- ---- what is written
 
@@ -109,71 +140,79 @@ tells_memory (Some t) after bytes e = (t, e, sym (append-nil t.got), sym (append
 
 -- ---- so far
 
--- frames went, from what waited to what waits now
-abbrev pub Going : List Waiting → ℕ → Option Traffic → List Waiting → ℕ → Option Traffic → Type 0
-Going before value told waiting value_now told_now =
-    (frames : List FrameParts) × (texts : List (List ℕ)) × Go before frames waiting × AreWrittenFrom value frames texts value_now × Tells told [] texts told_now
+-- frames went, from what was to be sent to what is to be sent now
+abbrev pub Going : Sending → ℕ → Option Traffic → Sending → ℕ → Option Traffic → Type 0
+Going before value told s value_now told_now =
+    (frames : List FrameParts) × (texts : List (List ℕ)) × ArePicked before frames s × AreWrittenFrom value frames texts value_now × Tells told [] texts told_now
 
-pub going_none : (waiting : List Waiting) (value : ℕ) (told : Option Traffic) → Going waiting value told waiting value told
-going_none waiting value told = ([], [], refl, none_written value, tells_none told)
+pub going_none : (s : Sending) (value : ℕ) (told : Option Traffic) → Going s value told s value told
+going_none s value told = ([], [], refl, none_written value, tells_none told)
 
-one_goes : (before : List Waiting) (value : ℕ) (told : Option Traffic) (waiting : List Waiting) (value_now : ℕ) (told_now : Option Traffic) (f : FrameParts) (value_after : ℕ) (bytes : List ℕ) (told_after : Option Traffic)
-    → next_piece waiting ≡ Some f
+one_goes : (before : Sending) (value : ℕ) (told : Option Traffic) (s : Sending) (value_now : ℕ) (told_now : Option Traffic) (f : FrameParts) (value_after : ℕ) (bytes : List ℕ) (told_after : Option Traffic)
+    → picked s ≡ Some f
     → ((sent : List ℕ) → value_now ≡ checksum sent → SendsAfter sent (Some f) nexts.Frame value_after [] bytes)
     → Tells told_now [] (bytes ∷ []) told_after
-    → Going before value told waiting value_now told_now → Going before value told (after_piece waiting) value_after told_after
-one_goes before value told waiting value_now told_now f value_after bytes told_after next written tells (frames, texts, go, all_written, all_told) = (
+    → Going before value told s value_now told_now → Going before value told (after_picked s) value_after told_after
+one_goes before value told s value_now told_now f value_after bytes told_after next written tells (frames, texts, go, all_written, all_told) = (
   frames ++ f ∷ [],
   texts ++ bytes ∷ [],
-  go_on before frames waiting f go next,
+  go_on before frames s f go next,
   write_on value value_now value_after frames texts f bytes all_written written,
   tells_on told told_now told_after [] [] texts (bytes ∷ []) all_told tells,
 )
 
-piece_goes : (before : List Waiting) (value : ℕ) (told : Option Traffic) (waiting : List Waiting) (value_now : ℕ) (told_now : Option Traffic) (p : Option FrameParts) (value_after : ℕ) (bytes : List ℕ) (told_after : Option Traffic)
-    → next_piece waiting ≡ p
+piece_goes : (before : Sending) (value : ℕ) (told : Option Traffic) (s : Sending) (value_now : ℕ) (told_now : Option Traffic) (p : Option FrameParts) (value_after : ℕ) (bytes : List ℕ) (told_after : Option Traffic)
+    → picked s ≡ p
     → Sends p nexts.Frame value_now value_after [] bytes
     → ((sent : List ℕ) → value_now ≡ checksum sent → SendsAfter sent p nexts.Frame value_after [] bytes)
     → Tells told_now [] (bytes ∷ []) told_after
-    → Going before value told waiting value_now told_now → Going before value told (after_piece waiting) value_after told_after
-piece_goes before value told waiting value_now told_now None value_after bytes told_after next sends written tells going = absurd sends
-piece_goes before value told waiting value_now told_now (Some f) value_after bytes told_after next sends written tells going =
-    one_goes before value told waiting value_now told_now f value_after bytes told_after next written tells going
+    → Going before value told s value_now told_now → Going before value told (after_picked s) value_after told_after
+piece_goes before value told s value_now told_now None value_after bytes told_after next sends written tells going = absurd sends
+piece_goes before value told s value_now told_now (Some f) value_after bytes told_after next sends written tells going =
+    one_goes before value told s value_now told_now f value_after bytes told_after next written tells going
 
 -- one frame more
-pub going_on : (before : List Waiting) (value : ℕ) (told : Option Traffic) (waiting : List Waiting) (value_now : ℕ) (told_now : Option Traffic) (value_after : ℕ) (bytes : List ℕ) (told_after : Option Traffic)
-    → Sends (next_piece waiting) nexts.Frame value_now value_after [] bytes
-    → ((sent : List ℕ) → value_now ≡ checksum sent → SendsAfter sent (next_piece waiting) nexts.Frame value_after [] bytes)
+pub going_on : (before : Sending) (value : ℕ) (told : Option Traffic) (s : Sending) (value_now : ℕ) (told_now : Option Traffic) (value_after : ℕ) (bytes : List ℕ) (told_after : Option Traffic)
+    → Sends (picked s) nexts.Frame value_now value_after [] bytes
+    → ((sent : List ℕ) → value_now ≡ checksum sent → SendsAfter sent (picked s) nexts.Frame value_after [] bytes)
     → Tells told_now [] (bytes ∷ []) told_after
-    → Going before value told waiting value_now told_now → Going before value told (after_piece waiting) value_after told_after
-going_on before value told waiting value_now told_now value_after bytes told_after sends written tells going =
-    piece_goes before value told waiting value_now told_now (next_piece waiting) value_after bytes told_after refl sends written tells going
+    → Going before value told s value_now told_now → Going before value told (after_picked s) value_after told_after
+going_on before value told s value_now told_now value_after bytes told_after sends written tells going =
+    piece_goes before value told s value_now told_now (picked s) value_after bytes told_after refl sends written tells going
 
--- a frame that was written, and went or did not, was one of what waited
+-- a frame that was written, and went or did not, was picked
 some_next : (p : Option FrameParts) (value value_after : ℕ) (bytes : List ℕ) → Sends p nexts.Frame value value_after [] bytes → p ≢ None
 some_next None value value_after bytes sends e = absurd sends
 some_next (Some f) value value_after bytes sends e = none-some f (sym e)
 
-pub some_waits : (waiting : List Waiting) (value value_after : ℕ) (bytes : List ℕ) → Sends (next_piece waiting) nexts.Frame value value_after [] bytes → waiting ≢ []
-some_waits waiting value value_after bytes sends e = some_next (next_piece waiting) value value_after bytes sends (ap next_piece e)
+pub some_picked : (s : Sending) (value value_after : ℕ) (bytes : List ℕ) → Sends (picked s) nexts.Frame value value_after [] bytes → picked s ≢ None
+some_picked s value value_after bytes sends e = some_next (picked s) value value_after bytes sends e
 
-none_at : (p : Option FrameParts) (value value_after : ℕ) (bytes : List ℕ) → Sends p nexts.Idle value value_after [] bytes → (p ≡ None) × (value_after ≡ value)
-none_at None value value_after bytes sends = (refl, sends.0)
-none_at (Some f) value value_after bytes sends = absurd sends
+none_at : (p : Option FrameParts) (value value_after : ℕ) (old new : List ℕ) → Sends p nexts.Idle value value_after old new → (p ≡ None) × (value_after ≡ value)
+none_at None value value_after old new sends = (refl, sends.0)
+none_at (Some f) value value_after old new sends = absurd sends
 
-pub none_waits : (waiting : List Waiting) (value value_after : ℕ) (bytes : List ℕ) → Sends (next_piece waiting) nexts.Idle value value_after [] bytes → (waiting ≡ []) × (value_after ≡ value)
-none_waits waiting value value_after bytes sends =
-    let found : (next_piece waiting ≡ None) × (value_after ≡ value) = none_at (next_piece waiting) value value_after bytes sends in
-    (none_next waiting found.0, found.1)
+still_waiting : (ws : List Waiting) (o : Option (Waiting × List Waiting)) → option_map (λ found. first_piece found.0) o ≡ None → option_map_or (λ found. found.1 ++ back found.0) o ws ≡ ws
+still_waiting ws None none = refl
+still_waiting ws (Some found) none = absurd (none-some (first_piece found.0) (sym none))
+
+still : (s : Sending) (acknowledgements : List Acknowledgement) → picked_of acknowledgements s.waiting ≡ None → picked_from acknowledgements s ≡ s
+still s (a ∷ acknowledgements) none = absurd (none-some (told_by a) (sym none))
+still s [] none = ap (λ ws. record s { waiting = ws }) (still_waiting s.waiting (chosen s.waiting) none)
+
+pub none_picked : (s after : Sending) (value value_after : ℕ) (next : Next) (old new : List ℕ) → next ≡ nexts.Idle → Sends (picked s) next value value_after old new → after ≡ after_picked s
+    → (picked s ≡ None) × (s ≡ after) × (value ≡ value_after)
+none_picked s after value value_after next old new is sends e =
+    let found : (picked s ≡ None) × (value_after ≡ value) = none_at (picked s) value value_after old new (subst (λ n. Sends (picked s) n value value_after old new) is sends) in
+    (found.0, sym (still s s.acknowledgements found.0) ∙ sym e, sym found.1)
 
 -- what went before the end
-pub gone : (before : List Waiting) (value : ℕ) (told : Option Traffic) (waiting : List Waiting) (value_now : ℕ) (told_now told_after : Option Traffic) (result : Gave) (now : ℕ)
-    → Tells told_now [] [] told_after → IsLeft result waiting value_now now
-    → Going before value told waiting value_now told_now
-    → (frames : List FrameParts) × (texts : List (List ℕ)) × (left : List Waiting) × (value_sent : ℕ)
-    × Go before frames left × AreWrittenFrom value frames texts value_sent × Tells told [] texts told_after × IsLeft result left value_sent now
-gone before value told waiting value_now told_now told_after result now tells is_left (frames, texts, go, written, all_told) =
-    (frames, texts, waiting, value_now, go, written, subst (λ t. Tells told [] t told_after) (append-nil texts) (tells_on told told_now told_after [] [] texts [] all_told tells), is_left)
+pub gone : (before : Sending) (value : ℕ) (told : Option Traffic) (s : Sending) (value_now : ℕ) (told_now told_after : Option Traffic) (result : Gave) (now : Sending) (now_value : ℕ)
+    → Tells told_now [] [] told_after → IsLeft result s value_now now now_value
+    → Going before value told s value_now told_now
+    → HaveGone before value told told_after result now now_value
+gone before value told s value_now told_now told_after result now now_value tells is_left (frames, texts, go, written, all_told) =
+    (frames, texts, s, value_now, go, written, subst (λ t. Tells told [] t told_after) (append-nil texts) (tells_on told told_now told_after [] [] texts [] all_told tells), is_left)
 
 -- a frame that was not sent
 pub tells_other : (told after : Option Traffic) (bytes : List ℕ) (result : Gave) → result ≢ gave.Done → SendsIfTold told bytes result after → Tells told [] [] after
@@ -181,10 +220,10 @@ tells_other told after bytes gave.Done other sent = absurd (other refl)
 tells_other told after bytes gave.Failed other sent = tells_failed told after bytes sent
 tells_other told after bytes gave.Memory other sent = tells_memory told after bytes sent
 
-pub other_left : (result : Gave) (left : List Waiting) (value now : ℕ) → result ≢ gave.Done → IsLeft result left value now
-other_left gave.Done left value now other = absurd (other refl)
-other_left gave.Failed left value now other = tt
-other_left gave.Memory left value now other = tt
+pub other_left : (result : Gave) (left : Sending) (value : ℕ) (now : Sending) (value_now : ℕ) → result ≢ gave.Done → IsLeft result left value now value_now
+other_left gave.Done left value now value_now other = absurd (other refl)
+other_left gave.Failed left value now value_now other = tt
+other_left gave.Memory left value now value_now other = tt
 
 -- ---- what a call for the next frame did, from an empty buffer
 

@@ -13,7 +13,8 @@ use Rattle.session_core.specs.declared.look.Look.{Look}
 use Rattle.session_core.specs.Exchange.{Exchange, requests_among}
 use Rattle.session_core.specs.Session.{Exchanged}
 use Rattle.session_core.specs.Machine.{Machine}
-use Rattle.session_core.specs.Conduct.{messages_from, led_to}
+use Rattle.blip_mux.specs.Joining.{is_request, is_reply}
+use Rattle.session_core.specs.Conduct.{messages_from, led_to, are_requests}
 use Rattle.write_path.specs.Looks.{IsLaterThanAll}
 use Rattle.session_run.specs.declared.exchange.Todo.{Todo}
 use Rattle.session_run.specs.declared.exchange.Todo.TheVariants as todo
@@ -54,3 +55,10 @@ abbrev pub WantsFeed : Pending → Key → Options → Type 0
 WantsFeed pending.Nothing since options = ⊥
 WantsFeed (pending.Feed asked) since options = (since ≡ asked.since) × (options ≡ asked.options)
 WantsFeed (pending.Bodies rows) since options = ⊥
+
+-- acts that answer a message: the first may be its reply, where it is a request, and all others are requests
+abbrev pub Answers : Message → List Act → Type 0
+Answers m [] = Unit {0}
+Answers m (act.Reply to kind urgent payload ∷ acts) = (is_request m.kind ≡ true) × (to ≡ m.number) × (is_reply kind ≡ true) × (are_requests acts ≡ true)
+Answers m (act.Request payload no_reply ∷ acts) = are_requests acts ≡ true
+Answers m (act.Want want ∷ acts) = ⊥

@@ -1,18 +1,22 @@
 -- What a session that runs has, and what one frame changes.
-use Rattle.std.specs.Prelude.{◌≡◌, ◌⊎◌, ℕ, ◌+◌, true, List, [], ◌++◌, length, map, Option, Some, None, Ok}
+use Rattle.std.specs.Prelude.{◌≡◌, ◌⊎◌, ℕ, ◌+◌, true, List, [], ◌++◌, length, option_map, Option, Some, None, Ok}
 use Rattle.sg_outside.specs.Wire.{Traffic}
+use Rattle.sg_outside.specs.declared.sink.Gave.{Gave}
+use Rattle.sg_outside.specs.declared.sink.Gave.TheVariants as gave
 use Rattle.sg_outside.specs.declared.wire.Got.{Got}
 use Rattle.blip_frame.specs.Checksum.{checksum}
 use Rattle.blip_frame.specs.Frame.{FrameParts, frame_at, frames_at, with_front, AreWrittenAfter, all_sent}
-use Rattle.blip_mux.specs.Between.{waiting_of}
-use Rattle.blip_mux.specs.Joining.{message_at, taken_after, StandsFor}
-use Rattle.blip_mux.specs.Sending.{Waiting}
+use Rattle.blip_mux.specs.declared.message.Message.{Message}
+use Rattle.blip_mux.specs.Apart.{AreApart}
+use Rattle.blip_mux.specs.Cutting.{ArePicked, after_deeds}
+use Rattle.blip_mux.specs.Standing.{answer_at, taken_after, StandsFor}
+use Rattle.blip_mux.specs.Sending.{Sending, picked}
 use Rattle.sg_history.specs.declared.entries.Entry.{Entry}
 use Rattle.repl_messages.specs.declared.request.Version.{Version}
 use Rattle.session_core.specs.declared.act.Act.{Act}
 use Rattle.session_core.specs.declared.machine.Pending.TheVariants as pending
 use Rattle.session_core.specs.Conduct.{led_to}
-use Rattle.session_core.specs.Exchange.{requests_put}
+use Rattle.session_core.specs.Exchange.{Exchange, requests_put}
 use Rattle.session_core.specs.Session.{AreExchanged, looks_of}
 use Rattle.write_path.specs.Looks.{IsLaterThanAll}
 use Rattle.session_run.specs.declared.ended.End.{End}
@@ -21,13 +25,16 @@ use Rattle.session_run.specs.declared.ended.Ended.{Ended}
 use Rattle.session_run.specs.declared.session.Session.{Session}
 use Rattle.session_run.specs.Exchanges.{Makes}
 use Rattle.session_run.specs.Frames.{IsBadFrame}
-use Rattle.session_run.specs.Sent.{Go, AreWrittenFrom, Tells, expecting_all}
-use Rattle.session_run.specs.Turns.{Turn, exchanges_of, frames_of, events_of, AreJoined, AreSent}
+use Rattle.session_run.specs.Sent.{AreWrittenFrom, Tells, expecting_all}
 use Rattle.session_run.specs.Served.{are_frames, bytes_of, IsSession}
+use Rattle.session_run.specs.Turns.{Turn, message_in, puts_in, puts_of, exchanges_of, frames_of, events_of, deeds_of, IsHeard, AreJoined, AreSent}
 
--- nothing waits, and machine and outbox count the same requests
-abbrev pub IsAtRest : Session → Type 0
-IsAtRest s = (s.core.pending ≡ pending.Nothing) × (s.mux.outbox ≡ record { requests = s.core.requests; waiting = [] })
+-- nothing waits that may be sent, machine and outbox count the same requests, and the replies that wait are to requests that have come
+pub record IsAtRest (s : Session) : Type 0 where
+  pub pending : s.core.pending ≡ pending.Nothing
+  pub requests : s.mux.outbox.requests ≡ s.core.requests
+  pub idle : picked s.mux.outbox ≡ None
+  pub apart : AreApart s.mux.inbox s.mux.outbox
 
 -- a session that runs, after these turns, which took these results and sent these frames
 pub record Holds (user : List ℕ) (version : Version) (met : List (List Entry)) (s : Session) (turns : List Turn) (frames : List FrameParts) (got : List Got) (sent : List (List ℕ)) : Type 0 where
@@ -43,22 +50,41 @@ pub record Holds (user : List ℕ) (version : Version) (met : List (List Entry))
   pub count : s.frames ≡ length turns
   pub taken : are_frames got ≡ true
   pub read : (later : List (List ℕ)) → frames_at 0 (bytes_of got ++ later) ≡ with_front (frames_of turns) (frames_at s.mux.received.value later)
-  pub put : AreSent turns frames []
+  pub put : AreSent turns frames s.mux.outbox
   pub written : AreWrittenAfter [] sent frames
   pub checked : s.mux.sent.value ≡ checksum (all_sent [] frames)
 
--- the frame's message was exchanged, and this is left of what was put for it
-pub record Turns (old new : Session) (bytes : List ℕ) (met : List (List Entry)) (told told_after : Option Traffic) (t : Turn) (left : List Waiting) : Type 0 where
-  pub acts : List Act
+-- no exchange was begun, or this one was
+abbrev pub IsMade : Session → Session → List (List Entry) → Option Exchange → Type 0
+IsMade old new met None = (new.core ≡ old.core) × (new.looks ≡ old.looks)
+IsMade old new met (Some x) = (acts : List Act) × Makes old.core x.message x.looks acts met new.core x × (new.looks ≡ old.looks ++ x.looks)
+
+-- a frame was taken in a turn, and this is left of what was to be sent
+pub record Turns (old new : Session) (bytes : List ℕ) (met : List (List Entry)) (told told_after : Option Traffic) (t : Turn) (left : Sending) : Type 0 where
   pub frames : List FrameParts
   pub sent : List (List ℕ)
   pub value : ℕ
   pub read : frame_at old.mux.received.value bytes ≡ Ok (t.frame, new.mux.received.value)
-  pub message : message_at old.mux.inbox t.frame ≡ Ok t.exchange.message
-  pub made : Makes old.core t.exchange.message t.exchange.looks acts met new.core t.exchange
-  pub looks : new.looks ≡ old.looks ++ t.exchange.looks
+  pub answer : answer_at old.mux.inbox t.frame ≡ Ok t.given
+  pub given : option_map (λ x. x.message) t.exchange ≡ message_in t.given
+  pub made : IsMade old new met t.exchange
   pub count : new.frames ≡ old.frames + 1
-  pub go : Go (map waiting_of t.exchange.puts) frames left
+  pub heard : IsHeard t.given old.mux.outbox
+  pub go : ArePicked (after_deeds old.mux.outbox (deeds_of t)) frames left
+  pub written : AreWrittenFrom old.mux.sent.value frames sent value
+  pub tells : Tells told [] sent told_after
+
+-- what a frame gave is done with: its message, where it gave one, was exchanged, and this is left of what was to be sent
+pub record Goes (old new : Session) (message : Option Message) (met : List (List Entry)) (told told_after : Option Traffic) (left : Sending) : Type 0 where
+  pub exchange : Option Exchange
+  pub frames : List FrameParts
+  pub sent : List (List ℕ)
+  pub value : ℕ
+  pub given : option_map (λ x. x.message) exchange ≡ message
+  pub made : IsMade old new met exchange
+  pub count : new.frames ≡ old.frames + 1
+  pub received : new.mux.received ≡ old.mux.received
+  pub go : ArePicked (after_deeds old.mux.outbox (puts_of exchange)) frames left
   pub written : AreWrittenFrom old.mux.sent.value frames sent value
   pub tells : Tells told [] sent told_after
 
@@ -66,17 +92,36 @@ pub record Turns (old new : Session) (bytes : List ℕ) (met : List (List Entry)
 abbrev pub Leaves : Session → Session → Option Traffic → Option Traffic → Type 0
 Leaves old new told told_after = (new.looks ≡ old.looks) × Tells told [] [] told_after
 
--- a frame was taken and all was sent, or the session ends by it
+-- a frame that was not sent ends the session
+abbrev pub IsEndOf : Gave → Option End → Type 0
+IsEndOf gave.Done result = result ≡ None
+IsEndOf gave.Failed result = result ≡ Some end.WireFault
+IsEndOf gave.Memory result = result ≡ Some end.Memory
+
+-- all was sent that may be sent, or the session ends
+abbrev pub GoesOn : Session → Session → Option Message → List (List Entry) → Option Traffic → Option Traffic → Option End → Type 0
+GoesOn old new message met told told_after None =
+    (went : Goes old new message met told told_after new.mux.outbox) × (went.value ≡ new.mux.sent.value) × IsAtRest new
+    × (new.mux.inbox ≡ expecting_all (puts_in went.exchange) old.mux.inbox)
+GoesOn old new message met told told_after (Some end.Closed) = ⊥
+GoesOn old new message met told told_after (Some end.WireFault) = (left : Sending) × Goes old new message met told told_after left
+GoesOn old new message met told told_after (Some (end.BadFrame index w)) = ⊥
+GoesOn old new message met told told_after (Some end.TurnsFull) = ⊥
+GoesOn old new message met told told_after (Some end.Memory) =
+    ((left : Sending) × Goes old new message met told told_after left) ⊎ Leaves old new told told_after
+
+-- a frame was taken and all was sent that may be sent, or the session ends by it
 abbrev pub Takes : Session → Session → List ℕ → List (List Entry) → Option Traffic → Option Traffic → Option End → Type 0
 Takes old new bytes met told told_after None =
-    (t : Turn) × (did : Turns old new bytes met told told_after t []) × (did.value ≡ new.mux.sent.value) × IsAtRest new × (new.mux.inbox ≡ expecting_all t.exchange.puts (taken_after old.mux.inbox t.frame.kind t.frame.number))
+    (t : Turn) × (did : Turns old new bytes met told told_after t new.mux.outbox) × (did.value ≡ new.mux.sent.value) × IsAtRest new
+    × (new.mux.inbox ≡ expecting_all (puts_in t.exchange) (taken_after old.mux.inbox t.frame))
 Takes old new bytes met told told_after (Some end.Closed) = ⊥
-Takes old new bytes met told told_after (Some end.WireFault) = (t : Turn) × (left : List Waiting) × Turns old new bytes met told told_after t left
+Takes old new bytes met told told_after (Some end.WireFault) = (t : Turn) × (left : Sending) × Turns old new bytes met told told_after t left
 Takes old new bytes met told told_after (Some (end.BadFrame index w)) =
-    (index ≡ old.frames + 1) × IsBadFrame (frame_at old.mux.received.value bytes) (message_at old.mux.inbox) w × Leaves old new told told_after
+    (index ≡ old.frames + 1) × IsBadFrame (frame_at old.mux.received.value bytes) (answer_at old.mux.inbox) old.mux.outbox w × Leaves old new told told_after
 Takes old new bytes met told told_after (Some end.TurnsFull) = ⊥
 Takes old new bytes met told told_after (Some end.Memory) =
-    ((t : Turn) × (left : List Waiting) × Turns old new bytes met told told_after t left) ⊎ Leaves old new told told_after
+    ((t : Turn) × (left : Sending) × Turns old new bytes met told told_after t left) ⊎ Leaves old new told told_after
 
 -- ---- from the beginning
 

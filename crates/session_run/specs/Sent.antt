@@ -6,13 +6,8 @@ use Rattle.blip_frame.specs.Checksum.{checksum}
 use Rattle.blip_frame.specs.Frame.{FrameParts, AreWrittenAfter, all_sent}
 use Rattle.blip_mux.specs.declared.message.Message.{Message}
 use Rattle.blip_mux.specs.Joining.{is_request}
-use Rattle.blip_mux.specs.Standing.{Standing, expecting}
-use Rattle.blip_mux.specs.Sending.{Waiting, next_piece, after_piece}
-
--- frames go, each the next one of what waits, until this is left
-abbrev pub Go : List Waiting → List FrameParts → List Waiting → Type 0
-Go waiting [] left = left ≡ waiting
-Go waiting (f ∷ frames) left = (next_piece waiting ≡ Some f) × Go (after_piece waiting) frames left
+use Rattle.blip_mux.specs.Remembered.{Standing}
+use Rattle.blip_mux.specs.Standing.{expecting}
 
 -- the texts are these frames, one after another, in a direction whose checksum goes from the one to the other
 abbrev pub AreWrittenFrom : ℕ → List FrameParts → List (List ℕ) → ℕ → Type 0

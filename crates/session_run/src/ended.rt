@@ -1,6 +1,7 @@
 //! How a session ends.
 
 use blip_frame::PayloadFault;
+use blip_mux::BadAck;
 use session_core::Looks;
 
 /// Why a frame is at fault.
@@ -24,6 +25,8 @@ pub enum FrameWhy {
     Payload(PayloadFault),
     /// The payload of an acknowledgement is not one varint.
     BadAckPayload,
+    /// It is an acknowledgement that can't be true of what was sent.
+    BadAck(BadAck),
     /// It is a text message.
     NotBinary,
 }

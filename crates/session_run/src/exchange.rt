@@ -3,7 +3,7 @@
 ghost use Rattle.std.specs.Prelude.{◌≡◌, ◌≤◌, ◌+◌, ◌∷◌, [], true, List, ℕ, IfOk, OnOk};
 ghost use Rattle.std.specs.Option.{option_to_list};
 ghost use Rattle.session_core.specs.declared.machine.Pending.{Pending};
-ghost use Rattle.session_core.specs.Conduct.{are_puts, Keeps};
+ghost use Rattle.session_core.specs.Conduct.{Keeps};
 ghost use Rattle.session_core.specs.Exchange.{Exchange};
 ghost use Rattle.session_core.specs.Machine.{Steps};
 ghost use Rattle.session_core.specs.Session.{RiseBetween};
@@ -11,7 +11,7 @@ ghost use Rattle.sg_history.specs.declared.entries.Entry.{Entry};
 ghost use Rattle.repl_messages.specs.Looks as looked;
 ghost use Rattle.repl_messages.specs.Looks.{IsFed, AreBodies};
 ghost use Rattle.write_path.specs.Looks.{Looks, IsLaterThanAll};
-ghost use Rattle.session_run.specs.Exchanges.{Makes, Does, is_look, WantsFeed, AreAtTold};
+ghost use Rattle.session_run.specs.Exchanges.{Makes, Does, is_look, WantsFeed, AreAtTold, Answers};
 
 use blip_mux::Message;
 use repl_messages::{Bodies, Fed};
@@ -80,7 +80,6 @@ fn look_for_feed<G: Ground>(
     ensures within { IfOk result (λ done. RiseBetween (G.floor ground.old) (done.1 ∷ []) (G.floor ground.new)) }
     ensures at_told { IfOk result (λ done. AreAtTold (G.told ground.old) (done.1 ∷ [])) }
     ensures rest { OnOk result (core.new.pending ≡ Pending.Nothing) }
-    ensures puts { IfOk result (λ done. are_puts done.0 ≡ true) }
     ensures keeps { IfOk result (λ done. Keeps core.old done.0 core.new) }
     ensures few { OnOk result (core.new.requests ≤ core.old.requests + 10001) }
 {
@@ -114,7 +113,6 @@ fn look_for_bodies<G: Ground>(
     ensures within { IfOk result (λ done. RiseBetween (G.floor ground.old) (done.1 ∷ []) (G.floor ground.new)) }
     ensures at_told { IfOk result (λ done. AreAtTold (G.told ground.old) (done.1 ∷ [])) }
     ensures rest { OnOk result (core.new.pending ≡ Pending.Nothing) }
-    ensures puts { IfOk result (λ done. are_puts done.0 ≡ true) }
     ensures keeps { IfOk result (λ done. Keeps core.old done.0 core.new) }
     ensures few { OnOk result (core.new.requests ≤ core.old.requests + 10001) }
 {
@@ -144,7 +142,7 @@ pub(crate) fn exchange<G: Ground>(
     ensures within { IfOk result (λ done. RiseBetween (G.floor ground.old) (option_to_list done.1) (G.floor ground.new)) }
     ensures at_told { IfOk result (λ done. AreAtTold (G.told ground.old) (option_to_list done.1)) }
     ensures rest { OnOk result (core.new.pending ≡ Pending.Nothing) }
-    ensures puts { IfOk result (λ done. are_puts done.0 ≡ true) }
+    ensures answers { IfOk result (λ done. Answers message done.0) }
     ensures few { OnOk result (core.new.requests ≤ core.old.requests + 10001) }
 {
     session_core::laws::exchanges();

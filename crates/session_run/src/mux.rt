@@ -1,15 +1,15 @@
 //! Messages over frames, in both directions of one wire.
 
-ghost use Rattle.std.specs.Prelude.{◌≡◌, ◌<◌, ◌+◌, [], true, OnOk};
+ghost use Rattle.std.specs.Prelude.{◌≡◌, ◌<◌, ◌+◌, false, OnOk};
 ghost use Rattle.sg_outside.specs.Sink.{Counts};
+ghost use Rattle.blip_frame.specs.Frame.{has_checksum};
+ghost use Rattle.blip_mux.specs.Sending.{new_sending, is_bad_ack, sent_of, heard_in};
 ghost use Rattle.blip_mux.specs.Standing.{new_standing};
-ghost use Rattle.session_core.specs.Conduct.{messages_from, are_puts};
-ghost use Rattle.session_core.specs.Exchange.{requests_among};
 ghost use Rattle.session_run.specs.Frames.{why_of};
-ghost use Rattle.session_run.specs.Muxed.{IsTaken, IsTookFault, MayPut, MayPutAll, put_one, put_all, requests_in, HaveGone, IsSent, HasPut};
+ghost use Rattle.session_run.specs.Muxed.{IsTaken, IsTookFault, IsAcked, MayPut, MayPutAll, put_one, put_all, requests_in, HaveGone};
 
 use crate::ended::FrameWhy;
-use blip_frame::{Crc, FrameFault, read_frame};
+use blip_frame::{Crc, FrameFault, Kind, read_frame};
 use blip_mux::{Inbox, Message, Next, Outbox, TakeFault, Taken};
 use session_core::{Act, Acts};
 use sg_outside::{Bytes, Gave, Memory, Wire};
@@ -18,7 +18,10 @@ use std::alloc::Global;
 /// What a frame gave.
 #[derive(Drop)]
 pub(crate) enum Took {
+    /// A message.
     Whole(Message),
+    /// No message: a part of one, or an acknowledgement.
+    Part,
     Bad(FrameWhy),
     Memory,
 }
@@ -61,7 +64,7 @@ impl Mux {
     /// Nothing has come, and nothing is to go. Takes no memory.
     pub(crate) fn new(alloc: Global) -> Mux
         ensures inbox { result.inbox ≡ new_standing }
-        ensures outbox { result.outbox ≡ record { requests = 0; waiting = [] } }
+        ensures outbox { result.outbox ≡ new_sending }
         ensures received { result.received.value ≡ 0 }
         ensures sent { result.sent.value ≡ 0 }
     {
@@ -73,20 +76,53 @@ impl Mux {
         }
     }
 
-    /// Takes the bytes of a frame.
+    /// Takes the bytes of a frame. An acknowledgement that it is, or that is owed for it, is noted.
     pub(crate) fn take(&mut self, alloc: Global, bytes: &[u8]) -> Took
-        ensures taken { IsTaken self.old.received.value self.old.inbox bytes.now result self.new.received.value self.new.inbox }
-        ensures outbox { self.new.outbox ≡ self.old.outbox }
+        ensures taken { IsTaken self.old bytes.now result self.new }
         ensures sent { self.new.sent ≡ self.old.sent }
     {
+        blip_mux::laws::acknowledgements();
         let frame = match read_frame(&mut self.received, bytes) {
             Ok(frame) => frame,
             Err(fault) => return Took::Bad(why_of_frame(fault)),
         };
         match self.inbox.take(alloc, &frame) {
             Ok(Taken::Whole(message)) => Took::Whole(message),
-            Ok(_) => unreachable!(),
+            Ok(Taken::Nothing) => Took::Part,
+            Ok(
+                Taken::Owed {
+                    kind,
+                    number,
+                    bytes,
+                },
+            ) => {
+                match self.outbox.put_ack(kind, number, bytes) {
+                    Ok(()) => Took::Part,
+                    Err(_) => Took::Memory,
+                }
+            }
+            Ok(
+                Taken::Ack {
+                    kind,
+                    number,
+                    bytes,
+                },
+            ) => self.acked(kind, number, bytes),
             Err(fault) => took_fault(fault),
+        }
+    }
+
+    /// Takes an acknowledgement.
+    fn acked(&mut self, kind: Kind, number: u64, bytes: u64) -> Took
+        requires { has_checksum kind ≡ false }
+        ensures answer { IsAcked kind number bytes self.old.outbox result self.new.outbox }
+        ensures inbox { self.new.inbox ≡ self.old.inbox }
+        ensures received { self.new.received ≡ self.old.received }
+        ensures sent { self.new.sent ≡ self.old.sent }
+    {
+        match self.outbox.acked(kind, number, bytes) {
+            Ok(()) => Took::Part,
+            Err(bad) => Took::Bad(FrameWhy::BadAck(bad)),
         }
     }
 
@@ -130,26 +166,9 @@ impl Mux {
         }
     }
 
-    /// Puts messages, and sends all of them.
-    pub(crate) fn send<W: Wire>(&mut self, alloc: Global, acts: Acts, wire: &mut W) -> Gave
-        requires idle { self.old.outbox.waiting ≡ [] }
-        requires puts { are_puts acts ≡ true }
-        requires room { requests_among (messages_from (self.old.outbox.requests + 1) acts) + self.old.outbox.requests < 18446744073709551615 }
-        ensures sent { IsSent (messages_from (self.old.outbox.requests + 1) acts) self.old.sent.value (W.told wire.old) (W.told wire.new) result self.new.sent.value }
-        ensures done { result ≡ Gave.Done → HasPut (messages_from (self.old.outbox.requests + 1) acts) self.old self.new }
-        ensures counted { Counts (W.faults wire.old) result (W.faults wire.new) }
-        ensures received { self.new.received ≡ self.old.received }
-    {
-        match self.put(acts) {
-            Ok(()) => self.send_all(alloc, wire),
-            Err(_) => Gave::Memory,
-        }
-    }
-
-    /// Sends frame after frame until nothing waits, or one is not sent.
+    /// Sends frame after frame until there is none that may be sent, or one is not sent.
     pub(crate) fn send_all<W: Wire>(&mut self, alloc: Global, wire: &mut W) -> Gave
-        ensures sent { HaveGone self.old.outbox.waiting self.old.sent.value (W.told wire.old) (W.told wire.new) result self.new.sent.value }
-        ensures outbox { result ≡ Gave.Done → self.new.outbox ≡ record self.old.outbox { waiting = [] } }
+        ensures sent { HaveGone self.old.outbox self.old.sent.value (W.told wire.old) (W.told wire.new) result self.new.outbox self.new.sent.value }
         ensures counted { Counts (W.faults wire.old) result (W.faults wire.new) }
         ensures inbox { self.new.inbox ≡ self.old.inbox }
         ensures received { self.new.received ≡ self.old.received }

@@ -1,18 +1,21 @@
 //! A session that runs: frame by frame.
 
-ghost use Rattle.std.specs.Prelude.{◌≡◌, ◌≤◌, ◌<◌, ◌+◌, ◌++◌, [], true, List, ℕ, Option, None, Some, IfOk, OnOk, OnErr};
+ghost use Rattle.std.specs.Prelude.{◌≡◌, ◌≤◌, ◌<◌, ◌+◌, ◌++◌, [], true, false, List, ℕ, Option, None, Some, IfOk, OnOk, OnErr};
 ghost use Rattle.std.specs.Option.{option_to_list};
+ghost use Rattle.std.specs.List.{list_any};
 ghost use Rattle.sg_outside.specs.Wire.{Traffic};
+ghost use Rattle.blip_mux.specs.Apart.{AreApart, HasCome};
+ghost use Rattle.blip_mux.specs.Joining.{is_request};
+ghost use Rattle.blip_mux.specs.Sending.{is_reply_to};
 ghost use Rattle.sg_history.specs.declared.entries.Entry.{Entry};
 ghost use Rattle.repl_messages.specs.declared.request.Version.{Version};
 ghost use Rattle.session_core.specs.declared.machine.Pending.{Pending};
-ghost use Rattle.session_core.specs.Conduct.{are_puts};
 ghost use Rattle.session_core.specs.Exchange.{Exchange};
 ghost use Rattle.session_core.specs.Session.{RiseBetween};
 ghost use Rattle.write_path.specs.Looks as met;
 ghost use Rattle.session_run.specs.declared.ended.End.{End};
-ghost use Rattle.session_run.specs.Exchanges.{Makes, AreAtTold};
-ghost use Rattle.session_run.specs.Held.{IsAtRest, Holds, Takes, Runs, RunsOn};
+ghost use Rattle.session_run.specs.Exchanges.{Makes, AreAtTold, Answers};
+ghost use Rattle.session_run.specs.Held.{IsAtRest, IsEndOf, Holds, GoesOn, Takes, Runs, RunsOn};
 
 use crate::ended::{End, Ended, FrameWhy};
 use crate::exchange::exchange;
@@ -43,6 +46,7 @@ impl Session {
         ensures frames { result.frames ≡ 0 }
     {
         blip_mux::laws::standing();
+        blip_mux::laws::replies();
         Session {
             core: Core::new(user, version),
             mux: Mux::new(alloc),
@@ -89,7 +93,7 @@ impl Session {
         ensures rises { (low : ℕ) → RiseBetween low self.old.looks (G.floor ground.old) → RiseBetween low self.new.looks (G.floor ground.new) }
         ensures at_told { AreAtTold (G.told ground.old) self.old.looks → AreAtTold (G.told ground.old) self.new.looks }
         ensures rest { OnOk result (self.new.core.pending ≡ Pending.Nothing) }
-        ensures puts { IfOk result (λ acts. are_puts acts ≡ true) }
+        ensures answers { IfOk result (λ acts. Answers message acts) }
         ensures few { OnOk result (self.new.core.requests ≤ self.old.core.requests + 10001) }
         ensures count { OnOk result (self.new.frames ≡ self.old.frames + 1) }
         ensures mux { self.new.mux ≡ self.old.mux }
@@ -101,8 +105,58 @@ impl Session {
         Ok(acts)
     }
 
-    /// Takes a frame: its message is taken, and what is put for it is sent. Answers how the session ends, where it ends
-    /// here.
+    /// Answers a message that became whole, and sends what may be sent. Answers how the session ends, where it ends here.
+    fn answer<W: Wire, G: Ground>(
+        &mut self,
+        alloc: Global,
+        ground: &mut G,
+        wire: &mut W,
+        message: Message,
+    ) -> Option<End>
+        requires rest { self.old.core.pending ≡ Pending.Nothing }
+        requires requests { self.old.mux.outbox.requests ≡ self.old.core.requests }
+        requires apart { AreApart self.old.mux.inbox self.old.mux.outbox }
+        requires reply { is_request message.kind ≡ true → (list_any (is_reply_to message.number) self.old.mux.outbox.waiting ≡ false) × HasCome self.old.mux.inbox message.number }
+        requires room { self.old.core.requests ≤ 9223372036854775808 }
+        requires count { self.old.frames < 18446744073709551615 }
+        ensures looks { met.Looks (G.met ground.old) (G.met ground.new) (G.floor ground.old) (G.floor ground.new) }
+        ensures told { G.told ground.new ≡ G.told ground.old }
+        ensures goes { GoesOn self.old self.new (Some message) (G.met ground.new) (W.told wire.old) (W.told wire.new) result }
+        ensures rises { (low : ℕ) → RiseBetween low self.old.looks (G.floor ground.old) → RiseBetween low self.new.looks (G.floor ground.new) }
+        ensures at_told { AreAtTold (G.told ground.old) self.old.looks → AreAtTold (G.told ground.old) self.new.looks }
+        ensures faults { W.faults wire.old ≤ W.faults wire.new }
+        ensures fault { result ≡ Some End.WireFault → W.faults wire.old < W.faults wire.new }
+        ensures few { result ≡ None → self.new.core.requests ≤ self.old.core.requests + 10001 }
+    {
+        blip_mux::laws::replies();
+        let Ok(acts) = self.take_message(alloc, ground, message) else {
+            return Some(End::Memory);
+        };
+        match self.mux.put(acts) {
+            Ok(()) => end_of(self.mux.send_all(alloc, wire)),
+            Err(_) => Some(End::Memory),
+        }
+    }
+
+    /// Goes on after a frame that gave no message: sends what may be sent.
+    fn go_on<W: Wire>(&mut self, alloc: Global, wire: &mut W) -> Option<End>
+        requires rest { self.old.core.pending ≡ Pending.Nothing }
+        requires requests { self.old.mux.outbox.requests ≡ self.old.core.requests }
+        requires apart { AreApart self.old.mux.inbox self.old.mux.outbox }
+        requires count { self.old.frames < 18446744073709551615 }
+        ensures goes { (met : List (List Entry)) → GoesOn self.old self.new None met (W.told wire.old) (W.told wire.new) result }
+        ensures faults { W.faults wire.old ≤ W.faults wire.new }
+        ensures fault { result ≡ Some End.WireFault → W.faults wire.old < W.faults wire.new }
+        ensures core { self.new.core ≡ self.old.core }
+        ensures looks { self.new.looks ≡ self.old.looks }
+    {
+        blip_mux::laws::replies();
+        self.frames += 1;
+        end_of(self.mux.send_all(alloc, wire))
+    }
+
+    /// Takes a frame: its message, where it gives one, is answered, and what may be sent is sent. Answers how the session
+    /// ends, where it ends here.
     fn take_frame<W: Wire, G: Ground>(
         &mut self,
         alloc: Global,
@@ -124,18 +178,13 @@ impl Session {
         ensures few { result ≡ None → self.new.core.requests ≤ self.old.core.requests + 10001 }
         ensures count { result ≡ None → self.new.frames ≡ self.old.frames + 1 }
     {
-        let message = match self.mux.take(alloc, bytes) {
-            Took::Whole(message) => message,
-            Took::Bad(why) => return Some(self.bad_frame(why)),
-            Took::Memory => return Some(End::Memory),
-        };
-        let Ok(acts) = self.take_message(alloc, ground, message) else {
-            return Some(End::Memory);
-        };
-        match self.mux.send(alloc, acts, wire) {
-            Gave::Done => None,
-            Gave::Failed => Some(End::WireFault),
-            Gave::Memory => Some(End::Memory),
+        blip_mux::laws::replies();
+        write_path::laws::looks();
+        match self.mux.take(alloc, bytes) {
+            Took::Whole(message) => self.answer(alloc, ground, wire, message),
+            Took::Part => self.go_on(alloc, wire),
+            Took::Bad(why) => Some(self.bad_frame(why)),
+            Took::Memory => Some(End::Memory),
         }
     }
 
@@ -182,5 +231,16 @@ impl Session {
             index: self.frames + 1,
             why,
         }
+    }
+}
+
+/// How the session ends, where a frame was not sent.
+fn end_of(gave: Gave) -> Option<End>
+    ensures { IsEndOf gave result }
+{
+    match gave {
+        Gave::Done => None,
+        Gave::Failed => Some(End::WireFault),
+        Gave::Memory => Some(End::Memory),
     }
 }

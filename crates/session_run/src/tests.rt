@@ -1,6 +1,8 @@
 //! Worked sessions, frame by frame. The frames were made by another program, with the CRC-32 of zlib.
 
 use crate::{End, Ended, FrameWhy, Setup, serve_session};
+use blip_frame::PayloadFault;
+use blip_mux::BadAck;
 use repl_messages::Version;
 use session_core::Purpose;
 use sg_history::{Log, Name, from_hex, read_journal};
@@ -171,4 +173,80 @@ fn each_end_has_its_cause(rt: HostRuntime) -> Result<(), Fail> {
         assert!(rt; are_sent(alloc, wire.sent.as_slice(), want)?, "{end:?}");
     }
     Ok(())
+}
+
+/// The inputs of frames that are given with spaces between them.
+fn inputs_of(alloc: Global, frames: &str) -> Result<Vec<Input>, Fail> {
+    let mut inputs = Vec::new(alloc);
+    for hex in frames.split(' ') {
+        inputs.push(Input::Frame(bytes_of(alloc, hex)?))?;
+    }
+    Ok(inputs)
+}
+
+#[test]
+fn messages_of_many_frames_are_answered_as_they_become_whole(rt: HostRuntime) -> Result<(), Fail> {
+    let alloc = rt.alloc();
+    // subChanges with since 0 as request 1, in two frames, and getCheckpoint as request 2 between them.
+    let frames =
+        "01401b50726f66696c65007361726173 02001f50726f66696c6500676574436865636b706f696e7400636c69656e7400630099dfe271 010075624368616e6765730073696e6365003000bc34d619";
+    let mut wire = MemWire::new(alloc, inputs_of(alloc, frames)?);
+    let ended = serve(alloc, JOURNAL, &mut wire)?;
+    assert!(rt; ended.end == End::Closed);
+    // BLIP 404 with `no handler`, the reply to subChanges, and `changes` with two rows.
+    let want = [
+        "0202214572726f722d446f6d61696e00424c4950004572726f722d436f646500343034006e6f2068616e646c657277cfe84b",
+        "010100337bb87d",
+        "01001050726f66696c65006368616e676573005b5b322c226431222c22312d61225d2c5b342c226433222c22312d63225d5dd877b665",
+    ];
+    assert!(rt; are_sent(alloc, wire.sent.as_slice(), &want)?);
+    Ok(())
+}
+
+#[test]
+fn each_bad_frame_is_told_by_its_index(rt: HostRuntime) -> Result<(), Fail> {
+    let alloc = rt.alloc();
+    let table: [(&str, u64, FrameWhy); 14] = [
+        ("0108", 1, FrameWhy::Compressed),
+        ("01", 1, FrameWhy::Short),
+        ("010300d202ef8d", 1, FrameWhy::BadType { flags: 3 }),
+        ("018001d202ef8d", 1, FrameWhy::BadType { flags: 128 }),
+        (
+            "010000d202ef00",
+            1,
+            FrameWhy::BadChecksum {
+                kept: 0xd202_ef00,
+                computed: 0xd202_ef8d,
+            },
+        ),
+        ("020000d202ef8d", 1, FrameWhy::OutOfOrder { number: 2 }),
+        ("010100d202ef8d", 1, FrameWhy::OutOfOrder { number: 1 }),
+        (
+            "014000d202ef8d 01020041d912ff",
+            2,
+            FrameWhy::OutOfOrder { number: 1 },
+        ),
+        ("010005a2681b02", 1, FrameWhy::Payload(PayloadFault::Short)),
+        ("01340505", 1, FrameWhy::BadAckPayload),
+        ("0134", 1, FrameWhy::BadAckPayload),
+        ("013405", 1, bad_ack(1)),
+        ("003405", 1, bad_ack(0)),
+        ("013505", 1, bad_ack(1)),
+    ];
+    for (frames, index, why) in table {
+        let mut wire = MemWire::new(alloc, inputs_of(alloc, frames)?);
+        let ended = serve(alloc, JOURNAL, &mut wire)?;
+        assert!(rt; ended.end == End::BadFrame { index, why }, "{frames}");
+        assert_eq!(rt; wire.sent.len(), 0, "{frames}");
+    }
+    Ok(())
+}
+
+/// An acknowledgement of five bytes of a message that was never put.
+fn bad_ack(number: u64) -> FrameWhy {
+    FrameWhy::BadAck(BadAck {
+        number,
+        bytes: 5,
+        sent: 0,
+    })
 }

@@ -2,6 +2,7 @@
 
 ghost use Rattle.std.specs.Prelude.{◌≡◌, [], Some, length};
 ghost use Rattle.sg_history.specs.History.{history};
+ghost use Rattle.write_path.specs.Looks.{IsLaterThanAll};
 
 use crate::bodies::bodies_at;
 use crate::feed::feed_at;
@@ -44,9 +45,10 @@ impl SoloGround {
         }
     }
 
-    /// The log.
+    /// The log, which goes on from every history that was met.
     pub fn into_inner(self) -> Log
-        ensures { result ≡ self.log }
+        ensures log { result ≡ self.log }
+        ensures later { IsLaterThanAll self.met (history result) }
     {
         self.log
     }

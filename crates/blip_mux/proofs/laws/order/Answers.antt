@@ -1,8 +1,9 @@
-use Rattle.blip_mux.proofs.Joins.{requests_counted, replies_expected}
+use Rattle.blip_mux.proofs.Orders.{in_order, once, replied}
 use Rattle.blip_mux.proofs.laws.order.Goals as goal
 
 pub returns : goal.returns
 returns c = record {
-  requests = requests_counted;
-  replies = replies_expected;
+  beginnings = in_order;
+  once = once;
+  replies = replied;
 }

@@ -1,4 +1,4 @@
-use Rattle.blip_mux.proofs.Joins.{stands_new, stands_after, stands_expecting, same_message}
+use Rattle.blip_mux.proofs.Joins.{stands_new, stands_after, stands_expecting, same_answer}
 use Rattle.blip_mux.proofs.laws.standing.Goals as goal
 
 pub returns-clause-new : goal.returns-clause-new
@@ -10,5 +10,5 @@ returns-clause-came c = stands_after
 pub returns-clause-expected : goal.returns-clause-expected
 returns-clause-expected c = stands_expecting
 
-pub returns-clause-message : goal.returns-clause-message
-returns-clause-message c = same_message
+pub returns-clause-answer : goal.returns-clause-answer
+returns-clause-answer c = same_answer

@@ -1,6 +1,6 @@
 use Rattle.std.proofs.Common.{ℕ, length, ap, arith}
 use Rattle.std.proofs.lemmas.List.{length-append}
-use Rattle.blip_mux.proofs.Cuts.{payload_some}
+use Rattle.blip_mux.proofs.Payloads.{payload_some}
 use Rattle.blip_mux.proofs.outbox.written.Goals as goal
 
 pub returns-clause-some : goal.returns-clause-some

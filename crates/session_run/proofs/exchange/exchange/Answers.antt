@@ -11,6 +11,7 @@ use Rattle.session_core.specs.Exchange.{Exchange}
 use Rattle.write_path.specs.Looks.{IsLaterThanAll}
 use Rattle.session_run.specs.Exchanges.{Makes}
 use Rattle.session_run.proofs.Exchanging.{waits_for_none, wants_bodies, exchange_of, feed_made, bodies_made}
+use Rattle.session_run.proofs.Answering.{answers_bodies_in}
 use Rattle.session_run.proofs.exchange.exchange.Goals as goal
 
 pub returns-in-Put-clause-made : goal.returns-in-Put-clause-made
@@ -45,3 +46,6 @@ returns-in_ok-acts-in-Look-Bodies-clause-made g c =
     × (c.in_ok-acts-in-Look-Bodies.look ≡ record { front = answer.front; purpose = purposes.Bodies })
     × ((h : List Entry) → IsLaterThanAll (g.G.Ground.met c.look_for_bodies.new.ground) h → AreBodies h c.step.new.self.user c.in-Look-Bodies.options rows c.in-Look-Bodies.most answer))
     c.as_slice.ensures c.in_ok-acts-in-Look-Bodies.ensures.answer)
+
+pub returns-in_ok-acts-in-Look-Bodies-clause-answers : goal.returns-in_ok-acts-in-Look-Bodies-clause-answers
+returns-in_ok-acts-in-Look-Bodies-clause-answers g c = answers_bodies_in c.step.new.self c.args.message c.look_for_bodies.new.core c.in_ok-acts-in-Look-Bodies.acts c.in-Look-Bodies.options c.as_slice.result.now c.in-Look-Bodies.most c.in_ok-acts-in-Look-Bodies.look (g.G.Ground.met c.look_for_bodies.new.ground) c.in_ok-acts-in-Look-Bodies.ensures.answer

@@ -1,16 +1,15 @@
 use Rattle.std.proofs.Common.{◌≡◌, ◌≤◌}
-use Rattle.session_run.specs.Muxed.{left_of}
+use Rattle.session_run.specs.Muxed.{all_left_of}
 use Rattle.session_run.proofs.Sending.{Going}
 use Rattle.session_run.proofs.mux.Mux.send_all.Given as goal
 
 abbrev pub decreases-loop-frame : goal.decreases-loop-frame
-decreases-loop-frame g l = left_of l.self.outbox.waiting
+decreases-loop-frame g l = all_left_of l.self.outbox
 
 abbrev pub invariant-loop-frame : goal.invariant-loop-frame
 invariant-loop-frame g l = record {
-  going : Going l.initial.self.outbox.waiting l.initial.self.sent.value (g.W.Wire.told l.initial.wire) l.self.outbox.waiting l.self.sent.value (g.W.Wire.told l.wire);
+  going : Going l.initial.self.outbox l.initial.self.sent.value (g.W.Wire.told l.initial.wire) l.self.outbox l.self.sent.value (g.W.Wire.told l.wire);
   faults : g.W.Wire.faults l.initial.wire ≤ g.W.Wire.faults l.wire;
-  requests : l.self.outbox.requests ≡ l.initial.self.outbox.requests;
   inbox : l.self.inbox ≡ l.initial.self.inbox;
   received : l.self.received ≡ l.initial.self.received;
 }

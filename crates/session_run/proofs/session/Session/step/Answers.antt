@@ -9,7 +9,7 @@ use Rattle.session_run.proofs.session.Session.step.Goals as goal
 
 pub returns-in-Frame-clause-runs : goal.returns-in-Frame-clause-runs
 returns-in-Frame-clause-runs g c user version told count runs =
-    frame_taken c.standing.ensures.came c.standing.ensures.expected c.standing.ensures.message user version (g.G.Ground.met c.args.ground.now) (g.G.Ground.met c.take_frame.new.ground)
+    frame_taken c.standing.ensures.came c.standing.ensures.expected c.standing.ensures.answer user version (g.G.Ground.met c.args.ground.now) (g.G.Ground.met c.take_frame.new.ground)
     told (g.W.Wire.told c.args.wire.now) (g.W.Wire.told c.recv.new.self) (g.W.Wire.told c.take_frame.new.wire)
     c.args.self.now c.take_frame.new.self count c.in-Frame.bytes c.take_frame.result
     (λ h later. c.looks.ensures.before (g.G.Ground.met c.args.ground.now) (g.G.Ground.met c.take_frame.new.ground) (g.G.Ground.floor c.args.ground.now) (g.G.Ground.floor c.take_frame.new.ground) h c.take_frame.ensures.looks later)

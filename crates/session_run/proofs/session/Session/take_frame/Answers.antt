@@ -1,69 +1,34 @@
-use Rattle.std.proofs.Common.{◌+◌, ◌∙◌, ap, sym, subst, inl}
-use Rattle.session_core.specs.Conduct.{messages_from}
-use Rattle.session_run.specs.declared.mux.Mux.{Mux}
-use Rattle.session_run.specs.declared.mux.Took.TheVariants as took
-use Rattle.session_run.specs.Muxed.{IsTaken}
-use Rattle.session_run.proofs.Turning.{Took, turned, done, partly}
+use Rattle.std.proofs.Common.{None}
+use Rattle.blip_mux.specs.declared.inbox.Taken.TheVariants as takens
+use Rattle.session_run.proofs.Turning.{with_mux, gives_apart, whole_may, part_apart, frame_takes, part_takes, rest_after, count_after}
 use Rattle.session_run.proofs.session.Session.take_frame.Goals as goal
 
-pub returns-in-Done-clause-takes : goal.returns-in-Done-clause-takes
-returns-in-Done-clause-takes g c =
-    done c.args.self.now
-    (record { core = c.take_message.new.self.core; mux = c.send.new.self; looks = c.take_message.new.self.looks; frames = c.take_message.new.self.frames })
-    c.args.bytes.now (g.G.Ground.met c.take_message.new.ground) (g.W.Wire.told c.args.wire.now) (g.W.Wire.told c.send.new.wire)
-    c.take_message.new.self.mux (messages_from (c.take_message.new.self.mux.outbox.requests + 1) c.in-Ok.acts)
-    c.in-Ok.ensures.rest
-    (c.send.ensures.done c.in-Done.is)
-    (subst (λ r. Took c.args.self.now
-    (record { core = c.take_message.new.self.core; mux = c.send.new.self; looks = c.take_message.new.self.looks; frames = c.take_message.new.self.frames })
-    c.args.bytes.now (g.G.Ground.met c.take_message.new.ground) (g.W.Wire.told c.args.wire.now) (g.W.Wire.told c.send.new.wire) r c.take_message.new.self.mux (messages_from (c.take_message.new.self.mux.outbox.requests + 1) c.in-Ok.acts)) c.in-Done.is
-    (turned c.args.self.now
-    (record { core = c.take_message.new.self.core; mux = c.send.new.self; looks = c.take_message.new.self.looks; frames = c.take_message.new.self.frames })
-    c.args.bytes.now (g.G.Ground.met c.take_message.new.ground) (g.W.Wire.told c.args.wire.now) (g.W.Wire.told c.send.new.wire)
-    c.send.result c.in-Whole.message c.in-Ok.acts c.take_message.new.self.mux
-    c.requires.rest
-    (ap (λ (m : Mux). m.outbox) c.take_message.ensures.mux ∙ c.take.ensures.outbox)
-    (ap (λ (m : Mux). m.sent) c.take_message.ensures.mux ∙ c.take.ensures.sent)
-    c.send.ensures.received
-    (subst (λ (m : Mux). IsTaken c.args.self.now.mux.received.value c.args.self.now.mux.inbox c.args.bytes.now (took.Whole c.in-Whole.message) m.received.value m.inbox) (sym c.take_message.ensures.mux) c.in-Whole.ensures.taken)
-    c.in-Ok.ensures.made
-    c.in-Ok.ensures.count
-    c.send.ensures.sent))
+pub answer-requires-clause-apart : goal.answer-requires-clause-apart
+answer-requires-clause-apart g c =
+    gives_apart c.replies.ensures.taken c.replies.ensures.heard c.args.self.now.mux c.args.bytes.now (takens.Whole c.in-Whole.message) c.take.new.self c.in-Whole.ensures.taken c.requires.rest.apart
 
-pub returns-in-Failed-clause-takes : goal.returns-in-Failed-clause-takes
-returns-in-Failed-clause-takes g c =
-    partly c.args.self.now
-    (record { core = c.take_message.new.self.core; mux = c.send.new.self; looks = c.take_message.new.self.looks; frames = c.take_message.new.self.frames })
-    c.args.bytes.now (g.G.Ground.met c.take_message.new.ground) (g.W.Wire.told c.args.wire.now) (g.W.Wire.told c.send.new.wire)
-    c.send.result c.take_message.new.self.mux (messages_from (c.take_message.new.self.mux.outbox.requests + 1) c.in-Ok.acts)
-    (turned c.args.self.now
-    (record { core = c.take_message.new.self.core; mux = c.send.new.self; looks = c.take_message.new.self.looks; frames = c.take_message.new.self.frames })
-    c.args.bytes.now (g.G.Ground.met c.take_message.new.ground) (g.W.Wire.told c.args.wire.now) (g.W.Wire.told c.send.new.wire)
-    c.send.result c.in-Whole.message c.in-Ok.acts c.take_message.new.self.mux
-    c.requires.rest
-    (ap (λ (m : Mux). m.outbox) c.take_message.ensures.mux ∙ c.take.ensures.outbox)
-    (ap (λ (m : Mux). m.sent) c.take_message.ensures.mux ∙ c.take.ensures.sent)
-    c.send.ensures.received
-    (subst (λ (m : Mux). IsTaken c.args.self.now.mux.received.value c.args.self.now.mux.inbox c.args.bytes.now (took.Whole c.in-Whole.message) m.received.value m.inbox) (sym c.take_message.ensures.mux) c.in-Whole.ensures.taken)
-    c.in-Ok.ensures.made
-    c.in-Ok.ensures.count
-    c.send.ensures.sent)
+pub answer-requires-clause-reply : goal.answer-requires-clause-reply
+answer-requires-clause-reply g c is =
+    whole_may c.replies.ensures.whole c.args.self.now.mux c.args.bytes.now c.in-Whole.message c.take.new.self c.in-Whole.ensures.taken c.requires.rest.apart is
 
-pub returns-in-Memory-send-clause-takes : goal.returns-in-Memory-send-clause-takes
-returns-in-Memory-send-clause-takes g c =
-    inl (partly c.args.self.now
-    (record { core = c.take_message.new.self.core; mux = c.send.new.self; looks = c.take_message.new.self.looks; frames = c.take_message.new.self.frames })
-    c.args.bytes.now (g.G.Ground.met c.take_message.new.ground) (g.W.Wire.told c.args.wire.now) (g.W.Wire.told c.send.new.wire)
-    c.send.result c.take_message.new.self.mux (messages_from (c.take_message.new.self.mux.outbox.requests + 1) c.in-Ok.acts)
-    (turned c.args.self.now
-    (record { core = c.take_message.new.self.core; mux = c.send.new.self; looks = c.take_message.new.self.looks; frames = c.take_message.new.self.frames })
-    c.args.bytes.now (g.G.Ground.met c.take_message.new.ground) (g.W.Wire.told c.args.wire.now) (g.W.Wire.told c.send.new.wire)
-    c.send.result c.in-Whole.message c.in-Ok.acts c.take_message.new.self.mux
-    c.requires.rest
-    (ap (λ (m : Mux). m.outbox) c.take_message.ensures.mux ∙ c.take.ensures.outbox)
-    (ap (λ (m : Mux). m.sent) c.take_message.ensures.mux ∙ c.take.ensures.sent)
-    c.send.ensures.received
-    (subst (λ (m : Mux). IsTaken c.args.self.now.mux.received.value c.args.self.now.mux.inbox c.args.bytes.now (took.Whole c.in-Whole.message) m.received.value m.inbox) (sym c.take_message.ensures.mux) c.in-Whole.ensures.taken)
-    c.in-Ok.ensures.made
-    c.in-Ok.ensures.count
-    c.send.ensures.sent))
+pub go_on-requires-clause-apart : goal.go_on-requires-clause-apart
+go_on-requires-clause-apart g c =
+    part_apart c.replies.ensures.taken c.replies.ensures.heard c.args.self.now.mux c.args.bytes.now c.take.new.self c.in-Part.ensures.taken c.requires.rest.apart
+
+pub returns-in-Whole-clause-takes : goal.returns-in-Whole-clause-takes
+returns-in-Whole-clause-takes g c =
+    frame_takes c.args.self.now c.answer.new.self c.take.new.self c.args.bytes.now (g.G.Ground.met c.answer.new.ground) (g.W.Wire.told c.args.wire.now) (g.W.Wire.told c.answer.new.wire) (takens.Whole c.in-Whole.message) c.answer.result
+    c.in-Whole.ensures.taken c.take.ensures.sent c.answer.ensures.goes
+
+pub returns-in-Part-clause-takes : goal.returns-in-Part-clause-takes
+returns-in-Part-clause-takes g c =
+    part_takes c.args.self.now c.go_on.new.self c.take.new.self c.args.bytes.now (g.G.Ground.met c.args.ground.now) (g.W.Wire.told c.args.wire.now) (g.W.Wire.told c.go_on.new.wire) c.go_on.result
+    c.in-Part.ensures.taken c.take.ensures.sent (c.go_on.ensures.goes (g.G.Ground.met c.args.ground.now))
+
+pub returns-in-Part-clause-rest : goal.returns-in-Part-clause-rest
+returns-in-Part-clause-rest g c =
+    rest_after (with_mux c.args.self.now c.take.new.self) c.go_on.new.self None (g.G.Ground.met c.args.ground.now) (g.W.Wire.told c.args.wire.now) (g.W.Wire.told c.go_on.new.wire) c.go_on.result (c.go_on.ensures.goes (g.G.Ground.met c.args.ground.now))
+
+pub returns-in-Part-clause-count : goal.returns-in-Part-clause-count
+returns-in-Part-clause-count g c =
+    count_after (with_mux c.args.self.now c.take.new.self) c.go_on.new.self None (g.G.Ground.met c.args.ground.now) (g.W.Wire.told c.args.wire.now) (g.W.Wire.told c.go_on.new.wire) c.go_on.result (c.go_on.ensures.goes (g.G.Ground.met c.args.ground.now))

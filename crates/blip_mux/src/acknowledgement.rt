@@ -1,0 +1,66 @@
+//! An acknowledgement that waits to be sent.
+
+ghost use Rattle.std.specs.Prelude.{◌≡◌, ◌++◌, ◌≤◌, false, length, List, ℕ, OnOk, OnErr};
+ghost use Rattle.blip_frame.specs.Checksum.{checksum};
+ghost use Rattle.blip_frame.specs.Frame.{has_checksum, value_after, spelling, sent_after, WritesAfter};
+ghost use Rattle.blip_mux.specs.Told.{told_by};
+
+use blip_frame::{Crc, Frame, Kind, write_frame, write_varint};
+use sg_outside::{Bytes, Memory};
+use std::alloc::{AllocError, Global};
+use std::marker::Model;
+
+/// How many bytes of a message have come: of a request, or of a reply.
+#[derive(Drop)]
+pub(crate) struct Acknowledgement {
+    kind: Kind,
+    number: u64,
+    bytes: u64,
+}
+
+impl Model for Acknowledgement {
+    ghost use Rattle.std.specs.Prelude.{◌≡◌, false};
+    ghost use Rattle.blip_frame.specs.Frame.{has_checksum};
+    ghost use Rattle.blip_mux.specs.Told as told;
+
+    ghost Value = { told.Acknowledgement };
+
+    ghost view = { λ a. record { kind = a.kind; number = a.number; bytes = a.bytes } };
+
+    ghost invariant = { λ a. has_checksum a.kind ≡ false };
+}
+
+impl Acknowledgement {
+    pub(crate) fn new(kind: Kind, number: u64, bytes: u64) -> Acknowledgement
+        requires { has_checksum kind ≡ false }
+        ensures { result ≡ record { kind = kind; number = number; bytes = bytes } }
+    {
+        Acknowledgement {
+            kind,
+            number,
+            bytes,
+        }
+    }
+
+    /// Writes its frame. At want of memory checksum and `out` stay as they were.
+    #[tactic(auto, using(crate::proofs::Payloads::varint_fits))]
+    pub(crate) fn write(&self, alloc: Global, crc: &mut Crc, out: &mut Bytes) -> Result<(), Memory>
+        ensures ok { OnOk result (out.new ≡ out.old ++ spelling (value_after crc.old.value (told_by self.now)) (told_by self.now)) }
+        ensures value { OnOk result (crc.new.value ≡ value_after crc.old.value (told_by self.now)) }
+        ensures sent { (sent : List ℕ) → crc.old.value ≡ checksum sent
+            → OnOk result (WritesAfter sent out.old out.new (told_by self.now) × (crc.new.value ≡ checksum (sent_after sent (told_by self.now)))) }
+        ensures err { OnErr result ((out.new ≡ out.old) × (crc.new ≡ crc.old)) }
+    {
+        let mut payload = Bytes::new(alloc);
+        write_varint(self.bytes, &mut payload)?;
+        let frame = Frame {
+            number: self.number,
+            kind: self.kind,
+            urgent: true,
+            no_reply: true,
+            more: false,
+            payload: payload.as_slice(),
+        };
+        write_frame(crc, &frame, out)
+    }
+}

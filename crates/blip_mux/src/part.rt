@@ -1,0 +1,166 @@
+//! A message of which a part has come.
+
+ghost use Rattle.std.specs.Prelude.{◌≡◌, ◌≢◌, ◌≤◌, ◌<◌, ◌^◌, ◌++◌, length, Ok, Err, IfOk, IfErr, OnOk, OnErr};
+ghost use Rattle.blip_frame.specs.Frame.{parts_of};
+ghost use Rattle.blip_frame.specs.Payload.{payload_at};
+ghost use Rattle.blip_mux.specs.Joining.{begun_by, with_frame, part_by, message_by, with_fault, acknowledges, acknowledge_after};
+
+use crate::inbox::{TakeFault, Taken};
+use crate::message::Message;
+use blip_frame::{Frame, Kind, Payload, PayloadFault, read_payload};
+use sg_outside::{Bytes, Memory};
+use std::alloc::{AllocError, Global};
+use std::marker::Model;
+
+/// After so many bytes of a message the next acknowledgement is owed.
+const ACKNOWLEDGE_AFTER: usize = 50_000;
+
+/// The kind and the marks of a message, the bytes of it that have come, and how many of them came
+/// since the last acknowledgement.
+#[derive(Drop)]
+pub(crate) struct Part {
+    kind: Kind,
+    urgent: bool,
+    no_reply: bool,
+    bytes: Bytes,
+    unacknowledged: usize,
+}
+
+impl Model for Part {
+    ghost use Rattle.std.specs.Prelude.{◌<◌};
+    ghost use Rattle.blip_mux.specs.Begun.{Begun};
+
+    ghost Value = { Begun };
+
+    ghost view = { λ p. record { kind = p.kind; urgent = p.urgent; no_reply = p.no_reply; bytes = p.bytes; unacknowledged = p.unacknowledged } };
+
+    ghost invariant = { λ p. p.unacknowledged < 50000 };
+}
+
+impl Part {
+    /// A message of which nothing has come, with the kind and the marks of its first frame. Takes no
+    /// memory.
+    pub(crate) fn new(alloc: Global, first: &Frame<'_>) -> Part
+        ensures { result ≡ begun_by (parts_of first.now) }
+    {
+        Part {
+            kind: first.kind,
+            urgent: first.urgent,
+            no_reply: first.no_reply,
+            bytes: Bytes::new(alloc),
+            unacknowledged: 0,
+        }
+    }
+
+    pub(crate) fn kind(&self) -> Kind
+        ensures { result ≡ self.now.kind }
+    {
+        self.kind
+    }
+
+    /// Takes a frame that is not the last.
+    pub(crate) fn take(&mut self, frame: &Frame<'_>) -> Result<Taken, Memory>
+        ensures taken { IfOk result (λ taken. taken ≡ part_by self.old (parts_of frame.now)) }
+        ensures after { OnOk result (self.new ≡ with_frame self.old (parts_of frame.now)) }
+        ensures err { OnErr result (self.new ≡ self.old) }
+    {
+        self.bytes.extend_from_slice(frame.payload)?;
+        let unacknowledged = self.unacknowledged + frame.payload.len();
+        if unacknowledged < ACKNOWLEDGE_AFTER {
+            self.unacknowledged = unacknowledged;
+            return Ok(Taken::Nothing);
+        }
+        self.unacknowledged = 0;
+        Ok(Taken::Owed {
+            kind: acknowledges(frame.kind),
+            number: frame.number,
+            bytes: self.bytes.len() as u64,
+        })
+    }
+
+    /// The message whose last frame this is. The part stays as it was.
+    pub(crate) fn message_with(
+        &mut self,
+        alloc: Global,
+        frame: &Frame<'_>,
+    ) -> Result<Message, TakeFault>
+        ensures ok { IfOk result (λ message. message_by self.old (parts_of frame.now) ≡ Ok message) }
+        ensures fault { IfErr result (λ fault. fault ≢ TakeFault.Memory → message_by self.old (parts_of frame.now) ≡ Err fault) }
+        ensures memory { IfErr result (λ fault. fault ≢ TakeFault.Payload PayloadFault.Memory) }
+        ensures unchanged { self.new ≡ self.old }
+    {
+        let payload = payload_with(alloc, &mut self.bytes, frame.payload)?;
+        Ok(Message {
+            number: frame.number,
+            kind: self.kind,
+            urgent: self.urgent,
+            no_reply: self.no_reply,
+            payload,
+        })
+    }
+}
+
+/// The message of one frame.
+pub(crate) fn only_message(alloc: Global, frame: &Frame<'_>) -> Result<Message, TakeFault>
+    ensures ok { IfOk result (λ message. message_by (begun_by (parts_of frame.now)) (parts_of frame.now) ≡ Ok message) }
+    ensures fault { IfErr result (λ fault. fault ≢ TakeFault.Memory → message_by (begun_by (parts_of frame.now)) (parts_of frame.now) ≡ Err fault) }
+    ensures memory { IfErr result (λ fault. fault ≢ TakeFault.Payload PayloadFault.Memory) }
+{
+    let payload = payload_of(alloc, frame.payload)?;
+    Ok(Message {
+        number: frame.number,
+        kind: frame.kind,
+        urgent: frame.urgent,
+        no_reply: frame.no_reply,
+        payload,
+    })
+}
+
+/// The payload that bytes are with these last ones. The bytes stay as they were.
+fn payload_with(alloc: Global, bytes: &mut Bytes, last: &[u8]) -> Result<Payload, TakeFault>
+    ensures ok { IfOk result (λ p. payload_at (bytes.old ++ last.now) ≡ Ok (p.props, p.body)) }
+    ensures fault { IfErr result (λ fault. fault ≢ TakeFault.Memory → with_fault (payload_at (bytes.old ++ last.now)) ≡ Err fault) }
+    ensures memory { IfErr result (λ fault. fault ≢ TakeFault.Payload PayloadFault.Memory) }
+    ensures unchanged { bytes.new ≡ bytes.old }
+{
+    let before = bytes.len();
+    if bytes.extend_from_slice(last).is_err() {
+        return Err(TakeFault::Memory);
+    }
+    let payload = payload_of(alloc, bytes.as_slice());
+    bytes.truncate(before);
+    payload
+}
+
+fn payload_of(alloc: Global, bytes: &[u8]) -> Result<Payload, TakeFault>
+    ensures ok { IfOk result (λ p. payload_at bytes.now ≡ Ok (p.props, p.body)) }
+    ensures err { IfErr result (λ fault. fault ≢ TakeFault.Memory → with_fault (payload_at bytes.now) ≡ Err fault) }
+    ensures memory { IfErr result (λ fault. fault ≢ TakeFault.Payload PayloadFault.Memory) }
+{
+    match read_payload(alloc, bytes) {
+        Ok(payload) => Ok(payload),
+        Err(fault) => Err(fault_of(fault)),
+    }
+}
+
+/// A fault of the payload, as one of the frame.
+fn fault_of(fault: PayloadFault) -> TakeFault
+    ensures value { result ≢ TakeFault.Memory → result ≡ TakeFault.Payload fault }
+    ensures other { result ≢ TakeFault.Memory → fault ≢ PayloadFault.Memory }
+    ensures memory { result ≢ TakeFault.Payload PayloadFault.Memory }
+{
+    match fault {
+        PayloadFault::Memory => TakeFault::Memory,
+        other => TakeFault::Payload(other),
+    }
+}
+
+/// The kind of the acknowledgements of a message of this kind.
+fn acknowledges(kind: Kind) -> Kind
+    ensures { result ≡ acknowledges kind }
+{
+    match kind {
+        Kind::Msg | Kind::AckMsg => Kind::AckMsg,
+        Kind::Rpy | Kind::Err | Kind::AckRpy => Kind::AckRpy,
+    }
+}
