@@ -34,7 +34,7 @@ pub enum FrameWhy {
 /// How a session ends.
 #[derive(Clone, Copy, Debug, PartialEq, Eq)]
 pub enum End {
-    /// The wire has ended, and all that was to be sent was sent.
+    /// The wire has ended, and all was sent that may be sent.
     Closed,
     /// The wire failed.
     WireFault,
