@@ -11,6 +11,7 @@ ghost use Rattle.feed_rows.specs.Pass.{kept_in, row_in};
 
 use crate::document::{Change, Document};
 use crate::documents::Latest;
+use crate::grants::everyone;
 use crate::pass::pass_over;
 use crate::scan::{bits_of, keeps};
 use sg_history::{DocId, Entry, Key, Options, Row};
@@ -113,7 +114,8 @@ pub fn rows_of_pass(
 ) -> Result<Vec<Row>, AllocError>
     ensures { IfOk result (λ rows. rows.items ≡ feed (reverse entries.now) user.now since.now options.now) }
 {
-    let pass = pass_over(alloc, entries, user, &options.filter)?;
+    let everyone = everyone(alloc)?;
+    let pass = pass_over(alloc, &everyone, entries, user, &options.filter)?;
     let rows = rows_asked(alloc, options, since, pass.documents.as_slice())?;
     Ok(rows)
 }

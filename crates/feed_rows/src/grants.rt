@@ -15,7 +15,7 @@ ghost use Rattle.feed_rows.specs.Put.{standing_in, role_standing_in, grantee_in}
 use crate::document::Document;
 use crate::documents::Latest;
 use crate::principals::{Put, To, gives_role, is_to, put_names_role, role_after};
-use sg_history::{Channels, Entry, Grant, Name};
+use sg_history::{ChannelName, Channels, Entry, Grant, Name, TextFault};
 use std::alloc::{AllocError, Global};
 
 /// A role, with the channels of its last put where it was not dropped since.
@@ -87,17 +87,20 @@ pub fn put_role<'a>(roles: &mut Vec<RoleState<'a>>, entry: &'a Entry) -> Result<
     }
 }
 
-fn add_channels<'a>(list: &mut Vec<&'a [u8]>, channels: &'a Channels) -> Result<(), AllocError>
+fn add_channels<'a>(
+    list: &mut Vec<&'a ChannelName>,
+    channels: &'a Channels,
+) -> Result<(), AllocError>
     ensures { OnOk result (texts list.new.items ≡ texts list.old.items ++ channels.now) }
 {
     for channel in channels.as_slice() {
-        list.push(channel.as_bytes())?;
+        list.push(channel)?;
     }
     Ok(())
 }
 
 fn add_grants<'a>(
-    list: &mut Vec<&'a [u8]>,
+    list: &mut Vec<&'a ChannelName>,
     grants: &'a [Grant],
     to: To<'_>,
 ) -> Result<(), AllocError>
@@ -105,14 +108,14 @@ fn add_grants<'a>(
 {
     for grant in grants {
         if is_to(&grant.to, to) {
-            list.push(grant.channel.as_bytes())?;
+            list.push(&grant.channel)?;
         }
     }
     Ok(())
 }
 
 fn add_granted<'a>(
-    list: &mut Vec<&'a [u8]>,
+    list: &mut Vec<&'a ChannelName>,
     documents: &[Latest<'a>],
     to: To<'_>,
 ) -> Result<(), AllocError>
@@ -137,7 +140,7 @@ fn is_given(documents: &[Latest<'_>], user: &[u8], role: &[u8]) -> bool
 }
 
 fn add_by_role<'a>(
-    list: &mut Vec<&'a [u8]>,
+    list: &mut Vec<&'a ChannelName>,
     put: Option<Put<'a>>,
     user: &[u8],
     documents: &[Latest<'a>],
@@ -156,7 +159,7 @@ fn add_by_role<'a>(
 }
 
 fn add_by_roles<'a>(
-    list: &mut Vec<&'a [u8]>,
+    list: &mut Vec<&'a ChannelName>,
     put: Option<Put<'a>>,
     user: &[u8],
     documents: &[Latest<'a>],
@@ -172,16 +175,18 @@ fn add_by_roles<'a>(
 
 fn all_channels<'a>(
     alloc: Global,
+    everyone: &'a ChannelName,
     put: Option<Put<'a>>,
     user: &[u8],
     roles: &[RoleState<'a>],
     documents: &[Latest<'a>],
-) -> Result<Vec<&'a [u8]>, AllocError>
+) -> Result<Vec<&'a ChannelName>, AllocError>
+    requires { everyone.now ≡ principals.everyone }
     ensures { IfOk result (λ list. texts list.items ≡ channels.user_channels (standing_in put.entry) user.now (map role_in roles.now) (map winner_in documents.now)) }
 {
     let mut list = Vec::new(alloc);
     if let Some(standing) = put {
-        list.push(b"!".as_slice())?;
+        list.push(everyone)?;
         add_channels(&mut list, standing.channels)?;
         add_granted(&mut list, documents, To::User(user))?;
         add_by_roles(&mut list, put, user, documents, roles)?;
@@ -189,29 +194,32 @@ fn all_channels<'a>(
     Ok(list)
 }
 
-fn is_among(channels: &[&[u8]], channel: &[u8]) -> bool
+fn is_among(channels: &[&ChannelName], channel: &[u8]) -> bool
     ensures { result ≡ list_any (λ c. bytes_eq c.now channel.now) channels.now }
 {
-    channels.iter().any(|c| *c == channel)
+    channels.iter().any(|c| c.as_bytes() == channel)
 }
 
 /// Whether a channel is among these.
-pub fn has(channels: &[&[u8]], channel: &[u8]) -> bool
+pub fn has(channels: &[&ChannelName], channel: &[u8]) -> bool
     ensures { result ≡ among (texts channels.now) channel.now }
 {
     is_among(channels, channel)
 }
 
-fn add_once<'a>(list: &mut Vec<&'a [u8]>, channel: &'a [u8]) -> Result<(), AllocError>
+fn add_once<'a>(list: &mut Vec<&'a ChannelName>, channel: &'a ChannelName) -> Result<(), AllocError>
     ensures { OnOk result (texts list.new.items ≡ add_name channel.now (texts list.old.items)) }
 {
-    if !has(list.as_slice(), channel) {
+    if !has(list.as_slice(), channel.as_bytes()) {
         list.push(channel)?;
     }
     Ok(())
 }
 
-fn each_once<'a>(alloc: Global, list: &[&'a [u8]]) -> Result<Vec<&'a [u8]>, AllocError>
+fn each_once<'a>(
+    alloc: Global,
+    list: &[&'a ChannelName],
+) -> Result<Vec<&'a ChannelName>, AllocError>
     ensures { IfOk result (λ once. texts once.items ≡ channels.add_names (texts list.now) []) }
 {
     let mut once = Vec::new(alloc);
@@ -243,36 +251,50 @@ fn granting<'a>(alloc: Global, documents: &[Document<'a>]) -> Result<Vec<Latest<
     Ok(list)
 }
 
-/// The channels of a user, each once, given its last put and the states of all roles and documents.
+/// The channel `!`, which every user has.
+pub fn everyone(alloc: Global) -> Result<ChannelName, AllocError>
+    ensures { IfOk result (λ channel. channel ≡ principals.everyone) }
+{
+    match ChannelName::parse(alloc, "!") {
+        Ok(channel) => Ok(channel),
+        Err(TextFault::Memory) => Err(AllocError),
+        Err(TextFault::Bad) => unreachable!(),
+    }
+}
+
+/// The channels of a user, each once, given the channel of every user, the user's last put and the states of all roles
+/// and documents.
 pub fn user_channels<'a>(
     alloc: Global,
+    everyone: &'a ChannelName,
     put: Option<Put<'a>>,
     user: &[u8],
     roles: &[RoleState<'a>],
     documents: &[Document<'a>],
-) -> Result<Vec<&'a [u8]>, AllocError>
+) -> Result<Vec<&'a ChannelName>, AllocError>
+    requires { everyone.now ≡ principals.everyone }
     ensures { IfOk result (λ list. texts list.items ≡ channels.add_names (channels.user_channels (standing_in put.entry) user.now (map role_in roles.now) (granting_in documents.now)) []) }
 {
     let granting = granting(alloc, documents)?;
-    let list = all_channels(alloc, put, user, roles, granting.as_slice())?;
+    let list = all_channels(alloc, everyone, put, user, roles, granting.as_slice())?;
     let once = each_once(alloc, list.as_slice())?;
     Ok(once)
 }
 
-fn all_are_among(wanted: &[&[u8]], others: &[&[u8]]) -> bool
+fn all_are_among(wanted: &[&ChannelName], others: &[&ChannelName]) -> bool
     ensures { result ≡ list_all (λ c. among (texts others.now) c.now) wanted.now }
 {
-    wanted.iter().all(|c| has(others, *c))
+    wanted.iter().all(|c| has(others, c.as_bytes()))
 }
 
-fn are_among(wanted: &[&[u8]], others: &[&[u8]]) -> bool
+fn are_among(wanted: &[&ChannelName], others: &[&ChannelName]) -> bool
     ensures { result ≡ channels.are_among (texts wanted.now) (texts others.now) }
 {
     all_are_among(wanted, others)
 }
 
 /// Whether both lists have the same channels.
-pub fn are_same(a: &[&[u8]], b: &[&[u8]]) -> bool
+pub fn are_same(a: &[&ChannelName], b: &[&ChannelName]) -> bool
     ensures { result ≡ channels.same_names (texts a.now) (texts b.now) }
 {
     are_among(a, b) && are_among(b, a)

@@ -4,6 +4,7 @@
 mod asked;
 mod document;
 mod documents;
+mod granted;
 mod grants;
 mod index;
 pub mod laws;
@@ -13,6 +14,8 @@ mod principals;
 mod scan;
 mod views;
 
+pub use documents::write_of_rev;
+pub use granted::channels_of;
 pub use scan::rows;
 
 #[cfg(test)]

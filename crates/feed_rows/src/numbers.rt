@@ -34,7 +34,7 @@ fn number_of(numbers: &BTreeMap<&[u8], usize>, channel: &[u8]) -> Option<usize>
 /// The number of a channel, the next one where it has none yet.
 fn number_for<'a>(
     numbered: &mut Numbered<'a>,
-    channels: &[&'a [u8]],
+    channels: &[&'a ChannelName],
     channel: &'a [u8],
 ) -> Result<usize, AllocError>
     ensures grown { OnOk result (Grows (λ c. among (texts channels.now) c) numbered.old numbered.new) }
@@ -52,7 +52,7 @@ fn number_for<'a>(
 fn add_numbers<'a>(
     list: &mut SmallVec<usize, 4>,
     numbered: &mut Numbered<'a>,
-    channels: &[&'a [u8]],
+    channels: &[&'a ChannelName],
     names: &'a [ChannelName],
 ) -> Result<(), AllocError>
     ensures grown { OnOk result (Grows (λ c. among (texts channels.now) c) numbered.old numbered.new) }
@@ -69,7 +69,7 @@ fn add_numbers<'a>(
 fn all_numbers<'a>(
     alloc: Global,
     numbered: &mut Numbered<'a>,
-    channels: &[&'a [u8]],
+    channels: &[&'a ChannelName],
     names: &'a [ChannelName],
 ) -> Result<SmallVec<usize, 4>, AllocError>
     ensures grown { OnOk result (Grows (λ c. among (texts channels.now) c) numbered.old numbered.new) }
@@ -86,7 +86,7 @@ fn all_numbers<'a>(
 pub fn numbers_sought<'a>(
     alloc: Global,
     numbered: &mut Numbered<'a>,
-    channels: &[&'a [u8]],
+    channels: &[&'a ChannelName],
     filter: &Option<Channels>,
     latest: Latest<'a>,
 ) -> Result<SmallVec<usize, 4>, AllocError>
@@ -117,12 +117,12 @@ fn set_flag(flags: &mut [bool], numbers: &BTreeMap<&[u8], usize>, channel: &[u8]
     }
 }
 
-fn set_flags(flags: &mut [bool], numbers: &BTreeMap<&[u8], usize>, channels: &[&[u8]])
+fn set_flags(flags: &mut [bool], numbers: &BTreeMap<&[u8], usize>, channels: &[&ChannelName])
     requires { IsNumbering numbers.now (length flags.old) }
     ensures { Holds (λ c. false) numbers.now flags.old → Holds (λ c. among (texts channels.now) c) numbers.now flags.new }
 {
     for channel in channels {
-        set_flag(flags, numbers, channel);
+        set_flag(flags, numbers, channel.as_bytes());
     }
 }
 
@@ -131,7 +131,7 @@ fn flags_of(
     alloc: Global,
     numbers: &BTreeMap<&[u8], usize>,
     count: usize,
-    channels: &[&[u8]],
+    channels: &[&ChannelName],
 ) -> Result<Vec<bool>, AllocError>
     requires { IsNumbering numbers.now count }
     ensures count { IfOk result (λ flags. length flags.items ≡ count) }
@@ -146,7 +146,7 @@ fn flags_of(
 pub fn hold<'a>(
     alloc: Global,
     numbered: &mut Numbered<'a>,
-    channels: &[&'a [u8]],
+    channels: &[&'a ChannelName],
 ) -> Result<(), AllocError>
     requires { IsNumbering numbered.old.numbers (length numbered.old.held.items) }
     ensures numbers { OnOk result (numbered.new.numbers ≡ numbered.old.numbers) }

@@ -2,6 +2,7 @@
 
 ghost use Rattle.std.specs.Prelude.{◌≡◌, ◌+◌, ◌<◌, ◌^◌, ℕ, List, Option, [], ◌∷◌, ◌&&◌, true, length, map, reverse, slice_get, Some, None, OnOk, IfOk};
 ghost use Rattle.std.specs.Option.{option_copied, ForSome};
+ghost use Rattle.sg_history.specs.Principals as principals;
 ghost use Rattle.feed_rows.specs.Index.{IsIndex};
 ghost use Rattle.feed_rows.specs.Kept as kept;
 ghost use Rattle.feed_rows.specs.Latest.{current_in};
@@ -16,7 +17,7 @@ use crate::grants::{RoleState, are_same, put_role, user_channels};
 use crate::index::{add_place, add_write, place_of};
 use crate::numbers::{Numbered, hold, numbers_sought};
 use crate::principals::{Put, user_after};
-use sg_history::{Channels, DocId, Entry, Write};
+use sg_history::{ChannelName, Channels, DocId, Entry, Write};
 use smallvec::SmallVec;
 use std::alloc::{AllocError, Global};
 use std::collections::BTreeMap;
@@ -31,7 +32,7 @@ pub struct Pass<'a> {
     pub writes: BTreeMap<(&'a str, u32, &'a str), &'a Write>,
     pub roles: Vec<RoleState<'a>>,
     pub put: Option<Put<'a>>,
-    pub channels: Vec<&'a [u8]>,
+    pub channels: Vec<&'a ChannelName>,
     pub numbered: Numbered<'a>,
 }
 
@@ -70,6 +71,7 @@ fn look_at_one(pass: &mut Pass<'_>, by: u64, entry: &Entry, place: Option<usize>
 /// written.
 fn refresh<'a>(
     alloc: Global,
+    everyone: &'a ChannelName,
     pass: &mut Pass<'a>,
     user: &[u8],
     filter: &Option<Channels>,
@@ -77,6 +79,7 @@ fn refresh<'a>(
     entry: &'a Entry,
     place: Option<usize>,
 ) -> Result<(), AllocError>
+    requires everyone { everyone.now ≡ principals.everyone }
     requires fits { length older.now + 1 < 2 ^ 64 }
     requires ready { Ready entry.now (reverse older.now) user.now filter.now pass.old }
     requires had { HasChannels (reverse older.now) user.now pass.old }
@@ -85,6 +88,7 @@ fn refresh<'a>(
 {
     let channels = user_channels(
         alloc,
+        everyone,
         pass.put,
         user,
         pass.roles.as_slice(),
@@ -105,12 +109,14 @@ fn refresh<'a>(
 /// Takes an entry that is no write.
 fn take_put<'a>(
     alloc: Global,
+    everyone: &'a ChannelName,
     pass: &mut Pass<'a>,
     user: &[u8],
     filter: &Option<Channels>,
     older: &'a [Entry],
     entry: &'a Entry,
 ) -> Result<(), AllocError>
+    requires everyone { everyone.now ≡ principals.everyone }
     requires fits { length older.now + 1 < 2 ^ 64 }
     requires other { kept.written entry.now ≡ None }
     requires known { PassAt (reverse older.now) user.now filter.now pass.old }
@@ -118,7 +124,7 @@ fn take_put<'a>(
 {
     put_role(&mut pass.roles, entry)?;
     pass.put = user_after(entry, user, pass.put);
-    refresh(alloc, pass, user, filter, older, entry, None)
+    refresh(alloc, everyone, pass, user, filter, older, entry, None)
 }
 
 /// The place of a document, at the end where it was never written.
@@ -198,6 +204,7 @@ fn put_write<'a>(
 /// Takes a write.
 fn take_write<'a>(
     alloc: Global,
+    everyone: &'a ChannelName,
     pass: &mut Pass<'a>,
     user: &[u8],
     filter: &Option<Channels>,
@@ -205,6 +212,7 @@ fn take_write<'a>(
     entry: &'a Entry,
     write: &'a Write,
 ) -> Result<(), AllocError>
+    requires everyone { everyone.now ≡ principals.everyone }
     requires fits { length older.now + 1 < 2 ^ 64 }
     requires writes { kept.written entry.now ≡ Some write.now }
     requires known { PassAt (reverse older.now) user.now filter.now pass.old }
@@ -216,18 +224,20 @@ fn take_write<'a>(
         look_at_one(pass, older.len() as u64 + 1, entry, place);
         return Ok(());
     }
-    refresh(alloc, pass, user, filter, older, entry, place)
+    refresh(alloc, everyone, pass, user, filter, older, entry, place)
 }
 
 /// Takes one entry more.
 fn take<'a>(
     alloc: Global,
+    everyone: &'a ChannelName,
     pass: &mut Pass<'a>,
     user: &[u8],
     filter: &Option<Channels>,
     older: &'a [Entry],
     entry: &'a Entry,
 ) -> Result<(), AllocError>
+    requires everyone { everyone.now ≡ principals.everyone }
     requires fits { length older.now + 1 < 2 ^ 64 }
     requires known { PassAt (reverse older.now) user.now filter.now pass.old }
     ensures { OnOk result (PassAt (entry.now ∷ reverse older.now) user.now filter.now pass.new) }
@@ -236,8 +246,8 @@ fn take<'a>(
         return Ok(());
     }
     match written(entry) {
-        Some(write) => take_write(alloc, pass, user, filter, older, entry, write),
-        None => take_put(alloc, pass, user, filter, older, entry),
+        Some(write) => take_write(alloc, everyone, pass, user, filter, older, entry, write),
+        None => take_put(alloc, everyone, pass, user, filter, older, entry),
     }
 }
 
@@ -258,19 +268,21 @@ fn start<'a>(alloc: Global) -> Pass<'a>
     }
 }
 
-/// Passes over entries.
+/// Passes over entries, given the channel of every user.
 pub fn pass_over<'a>(
     alloc: Global,
+    everyone: &'a ChannelName,
     entries: &'a [Entry],
     user: &[u8],
     filter: &Option<Channels>,
 ) -> Result<Pass<'a>, AllocError>
+    requires { everyone.now ≡ principals.everyone }
     ensures { IfOk result (PassAt (reverse entries.now) user.now filter.now) }
 {
     let mut pass = start(alloc);
     for (i, entry) in entries.iter().enumerate() {
         let older = &entries[..i];
-        take(alloc, &mut pass, user, filter, older, entry)?;
+        take(alloc, everyone, &mut pass, user, filter, older, entry)?;
     }
     Ok(pass)
 }

@@ -1,7 +1,7 @@
 //! Worked journals with the rows that their users' feeds have, and some cases that a feed has to get right.
 
-use crate::rows;
 use crate::scan::rows_of_entries;
+use crate::{channels_of, rows};
 use sg_history::{
     Channels, Entry, Key, Log, Name, Names, Options, Rows, read_journal, write_decimal,
 };
@@ -249,6 +249,41 @@ fn roles_put_and_dropped(rt: HostRuntime) -> Result<(), Fail> {
         };
         log.entries.push(entry)?;
         assert!(rt; is_as_scanned(alloc, &log)?, "{channels}");
+    }
+    Ok(())
+}
+
+/// The channels of a user at a front, each with a space before it; `none` where the user does not exist.
+fn channels_text(alloc: Global, log: &Log, front: u64, user: &str) -> Result<String, Fail> {
+    let user = Name::parse(alloc, user)?;
+    let Some(channels) = channels_of(alloc, log, front, &user)? else {
+        return Ok(String::from_str(alloc, "none")?);
+    };
+    let mut text = String::new(alloc);
+    for channel in channels.as_slice() {
+        text.push_str(" ")?;
+        text.push_str(channel.as_str())?;
+    }
+    Ok(text)
+}
+
+#[test]
+fn channels_of_users(rt: HostRuntime) -> Result<(), Fail> {
+    let alloc = rt.alloc();
+    for (lines, front, user, want) in [
+        (BACKFILL, 0, "ann", "none"),
+        (BACKFILL, 4, "ann", " ! A"),
+        (BACKFILL, 5, "ann", " ! A B"),
+        (BACKFILL, 5, "bob", "none"),
+        (DOCUMENT_GRANT, 3, "ann", " ! A B"),
+        (DOCUMENT_GRANT, 4, "ann", " ! A"),
+    ] {
+        let log = log_of(alloc, lines)?;
+        if front > log.entries.len() as u64 {
+            return Err(Fail::from("the front is past the log"));
+        }
+        let text = channels_text(alloc, &log, front, user)?;
+        assert!(rt; text.as_bytes() == want.as_bytes(), "{front} {user} {text}");
     }
     Ok(())
 }

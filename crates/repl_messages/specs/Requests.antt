@@ -27,10 +27,13 @@ abbrev pub ◌>>=◌ : {A B : Type 0} → Result A RequestFault → (A → Resul
 
 -- the word by which a property is named
 abbrev pub field_text : Field → List ℕ
+field_text fields.Rev = codes "rev"
 field_text fields.Since = codes "since"
 field_text fields.Batch = codes "batch"
 field_text fields.Filter = codes "filter"
 field_text fields.Channels = codes "channels"
+field_text fields.History = codes "history"
+field_text fields.Body = codes "body"
 
 -- the value found, else that the property is bad
 abbrev pub or_bad : {A : Type 0} → Field → Option A → Result A RequestFault

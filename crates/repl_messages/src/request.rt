@@ -36,13 +36,17 @@ pub enum Request {
     },
 }
 
-/// A property by which a request is refused.
+/// A property by which a request or a revision is refused.
 #[derive(Clone, Copy, Debug, PartialEq, Eq)]
 pub enum Field {
+    Rev,
     Since,
     Batch,
     Filter,
     Channels,
+    History,
+    /// The message's body.
+    Body,
 }
 
 impl Field {
@@ -51,10 +55,13 @@ impl Field {
         ensures { result.now ≡ field_text self.now }
     {
         match self {
+            Field::Rev => "rev",
             Field::Since => "since",
             Field::Batch => "batch",
             Field::Filter => "filter",
             Field::Channels => "channels",
+            Field::History => "history",
+            Field::Body => "body",
         }
     }
 }

@@ -456,11 +456,14 @@ fn replies(rt: HostRuntime) -> Result<(), Fail> {
     expect(&rt, alloc, &write_ok(alloc)?, &[], b"")?;
     let bad = |field| ErrorKind::Bad400 { field };
     let past = |front| ErrorKind::SincePast400 { front };
-    let table: [(ErrorKind, &str, &str, &str); 9] = [
+    let table: [(ErrorKind, &str, &str, &str); 12] = [
+        (bad(Field::Rev), "HTTP", "400", "bad rev"),
         (bad(Field::Since), "HTTP", "400", "bad since"),
         (bad(Field::Batch), "HTTP", "400", "bad batch"),
         (bad(Field::Filter), "HTTP", "400", "bad filter"),
         (bad(Field::Channels), "HTTP", "400", "bad channels"),
+        (bad(Field::History), "HTTP", "400", "bad history"),
+        (bad(Field::Body), "HTTP", "400", "bad body"),
         (ErrorKind::LowForm400, "HTTP", "400", "low form"),
         (past(7), "HTTP", "400", "since is past 7"),
         (past(0), "HTTP", "400", "since is past 0"),

@@ -9,6 +9,7 @@ mod fields;
 pub mod journal;
 pub mod laws;
 mod line;
+pub mod number;
 pub mod row;
 mod rules;
 mod write_line;
@@ -17,6 +18,7 @@ mod written;
 pub use entries::{Entries, Entry, Log, Write};
 pub use fault::{BadLine, ReadLog, Why};
 pub use journal::read_journal;
+pub use number::Number;
 pub use row::{Options, Row, Rows};
 pub use sg_names::{
     ChannelName, Channels, Client, Digest, DocId, Grant, Grantee, Grants, Key, KeyFault, Name,

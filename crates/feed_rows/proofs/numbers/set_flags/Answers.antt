@@ -1,4 +1,4 @@
-use Rattle.std.proofs.Common.{◌||◌, ◌+◌, [], take, get_or, ℕ, List}
+use Rattle.std.proofs.Common.{◌≡◌, ◌∙◌, ap, ◌||◌, ◌+◌, take, get_or, ℕ, List}
 use Rattle.std.specs.Borrow.{Bor}
 use Rattle.std.specs.Str.{bytes_eq}
 use Rattle.sg_history.specs.History.{among}
@@ -10,7 +10,9 @@ pub loop-channel-preserved : goal.loop-channel-preserved
 loop-channel-preserved c = λ none.
     let channels = c.args.channels.now in
     let i = c.loop-channel.channel-index in
-    let first : Bor (List ℕ) = record { ref_ptr = (0, 0); now = [] } in
-    holds_same (λ x. among (texts (take i channels)) x || bytes_eq (get_or channels i first).now x) (λ x. among (texts (take (i + 1) channels)) x) c.args.numbers.now c.set_flag.new.flags
-    (λ x. among_next channels i first x c.loop-channel-test.true)
+    let first : Bor (List ℕ) = c.channel-item.result in
+    let name : List ℕ = c.as_bytes.result.now in
+    let is : name ≡ (get_or channels i first).now = c.as_bytes.ensures.value ∙ ap (λ (b : Bor (List ℕ)). b.now) c.channel-item.is in
+    holds_same (λ x. among (texts (take i channels)) x || bytes_eq name x) (λ x. among (texts (take (i + 1) channels)) x) c.args.numbers.now c.set_flag.new.flags
+    (λ x. ap (λ (t : List ℕ). among (texts (take i channels)) x || bytes_eq t x) is ∙ among_next channels i first x c.loop-channel-test.true)
     (c.set_flag.ensures (λ x. among (texts (take i channels)) x) (c.loop-channel.invariant none))

@@ -1,0 +1,12 @@
+use Rattle.std.proofs.Common.{◌≡◌, subst, sym, true}
+use Rattle.doc_board.specs.Rooms.{is_out}
+use Rattle.doc_board.specs.State.{State}
+use Rattle.doc_board.proofs.Stored.{kept_plain}
+use Rattle.doc_board.proofs.board.Board.store_plain.Goals as goal
+
+pub invariant_of-self : goal.invariant_of-self
+invariant_of-self c =
+    let O : State → Type 0 = λ s. is_out s.rooms c.args.room.made_for ≡ true in
+    rw c.close.ensures
+    (kept_plain c.args.entry c.self.inside.log.entries c.put.new.self c.self.inside.documents c.self.inside.rooms.items c.args.room.made_for
+    c.self.invariant (subst O (sym c.self.view_is) c.requires.out) c.requires.plain c.put.ensures.list c.put.ensures.spare)

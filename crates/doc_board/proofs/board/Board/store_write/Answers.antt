@@ -1,0 +1,29 @@
+use Rattle.std.proofs.Common.{◌≡◌, ◌+◌, ◌++◌, ◌∷◌, [], ◌∙◌, ap, subst, sym, true, List, Option, ℕ, length}
+use Rattle.sg_history.specs.declared.entries.Entry.TheVariants as kinds
+use Rattle.doc_board.specs.Candidates.{Extends}
+use Rattle.doc_board.specs.Kept.{has_place}
+use Rattle.doc_board.specs.Rooms.{is_out}
+use Rattle.doc_board.specs.State.{State, book}
+use Rattle.doc_board.specs.Trees.{tree_at}
+use Rattle.doc_board.proofs.OutRooms.{out_has_place}
+use Rattle.doc_board.proofs.Stored.{kept_write}
+use Rattle.doc_board.proofs.board.Board.store_write.Goals as goal
+
+pub put-requires : goal.put-requires
+put-requires c =
+    let O : State → Type 0 = λ s. is_out s.rooms c.args.room.made_for ≡ true in
+    let P : Option (List ℕ) → Type 0 = λ o. has_place c.self.inside.documents o ≡ true in
+    subst P c.requires.doc (out_has_place c.self.inside.documents c.args.room.made_for c.self.inside.rooms.items c.self.invariant.out (subst O (sym c.self.view_is) c.requires.out))
+
+pub invariant_of-self : goal.invariant_of-self
+invariant_of-self c =
+    let O : State → Type 0 = λ s. is_out s.rooms c.args.room.made_for ≡ true in
+    let S : State → Type 0 = λ s. c.args.sequence ≡ length s.log + 1 in
+    let E : State → Type 0 = λ s. Extends (tree_at (book s) c.args.entry.doc) c.args.entry c.args.tree in
+    rw c.close.ensures
+    (kept_write c.args.entry c.self.inside.log.entries c.put-2.new.self c.self.inside.documents c.put.new.documents c.self.inside.rooms.items c.args.room.made_for c.args.sequence c.args.tree
+    c.self.invariant (subst O (sym c.self.view_is) c.requires.out) (subst S (sym c.self.view_is) c.requires.sequence) (subst E (sym c.self.view_is) c.requires.extends) c.put.ensures c.put-2.ensures.list c.put-2.ensures.spare)
+
+pub returns-clause-log : goal.returns-clause-log
+returns-clause-log c =
+    c.put-2.ensures.list ∙ ap (λ (s : State). s.log ++ kinds.Write c.args.entry ∷ []) c.self.view_is

@@ -1,0 +1,85 @@
+-- What may be stored, and what storing it makes of a board.
+use Rattle.std.specs.Prelude.{◌≡◌, ◌≤◌, ◌<◌, ℕ, Bool, true, false, not, nat_eq, List, length, option_map, Option, Some, None, IsTrue}
+use Rattle.sg_history.specs.declared.entries.Entry.{Entry}
+use Rattle.sg_history.specs.declared.entries.Entry.TheVariants as entry
+use Rattle.sg_history.specs.declared.entries.Write.{Write}
+use Rattle.sg_history.specs.declared.number.Number.{Number}
+use Rattle.sg_history.specs.Journal.{IsEntry}
+use Rattle.json_doc.specs.Tree.{Tree}
+use Rattle.json_doc.specs.Reading.{IsDocument}
+use Rattle.rev_tree.specs.declared.tree.Node.{Node}
+use Rattle.rev_tree.specs.Tree.{winner_of}
+use Rattle.rev_tree.specs.Extension.{with_write}
+use Rattle.rev_tree.specs.Writes.{is_accepted}
+use Rattle.doc_board.specs.declared.candidate.Candidate.{Candidate}
+use Rattle.doc_board.specs.declared.candidate.Candidate.TheVariants as candidate
+use Rattle.doc_board.specs.declared.candidate.Commit.{Commit}
+use Rattle.doc_board.specs.declared.candidate.Commit.TheVariants as commit
+use Rattle.doc_board.specs.declared.room.Room.{Room}
+use Rattle.doc_board.specs.declared.room.RoomFor.{RoomFor}
+use Rattle.doc_board.specs.Trees.{recorded, tree_at, last_at}
+
+-- the entry that is to be stored
+abbrev pub entry_of : Candidate → Entry
+entry_of (candidate.Write w tree base) = entry.Write w
+entry_of (candidate.Plain e) = e
+
+-- the document that it writes, if it is a write
+abbrev pub doc_of : Candidate → Option (List ℕ)
+doc_of (candidate.Write w tree base) = Some w.doc
+doc_of (candidate.Plain e) = None
+
+-- how many bytes its body has
+abbrev pub body_bytes : Candidate → ℕ
+body_bytes (candidate.Write w tree base) = length w.body
+body_bytes (candidate.Plain e) = 0
+
+-- the front at which a write was judged, or the log's length before another entry
+abbrev pub front_of : Candidate → ℕ → ℕ
+front_of (candidate.Write w tree base) before = w.at
+front_of (candidate.Plain e) before = before
+
+abbrev pub is_write : Entry → Bool
+is_write (entry.Write w) = true
+is_write (entry.PutUser name channels roles) = false
+is_write (entry.PutRole name channels) = false
+is_write (entry.DropUser name) = false
+is_write (entry.DropRole name) = false
+is_write entry.Unused = false
+
+-- the tree accepts the write, the new tree is the one with it, and the write names that tree's winner
+pub record Extends (before : List Node) (w : Write) (after : List Node) : Type 0 where
+  pub accepted : IsTrue (is_accepted before (recorded w))
+  pub tree : after ≡ with_write before (recorded w)
+  pub winner : option_map (λ l. l.rev) (winner_of after) ≡ Some w.winner
+
+-- a candidate is in its grammar, its body is a document, it was judged before it is stored, and it extends the tree that its document has where that was not written since
+abbrev pub MayBeStored : List Entry → ℕ → Candidate → Type 0
+MayBeStored es number (candidate.Write w tree base) =
+    IsEntry (entry.Write w) × ((doc : Tree) × IsDocument w.body doc) × (w.at < number) × (base ≡ last_at es w.doc → Extends (tree_at es w.doc) w tree)
+MayBeStored es number (candidate.Plain e) = IsEntry e × (is_write e ≡ false)
+
+-- the room was made for the candidate's document, or for none, and for at least so many bytes
+pub record Fits (room : RoomFor) (c : Candidate) : Type 0 where
+  pub doc : room.doc ≡ doc_of c
+  pub bytes : body_bytes c ≤ room.bytes
+
+-- whether the document was written since a candidate was made for it
+abbrev pub is_stale : List Entry → Candidate → Bool
+is_stale es (candidate.Write w tree base) = not (nat_eq base (last_at es w.doc))
+is_stale es (candidate.Plain e) = false
+
+-- the sequence of the last write of a candidate's document, 0 where there is none
+abbrev pub last_of : List Entry → Candidate → ℕ
+last_of es (candidate.Write w tree base) = last_at es w.doc
+last_of es (candidate.Plain e) = 0
+
+-- the fact holds of the sequence and the front of what was stored
+abbrev pub IfStored : Commit → (ℕ → ℕ → Type 0) → Type 0
+IfStored (commit.Stored sequence at) says = says sequence at
+IfStored (commit.Stale room number c last) says = Unit {0}
+
+-- the fact holds of what was handed back
+abbrev pub IfStale : Commit → (Room → Number → Candidate → ℕ → Type 0) → Type 0
+IfStale (commit.Stored sequence at) says = Unit {0}
+IfStale (commit.Stale room number c last) says = says room number c last

@@ -1,0 +1,7 @@
+pub mod Answers
+pub mod Candidates
+pub mod Kept
+pub mod Recorded
+pub mod Rooms
+pub mod State
+pub mod Trees

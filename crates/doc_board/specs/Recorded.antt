@@ -1,0 +1,49 @@
+-- Logs that were recorded: which are those of a board.
+use Rattle.std.specs.Prelude.{◌≡◌, ◌+◌, ℕ, false, List, [], ◌∷◌, length, option_map, slice_get, Some}
+use Rattle.sg_history.specs.declared.entries.Entry.{Entry}
+use Rattle.sg_history.specs.declared.entries.Entry.TheVariants as entry
+use Rattle.sg_history.specs.declared.entries.Write.{Write}
+use Rattle.sg_history.specs.History.{past}
+use Rattle.json_doc.specs.Tree.{Tree}
+use Rattle.json_doc.specs.Reading.{IsDocument}
+use Rattle.rev_tree.specs.declared.tree.Node.{Node}
+use Rattle.rev_tree.specs.Tree.{winner_of}
+use Rattle.rev_tree.specs.Extension.{verdict_of, extends_tree, kept_of, with_write}
+use Rattle.doc_board.specs.Trees.{recorded, tree_at}
+
+-- the bytes are a document
+abbrev pub HasDocument : List ℕ → Type 0
+HasDocument bytes = (doc : Tree) × IsDocument bytes doc
+
+-- the tree accepts the write with all its ancestors, and the write names the winner of the tree with it
+pub record Follows (before : List Node) (w : Write) : Type 0 where
+  pub accepted : verdict_of before w.rev w.ancestors false ≡ extends_tree
+  pub kept : kept_of before w.ancestors ≡ length w.ancestors
+  pub winner : option_map (λ l. l.rev) (winner_of (with_write before (recorded w))) ≡ Some w.winner
+
+-- besides, its body is a document
+abbrev pub IsNext : List Node → Write → Type 0
+IsNext before w = HasDocument w.body × Follows before w
+
+-- an entry that a board may have after these, the newest first
+abbrev pub MayFollow : List Entry → Entry → Type 0
+MayFollow older (entry.Write w) = IsNext (tree_at older w.doc) w
+MayFollow older (entry.PutUser name channels roles) = Unit {0}
+MayFollow older (entry.PutRole name channels) = Unit {0}
+MayFollow older (entry.DropUser name) = Unit {0}
+MayFollow older (entry.DropRole name) = Unit {0}
+MayFollow older entry.Unused = Unit {0}
+
+-- entries that a board may have, the newest first
+abbrev pub AreFollowing : List Entry → Type 0
+AreFollowing [] = Unit {0}
+AreFollowing (e ∷ older) = MayFollow older e × AreFollowing older
+
+-- the entry of this sequence is the first that a board may not have after those before it
+pub record IsFirstBad (h : List Entry) (sequence : ℕ) : Type 0 where
+  pub place : ℕ
+  pub bad : Entry
+  pub next : sequence ≡ place + 1
+  pub before : AreFollowing (past h place)
+  pub there : slice_get h place ≡ Some bad
+  pub refused : ¬ MayFollow (past h place) bad

@@ -1,0 +1,244 @@
+//! The board: the log, each document's tree, and the rooms that are out.
+
+ghost use Rattle.std.specs.Prelude.{◌≡◌, ◌≢◌, ◌≤◌, ◌+◌, ◌++◌, ◌∷◌, [], ℕ, List, true, false, length, reverse, is_some, Some, option_map, OnOk, OnErr, IfOk, IfSome, IsTrue, Err};
+ghost use Rattle.std.specs.Option.{option_copied};
+ghost use Rattle.sg_history.specs.History.{history, among};
+ghost use Rattle.sg_history.specs.Principals as principals;
+ghost use Rattle.rev_tree.specs.Writes.{AreAccepted};
+ghost use Rattle.doc_board.specs.Answers.{IsStep, proposer_exists};
+ghost use Rattle.sg_history.specs.declared.entries.Entry.TheVariants as kinds;
+ghost use Rattle.doc_board.specs.Candidates.{MayBeStored, Extends, Fits, IfStored, IfStale, is_stale, is_write, entry_of, front_of, last_of};
+ghost use Rattle.doc_board.specs.Recorded.{AreFollowing, IsFirstBad};
+ghost use Rattle.doc_board.specs.Rooms.{is_out, room_for, without};
+ghost use Rattle.doc_board.specs.State.{book};
+ghost use Rattle.doc_board.specs.Trees.{writes_of, tree_at, tree_when, last_at, base_write, deletes};
+
+use crate::candidate::{Candidate, Commit, NoRoom};
+use crate::document::{self, Document, Documents};
+use crate::open::{OpenFault, documents_of};
+use crate::room::{self, Room, RoomFor};
+use crate::snapshot::{Snapshot, base_of, body_of, is_deletion, proposer_exists, step_in};
+use feed_rows::channels_of;
+use repl_messages::Revision;
+use rev_tree::Tree;
+use sg_history::{Channels, DocId, Entry, Log, Name, Number, Write};
+use sg_outside::Memory;
+use std::alloc::{AllocError, Global};
+use std::collections::BTreeMap;
+use std::marker::Model;
+
+/// The log, with each document's tree of revisions and the rooms that are out. What is stored takes no memory then: a room
+/// has it beforehand.
+#[derive(Drop)]
+pub struct Board {
+    log: Log,
+    documents: Documents,
+    rooms: Vec<RoomFor>,
+}
+
+impl Model for Board {
+    ghost use Rattle.std.specs.Prelude.{◌≤◌, reverse, length, IsTrue};
+    ghost use Rattle.std.specs.List.{list_all};
+    ghost use Rattle.sg_history.specs.History.{history};
+    ghost use Rattle.doc_board.specs.Kept.{IsKept};
+    ghost use Rattle.doc_board.specs.State.{State};
+
+    ghost Value = { State };
+
+    ghost view = { λ b. record { log = history b.log; rooms = b.rooms.items } };
+
+    ghost invariant = { λ b. IsKept b.log.entries b.documents b.rooms.items };
+}
+
+impl Board {
+    /// An empty board.
+    pub fn new(alloc: Global) -> Result<Board, Memory>
+        ensures log { IfOk result (λ board. board.log ≡ []) }
+        ensures rooms { IfOk result (λ board. board.rooms ≡ []) }
+    {
+        Ok(Board {
+            log: Log::new(alloc),
+            documents: BTreeMap::new(alloc),
+            rooms: Vec::new(alloc),
+        })
+    }
+
+    /// The board of a log that was recorded.
+    pub fn open(alloc: Global, log: Log) -> Result<Board, OpenFault>
+        ensures log { IfOk result (λ board. board.log ≡ history log) }
+        ensures rooms { IfOk result (λ board. board.rooms ≡ []) }
+        ensures following { IfOk result (λ board. AreFollowing (reverse (history log))) }
+        ensures bad { (sequence : ℕ) → result ≡ Err (OpenFault.Bad sequence) → IsFirstBad (history log) sequence }
+    {
+        let documents = documents_of(alloc, log.entries.as_slice())?;
+        Ok(Board {
+            log,
+            documents,
+            rooms: Vec::new(alloc),
+        })
+    }
+
+    /// The log's length. Takes no memory.
+    pub fn front(&self) -> u64
+        ensures { result ≡ length self.now.log }
+    {
+        self.log.entries.len() as u64
+    }
+
+    /// The log. Takes no memory.
+    pub fn log(&self) -> &Log
+        ensures { history result.now ≡ self.now.log }
+    {
+        &self.log
+    }
+
+    /// The tree that the writes of a document make; none where it was never written. Takes no memory.
+    pub fn tree(&self, doc: &DocId) -> Option<&Tree>
+        ensures tree { option_copied result ≡ tree_when (writes_of (book self.now) doc.now) }
+        ensures accepted { AreAccepted (writes_of (book self.now) doc.now) }
+    {
+        document::tree_of(document::document_of(&self.documents, doc))
+    }
+
+    /// The sequence of the last write of a document, 0 where there is none.
+    fn last_write(&self, doc: &DocId) -> u64
+        ensures { result ≡ last_at (book self.now) doc.now }
+    {
+        document::last_of(document::document_of(&self.documents, doc))
+    }
+
+    /// The channels of a user at the end of the log, each once; none where the user does not exist.
+    pub fn channels(&mut self, user: &Name) -> Result<Option<Channels>, Memory>
+        ensures same { self.new ≡ self.old }
+        ensures exists { IfOk result (λ found. is_some found ≡ principals.exists (principals.user_at (book self.old) user.now)) }
+        ensures channels { IfOk result (λ found. IfSome found (λ channels. (channel : List ℕ) → among channels channel ≡ principals.has_channel (book self.old) user.now channel)) }
+    {
+        channels_of(*self.rooms.allocator(), &self.log, self.front(), user)
+    }
+
+    /// What is needed to judge a revision that is proposed, by a user or by the administrator.
+    pub fn snapshot(
+        &mut self,
+        revision: &Revision,
+        strict: bool,
+        by: Option<&Name>,
+    ) -> Result<Snapshot, Memory>
+        ensures same { self.new ≡ self.old }
+        ensures at { IfOk result (λ s. s.at ≡ length self.old.log) }
+        ensures last { IfOk result (λ s. s.last ≡ last_at (book self.old) revision.now.doc) }
+        ensures step { IfOk result (λ s. IsStep (tree_at (book self.old) revision.now.doc) revision.now strict s.step) }
+        ensures old { IfOk result (λ s. s.old ≡ option_map (λ w. w.body) (base_write (book self.old) revision.now.doc revision.now.ancestors)) }
+        ensures old_deleted { IfOk result (λ s. s.old_deleted ≡ deletes (base_write (book self.old) revision.now.doc revision.now.ancestors)) }
+        ensures user { IfOk result (λ s. s.user_exists ≡ proposer_exists (book self.old) (option_copied by.entry)) }
+    {
+        let alloc = *self.rooms.allocator();
+        let entries = self.log.entries.as_slice();
+        let document = document::document_of(&self.documents, &revision.doc);
+        let base = base_of(entries, &revision.doc, revision.ancestors.as_slice());
+        Ok(Snapshot {
+            at: self.front(),
+            last: document::last_of(document),
+            step: step_in(alloc, document, revision, strict)?,
+            old: body_of(alloc, base)?,
+            old_deleted: is_deletion(base),
+            user_exists: proposer_exists(alloc, &self.log, by)?,
+        })
+    }
+
+    fn make_room(&mut self, doc: Option<&DocId>, bytes: u64) -> Result<RoomFor, AllocError>
+        ensures log { self.new.log ≡ self.old.log }
+        ensures ok { OnOk result (self.new.rooms ≡ self.old.rooms ++ room_for (option_copied doc.entry) bytes ∷ []) }
+        ensures err { OnErr result (self.new.rooms ≡ self.old.rooms) }
+        ensures room { IfOk result (λ room. room ≡ room_for (option_copied doc.entry) bytes) }
+    {
+        let alloc = *self.rooms.allocator();
+        let made_for = room::room_for(alloc, doc, bytes)?;
+        let kept_for = room::room_for(alloc, doc, bytes)?;
+        self.log.entries.reserve(2 * (self.rooms.len() + 1))?;
+        document::make_place_for(alloc, &mut self.documents, doc)?;
+        self.rooms.push(kept_for)?;
+        Ok(made_for)
+    }
+
+    /// Room for one entry: for a write of a document with a body of at most so many bytes, or for an entry that is no write.
+    pub fn room(&mut self, doc: Option<&DocId>, body_bytes: u64) -> Result<Room, NoRoom>
+        requires { body_bytes ≤ 20971520 }
+        ensures log { self.new.log ≡ self.old.log }
+        ensures ok { OnOk result (self.new.rooms ≡ self.old.rooms ++ room_for (option_copied doc.entry) body_bytes ∷ []) }
+        ensures err { OnErr result (self.new.rooms ≡ self.old.rooms) }
+        ensures room { IfOk result (λ room. room.made_for ≡ room_for (option_copied doc.entry) body_bytes) }
+    {
+        match self.make_room(doc, body_bytes) {
+            Ok(made_for) => Ok(Room::new(made_for)),
+            Err(_) => Err(NoRoom::Memory),
+        }
+    }
+
+    fn store_plain(&mut self, room: Room, entry: Entry)
+        requires out { IsTrue (is_out self.old.rooms room.made_for) }
+        requires plain { is_write entry ≡ false }
+        ensures log { self.new.log ≡ self.old.log ++ entry ∷ [] }
+        ensures rooms { self.new.rooms ≡ without room.made_for self.old.rooms }
+    {
+        room.close(&mut self.rooms);
+        self.log.entries.put(entry);
+    }
+
+    fn store_write(&mut self, room: Room, sequence: u64, entry: Write, tree: Tree)
+        requires sequence { sequence ≡ length self.old.log + 1 }
+        requires out { IsTrue (is_out self.old.rooms room.made_for) }
+        requires doc { room.made_for.doc ≡ Some entry.doc }
+        requires extends { Extends (tree_at (book self.old) entry.doc) entry tree }
+        ensures log { self.new.log ≡ self.old.log ++ kinds.Write entry ∷ [] }
+        ensures rooms { self.new.rooms ≡ without room.made_for self.old.rooms }
+    {
+        let document = Document {
+            last: sequence,
+            tree,
+        };
+        room.close(&mut self.rooms);
+        document::put(&mut self.documents, &entry.doc, document);
+        self.log.entries.put(Entry::Write(entry));
+    }
+
+    /// Stores a candidate at a sequence in a room, or hands all back where its document was written since. Takes no memory.
+    pub fn commit(&mut self, room: Room, number: Number, candidate: Candidate) -> Commit
+        requires number { number.value ≡ length self.old.log + 1 }
+        requires out { IsTrue (is_out self.old.rooms room.made_for) }
+        requires fits { Fits room.made_for candidate }
+        requires candidate { MayBeStored (book self.old) number.value candidate }
+        ensures stale { IfStale result (λ r n c last. is_stale (book self.old) candidate ≡ true) }
+        ensures stored { IfStored result (λ sequence at. is_stale (book self.old) candidate ≡ false) }
+        ensures back { IfStale result (λ r n c last. (r ≡ room) × (n ≡ number) × (c ≡ candidate) × (last ≡ last_of (book self.old) candidate)) }
+        ensures same { IfStale result (λ r n c last. self.new ≡ self.old) }
+        ensures answer { IfStored result (λ sequence at. (sequence ≡ number.value) × (at ≡ front_of candidate (length self.old.log))) }
+        ensures log { IfStored result (λ sequence at. self.new.log ≡ self.old.log ++ entry_of candidate ∷ []) }
+        ensures rooms { IfStored result (λ sequence at. self.new.rooms ≡ without room.made_for self.old.rooms) }
+    {
+        match candidate {
+            Candidate::Plain(entry) => {
+                let at = self.front();
+                self.store_plain(room, entry);
+                Commit::Stored {
+                    sequence: number.spend(),
+                    at,
+                }
+            }
+            Candidate::Write { entry, tree, base } => {
+                let last = self.last_write(&entry.doc);
+                if last != base {
+                    return Commit::Stale {
+                        room,
+                        number,
+                        candidate: Candidate::Write { entry, tree, base },
+                        last,
+                    };
+                }
+                let at = entry.at;
+                let sequence = number.spend();
+                self.store_write(room, sequence, entry, tree);
+                Commit::Stored { sequence, at }
+            }
+        }
+    }
+}

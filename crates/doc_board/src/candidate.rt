@@ -1,0 +1,37 @@
+//! What is to be stored, and what came of it.
+
+use crate::room::Room;
+use rev_tree::Tree;
+use sg_history::{Entry, Number, Write};
+
+/// What is to be stored.
+#[derive(Drop)]
+pub enum Candidate {
+    /// A write, with the document's tree after it, and the sequence of the document's last write before it, 0 where there was none.
+    Write { entry: Write, tree: Tree, base: u64 },
+    /// An entry that is no write.
+    Plain(Entry),
+}
+
+/// What came of storing a candidate.
+pub enum Commit {
+    /// It is stored: the entry's sequence, and the front at which a write was judged, or the log's length before another entry.
+    Stored {
+        sequence: u64,
+        at: u64,
+    },
+    /// The document was written since: all is handed back, with the sequence of its last write.
+    Stale {
+        room: Room,
+        number: Number,
+        candidate: Candidate,
+        last: u64,
+    },
+}
+
+/// Why there is no room.
+#[derive(Clone, Copy, Debug, PartialEq, Eq)]
+pub enum NoRoom {
+    /// Want of memory.
+    Memory,
+}

@@ -1,0 +1,18 @@
+//! The documents of the gateway: the log, and the tree of revisions of each document.
+#![tactic(auto)]
+
+pub mod board;
+pub mod candidate;
+pub mod document;
+pub mod open;
+pub mod room;
+pub mod snapshot;
+
+pub use board::Board;
+pub use candidate::{Candidate, Commit, NoRoom};
+pub use open::OpenFault;
+pub use room::{Room, RoomFor};
+pub use snapshot::Snapshot;
+
+#[cfg(test)]
+mod tests;

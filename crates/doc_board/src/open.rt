@@ -1,0 +1,164 @@
+//! A board of a log that was recorded.
+
+ghost use Rattle.std.specs.Prelude.{◌≡◌, ◌≢◌, ◌∷◌, ℕ, List, true, false, reverse, option_map, Some, Err, IfOk, IfSome, IfNone};
+ghost use Rattle.std.specs.BTreeMap.{get_by_text};
+ghost use Rattle.sg_history.specs.declared.entries.Entry.TheVariants as kinds;
+ghost use Rattle.rev_tree.specs.Tree.{winner_of};
+ghost use Rattle.rev_tree.specs.Writes.{AreAccepted};
+ghost use Rattle.doc_board.specs.Candidates.{Extends};
+ghost use Rattle.doc_board.specs.Kept.{AreKept, nodes_in};
+ghost use Rattle.doc_board.specs.Recorded.{HasDocument, IsNext, MayFollow, Follows, AreFollowing, IsFirstBad};
+ghost use Rattle.doc_board.specs.Trees.{writes_of, tree_at};
+
+use crate::document::{self, Document, Documents};
+use json_doc::{DocFault, read_doc};
+use rev_tree::{Extended, Tree};
+use sg_history::{Entry, RevId, Write};
+use std::alloc::{AllocError, Global};
+use std::collections::BTreeMap;
+
+/// Why a log is that of no board. `Memory` is want of memory, which may come at any log.
+#[derive(Clone, Copy, Debug, PartialEq, Eq)]
+pub enum OpenFault {
+    /// The write of this sequence is the first whose body is no document, that is no accepted extension of the tree of its
+    /// document's writes before it, or that names another winner than the tree then has.
+    Bad { sequence: u64 },
+    Memory,
+}
+
+fn is_document(alloc: Global, body: &[u8]) -> Result<bool, AllocError>
+    ensures yes { IfOk result (λ found. found ≡ true → HasDocument body.now) }
+    ensures no { IfOk result (λ found. found ≡ false → ¬ HasDocument body.now) }
+{
+    match read_doc(alloc, body) {
+        Ok(_) => Ok(true),
+        Err(DocFault::Memory) => Err(AllocError),
+        Err(_) => Ok(false),
+    }
+}
+
+/// Whether the tree's winner is this revision.
+fn wins(tree: &Tree, rev: &RevId) -> bool
+    ensures yes { result ≡ true → option_map (λ l. l.rev) (winner_of tree.now) ≡ Some rev.now }
+    ensures no { result ≡ false → option_map (λ l. l.rev) (winner_of tree.now) ≢ Some rev.now }
+{
+    match tree.winner() {
+        None => false,
+        Some(winner) => winner.rev.equals(rev),
+    }
+}
+
+/// The tree after a write, where that write is an accepted extension with all its ancestors, and names the winner.
+fn extended(tree: &Tree, write: &Write) -> Result<Option<Tree>, AllocError>
+    ensures some { IfOk result (λ found. IfSome found (λ after. Extends tree.now write.now after)) }
+    ensures follows { IfOk result (λ found. IfSome found (λ after. Follows tree.now write.now)) }
+    ensures none { IfOk result (λ found. IfNone found (¬ Follows tree.now write.now)) }
+{
+    let ancestors = write.ancestors.as_slice();
+    match tree.extend(&write.rev, write.deleted, ancestors, false) {
+        Extended::NewTree { tree, kept } => {
+            if kept == ancestors.len() as u64 && wins(&tree, &write.winner) {
+                Ok(Some(tree))
+            } else {
+                Ok(None)
+            }
+        }
+        Extended::Memory => Err(AllocError),
+        _ => Ok(None),
+    }
+}
+
+impl From<AllocError> for OpenFault {
+    ghost use Rattle.std.specs.Prelude.{◌≡◌};
+    ghost use Rattle.doc_board.specs.declared.open.OpenFault.{OpenFault};
+    ghost use Rattle.doc_board.specs.declared.open.OpenFault.TheVariants.{Memory};
+
+    ghost from_gives = { λ _ fault. fault ≡ Memory };
+
+    fn from(_refused: AllocError) -> OpenFault {
+        OpenFault::Memory
+    }
+}
+
+/// The tree of a document after a write.
+fn tree_after(
+    alloc: Global,
+    documents: &Documents,
+    write: &Write,
+) -> Result<Option<Tree>, AllocError>
+    ensures some { IfOk result (λ found. IfSome found (λ after. Extends (nodes_in (get_by_text documents.now write.now.doc)) write.now after)) }
+    ensures next { IfOk result (λ found. IfSome found (λ after. IsNext (nodes_in (get_by_text documents.now write.now.doc)) write.now)) }
+    ensures none { IfOk result (λ found. IfNone found (¬ IsNext (nodes_in (get_by_text documents.now write.now.doc)) write.now)) }
+{
+    if !is_document(alloc, write.body.as_slice())? {
+        return Ok(None);
+    }
+    let empty = Tree::new(alloc);
+    let tree = match document::document_of(documents, &write.doc) {
+        None => &empty,
+        Some(document) => &document.tree,
+    };
+    extended(tree, write)
+}
+
+/// Takes a write after older entries: false where no board has it after them.
+fn take_write(
+    alloc: Global,
+    documents: &mut Documents,
+    older: &[Entry],
+    write: &Write,
+) -> Result<bool, AllocError>
+    requires kept { AreKept (reverse older.now) documents.old }
+    requires accepted { (doc : List ℕ) → AreAccepted (writes_of (reverse older.now) doc) }
+    ensures kept { IfOk result (λ follows. follows ≡ true → AreKept (kinds.Write write.now ∷ reverse older.now) documents.new) }
+    ensures accepted { IfOk result (λ follows. follows ≡ true → (doc : List ℕ) → AreAccepted (writes_of (kinds.Write write.now ∷ reverse older.now) doc)) }
+    ensures yes { IfOk result (λ follows. follows ≡ true → IsNext (tree_at (reverse older.now) write.now.doc) write.now) }
+    ensures no { IfOk result (λ follows. follows ≡ false → ¬ IsNext (tree_at (reverse older.now) write.now.doc) write.now) }
+{
+    let Some(tree) = tree_after(alloc, documents, write)? else {
+        return Ok(false);
+    };
+    document::make_place_for(alloc, documents, Some(&write.doc))?;
+    let last = older.len() as u64 + 1;
+    document::put(documents, &write.doc, Document { last, tree });
+    Ok(true)
+}
+
+/// Takes an entry after older ones: false where no board has it after them.
+fn take(
+    alloc: Global,
+    documents: &mut Documents,
+    older: &[Entry],
+    entry: &Entry,
+) -> Result<bool, AllocError>
+    requires kept { AreKept (reverse older.now) documents.old }
+    requires accepted { (doc : List ℕ) → AreAccepted (writes_of (reverse older.now) doc) }
+    ensures kept { IfOk result (λ follows. follows ≡ true → AreKept (entry.now ∷ reverse older.now) documents.new) }
+    ensures accepted { IfOk result (λ follows. follows ≡ true → (doc : List ℕ) → AreAccepted (writes_of (entry.now ∷ reverse older.now) doc)) }
+    ensures yes { IfOk result (λ follows. follows ≡ true → MayFollow (reverse older.now) entry.now) }
+    ensures no { IfOk result (λ follows. follows ≡ false → ¬ MayFollow (reverse older.now) entry.now) }
+{
+    match entry {
+        Entry::Write(write) => take_write(alloc, documents, older, write),
+        _ => Ok(true),
+    }
+}
+
+/// The documents of recorded entries.
+pub(crate) fn documents_of(alloc: Global, entries: &[Entry]) -> Result<Documents, OpenFault>
+    ensures kept { IfOk result (λ documents. AreKept (reverse entries.now) documents) }
+    ensures accepted { IfOk result (λ documents. (doc : List ℕ) → AreAccepted (writes_of (reverse entries.now) doc)) }
+    ensures following { IfOk result (λ documents. AreFollowing (reverse entries.now)) }
+    ensures bad { (sequence : ℕ) → result ≡ Err (OpenFault.Bad sequence) → IsFirstBad entries.now sequence }
+{
+    let mut documents = BTreeMap::new(alloc);
+    for (i, entry) in entries.iter().enumerate() {
+        let older = &entries[..i];
+        if !take(alloc, &mut documents, older, entry)? {
+            return Err(OpenFault::Bad {
+                sequence: i as u64 + 1,
+            });
+        }
+    }
+    Ok(documents)
+}

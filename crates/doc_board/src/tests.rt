@@ -1,0 +1,150 @@
+//! Tests of the board.
+
+use crate::{Board, Candidate, Commit, OpenFault, Room};
+use repl_messages::Revision;
+use rev_tree::Extended;
+use sg_history::{DocId, Entry, Log, Name, Number, RevId, Revs, read_journal};
+use sg_outside::Bytes;
+use std::alloc::Global;
+use std::test::Fail;
+
+/// The log of a journal whose lines are given with `|` for TAB and `;` for the line feed.
+fn log_of(alloc: Global, lines: &str) -> Result<Log, Fail> {
+    let mut journal = Bytes::from_slice(alloc, b"sgjournal 1\n")?;
+    for byte in lines.as_bytes() {
+        match byte {
+            b'|' => journal.push(b'\t')?,
+            b';' => journal.push(b'\n')?,
+            other => journal.push(*other)?,
+        }
+    }
+    Ok(read_journal(alloc, journal.as_slice())?)
+}
+
+/// After a tombstone on one branch the leaf of the other branch wins again.
+const BRANCHES: &str =
+    "U|ann|A|-;W|d1|1-a|-|0|7b2261223a317d|-|1|1-a|A|-|-;W|d1|1-b|-|0|7b7d|-|2|1-b|B|-|-;W|d1|2-c|1-b|1|7b7d|-|3|1-a|-|-|-;";
+
+fn revision_of(alloc: Global, rev: &str, ancestors: &str) -> Result<Revision, Fail> {
+    Ok(Revision {
+        doc: DocId::parse(alloc, "d1")?,
+        rev: RevId::parse(alloc, rev)?,
+        ancestors: Revs::parse(alloc, ancestors)?,
+        deleted: false,
+        noconflicts: false,
+        body: Bytes::new(alloc),
+    })
+}
+
+/// What a snapshot says of a revision that ann proposes.
+fn answer_of(alloc: Global, rev: &str, ancestors: &str, strict: bool) -> Result<String, Fail> {
+    let mut board = Board::open(alloc, log_of(alloc, BRANCHES)?)?;
+    let ann = Name::parse(alloc, "ann")?;
+    let revision = revision_of(alloc, rev, ancestors)?;
+    let snapshot = board.snapshot(&revision, strict, Some(&ann))?;
+    let old = match &snapshot.old {
+        None => "none",
+        Some(body) => std::str::from_utf8(body.as_slice()).unwrap_or("no text"),
+    };
+    let step = match &snapshot.step {
+        Extended::NewTree { kept, .. } => format!(in alloc; "kept {kept}")?,
+        Extended::Known => String::from_str(alloc, "known")?,
+        Extended::BadHistory400 => String::from_str(alloc, "bad history")?,
+        Extended::Conflict409 { leaf } => {
+            format!(in alloc; "conflict {}-{}", leaf.generation, leaf.digest.as_str())?
+        }
+        Extended::Memory => String::from_str(alloc, "memory")?,
+    };
+    Ok(format!(in alloc;
+        "{} {} {step} {old} {}",
+        snapshot.at, snapshot.last, snapshot.old_deleted
+    )?)
+}
+
+#[test]
+fn snapshots(rt: HostRuntime) -> Result<(), Fail> {
+    let alloc = rt.alloc();
+    for (rev, ancestors, strict, want) in [
+        ("2-d", "1-a", true, "4 4 kept 1 {\"a\":1} false"),
+        ("3-d", "2-c,1-b", true, "4 4 conflict 1-a {} true"),
+        ("3-d", "2-c,1-b", false, "4 4 kept 1 {} true"),
+        ("3-d", "2-x,1-b", false, "4 4 kept 2 none false"),
+        ("1-a", "-", true, "4 4 known none false"),
+        ("2-d", "2-c", false, "4 4 bad history {} true"),
+    ] {
+        let text = answer_of(alloc, rev, ancestors, strict)?;
+        assert!(rt; text.as_bytes() == want.as_bytes(), "{rev} {text}");
+    }
+    Ok(())
+}
+
+#[test]
+fn users_and_trees(rt: HostRuntime) -> Result<(), Fail> {
+    let alloc = rt.alloc();
+    let mut board = Board::open(alloc, log_of(alloc, BRANCHES)?)?;
+    let ann = Name::parse(alloc, "ann")?;
+    let zed = Name::parse(alloc, "zed")?;
+    let count = board.channels(&ann)?.map(|c| c.as_slice().len());
+    assert_eq!(rt; count, Some(2));
+    assert!(rt; board.channels(&zed)?.is_none());
+    let revision = revision_of(alloc, "2-d", "1-a")?;
+    assert!(rt; board.snapshot(&revision, true, None)?.user_exists);
+    assert!(rt; !board.snapshot(&revision, true, Some(&zed))?.user_exists);
+    assert!(rt; board.tree(&DocId::parse(alloc, "d2")?).is_none());
+    let Some(tree) = board.tree(&revision.doc) else {
+        return Err(Fail::from("no tree"));
+    };
+    let winner = tree.winner().map(|leaf| leaf.rev.generation);
+    assert_eq!(rt; winner, Some(1));
+    assert_eq!(rt; board.log().entries.len(), 4);
+    Ok(())
+}
+
+#[test]
+fn an_entry_is_stored(rt: HostRuntime) -> Result<(), Fail> {
+    let alloc = rt.alloc();
+    let mut board = Board::new(alloc)?;
+    let Ok(room) = board.room(None, 0) else {
+        return Err(Fail::from("no room"));
+    };
+    let candidate = Candidate::Plain(Entry::Unused);
+    match board.commit(room, Number::new(1), candidate) {
+        Commit::Stored { sequence, at } => {
+            assert_eq!(rt; (sequence, at, board.front()), (1, 0, 1));
+            Ok(())
+        }
+        Commit::Stale {
+            room: Room {
+                made_for: _made_for,
+            },
+            number,
+            candidate: _candidate,
+            last: _last,
+        } => {
+            number.spend();
+            Err(Fail::from("stale"))
+        }
+    }
+}
+
+/// The first entry that no board has: a body that is no document, a revision that hangs on an ancestor that was not kept,
+/// a winner that another leaf is.
+#[test]
+fn logs_of_no_board(rt: HostRuntime) -> Result<(), Fail> {
+    let alloc = rt.alloc();
+    for (lines, want) in [
+        ("W|d1|1-a|-|0|5b5d|-|0|1-a|A|-|-;", 1),
+        (
+            "W|d1|2-b|1-a|0|7b7d|-|0|2-b|A|-|-;W|d1|3-c|2-b,1-a|0|7b7d|-|0|3-c|A|-|-;",
+            2,
+        ),
+        (
+            "U|ann|A|-;W|d1|1-a|-|0|7b7d|-|0|1-a|A|-|-;W|d1|1-b|-|0|7b7d|-|0|1-a|A|-|-;",
+            3,
+        ),
+    ] {
+        let fault = Board::open(alloc, log_of(alloc, lines)?).err();
+        assert!(rt; fault == Some(OpenFault::Bad { sequence: want }), "{lines}");
+    }
+    Ok(())
+}
