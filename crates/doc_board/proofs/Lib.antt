@@ -1,3 +1,4 @@
 pub mod Documents
+pub mod Lawful
 pub mod OutRooms
 pub mod Stored

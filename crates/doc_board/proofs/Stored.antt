@@ -1,5 +1,5 @@
 -- what a board keeps is right after an entry was stored
-use Rattle.std.proofs.Common.{◌≡◌, ◌+◌, ◌≤◌, ◌*◌, ◌++◌, ℕ, true, false, List, [], ◌∷◌, length, reverse, Option, Some, None, sym, ap, ◌∙◌, subst, arith, if◌then◌else◌}
+use Rattle.std.proofs.Common.{◌≡◌, ◌+◌, ◌≤◌, ◌*◌, ◌++◌, ℕ, true, false, List, [], ◌∷◌, length, reverse, Option, Some, None, refl, sym, ap, ◌<◌, true≢false, ◌∙◌, subst, arith, if◌then◌else◌}
 use Rattle.std.proofs.lemmas.List.{reverse-append, length-reverse, length-append}
 use Rattle.std.specs.BTreeMap.{get_by_text}
 use Rattle.std.specs.Str.{bytes_eq}
@@ -7,11 +7,14 @@ use Rattle.sg_history.specs.declared.entries.Entry.{Entry}
 use Rattle.sg_history.specs.declared.entries.Entry.TheVariants as entry
 use Rattle.sg_history.specs.declared.entries.Write.{Write}
 use Rattle.sg_history.specs.Kept as entries
+use Rattle.sg_history.specs.Journal.{IsEntry, may_follow}
 use Rattle.rev_tree.specs.declared.tree.Node.{Node}
 use Rattle.rev_tree.specs.Writes.{AreAccepted}
 use Rattle.doc_board.specs.declared.room.RoomFor.{RoomFor}
 use Rattle.doc_board.specs.Candidates.{Extends, is_write}
 use Rattle.doc_board.specs.Kept.{AreKept, IsKept, has_place, placed}
+use Rattle.doc_board.specs.Lawful.{AreLawful}
+use Rattle.doc_board.proofs.Lawful.{SameRevisions, SameLeaves, follows}
 use Rattle.doc_board.specs.Rooms.{is_out, without}
 use Rattle.doc_board.specs.Trees.{writes_of, tree_at}
 use Rattle.doc_board.proofs.Documents.{Documents, kept_with, accepted_with, kept_past, accepted_past, place_made}
@@ -20,9 +23,17 @@ use Rattle.doc_board.proofs.OutRooms.{all_without, one_less, places_stay, all_pl
 newest : (log new : entries.Kept) (e : Entry) → new.list ≡ log.list ++ e ∷ [] → reverse new.list ≡ e ∷ reverse log.list
 newest log new e h = ap (λ (es : List Entry). reverse es) h ∙ reverse-append log.list (e ∷ [])
 
+no_rule : (e : Entry) (es : List Entry) → is_write e ≡ false → may_follow es e ≡ true
+no_rule (entry.Write w) es h = absurd (true≢false h)
+no_rule (entry.PutUser name channels roles) es h = refl
+no_rule (entry.PutRole name channels) es h = refl
+no_rule (entry.DropUser name) es h = refl
+no_rule (entry.DropRole name) es h = refl
+no_rule entry.Unused es h = refl
+
 -- a write
-pub kept_write : (w : Write) (log new : entries.Kept) (before after : Documents) (rooms : List RoomFor) (room : RoomFor) (sequence : ℕ) (tree : List Node) → IsKept log before rooms → is_out rooms room ≡ true → sequence ≡ length log.list + 1 → Extends (tree_at (reverse log.list) w.doc) w tree → ((name : List ℕ) → get_by_text after name ≡ (if bytes_eq w.doc name then Some (record { last = sequence; tree = tree }) else get_by_text before name)) → new.list ≡ log.list ++ entry.Write w ∷ [] → new.spare + 1 ≡ log.spare → IsKept new after (without room rooms)
-kept_write w log new before after rooms room sequence tree kept out next extends put list spare =
+pub kept_write : SameRevisions → SameLeaves → (w : Write) (log new : entries.Kept) (before after : Documents) (rooms : List RoomFor) (room : RoomFor) (sequence : ℕ) (tree : List Node) → IsKept log before rooms → is_out rooms room ≡ true → IsEntry (entry.Write w) → w.at < sequence → sequence ≡ length log.list + 1 → Extends (tree_at (reverse log.list) w.doc) w tree → ((name : List ℕ) → get_by_text after name ≡ (if bytes_eq w.doc name then Some (record { last = sequence; tree = tree }) else get_by_text before name)) → new.list ≡ log.list ++ entry.Write w ∷ [] → new.spare + 1 ≡ log.spare → IsKept new after (without room rooms)
+kept_write same_revisions same_leaves w log new before after rooms room sequence tree kept out named judged next extends put list spare =
     let es : List Entry = reverse log.list in
     let at : sequence ≡ length es + 1 = next ∙ ap (λ (n : ℕ). n + 1) (sym (length-reverse log.list)) in
     let less = one_less room rooms out in
@@ -33,11 +44,12 @@ kept_write w log new before after rooms room sequence tree kept out next extends
       out = places_stay before after w.doc (record { last = sequence; tree = tree }) put (without room rooms) (all_without (λ r. has_place before r.doc) room rooms kept.out);
       spare = omega (arith, kept.spare);
       accepted = subst Q (sym (newest log new (entry.Write w) list)) (accepted_with w es tree extends kept.accepted);
+      lawful = subst AreLawful (sym (newest log new (entry.Write w) list)) (named, follows same_revisions same_leaves w es tree (kept.accepted w.doc) extends (subst (λ (n : ℕ). w.at < n) at judged), kept.lawful);
     }
 
 -- an entry that is no write
-pub kept_plain : (e : Entry) (log new : entries.Kept) (places : Documents) (rooms : List RoomFor) (room : RoomFor) → IsKept log places rooms → is_out rooms room ≡ true → is_write e ≡ false → new.list ≡ log.list ++ e ∷ [] → new.spare + 1 ≡ log.spare → IsKept new places (without room rooms)
-kept_plain e log new places rooms room kept out plain list spare =
+pub kept_plain : (e : Entry) (log new : entries.Kept) (places : Documents) (rooms : List RoomFor) (room : RoomFor) → IsKept log places rooms → is_out rooms room ≡ true → IsEntry e → is_write e ≡ false → new.list ≡ log.list ++ e ∷ [] → new.spare + 1 ≡ log.spare → IsKept new places (without room rooms)
+kept_plain e log new places rooms room kept out named plain list spare =
     let es : List Entry = reverse log.list in
     let less = one_less room rooms out in
     let P : List Entry → Type 0 = λ x. AreKept x places in
@@ -47,6 +59,7 @@ kept_plain e log new places rooms room kept out plain list spare =
       out = all_without (λ r. has_place places r.doc) room rooms kept.out;
       spare = omega (arith, kept.spare);
       accepted = subst Q (sym (newest log new e list)) (accepted_past e es plain kept.accepted);
+      lawful = subst AreLawful (sym (newest log new e list)) (named, no_rule e es plain, kept.lawful);
     }
 
 -- ---- a room
@@ -61,6 +74,7 @@ kept_spare log new places rooms kept same spare =
       out = kept.out;
       spare = spare;
       accepted = subst Q (sym same) kept.accepted;
+      lawful = subst (λ (x : List Entry). AreLawful (reverse x)) (sym same) kept.lawful;
     }
 
 -- a place of a document that is not needed yet
@@ -71,6 +85,7 @@ kept_placed log before after rooms doc kept made =
       out = all_placed before after doc made rooms kept.out;
       spare = kept.spare;
       accepted = kept.accepted;
+      lawful = kept.lawful;
     }
 
 pub kept_same : (log : entries.Kept) (before after : Documents) (rooms : List RoomFor) → IsKept log before rooms → ((name : List ℕ) → get_by_text after name ≡ get_by_text before name) → IsKept log after rooms
@@ -84,4 +99,5 @@ kept_room log before after rooms room kept made spare =
       out = all_with before after room rooms made kept.out;
       spare = omega (arith, length-append rooms (room ∷ []));
       accepted = kept.accepted;
+      lawful = kept.lawful;
     }

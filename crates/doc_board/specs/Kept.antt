@@ -11,6 +11,7 @@ use Rattle.rev_tree.specs.declared.tree.Node.{Node}
 use Rattle.rev_tree.specs.Writes.{AreAccepted}
 use Rattle.doc_board.specs.declared.document.Document.{Document}
 use Rattle.doc_board.specs.declared.room.RoomFor.{RoomFor}
+use Rattle.doc_board.specs.Lawful.{AreLawful}
 use Rattle.doc_board.specs.Trees.{writes_of, tree_at, last_at}
 
 -- what is to be kept of a document after these entries, the newest first
@@ -54,9 +55,10 @@ abbrev pub nodes_in : Option Document → List Node
 nodes_in None = []
 nodes_in (Some kept) = kept.tree
 
--- a board keeps each document that was written; each room that is out has the place of its document, and two places of the log; and each write of a document was an accepted extension of the tree of those before it
+-- a board keeps each document that was written; each room that is out has the place of its document, and two places of the log; each write of a document was an accepted extension of the tree of those before it; and each entry is in its grammar and follows the rules of a journal
 pub record IsKept (log : entries.Kept) (places : BTreeMap (String Global) Document) (rooms : List RoomFor) : Type 0 where
   pub documents : AreKept (reverse log.list) places
   pub out : list_all (λ r. has_place places r.doc) rooms ≡ true
   pub spare : 2 * length rooms ≤ log.spare
   pub accepted : (doc : List ℕ) → AreAccepted (writes_of (reverse log.list) doc)
+  pub lawful : AreLawful (reverse log.list)

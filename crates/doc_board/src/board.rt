@@ -1,6 +1,6 @@
 //! The board: the log, each document's tree, and the rooms that are out.
 
-ghost use Rattle.std.specs.Prelude.{◌≡◌, ◌≢◌, ◌≤◌, ◌+◌, ◌++◌, ◌∷◌, [], ℕ, List, true, false, length, reverse, is_some, Some, option_map, OnOk, OnErr, IfOk, IfSome, IsTrue, Err};
+ghost use Rattle.std.specs.Prelude.{◌≡◌, ◌≢◌, ◌≤◌, ◌<◌, ◌+◌, ◌++◌, ◌∷◌, [], ℕ, List, true, false, length, reverse, is_some, Some, option_map, OnOk, OnErr, IfOk, IfSome, IsTrue, Err};
 ghost use Rattle.std.specs.Option.{option_copied};
 ghost use Rattle.sg_history.specs.History.{history, among};
 ghost use Rattle.sg_history.specs.Principals as principals;
@@ -8,6 +8,8 @@ ghost use Rattle.rev_tree.specs.Writes.{AreAccepted};
 ghost use Rattle.doc_board.specs.Answers.{IsStep, proposer_exists};
 ghost use Rattle.sg_history.specs.declared.entries.Entry.TheVariants as kinds;
 ghost use Rattle.doc_board.specs.Candidates.{MayBeStored, Extends, Fits, IfStored, IfStale, is_stale, is_write, entry_of, front_of, last_of};
+ghost use Rattle.sg_history.specs.Journal.{IsEntry};
+ghost use Rattle.doc_board.specs.Lawful.{AreLawful};
 ghost use Rattle.doc_board.specs.Recorded.{AreFollowing, IsFirstBad};
 ghost use Rattle.doc_board.specs.Rooms.{is_out, room_for, without};
 ghost use Rattle.doc_board.specs.State.{book};
@@ -21,6 +23,7 @@ use crate::snapshot::{Snapshot, base_of, body_of, is_deletion, proposer_exists, 
 use feed_rows::channels_of;
 use repl_messages::Revision;
 use rev_tree::Tree;
+use rev_tree::laws::trees_of_writes;
 use sg_history::{Channels, DocId, Entry, Log, Name, Number, Write};
 use sg_outside::Memory;
 use std::alloc::{AllocError, Global};
@@ -65,6 +68,7 @@ impl Board {
 
     /// The board of a log that was recorded.
     pub fn open(alloc: Global, log: Log) -> Result<Board, OpenFault>
+        requires { AreLawful (reverse (history log)) }
         ensures log { IfOk result (λ board. board.log ≡ history log) }
         ensures rooms { IfOk result (λ board. board.rooms ≡ []) }
         ensures following { IfOk result (λ board. AreFollowing (reverse (history log))) }
@@ -80,14 +84,17 @@ impl Board {
 
     /// The log's length. Takes no memory.
     pub fn front(&self) -> u64
-        ensures { result ≡ length self.now.log }
+        ensures front { result ≡ length self.now.log }
+        ensures below { result < 9223372036854775808 }
     {
-        self.log.entries.len() as u64
+        self.log.entries.as_slice().len() as u64
     }
 
     /// The log. Takes no memory.
     pub fn log(&self) -> &Log
-        ensures { history result.now ≡ self.now.log }
+        ensures log { history result.now ≡ self.now.log }
+        ensures lawful { AreLawful (book self.now) }
+        ensures accepted { (doc : List ℕ) → AreAccepted (writes_of (book self.now) doc) }
     {
         &self.log
     }
@@ -176,6 +183,7 @@ impl Board {
 
     fn store_plain(&mut self, room: Room, entry: Entry)
         requires out { IsTrue (is_out self.old.rooms room.made_for) }
+        requires entry { IsEntry entry }
         requires plain { is_write entry ≡ false }
         ensures log { self.new.log ≡ self.old.log ++ entry ∷ [] }
         ensures rooms { self.new.rooms ≡ without room.made_for self.old.rooms }
@@ -188,10 +196,13 @@ impl Board {
         requires sequence { sequence ≡ length self.old.log + 1 }
         requires out { IsTrue (is_out self.old.rooms room.made_for) }
         requires doc { room.made_for.doc ≡ Some entry.doc }
+        requires entry { IsEntry (kinds.Write entry) }
+        requires at { entry.at < sequence }
         requires extends { Extends (tree_at (book self.old) entry.doc) entry tree }
         ensures log { self.new.log ≡ self.old.log ++ kinds.Write entry ∷ [] }
         ensures rooms { self.new.rooms ≡ without room.made_for self.old.rooms }
     {
+        trees_of_writes();
         let document = Document {
             last: sequence,
             tree,
@@ -240,5 +251,16 @@ impl Board {
                 Commit::Stored { sequence, at }
             }
         }
+    }
+
+    /// Gives up a sequence and the room for its entry: it stays unused. Takes no memory.
+    pub fn void(&mut self, room: Room, number: Number)
+        requires number { number.value ≡ length self.old.log + 1 }
+        requires out { IsTrue (is_out self.old.rooms room.made_for) }
+        ensures log { self.new.log ≡ self.old.log ++ kinds.Unused ∷ [] }
+        ensures rooms { self.new.rooms ≡ without room.made_for self.old.rooms }
+    {
+        number.spend();
+        self.store_plain(room, Entry::Unused);
     }
 }

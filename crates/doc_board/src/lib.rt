@@ -4,6 +4,7 @@
 pub mod board;
 pub mod candidate;
 pub mod document;
+pub mod laws;
 pub mod open;
 pub mod room;
 pub mod snapshot;

@@ -1,5 +1,10 @@
 //! Tests of the board.
 
+ghost use Rattle.std.specs.Prelude.{reverse, IfOk};
+ghost use Rattle.sg_history.specs.History.{history};
+ghost use Rattle.doc_board.specs.Lawful.{AreLawful};
+
+use crate::laws::recorded;
 use crate::{Board, Candidate, Commit, OpenFault, Room};
 use repl_messages::Revision;
 use rev_tree::Extended;
@@ -9,7 +14,9 @@ use std::alloc::Global;
 use std::test::Fail;
 
 /// The log of a journal whose lines are given with `|` for TAB and `;` for the line feed.
-fn log_of(alloc: Global, lines: &str) -> Result<Log, Fail> {
+fn log_of(alloc: Global, lines: &str) -> Result<Log, Fail>
+    ensures { IfOk result (λ log. AreLawful (reverse (history log))) }
+{
     let mut journal = Bytes::from_slice(alloc, b"sgjournal 1\n")?;
     for byte in lines.as_bytes() {
         match byte {
@@ -18,6 +25,7 @@ fn log_of(alloc: Global, lines: &str) -> Result<Log, Fail> {
             other => journal.push(*other)?,
         }
     }
+    recorded();
     Ok(read_journal(alloc, journal.as_slice())?)
 }
 
@@ -125,6 +133,21 @@ fn an_entry_is_stored(rt: HostRuntime) -> Result<(), Fail> {
             Err(Fail::from("stale"))
         }
     }
+}
+
+#[test]
+fn a_sequence_is_given_up(rt: HostRuntime) -> Result<(), Fail> {
+    let alloc = rt.alloc();
+    let mut board = Board::new(alloc)?;
+    let doc = DocId::parse(alloc, "d1")?;
+    let Ok(room) = board.room(Some(&doc), 2) else {
+        return Err(Fail::from("no room"));
+    };
+    board.void(room, Number::new(1));
+    assert_eq!(rt; board.front(), 1);
+    assert!(rt; matches!(board.log().entries.as_slice(), [Entry::Unused]));
+    assert!(rt; board.tree(&doc).is_none());
+    Ok(())
 }
 
 /// The first entry that no board has: a body that is no document, a revision that hangs on an ancestor that was not kept,

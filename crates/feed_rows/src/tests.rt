@@ -255,6 +255,9 @@ fn roles_put_and_dropped(rt: HostRuntime) -> Result<(), Fail> {
 
 /// The channels of a user at a front, each with a space before it; `none` where the user does not exist.
 fn channels_text(alloc: Global, log: &Log, front: u64, user: &str) -> Result<String, Fail> {
+    if front > log.entries.len() as u64 {
+        return Err(Fail::from("the front is past the log"));
+    }
     let user = Name::parse(alloc, user)?;
     let Some(channels) = channels_of(alloc, log, front, &user)? else {
         return Ok(String::from_str(alloc, "none")?);
@@ -279,9 +282,6 @@ fn channels_of_users(rt: HostRuntime) -> Result<(), Fail> {
         (DOCUMENT_GRANT, 4, "ann", " ! A"),
     ] {
         let log = log_of(alloc, lines)?;
-        if front > log.entries.len() as u64 {
-            return Err(Fail::from("the front is past the log"));
-        }
         let text = channels_text(alloc, &log, front, user)?;
         assert!(rt; text.as_bytes() == want.as_bytes(), "{front} {user} {text}");
     }

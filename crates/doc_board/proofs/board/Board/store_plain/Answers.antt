@@ -9,4 +9,4 @@ invariant_of-self c =
     let O : State → Type 0 = λ s. is_out s.rooms c.args.room.made_for ≡ true in
     rw c.close.ensures
     (kept_plain c.args.entry c.self.inside.log.entries c.put.new.self c.self.inside.documents c.self.inside.rooms.items c.args.room.made_for
-    c.self.invariant (subst O (sym c.self.view_is) c.requires.out) c.requires.plain c.put.ensures.list c.put.ensures.spare)
+    c.self.invariant (subst O (sym c.self.view_is) c.requires.out) c.requires.entry c.requires.plain c.put.ensures.list c.put.ensures.spare)

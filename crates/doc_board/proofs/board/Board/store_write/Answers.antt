@@ -21,8 +21,8 @@ invariant_of-self c =
     let S : State → Type 0 = λ s. c.args.sequence ≡ length s.log + 1 in
     let E : State → Type 0 = λ s. Extends (tree_at (book s) c.args.entry.doc) c.args.entry c.args.tree in
     rw c.close.ensures
-    (kept_write c.args.entry c.self.inside.log.entries c.put-2.new.self c.self.inside.documents c.put.new.documents c.self.inside.rooms.items c.args.room.made_for c.args.sequence c.args.tree
-    c.self.invariant (subst O (sym c.self.view_is) c.requires.out) (subst S (sym c.self.view_is) c.requires.sequence) (subst E (sym c.self.view_is) c.requires.extends) c.put.ensures c.put-2.ensures.list c.put-2.ensures.spare)
+    (kept_write c.trees_of_writes.ensures.revisions c.trees_of_writes.ensures.leaves c.args.entry c.self.inside.log.entries c.put-2.new.self c.self.inside.documents c.put.new.documents c.self.inside.rooms.items c.args.room.made_for c.args.sequence c.args.tree
+    c.self.invariant (subst O (sym c.self.view_is) c.requires.out) c.requires.entry c.requires.at (subst S (sym c.self.view_is) c.requires.sequence) (subst E (sym c.self.view_is) c.requires.extends) c.put.ensures c.put-2.ensures.list c.put-2.ensures.spare)
 
 pub returns-clause-log : goal.returns-clause-log
 returns-clause-log c =

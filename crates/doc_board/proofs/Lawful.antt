@@ -1,0 +1,211 @@
+-- a write that extends its document's tree follows the rules of a journal
+use Rattle.std.proofs.Common.{bytes_eq, IsTrue, ◌≡◌, ◌<◌, ◌+◌, ℕ, Bool, true, false, ◌&&◌, ◌||◌, not, List, [], ◌∷◌, ◌++◌, map, filter, length, Option, Some, None, refl, sym, ap, ◌∙◌, subst, inl, inr, if◌then◌else◌, option_map}
+use Rattle.std.specs.Prelude.{is_some, nat_lt}
+use Rattle.std.specs.List.{list_any}
+use Rattle.std.proofs.lemmas.Bool.{and_parts, and_from, or_left, or_right, or_cases, cases_Bool, false_from_ne_true, not-true, not_from_false, both_ways, lt-ltb}
+use Rattle.std.proofs.lemmas.List.Folds.{list_any-append}
+use Rattle.std.proofs.lemmas.Option.{none-some}
+use Rattle.sg_names.specs.declared.rev_id.RevId.{RevId}
+use Rattle.sg_names.specs.RevId.{same_rev, is_rev}
+use Rattle.sg_history.specs.declared.entries.Entry.{Entry}
+use Rattle.sg_history.specs.declared.entries.Entry.TheVariants as entry
+use Rattle.sg_history.specs.declared.entries.Write.{Write}
+use Rattle.sg_history.specs.History.{write_to}
+use Rattle.sg_history.specs.Current.{with_rev_or, write_of_rev}
+use Rattle.sg_history.specs.Journal.{falls_from, has_rev, follows_rules, IsRecord, IsEntry}
+use Rattle.doc_board.specs.Lawful.{AreLawful}
+use Rattle.rev_tree.specs.declared.leaf.Leaf.{Leaf}
+use Rattle.rev_tree.specs.declared.tree.Node.{Node}
+use Rattle.rev_tree.specs.Order.{first_leaf, sooner, comes_before}
+use Rattle.rev_tree.specs.Tree.{knows, leaves_of, winner_of}
+use Rattle.rev_tree.specs.Extension.{Recorded, falls}
+use Rattle.rev_tree.specs.Writes.{among, path_of, revisions, Pair, neighbours, pairs, is_parent_in, is_deleted_in, leaves_in, tree_of, only_last_known, AreAccepted}
+use Rattle.rev_tree.proofs.Sames.{same_is_equal, same_itself}
+use Rattle.doc_board.specs.Candidates.{Extends}
+use Rattle.doc_board.specs.Trees.{recorded, recorded_before, writes_of, tree_at}
+
+abbrev held : {X : Type 0} → X → Option X → X
+held d None = d
+held d (Some x) = x
+
+same_some : {X : Type 0} (a b : X) → Some a ≡ Some b → a ≡ b
+same_some a b h = ap (held a) h
+
+-- what the laws of trees say of the tree of accepted writes
+abbrev pub SameRevisions : Type 0
+SameRevisions = (ws : List Recorded) (rev : RevId) → AreAccepted ws → knows (tree_of ws) rev ≡ among (revisions ws) rev
+
+abbrev pub SameLeaves : Type 0
+SameLeaves = (ws : List Recorded) → AreAccepted ws → leaves_of (tree_of ws) ≡ leaves_in ws
+
+-- ---- revisions that were written
+
+-- whether some write has this revision
+abbrev pub is_written : List Recorded → RevId → Bool
+is_written ws rev = list_any (λ (w : Recorded). same_rev w.rev rev) ws
+
+written_next : (o : Option Write) (ws : List Recorded) (other : Option Write) (rev : RevId) → is_written ws rev ≡ is_some other → is_written (recorded_before o ws) rev ≡ is_some (with_rev_or o rev other)
+written_next None ws other rev h = h
+written_next (Some w) ws other rev h = go (same_rev w.rev rev) refl
+  where
+    go : (b : Bool) → same_rev w.rev rev ≡ b → (same_rev w.rev rev || is_written ws rev) ≡ is_some (if same_rev w.rev rev then Some w else other)
+    go true e = rw e refl
+    go false e = rw e h
+
+same_written : (es : List Entry) (doc : List ℕ) (rev : RevId) → is_written (writes_of es doc) rev ≡ has_rev es doc rev
+same_written [] doc rev = refl
+same_written (e ∷ older) doc rev = written_next (write_to e doc) (writes_of older doc) (write_of_rev older doc rev) rev (same_written older doc rev)
+
+among-append : (xs ys : List RevId) (rev : RevId) → among (xs ++ ys) rev ≡ (among xs rev || among ys rev)
+among-append xs ys rev = list_any-append (λ (r : RevId). same_rev r rev) xs ys
+
+written_among : (ws : List Recorded) (rev : RevId) → is_written ws rev ≡ true → among (revisions ws) rev ≡ true
+written_among [] rev h = h
+written_among (w ∷ older) rev h =
+    elim (or_cases (same_rev w.rev rev) (is_written older rev) h) [
+      | inl a ↦ or_left (same_rev w.rev rev) (among (w.ancestors ++ revisions older) rev) a
+      | inr o ↦ or_right (same_rev w.rev rev) _ (among-append w.ancestors (revisions older) rev ∙ or_right (among w.ancestors rev) _ (written_among older rev o))
+    ]
+
+-- ---- a revision that is no parent was written
+
+parents_listed : (x : RevId) (ancestors : List RevId) (rev : RevId) → list_any (λ (p : Pair). same_rev p.parent rev) (neighbours (x ∷ ancestors)) ≡ among ancestors rev
+parents_listed x [] rev = refl
+parents_listed x (a ∷ more) rev = ap (λ (b : Bool). same_rev a rev || b) (parents_listed a more rev)
+
+parents_with : (w : Recorded) (older : List Recorded) (rev : RevId) → is_parent_in (w ∷ older) rev ≡ (among w.ancestors rev || is_parent_in older rev)
+parents_with w older rev =
+    let test : Pair → Bool = λ p. same_rev p.parent rev in
+    list_any-append test (neighbours (path_of w)) (pairs older) ∙ ap (λ (b : Bool). b || is_parent_in older rev) (parents_listed w.rev w.ancestors rev)
+
+no_parent_written : (ws : List Recorded) (rev : RevId) → among (revisions ws) rev ≡ true → is_parent_in ws rev ≡ false → is_written ws rev ≡ true
+no_parent_written [] rev h none = h
+no_parent_written (w ∷ older) rev h none =
+    let parent : (among w.ancestors rev || is_parent_in older rev) ≡ false = sym (parents_with w older rev) ∙ none in
+    elim (or_cases (same_rev w.rev rev) (among (w.ancestors ++ revisions older) rev) h) [
+      | inl a ↦ or_left (same_rev w.rev rev) (is_written older rev) a
+      | inr o ↦
+          elim (or_cases (among w.ancestors rev) (among (revisions older) rev) (sym (among-append w.ancestors (revisions older) rev) ∙ o)) [
+            | inl a ↦ absurd (both_ways _ parent (or_left (among w.ancestors rev) (is_parent_in older rev) a))
+            | inr r ↦
+                or_right (same_rev w.rev rev) _ (no_parent_written older rev r (false_from_ne_true (is_parent_in older rev) (λ p. both_ways _ parent (or_right (among w.ancestors rev) (is_parent_in older rev) p))))
+          ]
+    ]
+
+-- ---- the winner was written
+
+abbrev leaf_with : (RevId → Bool) → RevId → Leaf
+leaf_with deleted r = record { rev = r; deleted = deleted r }
+
+leaf_listed : (parent deleted : RevId → Bool) (revs : List RevId) (rev : RevId) → list_any (λ (l : Leaf). same_rev l.rev rev) (map (λ r. leaf_with deleted r) (filter (λ r. not (parent r)) revs)) ≡ true → (parent rev ≡ false) × (among revs rev ≡ true)
+leaf_listed parent deleted [] rev h = absurd (both_ways false refl h)
+leaf_listed parent deleted (r ∷ more) rev h =
+    elim (cases_Bool (parent r)) [
+      | inl p ↦
+          let rest = leaf_listed parent deleted more rev (rw p at h) in
+          (rest.0, or_right (same_rev r rev) (among more rev) rest.1)
+      | inr p ↦
+          elim (or_cases (same_rev r rev) _ (rw p at h)) [
+            | inl s ↦ (ap parent (sym (same_is_equal r rev s)) ∙ p, or_left (same_rev r rev) (among more rev) s)
+            | inr o ↦ let rest = leaf_listed parent deleted more rev o in (rest.0, or_right (same_rev r rev) (among more rev) rest.1)
+          ]
+    ]
+
+sooner_listed : (l : Leaf) (ls : List Leaf) (o : Option Leaf) (won : Leaf) → ((x : Leaf) → o ≡ Some x → list_any (λ (k : Leaf). same_rev k.rev x.rev) ls ≡ true) → sooner l o ≡ won → (same_rev l.rev won.rev || list_any (λ (k : Leaf). same_rev k.rev won.rev) ls) ≡ true
+sooner_listed l ls None won rest e = or_left _ _ (ap (λ (x : Leaf). same_rev l.rev x.rev) (sym e) ∙ same_itself l.rev)
+sooner_listed l ls (Some o) won rest e = go (comes_before o l) refl
+  where
+    P : Leaf → Type 0
+    P x = (same_rev l.rev x.rev || list_any (λ (k : Leaf). same_rev k.rev x.rev) ls) ≡ true
+
+    go : (b : Bool) → comes_before o l ≡ b → P won
+    go true is = subst P (sym (ap (λ (b : Bool). if b then o else l) is) ∙ e) (or_right (same_rev l.rev o.rev) _ (rest o refl))
+    go false is = subst P (sym (ap (λ (b : Bool). if b then o else l) is) ∙ e) (or_left _ _ (same_itself l.rev))
+
+first_listed : (ls : List Leaf) (won : Leaf) → first_leaf ls ≡ Some won → list_any (λ (k : Leaf). same_rev k.rev won.rev) ls ≡ true
+first_listed [] won h = absurd (none-some _ h)
+first_listed (l ∷ ls) won h = sooner_listed l ls (first_leaf ls) won (first_listed ls) (same_some _ _ h)
+
+winner_is_written : SameLeaves → (ws : List Recorded) (won : Leaf) → AreAccepted ws → winner_of (tree_of ws) ≡ Some won → is_written ws won.rev ≡ true
+winner_is_written same ws won accepted h =
+    let P : List Leaf → Type 0 = λ ls. list_any (λ (k : Leaf). same_rev k.rev won.rev) ls ≡ true in
+    let listed = leaf_listed (λ r. is_parent_in ws r) (λ r. is_deleted_in ws r) (revisions ws) won.rev (subst P (same ws accepted) (first_listed (leaves_of (tree_of ws)) won h)) in
+    no_parent_written ws won.rev listed.1 listed.0
+
+-- ---- the rules
+
+falls_too : (a : RevId) (more : List RevId) → falls (a ∷ more) ≡ true → falls_from a.generation more ≡ true
+falls_too a [] h = refl
+falls_too a (b ∷ more) h =
+    let parts = and_parts (nat_lt b.generation a.generation) (falls (b ∷ more)) h in
+    and_from (nat_lt b.generation a.generation) (falls_from b.generation more) parts.0 (falls_too b more parts.1)
+
+swapped : (a b : RevId) → same_rev a b ≡ true → same_rev b a ≡ true
+swapped a b h = ap (same_rev b) (same_is_equal a b h) ∙ same_itself b
+
+won_by : SameLeaves → (ws : List Recorded) (rev : RevId) (won : Option Leaf) → AreAccepted ws → winner_of (tree_of ws) ≡ won → option_map (λ (l : Leaf). l.rev) won ≡ Some rev → is_written ws rev ≡ true
+won_by same ws rev None accepted h e = absurd (none-some _ e)
+won_by same ws rev (Some won) accepted h e =
+    subst (λ (r : RevId). is_written ws r ≡ true) (same_some _ _ e) (winner_is_written same ws won accepted h)
+
+pub follows : SameRevisions → SameLeaves → (w : Write) (es : List Entry) (after : List Node) → AreAccepted (writes_of es w.doc) → Extends (tree_at es w.doc) w after → w.at < length es + 1 → follows_rules es w ≡ true
+follows same_revisions same_leaves w es after accepted extends judged =
+    let ws : List Recorded = writes_of es w.doc in
+    let tree : List Node = tree_of ws in
+    let parts = and_parts (not (knows tree w.rev) && falls (path_of (recorded w))) (only_last_known tree w.ancestors) extends.accepted in
+    let first = and_parts (not (knows tree w.rev)) (falls (path_of (recorded w))) parts.0 in
+    let unknown : knows tree w.rev ≡ false = not-true (knows tree w.rev) first.0 in
+    let new : has_rev es w.doc w.rev ≡ false =
+    false_from_ne_true (has_rev es w.doc w.rev) (λ h. both_ways _ unknown (same_revisions ws w.rev accepted ∙ written_among ws w.rev (same_written es w.doc w.rev ∙ h))) in
+    let won : is_written (recorded w ∷ ws) w.winner ≡ true =
+    won_by same_leaves (recorded w ∷ ws) w.winner (winner_of (tree_of (recorded w ∷ ws))) (extends.accepted, accepted) refl (ap (λ (t : List Node). option_map (λ (l : Leaf). l.rev) (winner_of t)) (sym extends.tree) ∙ extends.winner) in
+    let named : (same_rev w.winner w.rev || has_rev es w.doc w.winner) ≡ true =
+    elim (or_cases (same_rev w.rev w.winner) (is_written ws w.winner) won) [
+      | inl a ↦ or_left _ _ (swapped w.rev w.winner a)
+      | inr o ↦ or_right (same_rev w.winner w.rev) _ (sym (same_written es w.doc w.winner) ∙ o)
+    ] in
+    and_from _ _ (and_from _ _ (and_from _ _ (not_from_false _ new) (falls_too w.rev w.ancestors first.1)) (lt-ltb _ _ judged)) named
+
+-- ---- journals
+
+pub recorded_is_lawful : (es : List Entry) → IsRecord es → AreLawful es
+recorded_is_lawful [] h = tt
+recorded_is_lawful (e ∷ older) h = (h.0.grammar, h.0.rules, recorded_is_lawful older h.1)
+
+-- ---- the winner's name
+
+named_next : (o : Option Write) (other : Option Write) (rev : RevId) → ((w : Write) → o ≡ Some w → IsTrue (is_rev w.rev)) → (is_some other ≡ true → IsTrue (is_rev rev)) → is_some (with_rev_or o rev other) ≡ true → IsTrue (is_rev rev)
+named_next None other rev named rest h = rest h
+named_next (Some w) other rev named rest h =
+    elim (cases_Bool (same_rev w.rev rev)) [
+      | inl s ↦ subst (λ (r : RevId). IsTrue (is_rev r)) (same_is_equal w.rev rev s) (named w refl)
+      | inr s ↦ rest (rw s at h)
+    ]
+
+-- the write that an entry is has a revision in its grammar
+write_named : (e : Entry) (doc : List ℕ) → IsEntry e → (w : Write) → write_to e doc ≡ Some w → IsTrue (is_rev w.rev)
+write_named (entry.Write x) doc is w h = go (bytes_eq x.doc doc) h
+  where
+    go : (b : Bool) → (if b then Some x else None) ≡ Some w → IsTrue (is_rev w.rev)
+    go true e = subst (λ (y : Write). IsTrue (is_rev y.rev)) (same_some x w e) is.rev.0
+    go false e = absurd (none-some _ e)
+write_named (entry.PutUser name channels roles) doc is w h = absurd (none-some _ h)
+write_named (entry.PutRole name channels) doc is w h = absurd (none-some _ h)
+write_named (entry.DropUser name) doc is w h = absurd (none-some _ h)
+write_named (entry.DropRole name) doc is w h = absurd (none-some _ h)
+write_named entry.Unused doc is w h = absurd (none-some _ h)
+
+written_named : (es : List Entry) (doc : List ℕ) (rev : RevId) → AreLawful es → has_rev es doc rev ≡ true → IsTrue (is_rev rev)
+written_named [] doc rev lawful h = absurd (both_ways false refl h)
+written_named (e ∷ older) doc rev lawful h =
+    named_next (write_to e doc) (write_of_rev older doc rev) rev (write_named e doc lawful.0) (written_named older doc rev lawful.2) h
+
+pub winner_named : SameLeaves → (es : List Entry) (w : Write) (after : List Node) → AreLawful es → AreAccepted (writes_of es w.doc) → Extends (tree_at es w.doc) w after → IsTrue (is_rev w.rev) → IsTrue (is_rev w.winner)
+winner_named same es w after lawful accepted extends named =
+    let ws : List Recorded = writes_of es w.doc in
+    let won : is_written (recorded w ∷ ws) w.winner ≡ true =
+    won_by same (recorded w ∷ ws) w.winner (winner_of (tree_of (recorded w ∷ ws))) (extends.accepted, accepted) refl (ap (λ (t : List Node). option_map (λ (l : Leaf). l.rev) (winner_of t)) (sym extends.tree) ∙ extends.winner) in
+    elim (or_cases (same_rev w.rev w.winner) (is_written ws w.winner) won) [
+      | inl a ↦ subst (λ (r : RevId). IsTrue (is_rev r)) (same_is_equal w.rev w.winner a) named
+      | inr o ↦ written_named es w.doc w.winner lawful (sym (same_written es w.doc w.winner) ∙ o)
+    ]
