@@ -5,7 +5,8 @@ use mathlib.Core.Bool.{false≢true}
 use Rattle.std.specs.BTreeMap.{get_by_text}
 use Rattle.std.specs.List.{list_all}
 use Rattle.std.specs.Str.{bytes_eq}
-use Rattle.std.proofs.lemmas.Bool.{and_parts, and_from}
+use Rattle.std.proofs.lemmas.Bool.{and_parts, and_from, or_left, or_right, eq-eqb}
+use Rattle.std.proofs.lemmas.List.Folds.{list_any-append}
 use Rattle.doc_board.specs.declared.document.Document.{Document}
 use Rattle.doc_board.specs.declared.room.RoomFor.{RoomFor}
 use Rattle.doc_board.specs.Kept.{has_place, or_blank, placed}
@@ -106,3 +107,17 @@ one_more p room (r ∷ rooms) here all =
 pub all_with : (before after : Documents) (room : RoomFor) (rooms : List RoomFor) → ((name : List ℕ) → get_by_text after name ≡ placed room.doc before name) → list_all (λ r. has_place before r.doc) rooms ≡ true → list_all (λ r. has_place after r.doc) (rooms ++ room ∷ []) ≡ true
 all_with before after room rooms made all =
     one_more (λ r. has_place after r.doc) room rooms (made_place before after room.doc made) (all_placed before after room.doc made rooms all)
+
+-- ---- a room more
+
+doc_itself : (doc : Option (List ℕ)) → same_doc doc doc ≡ true
+doc_itself None = refl
+doc_itself (Some doc) = text_itself doc
+
+room_itself : (room : RoomFor) → same_room room room ≡ true
+room_itself room = and_from (same_doc room.doc room.doc) (nat_eq room.bytes room.bytes) (doc_itself room.doc) (eq-eqb room.bytes room.bytes refl)
+
+-- the room that is made is out
+pub made_out : (room : RoomFor) (rooms : List RoomFor) → is_out (rooms ++ room ∷ []) room ≡ true
+made_out room rooms =
+    list_any-append (λ (r : RoomFor). same_room r room) rooms (room ∷ []) ∙ or_right (is_out rooms room) _ (or_left (same_room room room) false (room_itself room))

@@ -157,6 +157,7 @@ impl Board {
         ensures ok { OnOk result (self.new.rooms ≡ self.old.rooms ++ room_for (option_copied doc.entry) bytes ∷ []) }
         ensures err { OnErr result (self.new.rooms ≡ self.old.rooms) }
         ensures room { IfOk result (λ room. room ≡ room_for (option_copied doc.entry) bytes) }
+        ensures out { IfOk result (λ room. IsTrue (is_out self.new.rooms room)) }
     {
         let alloc = *self.rooms.allocator();
         let made_for = room::room_for(alloc, doc, bytes)?;
@@ -174,6 +175,7 @@ impl Board {
         ensures ok { OnOk result (self.new.rooms ≡ self.old.rooms ++ room_for (option_copied doc.entry) body_bytes ∷ []) }
         ensures err { OnErr result (self.new.rooms ≡ self.old.rooms) }
         ensures room { IfOk result (λ room. room.made_for ≡ room_for (option_copied doc.entry) body_bytes) }
+        ensures out { IfOk result (λ room. IsTrue (is_out self.new.rooms room.made_for)) }
     {
         match self.make_room(doc, body_bytes) {
             Ok(made_for) => Ok(Room::new(made_for)),

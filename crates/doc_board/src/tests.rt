@@ -33,6 +33,10 @@ fn log_of(alloc: Global, lines: &str) -> Result<Log, Fail>
 const BRANCHES: &str =
     "U|ann|A|-;W|d1|1-a|-|0|7b2261223a317d|-|1|1-a|A|-|-;W|d1|1-b|-|0|7b7d|-|2|1-b|B|-|-;W|d1|2-c|1-b|1|7b7d|-|3|1-a|-|-|-;";
 
+fn board_of(alloc: Global) -> Result<Board, Fail> {
+    Ok(Board::open(alloc, log_of(alloc, BRANCHES)?)?)
+}
+
 fn revision_of(alloc: Global, rev: &str, ancestors: &str) -> Result<Revision, Fail> {
     Ok(Revision {
         doc: DocId::parse(alloc, "d1")?,
@@ -46,7 +50,7 @@ fn revision_of(alloc: Global, rev: &str, ancestors: &str) -> Result<Revision, Fa
 
 /// What a snapshot says of a revision that ann proposes.
 fn answer_of(alloc: Global, rev: &str, ancestors: &str, strict: bool) -> Result<String, Fail> {
-    let mut board = Board::open(alloc, log_of(alloc, BRANCHES)?)?;
+    let mut board = board_of(alloc)?;
     let ann = Name::parse(alloc, "ann")?;
     let revision = revision_of(alloc, rev, ancestors)?;
     let snapshot = board.snapshot(&revision, strict, Some(&ann))?;
@@ -86,25 +90,54 @@ fn snapshots(rt: HostRuntime) -> Result<(), Fail> {
     Ok(())
 }
 
+/// How many channels a user has; none where the user does not exist.
+fn channels_count(alloc: Global, board: &mut Board, user: &str) -> Result<Option<usize>, Fail> {
+    let user = Name::parse(alloc, user)?;
+    match board.channels(&user)? {
+        None => Ok(None),
+        Some(channels) => Ok(Some(channels.as_slice().len())),
+    }
+}
+
 #[test]
-fn users_and_trees(rt: HostRuntime) -> Result<(), Fail> {
+fn channels(rt: HostRuntime) -> Result<(), Fail> {
     let alloc = rt.alloc();
-    let mut board = Board::open(alloc, log_of(alloc, BRANCHES)?)?;
-    let ann = Name::parse(alloc, "ann")?;
-    let zed = Name::parse(alloc, "zed")?;
-    let count = board.channels(&ann)?.map(|c| c.as_slice().len());
-    assert_eq!(rt; count, Some(2));
-    assert!(rt; board.channels(&zed)?.is_none());
+    let mut board = board_of(alloc)?;
+    assert!(rt; channels_count(alloc, &mut board, "ann")? == Some(2));
+    assert!(rt; channels_count(alloc, &mut board, "zed")?.is_none());
+    Ok(())
+}
+
+/// Whether the one who proposes a revision exists.
+fn proposer_exists(alloc: Global, board: &mut Board, by: Option<&Name>) -> Result<bool, Fail> {
     let revision = revision_of(alloc, "2-d", "1-a")?;
-    assert!(rt; board.snapshot(&revision, true, None)?.user_exists);
-    assert!(rt; !board.snapshot(&revision, true, Some(&zed))?.user_exists);
-    assert!(rt; board.tree(&DocId::parse(alloc, "d2")?).is_none());
-    let Some(tree) = board.tree(&revision.doc) else {
-        return Err(Fail::from("no tree"));
-    };
-    let winner = tree.winner().map(|leaf| leaf.rev.generation);
-    assert_eq!(rt; winner, Some(1));
-    assert_eq!(rt; board.log().entries.len(), 4);
+    Ok(board.snapshot(&revision, true, by)?.user_exists)
+}
+
+#[test]
+fn proposers(rt: HostRuntime) -> Result<(), Fail> {
+    let alloc = rt.alloc();
+    let mut board = board_of(alloc)?;
+    let zed = Name::parse(alloc, "zed")?;
+    assert!(rt; proposer_exists(alloc, &mut board, None)?);
+    assert!(rt; !proposer_exists(alloc, &mut board, Some(&zed))?);
+    Ok(())
+}
+
+/// The generation of a document's winner.
+fn winner_of(board: &Board, doc: &DocId) -> Option<u32> {
+    let leaf = board.tree(doc)?.winner()?;
+    Some(leaf.rev.generation)
+}
+
+#[test]
+fn trees(rt: HostRuntime) -> Result<(), Fail> {
+    let alloc = rt.alloc();
+    let board = board_of(alloc)?;
+    let written = DocId::parse(alloc, "d1")?;
+    let other = DocId::parse(alloc, "d2")?;
+    assert!(rt; winner_of(&board, &written) == Some(1));
+    assert!(rt; winner_of(&board, &other).is_none());
     Ok(())
 }
 

@@ -1,8 +1,10 @@
-use Rattle.std.proofs.Common.{◌≡◌, ◌≤◌, ◌+◌, ◌*◌, ℕ, List, Option, length, sym, ap, subst, arith}
+use Rattle.std.proofs.Common.{◌∙◌, ◌++◌, ◌∷◌, [], true, ◌≡◌, ◌≤◌, ◌+◌, ◌*◌, ℕ, List, Option, length, sym, ap, subst, arith}
 use Rattle.std.specs.BTreeMap.{get_by_text}
 use Rattle.std.specs.Option.{option_copied}
 use Rattle.doc_board.specs.declared.room.RoomFor.{RoomFor}
 use Rattle.doc_board.specs.Kept.{IsKept, placed}
+use Rattle.doc_board.specs.Rooms.{is_out}
+use Rattle.doc_board.proofs.OutRooms.{made_out}
 use Rattle.doc_board.proofs.Stored.{kept_spare, kept_placed, kept_room}
 use Rattle.doc_board.proofs.board.Board.make_room.Goals as goal
 
@@ -22,3 +24,10 @@ invariant_of-self-2 c =
     let P : Option (List ℕ) → Type 0 = λ doc. (name : List ℕ) → get_by_text c.make_place_for.new.documents name ≡ placed doc c.self.inside.documents name in
     rw c.in_ok-push.ensures.items
     (kept_room c.reserve.new.self c.self.inside.documents c.make_place_for.new.documents rooms room kept (subst P (sym (ap (λ (r : RoomFor). r.doc) c.in_ok-kept_for.ensures)) c.in_ok-make_place_for.ensures.ok) spare)
+
+pub returns-clause-out : goal.returns-clause-out
+returns-clause-out c =
+    let rooms : List RoomFor = c.self.inside.rooms.items in
+    let same : c.in_ok-kept_for.kept_for ≡ c.in_ok-made_for.made_for = c.in_ok-kept_for.ensures ∙ sym c.in_ok-made_for.ensures in
+    let items : c.push.new.self.items ≡ rooms ++ c.in_ok-made_for.made_for ∷ [] = c.in_ok-push.ensures.items ∙ ap (λ (r : RoomFor). rooms ++ r ∷ []) same in
+    subst (λ (rs : List RoomFor). is_out rs c.in_ok-made_for.made_for ≡ true) (sym items) (made_out c.in_ok-made_for.made_for rooms)
