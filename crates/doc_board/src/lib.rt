@@ -14,6 +14,3 @@ pub use candidate::{Candidate, Commit, NoRoom};
 pub use open::OpenFault;
 pub use room::{Room, RoomFor};
 pub use snapshot::Snapshot;
-
-#[cfg(test)]
-mod tests;

@@ -10,7 +10,6 @@ mod Names
 mod Numberings
 mod Ordered
 mod Passes
-pub mod Past
 mod Places
 mod RowLists
 mod ShownRows

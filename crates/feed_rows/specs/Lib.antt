@@ -8,4 +8,3 @@ pub mod Ordered
 pub mod Pass
 pub mod PassAt
 pub mod Put
-pub mod Scan

@@ -17,8 +17,3 @@ mod views;
 pub use documents::write_of_rev;
 pub use granted::channels_of;
 pub use scan::rows;
-
-#[cfg(test)]
-mod generated;
-#[cfg(test)]
-mod tests;

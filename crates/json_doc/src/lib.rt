@@ -12,6 +12,3 @@ pub use text::DocText;
 
 /// Want of memory.
 pub type Memory = std::alloc::AllocError;
-
-#[cfg(test)]
-mod tests;

@@ -10,6 +10,3 @@ pub mod record;
 
 pub use item::{Item, Items};
 pub use record::{Recorded, read_record};
-
-#[cfg(test)]
-mod tests;

@@ -23,6 +23,3 @@ pub use request::{Field, Request, RequestFault, Version, read_request};
 pub use rev::{write_norev, write_rev};
 pub use revision::Revision;
 pub use wanted::{Wanted, read_wanted};
-
-#[cfg(test)]
-mod tests;

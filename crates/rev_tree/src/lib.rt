@@ -13,6 +13,3 @@ pub use extend::Extended;
 pub use leaf::{Leaf, Leaves};
 pub use own::own_rev;
 pub use tree::{Node, Tree};
-
-#[cfg(test)]
-mod tests;

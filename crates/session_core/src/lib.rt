@@ -15,6 +15,3 @@ pub use act::{Act, Acts, Want};
 pub use event::Event;
 pub use look::{Look, Looks, Purpose};
 pub use machine::Core;
-
-#[cfg(test)]
-mod tests;

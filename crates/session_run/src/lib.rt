@@ -11,6 +11,3 @@ pub(crate) mod session;
 
 pub use ended::{End, Ended, FrameWhy};
 pub use serve::{Setup, serve_session};
-
-#[cfg(test)]
-mod tests;

@@ -11,6 +11,3 @@ pub mod solo;
 
 pub use ground::Ground;
 pub use solo::SoloGround;
-
-#[cfg(test)]
-mod tests;

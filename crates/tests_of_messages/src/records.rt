@@ -1,6 +1,6 @@
 //! A recorded session gives its wire, and each fault comes once.
 
-use crate::{Item, Items, Recorded, read_record};
+use record_file::{Item, Items, Recorded, read_record};
 use repl_messages::Version;
 use sg_history::{BadLine, ReadLog, Why};
 use sg_outside::{Bytes, Got, Memory, Wire};

@@ -1,11 +1,11 @@
 //! Requests as a device writes them, each refusal once, and the texts of the gateway to the byte.
 
-use crate::{
+use blip_frame::{Kind, Payload, Prop, Props, read_payload, write_payload};
+use blip_mux::Message;
+use repl_messages::{
     ErrorKind, Field, Flags, Request, RequestFault, Version, read_request, read_wanted,
     write_changes, write_error, write_norev, write_ok, write_rev,
 };
-use blip_frame::{Kind, Payload, Prop, Props, read_payload, write_payload};
-use blip_mux::Message;
 use sg_history::{DocId, Key, RevId, Revs, Row, Rows, TextFault};
 use sg_outside::Bytes;
 use std::alloc::{AllocError, Global};

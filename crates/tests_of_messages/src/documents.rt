@@ -1,4 +1,6 @@
-use crate::{Doc, DocFault, DocText, Members, Node, Nodes, read_doc};
+//! Documents and what they are read as.
+
+use json_doc::{Doc, DocFault, DocText, Members, Node, Nodes, read_doc};
 use std::alloc::Global;
 use std::collections::BTreeMap;
 use std::test::Fail;

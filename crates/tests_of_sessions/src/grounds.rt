@@ -1,24 +1,12 @@
 //! Worked journals, looked at through a ground.
 
-use crate::{Ground, SoloGround};
+use crate::journals::log_of;
 use repl_messages::{Body, Fed};
-use sg_history::{Channels, Key, Log, Name, Options, Rows, read_journal, write_decimal};
+use sg_history::{Channels, Key, Name, Options, Rows, write_decimal};
 use sg_outside::Bytes;
 use std::alloc::Global;
 use std::test::Fail;
-
-/// The log of a journal whose lines are given with `|` for TAB and `;` for the line feed.
-fn log_of(alloc: Global, lines: &str) -> Result<Log, Fail> {
-    let mut journal = Bytes::from_slice(alloc, b"sgjournal 1\n")?;
-    for byte in lines.as_bytes() {
-        match byte {
-            b'|' => journal.push(b'\t')?,
-            b';' => journal.push(b'\n')?,
-            other => journal.push(*other)?,
-        }
-    }
-    Ok(read_journal(alloc, journal.as_slice())?)
-}
+use write_path::{Ground, SoloGround};
 
 fn ground_of(alloc: Global, lines: &str) -> Result<SoloGround, Fail> {
     Ok(SoloGround::new(log_of(alloc, lines)?))

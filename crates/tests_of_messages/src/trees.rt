@@ -1,4 +1,6 @@
-use crate::{Extended, Leaf, Leaves, Tree, own_rev};
+//! Trees of revisions, and the revisions that the gateway makes.
+
+use rev_tree::{Extended, Leaf, Leaves, Tree, own_rev};
 use sg_names::{Digest, RevId, Revs};
 use std::alloc::{AllocError, Global};
 use std::process::Abort;

@@ -1,7 +1,6 @@
 //! Worked journals with the rows that their users' feeds have, and some cases that a feed has to get right.
 
-use crate::scan::rows_of_entries;
-use crate::{channels_of, rows};
+use feed_rows::{channels_of, rows};
 use sg_history::{
     Channels, Entry, Key, Log, Name, Names, Options, Rows, read_journal, write_decimal,
 };
@@ -189,67 +188,6 @@ fn dropped_and_put_again(rt: HostRuntime) -> Result<(), Fail> {
     log.entries.push(Entry::PutUser(Name::parse(alloc, "bob")?, channels, Names::new(alloc)))?;
     let again = text_of(alloc, &log, "bob", "3", &options)?;
     assert!(rt; again.as_slice() == b"4:3 d2 1-b 2;5:2 d1 1-a 0;".as_slice());
-    Ok(())
-}
-
-/// Whether the rows of two users, from some keys on, are those that the plain scan finds.
-fn is_as_scanned(alloc: Global, log: &Log) -> Result<bool, Fail> {
-    let options = options_of(alloc, "", false, true)?;
-    let mut same = true;
-    for user in ["ann", "bob"] {
-        for since in ["0", "2", "4", "7"] {
-            let text = text_of(alloc, log, user, since, &options)?;
-            let name = Name::parse(alloc, user)?;
-            let key = Key::parse(since)?;
-            let entries = log.entries.as_slice();
-            let scanned = rows_of_entries(alloc, entries, name.as_bytes(), &key, &options)?;
-            let want = spelled(alloc, &Rows::from_vec(scanned))?;
-            same = same && text.as_slice() == want.as_slice();
-        }
-    }
-    Ok(same)
-}
-
-#[test]
-fn one_pass_finds_what_the_scan_finds(rt: HostRuntime) -> Result<(), Fail> {
-    let alloc = rt.alloc();
-    for lines in [
-        FIRST,
-        BACKFILL,
-        REVOCATION,
-        REMOVAL,
-        DELETED,
-        DOCUMENT_GRANT,
-        EARLIER_CONFLICT,
-        CONFLICT,
-        EVERYTHING,
-        LEAVES_AND_RETURNS,
-        GRANTS_ITSELF,
-    ] {
-        let log = log_of(alloc, lines)?;
-        assert!(rt; is_as_scanned(alloc, &log)?, "{lines}");
-    }
-    Ok(())
-}
-
-/// Documents of two channels, and one that grants the second to a role and gives that role to bob.
-const ROLE_GRANT: &str =
-    "U|ann|-|r;U|bob|-|-;W|d1|1-a|-|0|7b7d|-|2|1-a|R|-|-;W|d2|1-b|-|0|7b7d|-|3|1-b|S|-|-;W|g|1-g|-|0|7b7d|-|4|1-g|-|role:r=S|bob=r;";
-
-#[test]
-fn roles_put_and_dropped(rt: HostRuntime) -> Result<(), Fail> {
-    let alloc = rt.alloc();
-    let mut log = log_of(alloc, ROLE_GRANT)?;
-    for channels in ["R", "", "S", "R", ""] {
-        let role = Name::parse(alloc, "r")?;
-        let entry = if channels.is_empty() {
-            Entry::DropRole(role)
-        } else {
-            Entry::PutRole(role, Channels::parse(alloc, channels)?)
-        };
-        log.entries.push(entry)?;
-        assert!(rt; is_as_scanned(alloc, &log)?, "{channels}");
-    }
     Ok(())
 }
 

@@ -1,33 +1,13 @@
-//! Tests of the board.
+//! Snapshots, trees and channels of a board, and what it stores.
 
-ghost use Rattle.std.specs.Prelude.{reverse, IfOk};
-ghost use Rattle.sg_history.specs.History.{history};
-ghost use Rattle.doc_board.specs.Lawful.{AreLawful};
-
-use crate::laws::recorded;
-use crate::{Board, Candidate, Commit, OpenFault, Room};
+use crate::journals::log_of;
+use doc_board::{Board, Candidate, Commit, OpenFault};
 use repl_messages::Revision;
 use rev_tree::Extended;
-use sg_history::{DocId, Entry, Log, Name, Number, RevId, Revs, read_journal};
+use sg_history::{DocId, Entry, Name, Number, RevId, Revs};
 use sg_outside::Bytes;
 use std::alloc::Global;
 use std::test::Fail;
-
-/// The log of a journal whose lines are given with `|` for TAB and `;` for the line feed.
-fn log_of(alloc: Global, lines: &str) -> Result<Log, Fail>
-    ensures { IfOk result (λ log. AreLawful (reverse (history log))) }
-{
-    let mut journal = Bytes::from_slice(alloc, b"sgjournal 1\n")?;
-    for byte in lines.as_bytes() {
-        match byte {
-            b'|' => journal.push(b'\t')?,
-            b';' => journal.push(b'\n')?,
-            other => journal.push(*other)?,
-        }
-    }
-    recorded();
-    Ok(read_journal(alloc, journal.as_slice())?)
-}
 
 /// After a tombstone on one branch the leaf of the other branch wins again.
 const BRANCHES: &str =
@@ -155,14 +135,12 @@ fn an_entry_is_stored(rt: HostRuntime) -> Result<(), Fail> {
             Ok(())
         }
         Commit::Stale {
-            room: Room {
-                made_for: _made_for,
-            },
+            room,
             number,
             candidate: _candidate,
             last: _last,
         } => {
-            number.spend();
+            board.void(room, number);
             Err(Fail::from("stale"))
         }
     }

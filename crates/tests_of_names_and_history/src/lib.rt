@@ -1,0 +1,5 @@
+//! Tests of names, journals and feeds.
+#![tactic(auto)]
+
+#[cfg(test)]
+mod feeds;

@@ -1,0 +1,13 @@
+//! Tests of the board, of grounds, of the machine of a session and of whole sessions.
+#![tactic(auto)]
+
+#[cfg(test)]
+mod boards;
+#[cfg(test)]
+mod grounds;
+#[cfg(test)]
+mod journals;
+#[cfg(test)]
+mod machine;
+#[cfg(test)]
+mod sessions;
