@@ -10,6 +10,7 @@ use Rattle.sg_names.proofs.Cuts.{cut_same, lacks_seam}
 use Rattle.sg_names.specs.Grammar.{lacks}
 use Rattle.sg_history.specs.declared.entries.Entry.{Entry}
 use Rattle.sg_history.specs.declared.written.WriteRevs.{WriteRevs}
+use Rattle.sg_history.specs.History.{History}
 use Rattle.sg_history.specs.Journal.{IsNext, IsRecord, may_follow, line_of, lines_of, header, Spells}
 use Rattle.sg_history.specs.Line.{NoLine, ReadsLine, is_write}
 use Rattle.sg_history.specs.Reading.{NoNext, SpellsLines}
@@ -124,18 +125,18 @@ abbrev title : List ℕ
 title = codes "sgjournal 1"
 
 -- a text of another first line is no journal
-pub no_title : (bytes first lines : List ℕ) → bytes ≡ first ++ 10 ∷ lines → lacks 10 first ≡ true → first ≢ title → (es : List Entry) → ¬ (Spells bytes es)
-no_title bytes first lines cut lacking other es h =
-    other (cut_same 10 first lines title (lines_of es) lacking refl (sym cut ∙ h.1)).0
+pub no_title : (bytes first lines : List ℕ) → bytes ≡ first ++ 10 ∷ lines → lacks 10 first ≡ true → first ≢ title → (h : History) → ¬ (Spells bytes h)
+no_title bytes first lines cut lacking other h spelled =
+    other (cut_same 10 first lines title (lines_of h.entries) lacking refl (sym cut ∙ spelled.1)).0
 
-pub no_first_line : (bytes : List ℕ) → lacks 10 bytes ≡ true → (es : List Entry) → ¬ (Spells bytes es)
-no_first_line bytes lacking es h = lacks_seam 10 bytes title (lines_of es) lacking h.1
+pub no_first_line : (bytes : List ℕ) → lacks 10 bytes ≡ true → (h : History) → ¬ (Spells bytes h)
+no_first_line bytes lacking h spelled = lacks_seam 10 bytes title (lines_of h.entries) lacking spelled.1
 
-pub journal_lines : (bytes first lines : List ℕ) (es : List Entry) → bytes ≡ first ++ 10 ∷ lines → first ≡ title → Spells bytes es → SpellsLines lines es
-journal_lines bytes first lines es cut same h = (h.0, cc)
+pub journal_lines : (bytes first lines : List ℕ) (h : History) → bytes ≡ first ++ 10 ∷ lines → first ≡ title → Spells bytes h → SpellsLines lines h.entries
+journal_lines bytes first lines h cut same spelled = (spelled.0, cc)
 
-pub lines_journal : (bytes first lines : List ℕ) (es : List Entry) → bytes ≡ first ++ 10 ∷ lines → first ≡ title → SpellsLines lines es → Spells bytes es
-lines_journal bytes first lines es cut same h = (h.0, cut ∙ (λ i. same i ++ 10 ∷ h.1 i))
+pub lines_journal : (bytes first lines : List ℕ) (h : History) → bytes ≡ first ++ 10 ∷ lines → first ≡ title → SpellsLines lines h.entries → Spells bytes h
+lines_journal bytes first lines h cut same spelled = (spelled.0, cut ∙ (λ i. same i ++ 10 ∷ spelled.1 i))
 
 pub other_bytes : (a b c : List ℕ) → true ≡ not (bytes_eq a b) → b ≡ c → a ≢ c
 other_bytes a b c h is e = cc (h, (bytes_eq-Decides a b).1 (e ∙ sym is))
@@ -165,5 +166,7 @@ lines_same before (m ∷ more) (f ∷ others) h g e =
     λ i. same i ∷ rest i
 
 -- a text is that of one history
-pub journal_same : (bytes : List ℕ) (es fs : List Entry) → Spells bytes es → Spells bytes fs → es ≡ fs
-journal_same bytes es fs h g = lines_same [] es fs h.0 g.0 (appended_same header (lines_of es) (lines_of fs) (sym h.1 ∙ g.1))
+pub journal_same : (bytes : List ℕ) (g h : History) → Spells bytes g → Spells bytes h → g ≡ h
+journal_same bytes g h one other =
+    let same = lines_same [] g.entries h.entries one.0 other.0 (appended_same header (lines_of g.entries) (lines_of h.entries) (sym one.1 ∙ other.1)) in
+    λ i. record { entries = same i }

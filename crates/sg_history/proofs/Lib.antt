@@ -6,3 +6,5 @@ pub mod Revisions
 pub mod RuleLemmas
 pub mod OneLine
 pub mod JournalTexts
+pub mod Books
+pub mod Boards

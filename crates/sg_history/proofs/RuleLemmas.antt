@@ -1,5 +1,5 @@
 -- the revisions that were written, and the entries that wrote them
-use Rattle.std.proofs.Common.{◌≡◌, ℕ, Bool, true, false, ◌&&◌, ◌||◌, List, [], ◌∷◌, ◌++◌, reverse, refl, sym, ap, ◌∙◌, if◌then◌else◌, Option, Some, None}
+use Rattle.std.proofs.Common.{◌≡◌, ℕ, ◌+◌, length, Bool, true, false, ◌&&◌, ◌||◌, List, [], ◌∷◌, ◌++◌, reverse, refl, sym, ap, ◌∙◌, if◌then◌else◌, Option, Some, None}
 use Rattle.std.specs.Prelude.{is_some}
 use Rattle.std.proofs.lemmas.List.{reverse-append}
 use Rattle.std.specs.Str.{bytes_eq}
@@ -8,20 +8,20 @@ use Rattle.sg_names.specs.RevId.{same_rev}
 use Rattle.sg_history.specs.declared.entries.Entry.{Entry}
 use Rattle.sg_history.specs.declared.entries.Entry.TheVariants as entry
 use Rattle.sg_history.specs.declared.entries.Write.{Write}
-use Rattle.sg_history.specs.Current.{write_of_rev, with_rev_or}
+use Rattle.sg_history.specs.Current.{Sequenced, write_of_rev, with_rev_or}
 use Rattle.sg_history.specs.Journal.{has_rev}
 use Rattle.sg_history.specs.declared.written.RevTexts.{RevTexts}
 use Rattle.sg_history.specs.Written.{DocRev, is_rev_of, has, revision, HasRevs, Knows}
 
-chosen : (same right : Bool) (w : Write) (other : Option Write) → is_some (if same then (if right then Some w else other) else other) ≡ ((same && right) || is_some other)
+chosen : (same right : Bool) (w : Sequenced) (other : Option Sequenced) → is_some (if same then (if right then Some w else other) else other) ≡ ((same && right) || is_some other)
 chosen true true w other = refl
 chosen true false w other = refl
 chosen false right w other = refl
 
-chosen_write : (same : Bool) (w : Write) (rev : RevId) (other : Option Write)
-    → is_some (with_rev_or (if same then Some w else None) rev other) ≡ ((same && same_rev w.rev rev) || is_some other)
-chosen_write true w rev other = chosen true (same_rev w.rev rev) w other
-chosen_write false w rev other = refl
+chosen_write : (same : Bool) (w : Write) (seq : ℕ) (rev : RevId) (other : Option Sequenced)
+    → is_some (with_rev_or (if same then Some w else None) seq rev other) ≡ ((same && same_rev w.rev rev) || is_some other)
+chosen_write true w seq rev other = chosen true (same_rev w.rev rev) (record { seq = seq; write = w }) other
+chosen_write false w seq rev other = refl
 
 -- one more write
 pub knows_write : (written after : List DocRev) (entries : List Entry) (w : Write) (texts : RevTexts) → Knows written entries
@@ -31,7 +31,7 @@ pub knows_write : (written after : List DocRev) (entries : List Entry) (w : Writ
 knows_write written after entries w texts knows is each doc rev =
     each doc rev
     ∙ (λ i. is_rev_of (is i) doc rev || knows doc rev i)
-    ∙ sym (chosen_write (bytes_eq w.doc doc) w rev (write_of_rev (reverse entries) doc rev))
+    ∙ sym (chosen_write (bytes_eq w.doc doc) w (length (reverse entries) + 1) rev (write_of_rev (reverse entries) doc rev))
     ∙ ap (λ older. has_rev older doc rev) (sym (reverse-append entries (entry.Write w ∷ [])))
 
 -- an entry that is no write

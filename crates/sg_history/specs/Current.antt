@@ -24,38 +24,57 @@ last_write [] doc = None
 last_write (e ∷ older) doc = sequenced_or (write_to e doc) (length older + 1) (last_write older doc)
 
 -- a write where it has this revision, else the other
-abbrev pub with_rev_or : Option Write → RevId → Option Write → Option Write
-with_rev_or None rev other = other
-with_rev_or (Some w) rev other = if same_rev w.rev rev then Some w else other
+abbrev pub with_rev_or : Option Write → ℕ → RevId → Option Sequenced → Option Sequenced
+with_rev_or None seq rev other = other
+with_rev_or (Some w) seq rev other = if same_rev w.rev rev then Some (record { seq = seq; write = w }) else other
 
 -- the write of a document that has this revision
-abbrev pub write_of_rev : List Entry → List ℕ → RevId → Option Write
+abbrev pub write_of_rev : List Entry → List ℕ → RevId → Option Sequenced
 write_of_rev [] doc rev = None
-write_of_rev (e ∷ older) doc rev = with_rev_or (write_to e doc) rev (write_of_rev older doc rev)
+write_of_rev (e ∷ older) doc rev = with_rev_or (write_to e doc) (length older + 1) rev (write_of_rev older doc rev)
+
+-- what the sync function made of a revision: the channels that it is in, the channels that it grants, and the roles that it gives
+pub record Effects : Type 0 where
+  pub channels : List (List ℕ)
+  pub grants : List Grant
+  pub roles : List RoleGrant
+
+-- what a write recorded of its revision's effects
+abbrev pub recorded_effects : Write → Effects
+recorded_effects w = record { channels = w.channels; grants = w.grants; roles = w.roles }
+
+-- the effects of a revision after these entries: those that its write recorded
+abbrev pub effects_of : List Entry → Sequenced → Effects
+effects_of es written = recorded_effects written.write
 
 -- a document as it is: the sequence of its last write, with the winner's revision, deleted mark and effects
 pub record Current : Type 0 where
   pub seq : ℕ
   pub rev : RevId
   pub deleted : Bool
-  pub channels : List (List ℕ)
-  pub grants : List Grant
-  pub roles : List RoleGrant
+  pub effects : Effects
 
 -- a write where there is one, else the other
-abbrev pub write_or : Option Write → Write → Write
+abbrev pub write_or : Option Sequenced → Sequenced → Sequenced
 write_or None other = other
-write_or (Some w) other = w
+write_or (Some written) other = written
 
--- the sequence of the last write, with what the winner's write has
-abbrev pub current_of : ℕ → Write → Current
-current_of seq w = record { seq = seq; rev = w.rev; deleted = w.deleted; channels = w.channels; grants = w.grants; roles = w.roles }
+-- the write of the winner that a document's last write names; in a log that names one which was never written, that last write
+abbrev pub winning_of : List Entry → List ℕ → Sequenced → Sequenced
+winning_of es doc last = write_or (write_of_rev es doc last.write.winner) last
+
+-- the sequence of the last write, with the revision and deleted mark of the winner's write, and these effects
+abbrev pub current_of : ℕ → Write → Effects → Current
+current_of seq w effects = record { seq = seq; rev = w.rev; deleted = w.deleted; effects = effects }
+
+abbrev pub current_by : List Entry → ℕ → Sequenced → Current
+current_by es seq winning = current_of seq winning.write (effects_of es winning)
 
 abbrev pub current_after : List Entry → List ℕ → Option Sequenced → Option Current
 current_after es doc None = None
-current_after es doc (Some last) = Some (current_of last.seq (write_or (write_of_rev es doc last.write.winner) last.write))
+current_after es doc (Some last) = Some (current_by es last.seq (winning_of es doc last))
 
 -- the current state of a document: none where nothing was written; else its last write's sequence with the
--- winner that this write names (or, in a log that names one which was never written, that write itself)
+-- winner that this write names and the winner's effects
 abbrev pub current : List Entry → List ℕ → Option Current
 current es doc = current_after es doc (last_write es doc)

@@ -1,7 +1,7 @@
 -- A history is a list of entries; the entry at place k, counted from 1, has sequence k.
 -- What a history says at a place is said of the entries up to that place, the newest first, so that a
 -- longer history leaves it as it was.
-use Rattle.std.specs.Prelude.{ℕ, Bool, List, [], ◌∷◌, ◌++◌, take, reverse, Option, Some, None, if◌then◌else◌}
+use Rattle.std.specs.Prelude.{◌≡◌, ℕ, Bool, List, [], ◌∷◌, ◌++◌, take, reverse, Option, Some, None, if◌then◌else◌}
 use Rattle.std.specs.List.{list_any}
 use Rattle.std.specs.Str.{bytes_eq}
 use Rattle.sg_history.specs.declared.entries.Entry.{Entry}
@@ -9,35 +9,56 @@ use Rattle.sg_history.specs.declared.entries.Entry.TheVariants as entry
 use Rattle.sg_history.specs.declared.entries.Log.{Log}
 use Rattle.sg_history.specs.declared.entries.Write.{Write}
 
+-- a history: its entries, in order
+pub record History : Type 0 where
+  pub entries : List Entry
+
+-- the entries that a log keeps, in order
+abbrev pub entries_of : Log → List Entry
+entries_of log = log.entries.list
+
 -- the history that a log keeps
-abbrev pub history : Log → List Entry
-history log = log.entries.list
+abbrev pub history : Log → History
+history log = record { entries = entries_of log }
 
 -- the entries up to place k, the newest first
 abbrev pub past : List Entry → ℕ → List Entry
 past entries k = reverse (take k entries)
 
+-- the later entries extend the earlier ones: they begin with them
+abbrev pub Extends : List Entry → List Entry → Type 0
+Extends earlier later = (rest : List Entry) × (later ≡ earlier ++ rest)
+
 -- whether a text is among these
 abbrev pub among : List (List ℕ) → List ℕ → Bool
 among texts text = list_any (λ t. bytes_eq t text) texts
 
+-- the write that an entry is, if it is one
+abbrev pub as_write : Entry → Option Write
+as_write (entry.Write w) = Some w
+as_write (entry.PutUser name channels roles) = None
+as_write (entry.PutRole name channels) = None
+as_write (entry.DropUser name) = None
+as_write (entry.DropRole name) = None
+as_write entry.Unused = None
+
+-- the write, where there is one and it is of this document
+abbrev pub of_document : Option Write → List ℕ → Option Write
+of_document None doc = None
+of_document (Some w) doc = if bytes_eq w.doc doc then Some w else None
+
 -- the write of this document that an entry is, if it is one
 abbrev pub write_to : Entry → List ℕ → Option Write
-write_to (entry.Write w) doc = if bytes_eq w.doc doc then Some w else None
-write_to (entry.PutUser name channels roles) doc = None
-write_to (entry.PutRole name channels) doc = None
-write_to (entry.DropUser name) doc = None
-write_to (entry.DropRole name) doc = None
-write_to entry.Unused doc = None
+write_to e doc = of_document (as_write e) doc
+
+-- the document of a write, where there is one
+abbrev pub document_of : Option Write → List (List ℕ)
+document_of None = []
+document_of (Some w) = w.doc ∷ []
 
 -- the document that an entry writes, if it is a write
 abbrev pub written_by : Entry → List (List ℕ)
-written_by (entry.Write w) = w.doc ∷ []
-written_by (entry.PutUser name channels roles) = []
-written_by (entry.PutRole name channels) = []
-written_by (entry.DropUser name) = []
-written_by (entry.DropRole name) = []
-written_by entry.Unused = []
+written_by e = document_of (as_write e)
 
 -- the documents that were written, as often as they were
 abbrev pub documents : List Entry → List (List ℕ)

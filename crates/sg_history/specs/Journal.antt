@@ -14,6 +14,7 @@ use Rattle.sg_names.specs.Hex.{hex_text, are_bytes}
 use Rattle.sg_history.specs.declared.entries.Entry.{Entry}
 use Rattle.sg_history.specs.declared.entries.Entry.TheVariants as entry
 use Rattle.sg_history.specs.declared.entries.Write.{Write}
+use Rattle.sg_history.specs.History.{History, as_write}
 use Rattle.sg_history.specs.Current.{write_of_rev}
 
 -- the first line
@@ -54,8 +55,8 @@ abbrev pub lines_of : List Entry → List ℕ
 lines_of es = flat_map (λ e. line_of e ++ 10 ∷ []) es
 
 -- the text of a history
-abbrev pub journal_text : List Entry → List ℕ
-journal_text es = header ++ lines_of es
+abbrev pub journal_text : History → List ℕ
+journal_text h = header ++ lines_of h.entries
 
 -- a writer is a name, or the administrator
 abbrev pub is_by : Option (List ℕ) → Bool
@@ -114,14 +115,14 @@ follows_rules older w =
     not (has_rev older w.doc w.rev) && falls_from w.rev.generation w.ancestors && nat_lt w.at (length older + 1)
     && (same_rev w.winner w.rev || has_rev older w.doc w.winner)
 
+-- a write follows the rules, where there is one
+abbrev pub write_may_follow : List Entry → Option Write → Bool
+write_may_follow older None = true
+write_may_follow older (Some w) = follows_rules older w
+
 -- an entry follows the rules, of which only writes have some
 abbrev pub may_follow : List Entry → Entry → Bool
-may_follow older (entry.Write w) = follows_rules older w
-may_follow older (entry.PutUser name channels roles) = true
-may_follow older (entry.PutRole name channels) = true
-may_follow older (entry.DropUser name) = true
-may_follow older (entry.DropRole name) = true
-may_follow older entry.Unused = true
+may_follow older e = write_may_follow older (as_write e)
 
 -- the kinds of entry that a journal has: writes and puts of users
 abbrev pub is_recorded : Entry → Bool
@@ -144,5 +145,5 @@ IsRecord [] = Unit {0}
 IsRecord (e ∷ older) = IsNext older e × IsRecord older
 
 -- the bytes are the journal of this history
-abbrev pub Spells : List ℕ → List Entry → Type 0
-Spells bytes es = IsRecord (reverse es) × (bytes ≡ journal_text es)
+abbrev pub Spells : List ℕ → History → Type 0
+Spells bytes h = IsRecord (reverse h.entries) × (bytes ≡ journal_text h)

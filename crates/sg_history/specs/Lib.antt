@@ -8,6 +8,9 @@ pub mod Principals
 pub mod View
 pub mod Feed
 pub mod Device
+pub mod Book
+pub mod Board
+pub mod World
 pub mod Journal
 pub mod Line
 pub mod Pieces

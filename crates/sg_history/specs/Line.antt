@@ -1,11 +1,11 @@
 -- a line's fields and what they are read as
-use Rattle.std.specs.Prelude.{◌≡◌, ◌≢◌, ℕ, Bool, true, false, List, [], ◌∷◌, IsTrue, MatchBool}
+use Rattle.std.specs.Prelude.{◌≡◌, ◌≢◌, ℕ, Bool, List, [], ◌∷◌, is_some, IsTrue, MatchBool}
 use Rattle.sg_history.specs.declared.entries.Entry.{Entry}
-use Rattle.sg_history.specs.declared.entries.Entry.TheVariants as entry
 use Rattle.sg_history.specs.declared.entries.Write.{Write}
 use Rattle.sg_history.specs.declared.line.ReadEntry.{ReadEntry}
 use Rattle.sg_history.specs.declared.write_line.ReadWrite.{ReadWrite}
 use Rattle.sg_history.specs.declared.write_line.WriteTexts.{WriteTexts}
+use Rattle.sg_history.specs.History.{as_write}
 use Rattle.sg_history.specs.Journal.{IsWrite, IsEntry, is_recorded, write_fields, fields_of, line_of}
 
 -- the fields of a write's line after its kind, in order
@@ -32,12 +32,7 @@ NoEntry fields = (e : Entry) → IsLineEntry e → fields ≢ fields_of e
 
 -- whether an entry is a write
 abbrev pub is_write : Entry → Bool
-is_write (entry.Write w) = true
-is_write (entry.PutUser name channels roles) = false
-is_write (entry.PutRole name channels) = false
-is_write (entry.DropUser name) = false
-is_write (entry.DropRole name) = false
-is_write entry.Unused = false
+is_write e = is_some (as_write e)
 
 -- the fields are those of the entry that was read, or of none where it is a write whose front does not fit
 abbrev pub ReadsEntry : List (List ℕ) → ReadEntry → Type 0

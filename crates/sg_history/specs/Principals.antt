@@ -18,14 +18,36 @@ pub record Standing : Type 0 where
   pub channels : List (List ℕ)
   pub roles : List (List ℕ)
 
+abbrev pub same_grantee : Grantee → Grantee → Bool
+same_grantee (User a) (User b) = bytes_eq a b
+same_grantee (User a) (Role b) = false
+same_grantee (Role a) (User b) = false
+same_grantee (Role a) (Role b) = bytes_eq a b
+
+-- the user or role that an entry puts or drops, with what it is from then on: none where it is dropped
+pub record Put : Type 0 where
+  pub of : Grantee
+  pub standing : Option Standing
+
+-- the put or drop that an entry is, if it is one
+abbrev pub as_put : Entry → Option Put
+as_put (entry.Write w) = None
+as_put (entry.PutUser name channels roles) =
+    Some (record { of = User name; standing = Some (record { channels = channels; roles = roles }) })
+as_put (entry.PutRole name channels) =
+    Some (record { of = Role name; standing = Some (record { channels = channels; roles = [] }) })
+as_put (entry.DropUser name) = Some (record { of = User name; standing = None })
+as_put (entry.DropRole name) = Some (record { of = Role name; standing = None })
+as_put entry.Unused = None
+
+-- what a put or a drop makes of a user or role, given what it was before
+abbrev pub standing_after : Option Put → Grantee → Option Standing → Option Standing
+standing_after None whom before = before
+standing_after (Some put) whom before = if same_grantee put.of whom then put.standing else before
+
 -- what an entry makes of a user, given what it was before
 abbrev pub user_after : Entry → List ℕ → Option Standing → Option Standing
-user_after (entry.Write w) user before = before
-user_after (entry.PutUser name channels roles) user before = if bytes_eq name user then Some (record { channels = channels; roles = roles }) else before
-user_after (entry.PutRole name channels) user before = before
-user_after (entry.DropUser name) user before = if bytes_eq name user then None else before
-user_after (entry.DropRole name) user before = before
-user_after entry.Unused user before = before
+user_after e user before = standing_after (as_put e) (User user) before
 
 -- a user: its last put, or none where it does not exist
 abbrev pub user_at : List Entry → List ℕ → Option Standing
@@ -34,28 +56,17 @@ user_at (e ∷ older) user = user_after e user (user_at older user)
 
 -- what an entry makes of a role, given what it was before
 abbrev pub role_after : Entry → List ℕ → Option Standing → Option Standing
-role_after (entry.Write w) role before = before
-role_after (entry.PutUser name channels roles) role before = before
-role_after (entry.PutRole name channels) role before = if bytes_eq name role then Some (record { channels = channels; roles = [] }) else before
-role_after (entry.DropUser name) role before = before
-role_after (entry.DropRole name) role before = if bytes_eq name role then None else before
-role_after entry.Unused role before = before
+role_after e role before = standing_after (as_put e) (Role role) before
 
 -- a role: its last put, or none where it does not exist
 abbrev pub role_at : List Entry → List ℕ → Option Standing
 role_at [] role = None
 role_at (e ∷ older) role = role_after e role (role_at older role)
 
-abbrev pub same_grantee : Grantee → Grantee → Bool
-same_grantee (User a) (User b) = bytes_eq a b
-same_grantee (User a) (Role b) = false
-same_grantee (Role a) (User b) = false
-same_grantee (Role a) (Role b) = bytes_eq a b
-
 -- whether the current revision of a document grants the channel
 abbrev pub grants_channel : Option Current → Grantee → List ℕ → Bool
 grants_channel None to channel = false
-grants_channel (Some c) to channel = list_any (λ g. same_grantee g.to to && bytes_eq g.channel channel) c.grants
+grants_channel (Some c) to channel = list_any (λ g. same_grantee g.to to && bytes_eq g.channel channel) c.effects.grants
 
 -- whether the current revision of some document grants the channel
 abbrev pub is_granted : List Entry → Grantee → List ℕ → Bool
@@ -64,21 +75,27 @@ is_granted es to channel = list_any (λ doc. grants_channel (current es doc) to 
 -- whether the current revision of a document gives the role to the user
 abbrev pub gives_role : Option Current → List ℕ → List ℕ → Bool
 gives_role None user role = false
-gives_role (Some c) user role = list_any (λ g. bytes_eq g.user user && bytes_eq g.role role) c.roles
+gives_role (Some c) user role = list_any (λ g. bytes_eq g.user user && bytes_eq g.role role) c.effects.roles
 
 -- whether the current revision of some document gives the role to the user
 abbrev pub is_given : List Entry → List ℕ → List ℕ → Bool
 is_given es user role = list_any (λ doc. gives_role (current es doc) user role) (documents es)
 
--- the roles that were ever put
-abbrev pub role_put_by : Entry → List (List ℕ)
-role_put_by (entry.Write w) = []
-role_put_by (entry.PutUser name channels roles) = []
-role_put_by (entry.PutRole name channels) = name ∷ []
-role_put_by (entry.DropUser name) = []
-role_put_by (entry.DropRole name) = []
-role_put_by entry.Unused = []
+-- the name of a role that is put: none where another is put, or it is dropped
+abbrev pub role_named : Grantee → Option Standing → List (List ℕ)
+role_named (User name) standing = []
+role_named (Role name) None = []
+role_named (Role name) (Some standing) = name ∷ []
 
+abbrev pub role_put : Option Put → List (List ℕ)
+role_put None = []
+role_put (Some put) = role_named put.of put.standing
+
+-- the role that an entry puts, if it puts one
+abbrev pub role_put_by : Entry → List (List ℕ)
+role_put_by e = role_put (as_put e)
+
+-- the roles that were ever put
 abbrev pub roles_put : List Entry → List (List ℕ)
 roles_put [] = []
 roles_put (e ∷ older) = role_put_by e ++ roles_put older

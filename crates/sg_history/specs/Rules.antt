@@ -2,10 +2,10 @@
 use Rattle.std.specs.Prelude.{ℕ, ◌+◌, Bool, ◌&&◌, ◌||◌, not, nat_lt, List, length, Option, Some, None, if◌then◌else◌}
 use Rattle.sg_names.specs.RevId.{same_rev}
 use Rattle.sg_history.specs.declared.entries.Entry.{Entry}
-use Rattle.sg_history.specs.declared.entries.Entry.TheVariants as entry
 use Rattle.sg_history.specs.declared.entries.Write.{Write}
 use Rattle.sg_history.specs.declared.fault.Why.{Why}
 use Rattle.sg_history.specs.declared.fault.Why.TheVariants.{Rule}
+use Rattle.sg_history.specs.History.{as_write}
 use Rattle.sg_history.specs.Journal.{has_rev, falls_from}
 
 -- the first rule that a write breaks after older entries, where its front fits its type or does not: its revision is new (3), its generations fall (4), it was judged before it was written (8), its winner was written (9)
@@ -21,11 +21,11 @@ abbrev pub as_fault : Option ℕ → Option Why
 as_fault None = None
 as_fault (Some rule) = Some (Rule rule)
 
+-- the first rule that a write breaks after older entries, where there is a write
+abbrev pub write_fault : List Entry → Option Write → Bool → Option Why
+write_fault older None fits = None
+write_fault older (Some w) fits = as_fault (broken_rule older w fits)
+
 -- what is wrong with an entry after older ones: the first rule that it breaks, if it is a write
 abbrev pub rule_fault : List Entry → Entry → Bool → Option Why
-rule_fault older (entry.Write w) fits = as_fault (broken_rule older w fits)
-rule_fault older (entry.PutUser name channels roles) fits = None
-rule_fault older (entry.PutRole name channels) fits = None
-rule_fault older (entry.DropUser name) fits = None
-rule_fault older (entry.DropRole name) fits = None
-rule_fault older entry.Unused fits = None
+rule_fault older e fits = write_fault older (as_write e) fits

@@ -27,7 +27,7 @@ pub record Shown : Type 0 where
 -- whether the user has one of the document's channels, `*` among them, and the filter names one
 abbrev pub is_shown : List Entry → List ℕ → Option (List (List ℕ)) → Current → Bool
 is_shown es user filter c =
-    list_any (λ channel. has_channel es user channel) (every ∷ c.channels) && passes filter (every ∷ c.channels)
+    list_any (λ channel. has_channel es user channel) (every ∷ c.effects.channels) && passes filter (every ∷ c.effects.channels)
 
 abbrev pub view_of : List Entry → List ℕ → Option (List (List ℕ)) → Option Current → Option Shown
 view_of es user filter None = None

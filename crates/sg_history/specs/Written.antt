@@ -5,10 +5,10 @@ use Rattle.std.specs.Str.{bytes_eq}
 use Rattle.sg_names.specs.declared.rev_id.RevId.{RevId}
 use Rattle.sg_names.specs.RevId.{same_rev}
 use Rattle.sg_history.specs.declared.entries.Entry.{Entry}
-use Rattle.sg_history.specs.declared.entries.Entry.TheVariants as entry
 use Rattle.sg_history.specs.declared.entries.Write.{Write}
 use Rattle.sg_history.specs.declared.written.RevTexts.{RevTexts}
 use Rattle.sg_history.specs.declared.written.WriteRevs.{WriteRevs}
+use Rattle.sg_history.specs.History.{as_write}
 use Rattle.sg_history.specs.Journal.{has_rev}
 
 -- a document with one of its revisions
@@ -33,15 +33,15 @@ abbrev pub AreRevsOf : Write → WriteRevs → Type 0
 AreRevsOf w texts =
     (revision texts.own ≡ record { doc = w.doc; rev = w.rev }) × (revision texts.winner ≡ record { doc = w.doc; rev = w.winner })
 
--- with a write come the texts of its revision and of its winner, and with other entries none
+-- with a write come the texts of its revision and of its winner, and without one none
+abbrev pub HasRevsOf : Option Write → Option WriteRevs → Type 0
+HasRevsOf None texts = texts ≡ None
+HasRevsOf (Some w) None = ⊥
+HasRevsOf (Some w) (Some texts) = AreRevsOf w texts
+
+-- with an entry that is a write come the texts of its revision and of its winner, and with other entries none
 abbrev pub HasRevs : Entry → Option WriteRevs → Type 0
-HasRevs (entry.Write w) (Some texts) = AreRevsOf w texts
-HasRevs (entry.Write w) None = ⊥
-HasRevs (entry.PutUser name channels roles) texts = texts ≡ None
-HasRevs (entry.PutRole name channels) texts = texts ≡ None
-HasRevs (entry.DropUser name) texts = texts ≡ None
-HasRevs (entry.DropRole name) texts = texts ≡ None
-HasRevs entry.Unused texts = texts ≡ None
+HasRevs e texts = HasRevsOf (as_write e) texts
 
 -- a revision of a document is among those kept exactly where one of the entries is a write of the document with this revision
 abbrev pub Knows : List DocRev → List Entry → Type 0

@@ -1,6 +1,8 @@
 //! Entries of a history, and the log that keeps them in order.
 
 ghost use Rattle.std.specs.Prelude.{◌≡◌, ◌++◌, ◌∷◌, ◌+◌, ◌≤◌, ◌<◌, [], length, OnOk, OnErr};
+ghost use Rattle.std.specs.Option.{option_copied};
+ghost use Rattle.sg_history.specs.History.{as_write};
 ghost use Rattle.sg_history.specs.Kept.{Kept};
 
 use sg_names::{Channels, DocId, Grants, Name, Names, RevId, Revs, RoleGrants};
@@ -43,6 +45,18 @@ pub enum Entry {
     DropRole(Name),
     /// A sequence that was drawn and given up.
     Unused,
+}
+
+impl Entry {
+    /// The write that this entry is, if it is one.
+    pub fn as_write(&self) -> Option<&Write>
+        ensures { option_copied result ≡ as_write self.now }
+    {
+        match self {
+            Entry::Write(write) => Some(write),
+            _ => None,
+        }
+    }
 }
 
 /// A list of entries with spare room: contracts see the list, and how many entries fit without memory.

@@ -2,7 +2,7 @@
 
 ghost use Rattle.std.specs.Prelude.{◌≡◌, ◌++◌, ◌∷◌, [], List, IfOk, IfErr, OnOk, OnErr};
 ghost use Rattle.sg_history.specs.declared.entries.Entry.{Entry};
-ghost use Rattle.sg_history.specs.History.{history};
+ghost use Rattle.sg_history.specs.History.{History, history, entries_of};
 ghost use Rattle.sg_history.specs.Journal.{Spells};
 ghost use Rattle.sg_history.specs.Reading.{NoNext, AddsLine, SpellsLines};
 ghost use Rattle.sg_history.specs.Refusal.{Refuses, RefusesLog};
@@ -69,7 +69,7 @@ fn add_line<'a>(
 
 /// Reads the lines after the header.
 fn read_lines(alloc: Global, lines: &[u8]) -> Result<Log, ReadLog>
-    ensures ok { IfOk result (λ log. SpellsLines lines.now (history log)) }
+    ensures ok { IfOk result (λ log. SpellsLines lines.now (entries_of log)) }
     ensures bad { IfErr result (λ e. RefusesLog e ((es : List Entry) → ¬ (SpellsLines lines.now es))) }
 {
     let mut log = Log::new(alloc);
@@ -95,7 +95,7 @@ fn read_lines(alloc: Global, lines: &[u8]) -> Result<Log, ReadLog>
 /// first `Rule`. No clause speaks of the line and the fault that are told; tests show them.
 pub fn read_journal(alloc: Global, bytes: &[u8]) -> Result<Log, ReadLog>
     ensures ok { IfOk result (λ log. Spells bytes.now (history log)) }
-    ensures bad { IfErr result (λ e. RefusesLog e ((es : List Entry) → ¬ (Spells bytes.now es))) }
+    ensures bad { IfErr result (λ e. RefusesLog e ((h : History) → ¬ (Spells bytes.now h))) }
 {
     let Some((first, lines)) = cut(bytes, b'\n') else {
         return Err(bad(

@@ -1,7 +1,12 @@
-//! What holds of journals. The calls do nothing.
+//! What holds of journals, books and boards. The calls do nothing.
 
-ghost use Rattle.std.specs.Prelude.{◌≡◌, List, ℕ};
+ghost use Rattle.std.specs.Prelude.{◌≡◌, ◌≤◌, List, ℕ, length, Some};
+ghost use Rattle.sg_names.specs.declared.rev_id.RevId.{RevId};
 ghost use Rattle.sg_history.specs.declared.entries.Entry.{Entry};
+ghost use Rattle.sg_history.specs.Board.{BoardState, After};
+ghost use Rattle.sg_history.specs.Book.{Book, Numbered, book_of, book_with, Later, IsLastWrite, writes_up_to, last_write_up_to, write_of_rev_up_to};
+ghost use Rattle.sg_history.specs.Current.{Sequenced, last_write, write_of_rev};
+ghost use Rattle.sg_history.specs.History.{History, Extends, past};
 ghost use Rattle.sg_history.specs.Journal.{IsEntry, line_of, Spells};
 
 /// A line is that of one entry.
@@ -11,5 +16,36 @@ pub fn lines()
 
 /// A text is that of one history.
 pub fn journals()
-    ensures { (bytes : List ℕ) (es fs : List Entry) → Spells bytes es → Spells bytes fs → es ≡ fs }
+    ensures { (bytes : List ℕ) (g h : History) → Spells bytes g → Spells bytes h → g ≡ h }
+{}
+
+/// Books and histories that are later than others. A history that extends another is later; and a history whose book is later than
+/// that of a log, with what waits or without, extends the log, so that all that is said of a front of the log is said of
+/// that history too.
+pub fn later()
+    ensures itself { (book : Book) → Later book book }
+    ensures again { (a b c : Book) → Later a b → Later b c → Later a c }
+    ensures extended { (g h : List Entry) → Extends g h → Later (book_of g) (book_of h) }
+    ensures log { (log : List Entry) (waiting : List Numbered) (h : List Entry) → Later (book_with log waiting) (book_of h) → Extends log h }
+    ensures fronts { (log h : List Entry) (front : ℕ) → Extends log h → front ≤ length log → past h front ≡ past log front }
+{}
+
+/// The writes of a document in later books: up to the number of the last write that the earlier book has, they are the same, and
+/// that write is the last of them.
+pub fn writes()
+    ensures same { (earlier later : Book) (doc : List ℕ) (last : Sequenced) (number : ℕ) → Later earlier later → IsLastWrite earlier doc last → number ≤ last.seq → writes_up_to later number doc ≡ writes_up_to earlier number doc }
+    ensures last { (earlier later : Book) (doc : List ℕ) (last : Sequenced) → Later earlier later → IsLastWrite earlier doc last → last_write_up_to later last.seq doc ≡ Some last }
+{}
+
+/// The book of a history up to a number says of a document's writes what the entries up to that number say.
+pub fn books()
+    ensures last { (h : List Entry) (number : ℕ) (doc : List ℕ) → last_write_up_to (book_of h) number doc ≡ last_write (past h number) doc }
+    ensures is_last { (h : List Entry) (doc : List ℕ) (last : Sequenced) → last_write_up_to (book_of h) (length h) doc ≡ Some last → IsLastWrite (book_of h) doc last }
+    ensures of_rev { (h : List Entry) (number : ℕ) (doc : List ℕ) (rev : RevId) → write_of_rev_up_to (book_of h) number doc rev ≡ write_of_rev (past h number) doc rev }
+{}
+
+/// Each board comes after itself, and after all that the boards before it come after.
+pub fn boards()
+    ensures itself { (board : BoardState) → After board board }
+    ensures again { (a b c : BoardState) → After a b → After b c → After a c }
 {}

@@ -10,6 +10,7 @@ pub mod journal;
 pub mod laws;
 mod line;
 pub mod number;
+pub mod room;
 pub mod row;
 mod rules;
 mod write_line;
@@ -19,6 +20,7 @@ pub use entries::{Entries, Entry, Log, Write};
 pub use fault::{BadLine, ReadLog, Why};
 pub use journal::read_journal;
 pub use number::Number;
+pub use room::RoomFor;
 pub use row::{Options, Row, Rows};
 pub use sg_names::{
     ChannelName, Channels, Client, Digest, DocId, Grant, Grantee, Grants, Key, KeyFault, Name,

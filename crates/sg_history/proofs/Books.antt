@@ -1,0 +1,236 @@
+-- books of histories, and later books
+use Rattle.std.proofs.Common.{◌≡◌, ℕ, zero, suc, ◌+◌, ◌<◌, ◌≤◌, ◌≢◌, List, [], ◌∷◌, ◌++◌, length, take, reverse, refl, sym, ap, ◌∙◌, subst, arith, Option, Some, None}
+use Rattle.std.specs.Prelude.{slice_get}
+use Rattle.std.proofs.Math.Seq.{take-suc}
+use Rattle.std.proofs.lemmas.List.{reverse-append, length-reverse, length-take-le, take_all}
+use Rattle.std.proofs.lemmas.Option.{none-some, slice_get_within, get_or_from_slice_get}
+use Rattle.sg_names.specs.declared.rev_id.RevId.{RevId}
+use Rattle.sg_history.specs.declared.entries.Entry.{Entry}
+use Rattle.sg_history.specs.declared.entries.Write.{Write}
+use Rattle.sg_history.specs.History.{past, Extends, write_to}
+use Rattle.sg_history.specs.Current.{Sequenced, last_write, sequenced_or, write_of_rev, with_rev_or}
+use Rattle.sg_history.specs.Book.{Book, book_of, Numbered, waiting_at, entry_or, book_with, write_at, written_in, Keeps, Later, IsLastWrite, sequenced_before, writes_up_to, first_write, first_of_rev, last_write_up_to, write_of_rev_up_to}
+
+-- what is kept is written as it was
+write_kept : (earlier later : Book) (doc : List ℕ) (number : ℕ) (w : Write) → Keeps earlier later → write_at earlier doc number ≡ Some w → write_at later doc number ≡ Some w
+write_kept earlier later doc number w keeps h = go (earlier number) refl h
+  where
+    go : (o : Option Entry) → earlier number ≡ o → written_in o doc ≡ Some w → write_at later doc number ≡ Some w
+    go None is g = absurd (none-some _ g)
+    go (Some e) is g = ap (λ (o : Option Entry). written_in o doc) (keeps number e is) ∙ g
+
+pub later_itself : (book : Book) → Later book book
+later_itself book =
+    record { kept = λ number e h. h; above = λ doc old new w v h none g. absurd (none-some _ (sym none ∙ g)) }
+
+pub later_again : (a b c : Book) → Later a b → Later b c → Later a c
+later_again a b c first second =
+    record {
+      kept = λ number e h. second.kept number e (first.kept number e h);
+      above = λ doc old new w v h none g. go doc old new w v h none g (write_at b doc new) refl;
+    }
+  where
+    go : (doc : List ℕ) (old new : ℕ) (w v : Write) → write_at a doc old ≡ Some w → write_at a doc new ≡ None → write_at c doc new ≡ Some v → (o : Option Write) → write_at b doc new ≡ o → old < new
+    go doc old new w v h none g None is = second.above doc old new w v (write_kept a b doc old w first.kept h) is g
+    go doc old new w v h none g (Some u) is = first.above doc old new w u h none is
+
+-- the same entry in a longer list
+get_more : {X : Type 0} (xs ys : List X) (k : ℕ) (x : X) → slice_get xs k ≡ Some x → slice_get (xs ++ ys) k ≡ Some x
+get_more [] ys k x h = absurd (none-some _ h)
+get_more (y ∷ xs) ys zero x h = h
+get_more (y ∷ xs) ys (suc k) x h = get_more xs ys k x h
+
+-- a number at which the book of a history has an entry is at most its length
+pub within : (h : List Entry) (number : ℕ) (e : Entry) → book_of h number ≡ Some e → (1 ≤ number) × (number ≤ length h)
+within h zero e is = absurd (none-some _ is)
+within h (suc place) e is = (omega arith, omega (arith, slice_get_within h place e is))
+
+write_within : (h : List Entry) (doc : List ℕ) (number : ℕ) (w : Write) → write_at (book_of h) doc number ≡ Some w → (1 ≤ number) × (number ≤ length h)
+write_within h doc number w is = go (book_of h number) refl is
+  where
+    go : (o : Option Entry) → book_of h number ≡ o → written_in o doc ≡ Some w → (1 ≤ number) × (number ≤ length h)
+    go None at g = absurd (none-some _ g)
+    go (Some e) at g = within h number e at
+
+book_kept : (g rest : List Entry) → Keeps (book_of g) (book_of (g ++ rest))
+book_kept g rest zero e h = h
+book_kept g rest (suc place) e h = get_more g rest place e h
+
+past_of_none : {X : Type 0} (xs : List X) (place : ℕ) → slice_get xs place ≡ None → length xs ≤ place
+past_of_none [] place h = omega arith
+past_of_none (x ∷ xs) zero h = absurd (none-some _ (sym h))
+past_of_none (x ∷ xs) (suc place) h = omega (arith, past_of_none xs place h)
+
+-- a number at which the book of a history has no entry is past its length
+beyond : (h : List Entry) (number : ℕ) → 1 ≤ number → book_of h number ≡ None → length h < number
+beyond h zero low is = absurd (omega arith)
+beyond h (suc place) low is = omega (arith, past_of_none h place is)
+
+-- a history that extends another is later
+pub later_extended : (g h : List Entry) → Extends g h → Later (book_of g) (book_of h)
+later_extended g h more =
+    subst (λ (later : List Entry). Later (book_of g) (book_of later)) (sym more.1)
+    (record { kept = book_kept g more.0; above = λ doc old new w v is none at. go doc old new w v is none at })
+  where
+    go : (doc : List ℕ) (old new : ℕ) (w v : Write) → write_at (book_of g) doc old ≡ Some w → write_at (book_of g) doc new ≡ None → write_at (book_of (g ++ more.0)) doc new ≡ Some v → old < new
+    go doc old new w v is none at =
+        beside (book_of g new) refl
+      where
+        beside : (o : Option Entry) → book_of g new ≡ o → old < new
+        beside None at_new = omega (arith, (write_within g doc old w is).1, beyond g new (write_within (g ++ more.0) doc new v at).0 at_new)
+        beside (Some e) at_new =
+            absurd (none-some _ (sym none ∙ ap (λ (o : Option Entry). written_in o doc) at_new ∙ ap (λ (o : Option Entry). written_in o doc) (sym (book_kept g more.0 new e at_new)) ∙ at))
+
+shifted : (e f : Entry) (log h : List Entry) → Keeps (book_of (e ∷ log)) (book_of (f ∷ h)) → Keeps (book_of log) (book_of h)
+shifted e f log h keeps zero x is = absurd (none-some _ is)
+shifted e f log h keeps (suc place) x is = keeps (suc (suc place)) x is
+
+same_some : {X : Type 0} (x y : X) → Some x ≡ Some y → x ≡ y
+same_some x y h = cc (h)
+
+-- a history whose book keeps that of another extends it
+pub extends_kept : (log h : List Entry) → Keeps (book_of log) (book_of h) → Extends log h
+extends_kept [] h keeps = (h, refl)
+extends_kept (e ∷ log) [] keeps = absurd (none-some _ (keeps 1 e refl))
+extends_kept (e ∷ log) (f ∷ h) keeps =
+    let more = extends_kept log h (shifted e f log h keeps) in
+    let same : f ≡ e = same_some f e (keeps 1 e refl) in
+    (more.0, λ i. same i ∷ more.1 i)
+
+-- a log is in its book with what waits
+pub log_kept : (log : List Entry) (waiting : List Numbered) → Keeps (book_of log) (book_with log waiting)
+log_kept log waiting number e h = ap (λ (o : Option Entry). entry_or o (waiting_at waiting number)) h
+
+pub extends_log : (log : List Entry) (waiting : List Numbered) (h : List Entry) → Later (book_with log waiting) (book_of h) → Extends log h
+extends_log log waiting h later = extends_kept log h (λ number e is. later.kept number e (log_kept log waiting number e is))
+
+take_front : {X : Type 0} (xs ys : List X) (k : ℕ) → k ≤ length xs → take k (xs ++ ys) ≡ take k xs
+take_front xs ys zero h = refl
+take_front [] ys (suc k) h = absurd (omega arith)
+take_front (x ∷ xs) ys (suc k) h = ap (λ (l : List _). x ∷ l) (take_front xs ys k (omega arith))
+
+-- what was said of a front stays
+pub same_past : (log h : List Entry) (front : ℕ) → Extends log h → front ≤ length log → past h front ≡ past log front
+same_past log h front more low =
+    ap (λ (l : List Entry). past l front) more.1 ∙ ap (λ (l : List Entry). reverse l) (take_front log more.0 front low)
+
+-- up to the last write of a document the writes stay as they were
+pub same_writes : (earlier later : Book) (doc : List ℕ) (last : Sequenced) → Later earlier later → IsLastWrite earlier doc last → (number : ℕ) → number ≤ last.seq → writes_up_to later number doc ≡ writes_up_to earlier number doc
+same_writes earlier later doc last is_later is_last zero low = refl
+same_writes earlier later doc last is_later is_last (suc number) low =
+    let older = same_writes earlier later doc last is_later is_last number (omega arith) in
+    let here = same (write_at earlier doc (suc number)) refl in
+    λ i. sequenced_before (here i) (suc number) (older i)
+  where
+    none : (o : Option Write) → write_at later doc (suc number) ≡ o → write_at earlier doc (suc number) ≡ None → write_at later doc (suc number) ≡ None
+    none None is h = is
+    none (Some v) is h = absurd (omega (arith, low, is_later.above doc last.seq (suc number) last.write v is_last.there h is))
+
+    same : (o : Option Write) → write_at earlier doc (suc number) ≡ o → write_at later doc (suc number) ≡ write_at earlier doc (suc number)
+    same None h = none (write_at later doc (suc number)) refl h ∙ sym h
+    same (Some w) h = write_kept earlier later doc (suc number) w is_later.kept h ∙ sym h
+
+-- the last write of a document is the last up to its number
+pub last_up_to : (book : Book) (doc : List ℕ) (last : Sequenced) → IsLastWrite book doc last → last_write_up_to book last.seq doc ≡ Some last
+last_up_to book doc last is = go last.seq refl
+  where
+    go : (n : ℕ) → last.seq ≡ n → last_write_up_to book n doc ≡ Some last
+    go zero at = absurd (omega (arith, is.number, at))
+    go (suc n) at =
+        ap (λ (o : Option Write). first_write (sequenced_before o (suc n) (writes_up_to book n doc))) (ap (λ (k : ℕ). write_at book doc k) (sym at) ∙ is.there)
+        ∙ (λ i. Some (record { seq = sym at i; write = last.write }))
+
+-- in a later book that is still the last write up to its number
+pub same_last : (earlier later : Book) (doc : List ℕ) (last : Sequenced) → Later earlier later → IsLastWrite earlier doc last → last_write_up_to later last.seq doc ≡ Some last
+same_last earlier later doc last is_later is =
+    ap (λ (l : List Sequenced). first_write l) (same_writes earlier later doc last is_later is last.seq (omega arith)) ∙ last_up_to earlier doc last is
+
+past_more : (h : List Entry) (place : ℕ) (e : Entry) → slice_get h place ≡ Some e → past h (suc place) ≡ e ∷ past h place
+past_more h place e is =
+    let low = slice_get_within h place e is in
+    rw (take-suc h place e, reverse-append) (ap (λ (x : Entry). x ∷ past h place) (get_or_from_slice_get h place e e is))
+
+past_end : (h : List Entry) (place : ℕ) → length h ≤ place → past h (suc place) ≡ past h place
+past_end h place high =
+    ap (λ (l : List Entry). reverse l) (take_all (suc place) h (omega arith) ∙ sym (take_all place h high))
+
+past_length : (h : List Entry) (place : ℕ) (e : Entry) → slice_get h place ≡ Some e → length (past h place) + 1 ≡ suc place
+past_length h place e is =
+    let low = slice_get_within h place e is in
+    omega (arith, length-reverse (take place h), length-take-le place h (omega (arith, low)))
+
+first_before : (o : Option Write) (seq : ℕ) (older : List Sequenced) → first_write (sequenced_before o seq older) ≡ sequenced_or o seq (first_write older)
+first_before None seq older = refl
+first_before (Some w) seq older = refl
+
+rev_before : (o : Option Write) (seq : ℕ) (older : List Sequenced) (rev : RevId) → first_of_rev (sequenced_before o seq older) rev ≡ with_rev_or o seq rev (first_of_rev older rev)
+rev_before None seq older rev = refl
+rev_before (Some w) seq older rev = refl
+
+-- the last write up to a number, in the book of a history and among its entries
+pub last_in_past : (h : List Entry) (number : ℕ) (doc : List ℕ) → last_write_up_to (book_of h) number doc ≡ last_write (past h number) doc
+last_in_past h zero doc = refl
+last_in_past h (suc place) doc =
+    first_before (write_at (book_of h) doc (suc place)) (suc place) (writes_up_to (book_of h) place doc)
+    ∙ ap (λ (o : Option Sequenced). sequenced_or (write_at (book_of h) doc (suc place)) (suc place) o) (last_in_past h place doc)
+    ∙ go (slice_get h place) refl
+  where
+    go : (o : Option Entry) → slice_get h place ≡ o → sequenced_or (written_in (slice_get h place) doc) (suc place) (last_write (past h place) doc) ≡ last_write (past h (suc place)) doc
+    go None is =
+        ap (λ (o : Option Entry). sequenced_or (written_in o doc) (suc place) (last_write (past h place) doc)) is
+        ∙ ap (λ (l : List Entry). last_write l doc) (sym (past_end h place (past_of_none h place is)))
+    go (Some e) is =
+        ap (λ (o : Option Entry). sequenced_or (written_in o doc) (suc place) (last_write (past h place) doc)) is
+        ∙ ap (λ (n : ℕ). sequenced_or (write_to e doc) n (last_write (past h place) doc)) (sym (past_length h place e is))
+        ∙ ap (λ (l : List Entry). last_write l doc) (sym (past_more h place e is))
+
+-- the write of a revision up to a number, in the book of a history and among its entries
+pub rev_in_past : (h : List Entry) (number : ℕ) (doc : List ℕ) (rev : RevId) → write_of_rev_up_to (book_of h) number doc rev ≡ write_of_rev (past h number) doc rev
+rev_in_past h zero doc rev = refl
+rev_in_past h (suc place) doc rev =
+    rev_before (write_at (book_of h) doc (suc place)) (suc place) (writes_up_to (book_of h) place doc) rev
+    ∙ ap (λ (o : Option Sequenced). with_rev_or (write_at (book_of h) doc (suc place)) (suc place) rev o) (rev_in_past h place doc rev)
+    ∙ go (slice_get h place) refl
+  where
+    go : (o : Option Entry) → slice_get h place ≡ o → with_rev_or (written_in (slice_get h place) doc) (suc place) rev (write_of_rev (past h place) doc rev) ≡ write_of_rev (past h (suc place)) doc rev
+    go None is =
+        ap (λ (o : Option Entry). with_rev_or (written_in o doc) (suc place) rev (write_of_rev (past h place) doc rev)) is
+        ∙ ap (λ (l : List Entry). write_of_rev l doc rev) (sym (past_end h place (past_of_none h place is)))
+    go (Some e) is =
+        ap (λ (o : Option Entry). with_rev_or (written_in o doc) (suc place) rev (write_of_rev (past h place) doc rev)) is
+        ∙ ap (λ (n : ℕ). with_rev_or (write_to e doc) n rev (write_of_rev (past h place) doc rev)) (sym (past_length h place e is))
+        ∙ ap (λ (l : List Entry). write_of_rev l doc rev) (sym (past_more h place e is))
+
+-- what is found of a document's last write up to a number
+record FoundUpTo (book : Book) (doc : List ℕ) (number : ℕ) (last : Sequenced) : Type 0 where
+  pub from : 1 ≤ last.seq
+  pub there : write_at book doc last.seq ≡ Some last.write
+  pub none_between : (other : ℕ) (w : Write) → other ≤ number → write_at book doc other ≡ Some w → other ≤ last.seq
+
+found_less : (book : Book) (doc : List ℕ) (last : Sequenced) (number : ℕ) → write_at book doc (suc number) ≡ None → FoundUpTo book doc number last → FoundUpTo book doc (suc number) last
+found_less book doc last number none older =
+    record { from = older.from; there = older.there; none_between = λ other w low at. older.none_between other w (below other w low at) at }
+  where
+    below : (other : ℕ) (w : Write) → other ≤ suc number → write_at book doc other ≡ Some w → other ≤ number
+    below other w low at =
+        let apart : other ≢ suc number = λ same. none-some _ (sym none ∙ ap (λ (k : ℕ). write_at book doc k) (sym same) ∙ at) in
+        omega (arith, low, apart)
+
+found_here : (book : Book) (doc : List ℕ) (last : Sequenced) (number : ℕ) (w : Write) → write_at book doc (suc number) ≡ Some w → Some (record { seq = suc number; write = w }) ≡ Some last → FoundUpTo book doc (suc number) last
+found_here book doc last number w some same =
+    subst (λ (l : Sequenced). FoundUpTo book doc (suc number) l) (same_some (record { seq = suc number; write = w }) last same)
+    (record { from = omega arith; there = some; none_between = λ other v low at. low })
+
+found : (book : Book) (doc : List ℕ) (last : Sequenced) (number : ℕ) → last_write_up_to book number doc ≡ Some last → FoundUpTo book doc number last
+found book doc last zero h = absurd (none-some _ h)
+found book doc last (suc number) h = go (write_at book doc (suc number)) refl (λ g. found book doc last number g) h
+  where
+    go : (o : Option Write) → write_at book doc (suc number) ≡ o → (last_write_up_to book number doc ≡ Some last → FoundUpTo book doc number last) → first_write (sequenced_before o (suc number) (writes_up_to book number doc)) ≡ Some last → FoundUpTo book doc (suc number) last
+    go None none older g = found_less book doc last number none (older g)
+    go (Some w) some older g = found_here book doc last number w some g
+
+-- the last write in the book of a history
+pub last_of_history : (h : List Entry) (doc : List ℕ) (last : Sequenced) → last_write_up_to (book_of h) (length h) doc ≡ Some last → IsLastWrite (book_of h) doc last
+last_of_history h doc last is =
+    let it = found (book_of h) doc last (length h) is in
+    record { number = it.from; there = it.there; none_above = λ number w at. it.none_between number w (write_within h doc number w at).1 at }

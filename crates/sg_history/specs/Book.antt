@@ -1,0 +1,88 @@
+-- A book: which entry stands at which number. The book of a history has the entry at place k at number k; the book of a
+-- board has entries that wait besides, above the end of its log.
+use Rattle.std.specs.Prelude.{◌≡◌, ◌<◌, ◌≤◌, ℕ, zero, suc, List, [], ◌∷◌, slice_get, nat_eq, Option, Some, None, if◌then◌else◌}
+use Rattle.sg_names.specs.declared.rev_id.RevId.{RevId}
+use Rattle.sg_names.specs.RevId.{same_rev}
+use Rattle.sg_history.specs.declared.entries.Entry.{Entry}
+use Rattle.sg_history.specs.declared.entries.Write.{Write}
+use Rattle.sg_history.specs.History.{write_to}
+use Rattle.sg_history.specs.Current.{Sequenced}
+
+-- which entry stands at a number, if one does
+abbrev pub Book : Type 0
+Book = ℕ → Option Entry
+
+-- the book of a history: entry k at number k
+abbrev pub book_of : List Entry → Book
+book_of entries zero = None
+book_of entries (suc place) = slice_get entries place
+
+-- an entry, with its number
+pub record Numbered : Type 0 where
+  pub number : ℕ
+  pub entry : Entry
+
+-- the entry that waits under a number, if one does
+abbrev pub waiting_at : List Numbered → Book
+waiting_at [] number = None
+waiting_at (first ∷ others) number = if nat_eq first.number number then Some first.entry else waiting_at others number
+
+abbrev pub entry_or : Option Entry → Option Entry → Option Entry
+entry_or (Some e) other = Some e
+entry_or None other = other
+
+-- the book of a log and of entries that wait: the log at its places, and those at their numbers
+abbrev pub book_with : List Entry → List Numbered → Book
+book_with log waiting number = entry_or (book_of log number) (waiting_at waiting number)
+
+abbrev pub written_in : Option Entry → List ℕ → Option Write
+written_in None doc = None
+written_in (Some e) doc = write_to e doc
+
+-- the write of a document that stands at a number of a book, if one does
+abbrev pub write_at : Book → List ℕ → ℕ → Option Write
+write_at book doc number = written_in (book number) doc
+
+-- the second book has each entry of the first one, at its number
+abbrev pub Keeps : Book → Book → Type 0
+Keeps earlier later = (number : ℕ) (e : Entry) → earlier number ≡ Some e → later number ≡ Some e
+
+-- the second book is later than the first: it has each of its entries at its number, and each write of a document that the
+-- first lacks stands above each write of that document in the first
+pub record Later (earlier later : Book) : Type 0 where
+  pub kept : Keeps earlier later
+  pub above : (doc : List ℕ) (old new : ℕ) (w v : Write) → write_at earlier doc old ≡ Some w → write_at earlier doc new ≡ None → write_at later doc new ≡ Some v → old < new
+
+-- the last write of a document in a book, with its number
+pub record IsLastWrite (book : Book) (doc : List ℕ) (last : Sequenced) : Type 0 where
+  pub number : 1 ≤ last.seq
+  pub there : write_at book doc last.seq ≡ Some last.write
+  pub none_above : (number : ℕ) (w : Write) → write_at book doc number ≡ Some w → number ≤ last.seq
+
+abbrev pub sequenced_before : Option Write → ℕ → List Sequenced → List Sequenced
+sequenced_before None seq older = older
+sequenced_before (Some w) seq older = record { seq = seq; write = w } ∷ older
+
+-- the writes of a document in a book at the numbers from 1 up to this one, the last one first
+abbrev pub writes_up_to : Book → ℕ → List ℕ → List Sequenced
+writes_up_to book zero doc = []
+writes_up_to book (suc number) doc =
+    sequenced_before (write_at book doc (suc number)) (suc number) (writes_up_to book number doc)
+
+-- the first of these writes, if there is one
+abbrev pub first_write : List Sequenced → Option Sequenced
+first_write [] = None
+first_write (written ∷ others) = Some written
+
+-- the first of these writes that has this revision, if one has
+abbrev pub first_of_rev : List Sequenced → RevId → Option Sequenced
+first_of_rev [] rev = None
+first_of_rev (written ∷ others) rev = if same_rev written.write.rev rev then Some written else first_of_rev others rev
+
+-- the last write of a document in a book at numbers up to this one
+abbrev pub last_write_up_to : Book → ℕ → List ℕ → Option Sequenced
+last_write_up_to book number doc = first_write (writes_up_to book number doc)
+
+-- the write of a document in a book that has this revision, at a number up to this one
+abbrev pub write_of_rev_up_to : Book → ℕ → List ℕ → RevId → Option Sequenced
+write_of_rev_up_to book number doc rev = first_of_rev (writes_up_to book number doc) rev
