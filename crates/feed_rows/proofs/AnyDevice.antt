@@ -14,8 +14,8 @@ use Rattle.sg_history.specs.declared.row.Row.{Row}
 use Rattle.sg_history.specs.declared.row.Options.{Options}
 use Rattle.sg_history.specs.History.{documents}
 use Rattle.sg_history.specs.Feed.{keeps, is_start, is_gone, is_deleted}
-use Rattle.sg_history.specs.Device.{Held, held_after, apply, apply_all}
-use Rattle.feed_rows.specs.Laws.{HasRow, IsBelow, plain, last_key, live}
+use Rattle.sg_history.specs.Device.{Held, held_after, apply, apply_all, plain, last_key, live}
+use Rattle.feed_rows.specs.Laws.{HasRow, IsBelow}
 use Rattle.feed_rows.proofs.Keys.{below_from_under, below_or_not}
 use Rattle.feed_rows.proofs.RowLists.{ordered_rises, taken_had, taken_or_above, last_key_of}
 use Rattle.feed_rows.proofs.AnyFeed.{RowFacts, feed_of, feed_had, feed_has, from_start, revoked, kept_above, not_start}

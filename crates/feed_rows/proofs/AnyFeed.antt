@@ -13,8 +13,8 @@ use Rattle.sg_history.specs.declared.row.Row.{Row}
 use Rattle.sg_history.specs.declared.row.Options.{Options}
 use Rattle.sg_history.specs.History.{documents}
 use Rattle.sg_history.specs.Feed.{keeps, in_key_order, is_start, is_gone, is_deleted}
-use Rattle.sg_history.specs.Device.{Held, held_after}
-use Rattle.feed_rows.specs.Laws.{HasRow, IsBelow, plain}
+use Rattle.sg_history.specs.Device.{Held, held_after, plain}
+use Rattle.feed_rows.specs.Laws.{HasRow, IsBelow}
 use Rattle.feed_rows.proofs.Keys.{same_from_tie, below_from_under, below_plain, below_or_not}
 use Rattle.feed_rows.proofs.RowLists.{Has, filter_has, filter_had, filter_map_has, filter_map_had, ordered_had, ordered_has, no_rows}
 

@@ -92,8 +92,8 @@ same_named a b h c = go (among a c) refl (among b c) refl
 module _ (es : List Entry) (user : List ℕ) (now : List Current) (searched : (test : Option Current → Bool) → Misses user test → list_any (λ c. test (Some c)) now ≡ list_any (λ doc. test (current es doc)) (documents es)) where
   among_granted : (to : Grantee) (c : List ℕ) → Misses user (λ o. grants_channel o to c) → among (granted now to) c ≡ is_granted es to c
   among_granted to c misses =
-      among_flat (λ k. map (λ g. g.channel) (filter (λ g. same_grantee g.to to) k.grants)) now c
-      ∙ ap (λ (t : Current → Bool). list_any t now) (fun_ext (λ k. among_grants to k.grants c))
+      among_flat (λ k. map (λ g. g.channel) (filter (λ g. same_grantee g.to to) k.effects.grants)) now c
+      ∙ ap (λ (t : Current → Bool). list_any t now) (fun_ext (λ k. among_grants to k.effects.grants c))
       ∙ searched (λ o. grants_channel o to c) misses
 
   among_user : (c : List ℕ) → among (granted now (User user)) c ≡ is_granted es (User user) c

@@ -18,7 +18,7 @@ use Rattle.sg_names.specs.RevId.{same_rev}
 use Rattle.sg_names.specs.declared.rev_id.RevId.{RevId}
 use Rattle.sg_history.specs.declared.entries.Write.{Write}
 use Rattle.sg_history.specs.History.{among}
-use Rattle.sg_history.specs.Current.{with_rev_or}
+use Rattle.sg_history.specs.Current.{rev_or}
 use Rattle.feed_rows.specs.declared.document.Document.{Document}
 use Rattle.feed_rows.specs.Index.{place_in, IsIndex, write_in}
 use Rattle.feed_rows.specs.Kept.{PlacedBy}
@@ -93,12 +93,12 @@ chosen : (w : Write) (a b c : Bool) (old : Option Write) → cond ((a && b) && c
 chosen w true b c old = refl
 chosen w false b c old = refl
 
-told : (w : Write) (rev : RevId) (a : Bool) (old : Option Write) → (if a then (if same_rev w.rev rev then Some w else old) else old) ≡ with_rev_or (if a then Some w else None) rev old
+told : (w : Write) (rev : RevId) (a : Bool) (old : Option Write) → (if a then (if same_rev w.rev rev then Some w else old) else old) ≡ rev_or (if a then Some w else None) rev old
 told w rev true old = refl
 told w rev false old = refl
 
 -- what the index of writes has after a write was put in
-pub write_added : (old new : BTreeMap RevKey (Bor Write)) (doc : Bor (List ℕ)) (digest : Bor (List ℕ)) (w : Bor Write) → doc.now ≡ w.now.doc → digest.now ≡ w.now.rev.digest → UpdatesBy rev_cmp (rev_cmp (doc, w.now.rev.generation, digest)) old new (Some w) → (name : List ℕ) (rev : RevId) → write_in new name rev ≡ with_rev_or (if bytes_eq w.now.doc name then Some w.now else None) rev (write_in old name rev)
+pub write_added : (old new : BTreeMap RevKey (Bor Write)) (doc : Bor (List ℕ)) (digest : Bor (List ℕ)) (w : Bor Write) → doc.now ≡ w.now.doc → digest.now ≡ w.now.rev.digest → UpdatesBy rev_cmp (rev_cmp (doc, w.now.rev.generation, digest)) old new (Some w) → (name : List ℕ) (rev : RevId) → write_in new name rev ≡ rev_or (if bytes_eq w.now.doc name then Some w.now else None) rev (write_in old name rev)
 write_added old new doc digest w is same h name rev =
     let key : RevKey = key_of name rev in
     ap (λ (o : Option (Bor Write)). option_copied o) (h.0 key)

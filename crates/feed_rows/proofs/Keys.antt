@@ -8,7 +8,8 @@ use Rattle.std.specs.declared.cmp.Ordering.{Ordering}
 use Rattle.std.specs.declared.cmp.Ordering.TheVariants.{Less, Equal, Greater}
 use Rattle.sg_names.specs.declared.key.Key.{Key}
 use Rattle.sg_names.specs.Key.{key_cmp}
-use Rattle.feed_rows.specs.Laws.{IsBelow, plain}
+use Rattle.sg_history.specs.Device.{plain}
+use Rattle.feed_rows.specs.Laws.{IsBelow}
 
 -- one key is below another, as numbers
 abbrev pub Under : Key → Key → Type 0

@@ -15,17 +15,18 @@ use Rattle.sg_names.specs.declared.rev_id.RevId.{RevId}
 use Rattle.sg_history.specs.declared.entries.Entry.{Entry}
 use Rattle.sg_history.specs.declared.entries.Entry.TheVariants as entry
 use Rattle.sg_history.specs.declared.entries.Write.{Write}
-use Rattle.sg_history.specs.History.{write_to, documents, among}
-use Rattle.sg_history.specs.Current.{Current, current, current_of, current_after, sequenced_or, last_write, write_or, with_rev_or, write_of_rev}
+use Rattle.sg_history.specs.History.{as_write, of_document, document_of, write_to, documents, among}
+use Rattle.sg_history.specs.Current.{Current, Sequenced, current, current_after, sequenced_or, last_write, write_or, with_rev_or, write_of_rev, write_alone, rev_or}
+use Rattle.sg_history.proofs.AloneWrites.{alone_next}
 use Rattle.sg_history.specs.Principals.{Standing, user_after, user_at, roles_put, role_at, has_channel, grants_channel, gives_role}
 use Rattle.sg_names.specs.declared.grants.Grantee.TheVariants.{User, Role}
 use Rattle.feed_rows.specs.declared.documents.Latest.{Latest}
 use Rattle.feed_rows.specs.declared.document.Document.{Document}
 use Rattle.feed_rows.specs.declared.numbers.Numbered.{Numbered}
 use Rattle.feed_rows.specs.declared.pass.Pass.{Pass}
-use Rattle.feed_rows.specs.Latest.{current_in, winner_in}
-use Rattle.feed_rows.specs.Index.{IsIndex, IsWriteIndex, winner_among, write_in}
-use Rattle.feed_rows.specs.Kept.{Kept, RoleKept, kept_at, kept_next, blank, add_blank, changed_at, current_there, with_current, written_names, distinct_of, add_name, looked_at, looked_where, sought, WrittenPlace, is_quiet, written, is_idle, role_kept_at}
+use Rattle.feed_rows.specs.Latest.{written_as, current_in, winner_in}
+use Rattle.feed_rows.specs.Index.{IsIndex, IsWriteIndex, winner_among, write_in, alone_or}
+use Rattle.feed_rows.specs.Kept.{Kept, RoleKept, kept_at, kept_next, blank, add_blank, changed_at, current_there, with_current, written_names, distinct_of, add_name, looked_at, looked_where, sought, WrittenPlace, is_quiet, is_idle, role_kept_at}
 use Rattle.feed_rows.specs.Channels.{role_next, roles_next, add_role, user_channels, add_names}
 use Rattle.feed_rows.specs.Numbers.{IsNumbering, GoesOn, AreNumbers}
 use Rattle.feed_rows.specs.Pass.{kept_in, noted_in, Noted, noted, AreNoted, StayNoted, granting_in, role_in}
@@ -38,7 +39,7 @@ use Rattle.feed_rows.proofs.Numberings.{holds_same}
 use Rattle.feed_rows.proofs.Steps.{current_same, current_never, view_never, row_never, kept_same, looked_now, writes_other, quiet_is, quiet_write, has_by}
 
 -- a write is an entry of its own kind
-is_write : (e : Entry) (w : Write) → written e ≡ Some w → e ≡ entry.Write w
+is_write : (e : Entry) (w : Write) → as_write e ≡ Some w → e ≡ entry.Write w
 is_write (entry.Write v) w h = ap entry.Write (same_Some v w h)
 is_write (entry.PutUser name channels roles) w h = absurd (none-some _ h)
 is_write (entry.PutRole name channels) w h = absurd (none-some _ h)
@@ -69,27 +70,17 @@ roles_are (entry.DropRole name) es = map-map (role_next (entry.DropRole name)) (
 roles_are entry.Unused es = refl
 
 -- an entry that is no write
-no_document : (e : Entry) (es : List Entry) → written e ≡ None → written_names (e ∷ es) ≡ written_names es
-no_document (entry.Write w) es k = absurd (none-some _ (sym k))
-no_document (entry.PutUser name channels roles) es k = refl
-no_document (entry.PutRole name channels) es k = refl
-no_document (entry.DropUser name) es k = refl
-no_document (entry.DropRole name) es k = refl
-no_document entry.Unused es k = refl
+no_document : (e : Entry) (es : List Entry) → as_write e ≡ None → written_names (e ∷ es) ≡ written_names es
+no_document e es none = ap (λ (o : Option Write). distinct_of (document_of o ++ documents es)) none
 
-writes_none : (e : Entry) (n : List ℕ) → written e ≡ None → write_to e n ≡ None
-writes_none (entry.Write w) n k = absurd (none-some _ (sym k))
-writes_none (entry.PutUser name channels roles) n k = refl
-writes_none (entry.PutRole name channels) n k = refl
-writes_none (entry.DropUser name) n k = refl
-writes_none (entry.DropRole name) n k = refl
-writes_none entry.Unused n k = refl
+writes_none : (e : Entry) (n : List ℕ) → as_write e ≡ None → write_to e n ≡ None
+writes_none e n none = ap (λ (o : Option Write). of_document o n) none
 
 -- a document that an entry does not write
 next_same : (e : Entry) (es : List Entry) (user : List ℕ) (filter : Option (List (List ℕ))) (n : List ℕ) → write_to e n ≡ None → kept_next e es user filter n ≡ kept_at es user filter n
 next_same e es user filter n none = ap (λ (o : Option Current). record { name = n; current = o; view = (kept_at es user filter n).view; row = (kept_at es user filter n).row }) (current_same e es n none)
 
-documents_stay : (e : Entry) (es : List Entry) (user : List ℕ) (filter : Option (List (List ℕ))) → written e ≡ None → map (kept_at es user filter) (written_names es) ≡ map (kept_next e es user filter) (written_names (e ∷ es))
+documents_stay : (e : Entry) (es : List Entry) (user : List ℕ) (filter : Option (List (List ℕ))) → as_write e ≡ None → map (kept_at es user filter) (written_names es) ≡ map (kept_next e es user filter) (written_names (e ∷ es))
 documents_stay e es user filter h =
     ap (λ (f : List ℕ → Kept). map f (written_names es)) (fun_ext (λ n. sym (next_same e es user filter n (writes_none e n h))))
     ∙ ap (map (kept_next e es user filter)) (sym (no_document e es h))
@@ -222,7 +213,7 @@ names_are es user filter items names h =
     sym (map-map (λ (k : Kept). k.name) kept_in items) ∙ ap (map (λ (k : Kept). k.name)) h ∙ map-map (λ (k : Kept). k.name) (kept_at es user filter) names ∙ map-id names
 
 -- an entry that is no write, taken by the roles and the user
-pub ready_put : (e : Entry) (es : List Entry) (user : List ℕ) (filter : Option (List (List ℕ))) (before after : Pass) → written e ≡ None → PassAt es user filter before → map kept_in after.documents.items ≡ map kept_in before.documents.items → after.places ≡ before.places → after.writes ≡ before.writes → after.numbered ≡ before.numbered → map noted_in after.documents.items ≡ map noted_in before.documents.items → map role_in after.roles.items ≡ roles_next e (map role_in before.roles.items) → standing_in after.put ≡ user_after e user (standing_in before.put) → Ready e es user filter after
+pub ready_put : (e : Entry) (es : List Entry) (user : List ℕ) (filter : Option (List (List ℕ))) (before after : Pass) → as_write e ≡ None → PassAt es user filter before → map kept_in after.documents.items ≡ map kept_in before.documents.items → after.places ≡ before.places → after.writes ≡ before.writes → after.numbered ≡ before.numbered → map noted_in after.documents.items ≡ map noted_in before.documents.items → map role_in after.roles.items ≡ roles_next e (map role_in before.roles.items) → standing_in after.put ≡ user_after e user (standing_in before.put) → Ready e es user filter after
 ready_put e es user filter before after other known same same_places same_writes same_numbered same_notes roles put =
     let P : BTreeMap (Bor (List ℕ)) ℕ → Type 0 = IsIndex (written_names (e ∷ es)) in
     let Q : List (List ℕ) → Type 0 = λ names. IsIndex names before.places in
@@ -232,7 +223,7 @@ ready_put e es user filter before after other known same same_places same_writes
     record {
       documents = same ∙ known.documents ∙ documents_stay e es user filter other;
       places = subst P (sym same_places) (subst Q (sym (no_document e es other)) known.places);
-      writes = λ doc rev. ap (λ ws. write_in ws doc rev) same_writes ∙ known.writes doc rev ∙ ap (λ (w : Option Write). with_rev_or w rev (write_of_rev es doc rev)) (sym (writes_none e doc other));
+      writes = λ doc rev. ap (λ ws. write_in ws doc rev) same_writes ∙ known.writes doc rev ∙ ap (λ (w : Option Write). write_alone (with_rev_or w (length es + 1) rev (write_of_rev es doc rev))) (sym (writes_none e doc other));
       roles = roles ∙ ap (roles_next e) known.roles ∙ roles_are e es;
       put = put ∙ ap (user_after e user) known.put;
       numbering = subst R (sym same_numbered) known.numbering;
@@ -240,19 +231,21 @@ ready_put e es user filter before after other known same same_places same_writes
     }
 
 -- what a document is after a write, by the index of writes
-latest_is : (w : Write) (es : List Entry) (writes : BTreeMap (Bor (List ℕ) × ℕ × Bor (List ℕ)) (Bor Write)) → IsWriteIndex es writes → Some (current_of (length es + 1) (winner_among writes w)) ≡ current (entry.Write w ∷ es) w.doc
+latest_is : (w : Write) (es : List Entry) (writes : BTreeMap (Bor (List ℕ) × ℕ × Bor (List ℕ)) (Bor Write)) → IsWriteIndex es writes → Some (written_as (length es + 1) (winner_among writes w)) ≡ current (entry.Write w ∷ es) w.doc
 latest_is w es writes is =
-    ap (λ (o : Option Write). Some (current_of (length es + 1) (if same_rev w.rev w.winner then w else write_or o w))) (is w.doc w.winner)
-    ∙ ap (λ (x : Write). Some (current_of (length es + 1) x)) (chosen (same_rev w.rev w.winner))
+    let last : Sequenced = record { seq = length es + 1; write = w } in
+    ap (λ (o : Option Write). Some (written_as (length es + 1) (if same_rev w.rev w.winner then w else alone_or o w))) (is w.doc w.winner)
+    ∙ ap (λ (x : Write). Some (written_as (length es + 1) x)) (chosen (same_rev w.rev w.winner) (write_of_rev es w.doc w.winner))
     ∙ sym (ap (λ (b : Bool). current_after (entry.Write w ∷ es) w.doc (sequenced_or (if b then Some w else None) (length es + 1) (last_write es w.doc))) (text_is_itself w.doc)
-    ∙ ap (λ (b : Bool). Some (current_of (length es + 1) (write_or (with_rev_or (if b then Some w else None) w.winner (write_of_rev es w.doc w.winner)) w))) (text_is_itself w.doc))
+    ∙ ap (λ (b : Bool). Some (written_as (length es + 1) (write_or (with_rev_or (if b then Some w else None) (length es + 1) w.winner (write_of_rev es w.doc w.winner)) last).write)) (text_is_itself w.doc))
   where
-    chosen : (b : Bool) → (if b then w else write_or (write_of_rev es w.doc w.winner) w) ≡ write_or (if b then Some w else write_of_rev es w.doc w.winner) w
-    chosen true = refl
-    chosen false = refl
+    chosen : (b : Bool) (o : Option Sequenced) → (if b then w else alone_or (write_alone o) w) ≡ (write_or (if b then Some (record { seq = length es + 1; write = w }) else o) (record { seq = length es + 1; write = w })).write
+    chosen true o = refl
+    chosen false None = refl
+    chosen false (Some other) = refl
 
 -- a pass that gave a written document its place
-module _ (e : Entry) (w : Write) (es : List Entry) (user : List ℕ) (filter : Option (List (List ℕ))) (before : Pass) (known : PassAt es user filter before) (writes : written e ≡ Some w) (k : ℕ) (placed : List Document) (documents_are : map kept_in placed ≡ add_blank w.doc (map kept_in before.documents.items)) (at : slice_get (map (λ d. d.name.now) placed) k ≡ Some w.doc) where
+module _ (e : Entry) (w : Write) (es : List Entry) (user : List ℕ) (filter : Option (List (List ℕ))) (before : Pass) (known : PassAt es user filter before) (writes : as_write e ≡ Some w) (k : ℕ) (placed : List Document) (documents_are : map kept_in placed ≡ add_blank w.doc (map kept_in before.documents.items)) (at : slice_get (map (λ d. d.name.now) placed) k ≡ Some w.doc) where
   placed_is : map kept_in placed ≡ map (kept_at es user filter) (written_names (entry.Write w ∷ es))
   placed_is = documents_are ∙ ap (add_blank w.doc) known.documents ∙ added_blank es user filter w.doc
 
@@ -265,10 +258,10 @@ module _ (e : Entry) (w : Write) (es : List Entry) (user : List ℕ) (filter : O
   was : current_there k (map kept_in placed) ≡ current es w.doc
   was = ap (current_there k) placed_is ∙ ap (λ (x : Kept). x.current) (get_there (kept_at es user filter) w.doc (written_names (entry.Write w ∷ es)) k (blank []) here)
 
-  now_is : (latest : Latest) → winner_in latest ≡ current_of (length es + 1) (winner_among before.writes w) → Some (winner_in latest) ≡ current (entry.Write w ∷ es) w.doc
+  now_is : (latest : Latest) → winner_in latest ≡ written_as (length es + 1) (winner_among before.writes w) → Some (winner_in latest) ≡ current (entry.Write w ∷ es) w.doc
   now_is latest h = ap (λ (c : Current). Some c) h ∙ latest_is w es before.writes known.writes
 
-  pub quiet_same : (latest : Latest) (earlier : Option Latest) → winner_in latest ≡ current_of (length es + 1) (winner_among before.writes w) → current_in earlier ≡ current_there k (map kept_in placed) → is_quiet user (current_in earlier) ≡ true → is_quiet user (Some (winner_in latest)) ≡ true → (c : List ℕ) → has_channel (e ∷ es) user c ≡ has_channel es user c
+  pub quiet_same : (latest : Latest) (earlier : Option Latest) → winner_in latest ≡ written_as (length es + 1) (winner_among before.writes w) → current_in earlier ≡ current_there k (map kept_in placed) → is_quiet user (current_in earlier) ≡ true → is_quiet user (Some (winner_in latest)) ≡ true → (c : List ℕ) → has_channel (e ∷ es) user c ≡ has_channel es user c
   quiet_same latest earlier now h a b c =
       ap (λ (x : Entry). has_channel (x ∷ es) user c) (is_write e w writes)
       ∙ quiet_write w es user (quiet_is user _ (ap (is_quiet user) (sym (h ∙ was)) ∙ a)) (quiet_is user _ (ap (is_quiet user) (sym (now_is latest now)) ∙ b)) c
@@ -280,27 +273,27 @@ module _ (e : Entry) (w : Write) (es : List Entry) (user : List ℕ) (filter : O
       (noted_on user filter before.numbered.numbers index on (map noted_in placed) (stay user filter before.numbered.numbers known.noted))
       (record { numbers = are; quiet = is })
 
-  brought : (latest : Latest) → winner_in latest ≡ current_of (length es + 1) (winner_among before.writes w) → changed_at k (with_current (winner_in latest)) (map kept_in placed) ≡ map (kept_next (entry.Write w) es user filter) (written_names (entry.Write w ∷ es))
+  brought : (latest : Latest) → winner_in latest ≡ written_as (length es + 1) (winner_among before.writes w) → changed_at k (with_current (winner_in latest)) (map kept_in placed) ≡ map (kept_next (entry.Write w) es user filter) (written_names (entry.Write w ∷ es))
   brought latest now =
       ap (changed_at k (with_current (winner_in latest))) placed_is
       ∙ changed_there (kept_at es user filter) (kept_next (entry.Write w) es user filter) (with_current (winner_in latest)) w.doc (written_names (entry.Write w ∷ es)) k (distinct_names (documents (entry.Write w ∷ es))) here
       (λ n b. sym (next_same (entry.Write w) es user filter n (writes_other w n (other_texts n w.doc b))))
       (ap (λ (o : Option Current). record { name = w.doc; current = o; view = (kept_at es user filter w.doc).view; row = (kept_at es user filter w.doc).row }) (now_is latest now))
 
-  ready_of : (latest : Latest) (after : Pass) → winner_in latest ≡ current_of (length es + 1) (winner_among before.writes w) → map kept_in after.documents.items ≡ changed_at k (with_current (winner_in latest)) (map kept_in placed) → IsIndex (map (λ d. d.name.now) placed) after.places → ((doc : List ℕ) (rev : RevId) → write_in after.writes doc rev ≡ with_rev_or (if bytes_eq w.doc doc then Some w else None) rev (write_in before.writes doc rev)) → after.roles ≡ before.roles → after.put ≡ before.put → IsNumbering after.numbered.numbers (length after.numbered.held.items) → AreNoted user filter after.numbered.numbers (map noted_in after.documents.items) → Ready (entry.Write w) es user filter after
+  ready_of : (latest : Latest) (after : Pass) → winner_in latest ≡ written_as (length es + 1) (winner_among before.writes w) → map kept_in after.documents.items ≡ changed_at k (with_current (winner_in latest)) (map kept_in placed) → IsIndex (map (λ d. d.name.now) placed) after.places → ((doc : List ℕ) (rev : RevId) → write_in after.writes doc rev ≡ rev_or (if bytes_eq w.doc doc then Some w else None) rev (write_in before.writes doc rev)) → after.roles ≡ before.roles → after.put ≡ before.put → IsNumbering after.numbered.numbers (length after.numbered.held.items) → AreNoted user filter after.numbered.numbers (map noted_in after.documents.items) → Ready (entry.Write w) es user filter after
   ready_of latest after now set index added same_roles same_put numbering noted =
       let P : List (List ℕ) → Type 0 = λ names. IsIndex names after.places in
       record {
         documents = set ∙ brought latest now;
         places = subst P (names_are es user filter placed _ placed_is) index;
-        writes = λ doc rev. added doc rev ∙ ap (with_rev_or (if bytes_eq w.doc doc then Some w else None) rev) (known.writes doc rev);
+        writes = λ doc rev. added doc rev ∙ ap (rev_or (if bytes_eq w.doc doc then Some w else None) rev) (known.writes doc rev) ∙ sym (alone_next (if bytes_eq w.doc doc then Some w else None) (length es + 1) rev (write_of_rev es doc rev));
         roles = ap (λ rs. map role_in rs.items) same_roles ∙ known.roles;
         put = ap standing_in same_put ∙ known.put;
         numbering = numbering;
         noted = noted;
       }
 
-  pub ready_write : (latest : Latest) (after : Pass) → winner_in latest ≡ current_of (length es + 1) (winner_among before.writes w) → map kept_in after.documents.items ≡ changed_at k (with_current (winner_in latest)) (map kept_in placed) → IsIndex (map (λ d. d.name.now) placed) after.places → ((doc : List ℕ) (rev : RevId) → write_in after.writes doc rev ≡ with_rev_or (if bytes_eq w.doc doc then Some w else None) rev (write_in before.writes doc rev)) → after.roles ≡ before.roles → after.put ≡ before.put → IsNumbering after.numbered.numbers (length after.numbered.held.items) → AreNoted user filter after.numbered.numbers (map noted_in after.documents.items) → Ready e es user filter after
+  pub ready_write : (latest : Latest) (after : Pass) → winner_in latest ≡ written_as (length es + 1) (winner_among before.writes w) → map kept_in after.documents.items ≡ changed_at k (with_current (winner_in latest)) (map kept_in placed) → IsIndex (map (λ d. d.name.now) placed) after.places → ((doc : List ℕ) (rev : RevId) → write_in after.writes doc rev ≡ rev_or (if bytes_eq w.doc doc then Some w else None) rev (write_in before.writes doc rev)) → after.roles ≡ before.roles → after.put ≡ before.put → IsNumbering after.numbered.numbers (length after.numbered.held.items) → AreNoted user filter after.numbered.numbers (map noted_in after.documents.items) → Ready e es user filter after
   ready_write latest after now set index added same_roles same_put numbering noted =
       let P : Entry → Type 0 = λ x. Ready x es user filter after in
       subst P (sym (is_write e w writes)) (ready_of latest after now set index added same_roles same_put numbering noted)
@@ -320,7 +313,7 @@ idle_pass es user filter before known e h =
     record {
       documents = known.documents ∙ rest.documents;
       places = subst P rest.names known.places;
-      writes = λ doc rev. known.writes doc rev ∙ rest.found doc rev;
+      writes = λ doc rev. known.writes doc rev ∙ ap (λ (o : Option Sequenced). write_alone o) (rest.found doc rev);
       roles = known.roles ∙ rest.roles;
       put = known.put ∙ rest.put;
       channels = still_has e es user before rest.has known.channels;

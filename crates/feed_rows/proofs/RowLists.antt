@@ -9,7 +9,8 @@ use Rattle.sg_names.specs.declared.key.Key.{Key}
 use Rattle.sg_names.specs.Key.{key_cmp}
 use Rattle.sg_history.specs.declared.row.Row.{Row}
 use Rattle.sg_history.specs.Feed.{place_row, insert_row, in_key_order}
-use Rattle.feed_rows.specs.Laws.{HasRow, IsBelow, Precedes, Rising, last_key}
+use Rattle.sg_history.specs.Device.{last_key}
+use Rattle.feed_rows.specs.Laws.{HasRow, IsBelow, Precedes, Rising}
 use Rattle.feed_rows.proofs.Keys.{key_total, below_trans}
 
 -- a list has this

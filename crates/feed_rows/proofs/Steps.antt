@@ -14,7 +14,8 @@ use Rattle.sg_history.specs.declared.entries.Entry.TheVariants as entry
 use Rattle.sg_history.specs.declared.entries.Write.{Write}
 use Rattle.sg_history.specs.declared.row.Row.{Row}
 use Rattle.sg_history.specs.History.{write_to, written_by, documents, among}
-use Rattle.sg_history.specs.Current.{Current, Sequenced, sequenced_or, with_rev_or, write_of_rev, write_or, current_of, last_write, current, current_after}
+use Rattle.sg_history.specs.Current.{Current, Sequenced, sequenced_or, with_rev_or, write_of_rev, write_or, last_write, current, current_after}
+use Rattle.feed_rows.specs.Latest.{written_as}
 use Rattle.sg_history.specs.Principals.{Standing, exists, names_role, names_channel, same_grantee, grants_channel, is_granted, gives_role, is_given, has_channel, user_at, role_at, roles_put, everyone}
 use Rattle.sg_history.specs.View.{Shown, every, passes, view, view_of, same_view}
 use Rattle.sg_history.specs.Feed.{changed, row_at, row_of, row_with, writes}
@@ -25,7 +26,7 @@ use Rattle.feed_rows.proofs.Names.{same_texts, text_is_itself}
 same_after : (e : Entry) (es : List Entry) (doc : List ℕ) → write_to e doc ≡ None → (o : Option Sequenced) → current_after (e ∷ es) doc o ≡ current_after es doc o
 same_after e es doc h None = refl
 same_after e es doc h (Some last) =
-    ap (λ (w : Option Write). Some (current_of last.seq (write_or (with_rev_or w last.write.winner (write_of_rev es doc last.write.winner)) last.write))) h
+    ap (λ (w : Option Write). Some (written_as last.seq (write_or (with_rev_or w (length es + 1) last.write.winner (write_of_rev es doc last.write.winner)) last).write)) h
 
 pub current_same : (e : Entry) (es : List Entry) (doc : List ℕ) → write_to e doc ≡ None → current (e ∷ es) doc ≡ current es doc
 current_same e es doc h =
@@ -77,7 +78,7 @@ shown_where has channels c false = hidden_when c (list_any has channels)
 
 view_by_is : (es : List Entry) (user : List ℕ) (filter : Option (List (List ℕ))) (o : Option Current) → view_by (λ c. has_channel es user c) filter o ≡ view_of es user filter o
 view_by_is es user filter None = refl
-view_by_is es user filter (Some c) = shown_where (λ channel. has_channel es user channel) (every ∷ c.channels) c (passes filter (every ∷ c.channels))
+view_by_is es user filter (Some c) = shown_where (λ channel. has_channel es user channel) (every ∷ c.effects.channels) c (passes filter (every ∷ c.effects.channels))
 
 row_step : (e : Entry) (es : List Entry) (user : List ℕ) (filter : Option (List (List ℕ))) (doc : List ℕ) (b : Bool) → (if b then row_of es user filter doc else row_at (e ∷ es) user filter doc) ≡ row_at (if b then changed es user filter doc else e ∷ es) user filter doc
 row_step e es user filter doc true = refl
@@ -152,12 +153,12 @@ not_true false h = refl
 pub quiet_is : (user : List ℕ) (o : Option Current) → is_quiet user o ≡ true → Quiet user o
 quiet_is user None h = record { to_user = λ channel. refl; to_role = λ role channel. refl; gives = λ role. refl }
 quiet_is user (Some c) h =
-    let parts = and_parts (not (list_any (λ g. reaches user g.to) c.grants)) (not (list_any (λ g. bytes_eq g.user user) c.roles)) h in
+    let parts = and_parts (not (list_any (λ g. reaches user g.to) c.effects.grants)) (not (list_any (λ g. bytes_eq g.user user) c.effects.roles)) h in
     let none = not_true _ parts.0 in
     record {
-      to_user = λ channel. out_of_reach user (User user) (apart_user user) channel c.grants none;
-      to_role = λ role channel. out_of_reach user (Role role) (apart_role user role) channel c.grants none;
-      gives = λ role. not_given user role c.roles (not_true _ parts.1);
+      to_user = λ channel. out_of_reach user (User user) (apart_user user) channel c.effects.grants none;
+      to_role = λ role channel. out_of_reach user (Role role) (apart_role user role) channel c.effects.grants none;
+      gives = λ role. not_given user role c.effects.roles (not_true _ parts.1);
     }
 
 module _ (w : Write) (es : List Entry) where

@@ -5,15 +5,14 @@ use Rattle.std.specs.Str.{bytes_eq}
 use Rattle.sg_names.specs.declared.grants.Grantee.{Grantee}
 use Rattle.sg_names.specs.declared.grants.Grantee.TheVariants.{User, Role}
 use Rattle.sg_history.specs.declared.entries.Entry.{Entry}
-use Rattle.sg_history.specs.declared.entries.Entry.TheVariants as entry
 use Rattle.sg_history.specs.Current.{Current}
-use Rattle.sg_history.specs.Principals.{Standing, same_grantee, gives_role, exists, names_role, everyone, role_after}
+use Rattle.sg_history.specs.Principals.{Standing, same_grantee, gives_role, exists, names_role, everyone, Put, as_put, role_after}
 use Rattle.sg_history.specs.History.{among}
 use Rattle.feed_rows.specs.Kept.{RoleKept, add_name}
 
 -- the channels that current revisions grant to a user or a role
 abbrev pub granted : List Current → Grantee → List (List ℕ)
-granted currents to = flat_map (λ c. map (λ g. g.channel) (filter (λ g. same_grantee g.to to) c.grants)) currents
+granted currents to = flat_map (λ c. map (λ g. g.channel) (filter (λ g. same_grantee g.to to) c.effects.grants)) currents
 
 -- whether some current revision gives the role to the user
 abbrev pub given : List Current → List ℕ → List ℕ → Bool
@@ -62,11 +61,15 @@ add_role name channels roles =
     then roles
     else roles ++ (record { name = name; standing = Some (record { channels = channels; roles = [] }) }) ∷ []
 
+abbrev pub roles_named : Grantee → Option Standing → Entry → List RoleKept → List RoleKept
+roles_named (User name) standing e roles = roles
+roles_named (Role name) None e roles = map (role_next e) roles
+roles_named (Role name) (Some standing) e roles = add_role name standing.channels (map (role_next e) roles)
+
+abbrev pub roles_with : Option Put → Entry → List RoleKept → List RoleKept
+roles_with None e roles = roles
+roles_with (Some put) e roles = roles_named put.of put.standing e roles
+
 -- what an entry makes of the roles
 abbrev pub roles_next : Entry → List RoleKept → List RoleKept
-roles_next (entry.Write w) roles = roles
-roles_next (entry.PutUser name channels names) roles = roles
-roles_next (entry.PutRole name channels) roles = add_role name channels (map (role_next (entry.PutRole name channels)) roles)
-roles_next (entry.DropUser name) roles = roles
-roles_next (entry.DropRole name) roles = map (role_next (entry.DropRole name)) roles
-roles_next entry.Unused roles = roles
+roles_next e roles = roles_with (as_put e) e roles

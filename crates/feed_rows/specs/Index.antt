@@ -1,5 +1,5 @@
 -- what the indexes of the pass over the log stand for
-use Rattle.std.specs.Prelude.{◌≡◌, ℕ, List, Option, if◌then◌else◌}
+use Rattle.std.specs.Prelude.{◌≡◌, ℕ, List, Option, Some, None, if◌then◌else◌}
 use Rattle.std.specs.Borrow.{Bor}
 use Rattle.std.specs.BTreeMap.{BTreeMap, get_by}
 use Rattle.std.specs.Option.{option_copied}
@@ -9,7 +9,7 @@ use Rattle.sg_names.specs.RevId.{same_rev}
 use Rattle.sg_names.specs.declared.rev_id.RevId.{RevId}
 use Rattle.sg_history.specs.declared.entries.Entry.{Entry}
 use Rattle.sg_history.specs.declared.entries.Write.{Write}
-use Rattle.sg_history.specs.Current.{write_of_rev, write_or}
+use Rattle.sg_history.specs.Current.{write_of_rev, write_alone}
 use Rattle.feed_rows.specs.Kept.{PlacedBy}
 
 -- the place that an index has for a name
@@ -27,8 +27,13 @@ write_in writes doc rev =
 
 -- the index has of every revision its last write among these entries, the newest first
 abbrev pub IsWriteIndex : List Entry → BTreeMap (Bor (List ℕ) × ℕ × Bor (List ℕ)) (Bor Write) → Type 0
-IsWriteIndex es writes = (doc : List ℕ) (rev : RevId) → write_in writes doc rev ≡ write_of_rev es doc rev
+IsWriteIndex es writes = (doc : List ℕ) (rev : RevId) → write_in writes doc rev ≡ write_alone (write_of_rev es doc rev)
+
+-- a write where there is one, else the other
+abbrev pub alone_or : Option Write → Write → Write
+alone_or None other = other
+alone_or (Some w) other = w
 
 -- the write that wins after a write: the last one of the revision that it names, or that write itself where there is none
 abbrev pub winner_among : BTreeMap (Bor (List ℕ) × ℕ × Bor (List ℕ)) (Bor Write) → Write → Write
-winner_among writes w = if same_rev w.rev w.winner then w else write_or (write_in writes w.doc w.winner) w
+winner_among writes w = if same_rev w.rev w.winner then w else alone_or (write_in writes w.doc w.winner) w

@@ -1,16 +1,15 @@
 -- what a pass over the log keeps of each document and of each role
-use Rattle.std.specs.Prelude.{ℕ, Bool, true, ◌&&◌, not, List, [], ◌∷◌, ◌++◌, Option, Some, None, MatchOption, ◌≡◌, false, slice_get, slice_set, slice_index_or, if◌then◌else◌}
+use Rattle.std.specs.Prelude.{ℕ, Bool, true, ◌&&◌, not, is_none, List, [], ◌∷◌, ◌++◌, Option, Some, None, MatchOption, ◌≡◌, false, slice_get, slice_set, slice_index_or, if◌then◌else◌}
 use Rattle.std.specs.List.{list_any}
 use Rattle.std.specs.Str.{bytes_eq}
 use Rattle.sg_names.specs.declared.grants.Grantee.{Grantee}
 use Rattle.sg_names.specs.declared.grants.Grantee.TheVariants.{User, Role}
 use Rattle.sg_history.specs.declared.entries.Entry.{Entry}
-use Rattle.sg_history.specs.declared.entries.Entry.TheVariants as entry
 use Rattle.sg_history.specs.declared.entries.Write.{Write}
 use Rattle.sg_history.specs.declared.row.Row.{Row}
-use Rattle.sg_history.specs.History.{among, documents}
+use Rattle.sg_history.specs.History.{among, as_write, documents}
 use Rattle.sg_history.specs.Current.{Current, current}
-use Rattle.sg_history.specs.Principals.{Standing, role_at}
+use Rattle.sg_history.specs.Principals.{Standing, Put, as_put, role_at}
 use Rattle.sg_history.specs.View.{Shown, every, passes, view, same_view}
 use Rattle.sg_history.specs.Feed.{row_with, row_of, writes}
 
@@ -76,30 +75,26 @@ reaches user (Role name) = true
 -- the document's current revision grants nothing to the user or to a role, and gives the user no role
 abbrev pub is_quiet : List ℕ → Option Current → Bool
 is_quiet user None = true
-is_quiet user (Some c) = not (list_any (λ g. reaches user g.to) c.grants) && not (list_any (λ g. bytes_eq g.user user) c.roles)
+is_quiet user (Some c) = not (list_any (λ g. reaches user g.to) c.effects.grants) && not (list_any (λ g. bytes_eq g.user user) c.effects.roles)
 
--- the write that an entry is, if it is one
-abbrev pub written : Entry → Option Write
-written (entry.Write w) = Some w
-written (entry.PutUser name channels roles) = None
-written (entry.PutRole name channels) = None
-written (entry.DropUser name) = None
-written (entry.DropRole name) = None
-written entry.Unused = None
+-- whether this is a user of another name
+abbrev pub is_other_user : Grantee → List ℕ → Bool
+is_other_user (User name) user = not (bytes_eq name user)
+is_other_user (Role name) user = false
+
+-- whether a put or a drop is of another user, or there is none
+abbrev pub is_of_other : Option Put → List ℕ → Bool
+is_of_other None user = true
+is_of_other (Some put) user = is_other_user put.of user
 
 -- whether an entry changes neither a document nor what the user has
 abbrev pub is_idle : Entry → List ℕ → Bool
-is_idle (entry.Write w) user = false
-is_idle (entry.PutUser name channels roles) user = not (bytes_eq name user)
-is_idle (entry.PutRole name channels) user = false
-is_idle (entry.DropUser name) user = not (bytes_eq name user)
-is_idle (entry.DropRole name) user = false
-is_idle entry.Unused user = true
+is_idle e user = is_none (as_write e) && is_of_other (as_put e) user
 
 -- the channels under which a document is sought: `*` and its own, where the filter lets one of them through
 abbrev pub sought : Option (List (List ℕ)) → Option Current → List (List ℕ)
 sought filter None = []
-sought filter (Some c) = if passes filter (every ∷ c.channels) then every ∷ c.channels else []
+sought filter (Some c) = if passes filter (every ∷ c.effects.channels) then every ∷ c.effects.channels else []
 
 -- what is shown of a document, where it is shown
 abbrev pub view_when : Bool → Option Current → Option Shown
@@ -136,7 +131,7 @@ looked_where (Some place) look kept = changed_at place look kept
 
 -- this is the place of the document that an entry writes, or none where the entry is no write
 abbrev pub WrittenPlace : Entry → List (List ℕ) → Option ℕ → Type 0
-WrittenPlace e names place = MatchOption place (written e ≡ None) (λ k. (w : Write) × (written e ≡ Some w) × (slice_get names k ≡ Some w.doc))
+WrittenPlace e names place = MatchOption place (as_write e ≡ None) (λ k. (w : Write) × (as_write e ≡ Some w) × (slice_get names k ≡ Some w.doc))
 
 -- what is kept of a role: its last put, where it was not dropped since
 pub record RoleKept : Type 0 where

@@ -4,10 +4,9 @@ ghost use Rattle.std.specs.Prelude.{◌≡◌, ◌<◌, map, length, slice_set, 
 ghost use Rattle.std.specs.List.{list_any};
 ghost use Rattle.std.specs.Option.{ForSome};
 ghost use Rattle.std.specs.Str.{bytes_eq};
-ghost use Rattle.sg_history.specs.Current.{current_of};
 ghost use Rattle.sg_history.specs.Feed as feed;
 ghost use Rattle.feed_rows.specs.Index.{winner_among};
-ghost use Rattle.feed_rows.specs.Latest.{current_in, shown_in, winner_in};
+ghost use Rattle.feed_rows.specs.Latest.{written_as, current_in, shown_in, winner_in};
 ghost use Rattle.feed_rows.specs.Kept as kept;
 ghost use Rattle.feed_rows.specs.Numbers.{is_held};
 ghost use Rattle.feed_rows.specs.Pass as pass;
@@ -56,7 +55,7 @@ pub fn latest_after<'a>(
     write: &'a Write,
     seq: u64,
 ) -> Latest<'a>
-    ensures { winner_in result ≡ current_of seq (winner_among writes.now write.now) }
+    ensures { winner_in result ≡ written_as seq (winner_among writes.now write.now) }
 {
     Latest {
         seq,

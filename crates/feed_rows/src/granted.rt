@@ -1,7 +1,7 @@
 //! The channels of a user, as a list.
 
 ghost use Rattle.std.specs.Prelude.{◌≡◌, ◌≤◌, ℕ, List, length, reverse, is_some, IfOk, IfSome};
-ghost use Rattle.sg_history.specs.History.{history, past, among};
+ghost use Rattle.sg_history.specs.History.{entries_of, past, among};
 ghost use Rattle.sg_history.specs.Principals as principals;
 ghost use Rattle.feed_rows.specs.Pass.{texts};
 
@@ -44,9 +44,9 @@ pub fn channels_of(
     front: u64,
     user: &Name,
 ) -> Result<Option<Channels>, AllocError>
-    requires { front ≤ length (history log.now) }
-    ensures exists { IfOk result (λ found. is_some found ≡ principals.exists (principals.user_at (past (history log.now) front) user.now)) }
-    ensures channels { IfOk result (λ found. IfSome found (λ channels. (channel : List ℕ) → among channels channel ≡ principals.has_channel (past (history log.now) front) user.now channel)) }
+    requires { front ≤ length (entries_of log.now) }
+    ensures exists { IfOk result (λ found. is_some found ≡ principals.exists (principals.user_at (past (entries_of log.now) front) user.now)) }
+    ensures channels { IfOk result (λ found. IfSome found (λ channels. (channel : List ℕ) → among channels channel ≡ principals.has_channel (past (entries_of log.now) front) user.now channel)) }
 {
     let entries = &log.entries.as_slice()[..front as usize];
     channels_of_entries(alloc, entries, user.as_bytes())

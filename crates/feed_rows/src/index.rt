@@ -4,7 +4,7 @@ ghost use Rattle.std.specs.Prelude.{◌≡◌, ℕ, List, Some, None, OnOk, if�
 ghost use Rattle.std.specs.Option.{option_copied};
 ghost use Rattle.std.specs.Str.{bytes_eq};
 ghost use Rattle.sg_names.specs.declared.rev_id.RevId.{RevId};
-ghost use Rattle.sg_history.specs.Current.{with_rev_or};
+ghost use Rattle.sg_history.specs.Current.{rev_or};
 ghost use Rattle.feed_rows.specs.Index.{place_in, write_in, winner_among};
 
 use sg_history::{DocId, RevId, Write};
@@ -47,7 +47,7 @@ pub fn add_write<'a>(
     writes: &mut BTreeMap<(&'a str, u32, &'a str), &'a Write>,
     write: &'a Write,
 ) -> Result<(), AllocError>
-    ensures { OnOk result ((doc : List ℕ) (rev : RevId) → write_in writes.new doc rev ≡ with_rev_or (if bytes_eq write.now.doc doc then Some write.now else None) rev (write_in writes.old doc rev)) }
+    ensures { OnOk result ((doc : List ℕ) (rev : RevId) → write_in writes.new doc rev ≡ rev_or (if bytes_eq write.now.doc doc then Some write.now else None) rev (write_in writes.old doc rev)) }
 {
     let key = (
         write.doc.as_str(),

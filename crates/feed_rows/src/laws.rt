@@ -1,19 +1,28 @@
 //! Laws of the feed. Each is the contract of a function that does nothing.
 
-ghost use Rattle.std.specs.Prelude.{◌≡◌, ◌⊎◌, ◌↔◌, ◌<◌, ◌≤◌, ◌++◌, ◌∷◌, [], ◌||◌, not, nat_eq, ℕ, List, length, IsTrue, Some};
+ghost use Rattle.std.specs.Prelude.{◌≡◌, ◌⊎◌, ◌↔◌, ◌<◌, ◌≤◌, ◌++◌, ◌∷◌, [], ◌||◌, not, nat_eq, ℕ, List, length, IsTrue, Option, Some, None};
 ghost use Rattle.sg_names.specs.declared.key.Key.{Key};
 ghost use Rattle.sg_history.specs.declared.entries.Entry.{Entry};
 ghost use Rattle.sg_history.specs.declared.row.Row.{Row};
 ghost use Rattle.sg_history.specs.declared.row.Options.{Options};
 ghost use Rattle.sg_history.specs.History.{past};
-ghost use Rattle.sg_history.specs.Feed.{feed, row_of};
-ghost use Rattle.sg_history.specs.Device.{shown_to};
-ghost use Rattle.feed_rows.specs.Laws.{HasRow, IsAskedFor, IsBelow, Rising, plain, all_of, WasSent, IsAhead, Turn, IsRun, TakesAll, state_after, live};
+ghost use Rattle.sg_history.specs.Feed.{feed, row_of, is_gone};
+ghost use Rattle.sg_history.specs.View.{view};
+ghost use Rattle.sg_history.specs.Device.{held_after, shown_to, plain, DeviceTurn, IsRun, TakesAll, state_after, live};
+ghost use Rattle.feed_rows.specs.Laws.{HasRow, IsAskedFor, IsBelow, Rising, all_of, WasSent, IsAhead};
 
 /// A feed has exactly the rows of documents that are asked for, and of each document at most one.
 pub fn members()
     ensures exact { (es : List Entry) (user : List ℕ) (since : Key) (options : Options) (row : Row) → HasRow (feed es user since options) row ↔ IsAskedFor es user since options row }
     ensures one_each { (es : List Entry) (user : List ℕ) (since : Key) (options : Options) (row other : Row) → HasRow (feed es user since options) row → HasRow (feed es user since options) other → row.doc ≡ other.doc → row ≡ other }
+{}
+
+/// A row says what is shown of its document at the front: it is gone exactly where the document is not shown, and else it has the
+/// winner and the deleted mark that are shown.
+pub fn said()
+    ensures gone { (es : List Entry) (user : List ℕ) (filter : Option (List (List ℕ))) (doc : List ℕ) (row : Row) → row_of es user filter doc ≡ Some row → IsTrue (is_gone row.bits) ↔ (view es user filter doc ≡ None) }
+    ensures shown { (es : List Entry) (user : List ℕ) (filter : Option (List (List ℕ))) (doc : List ℕ) (row : Row) → row_of es user filter doc ≡ Some row → held_after row ≡ shown_to es user filter doc }
+    ensures of_feed { (es : List Entry) (user : List ℕ) (since : Key) (options : Options) (row : Row) → HasRow (feed es user since options) row → held_after row ≡ shown_to es user options.filter row.doc }
 {}
 
 /// The keys of a feed rise. A plain number S is the key (S, S), and a since key at or past the last key gives
@@ -25,7 +34,7 @@ pub fn order()
     ensures past_the_front { (es : List Entry) (user : List ℕ) (since : Key) (options : Options) → ¬ (IsBelow since (plain (length es))) → feed es user since options ≡ [] }
 {}
 
-/// What a sent key leaves for later, in every history that goes on from the one that its feed was of: each row
+/// What a sent key leaves for later, in every history that extends the one that its feed was of: each row
 /// of the later feed from the same since key was in the feed, at a key not above the sent one, or is above that
 /// and stands in the later feed from it; and so does each row of a document past the sent key, also one that a
 /// feed from the start omits, but for revocations that are not asked for.
@@ -38,5 +47,5 @@ pub fn resume()
 /// history that only goes on, with revocations: after a turn in which it took the whole feed, exactly what is
 /// shown at that front, under active only but for what is deleted.
 pub fn device()
-    ensures { (user : List ℕ) (options : Options) (last : Turn) (earlier : List Turn) (doc : List ℕ) → IsTrue options.revocations → IsRun (last ∷ earlier) → TakesAll user options last earlier → live options ((state_after user options (last ∷ earlier)).copy doc) ≡ live options (shown_to (past last.history last.front) user options.filter doc) }
+    ensures { (user : List ℕ) (options : Options) (last : DeviceTurn) (earlier : List DeviceTurn) (doc : List ℕ) → IsTrue options.revocations → IsRun (last ∷ earlier) → TakesAll user options last earlier → live options ((state_after user options (last ∷ earlier)).copy doc) ≡ live options (shown_to (past last.history last.front) user options.filter doc) }
 {}

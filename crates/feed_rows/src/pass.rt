@@ -1,7 +1,8 @@
 //! One pass over the log for a user: what every document is, what is shown of it, and where that changed last.
 
 ghost use Rattle.std.specs.Prelude.{◌≡◌, ◌+◌, ◌<◌, ◌^◌, ℕ, List, Option, [], ◌∷◌, ◌&&◌, true, length, map, reverse, slice_get, Some, None, OnOk, IfOk};
-ghost use Rattle.std.specs.Option.{option_copied, ForSome};
+ghost use Rattle.std.specs.Option.{ForSome};
+ghost use Rattle.sg_history.specs.History.{as_write};
 ghost use Rattle.sg_history.specs.Principals as principals;
 ghost use Rattle.feed_rows.specs.Index.{IsIndex};
 ghost use Rattle.feed_rows.specs.Kept as kept;
@@ -34,16 +35,6 @@ pub struct Pass<'a> {
     pub put: Option<Put<'a>>,
     pub channels: Vec<&'a ChannelName>,
     pub numbered: Numbered<'a>,
-}
-
-/// The write that an entry is, if it is one.
-fn written(entry: &Entry) -> Option<&Write>
-    ensures { option_copied result ≡ kept.written entry.now }
-{
-    match entry {
-        Entry::Write(write) => Some(write),
-        _ => None,
-    }
 }
 
 /// Whether an entry changes neither a document nor what the user has.
@@ -118,7 +109,7 @@ fn take_put<'a>(
 ) -> Result<(), AllocError>
     requires everyone { everyone.now ≡ principals.everyone }
     requires fits { length older.now + 1 < 2 ^ 64 }
-    requires other { kept.written entry.now ≡ None }
+    requires other { as_write entry.now ≡ None }
     requires known { PassAt (reverse older.now) user.now filter.now pass.old }
     ensures { OnOk result (PassAt (entry.now ∷ reverse older.now) user.now filter.now pass.new) }
 {
@@ -180,7 +171,7 @@ fn put_write<'a>(
     write: &'a Write,
 ) -> Result<Brought, AllocError>
     requires fits { length older.now + 1 < 2 ^ 64 }
-    requires writes { kept.written entry.now ≡ Some write.now }
+    requires writes { as_write entry.now ≡ Some write.now }
     requires known { PassAt (reverse older.now) user.now filter.now pass.old }
     ensures ready { OnOk result (Ready entry.now (reverse older.now) user.now filter.now pass.new) }
     ensures had { OnOk result (HasChannels (reverse older.now) user.now pass.new) }
@@ -214,7 +205,7 @@ fn take_write<'a>(
 ) -> Result<(), AllocError>
     requires everyone { everyone.now ≡ principals.everyone }
     requires fits { length older.now + 1 < 2 ^ 64 }
-    requires writes { kept.written entry.now ≡ Some write.now }
+    requires writes { as_write entry.now ≡ Some write.now }
     requires known { PassAt (reverse older.now) user.now filter.now pass.old }
     ensures { OnOk result (PassAt (entry.now ∷ reverse older.now) user.now filter.now pass.new) }
 {
@@ -245,7 +236,7 @@ fn take<'a>(
     if is_idle(entry, user) {
         return Ok(());
     }
-    match written(entry) {
+    match entry.as_write() {
         Some(write) => take_write(alloc, everyone, pass, user, filter, older, entry, write),
         None => take_put(alloc, everyone, pass, user, filter, older, entry),
     }

@@ -1,7 +1,7 @@
 //! The rows of a feed.
 
 ghost use Rattle.std.specs.Prelude.{◌≡◌, ◌≤◌, length, IfOk};
-ghost use Rattle.sg_history.specs.History.{history, past};
+ghost use Rattle.sg_history.specs.History.{entries_of, past};
 ghost use Rattle.sg_history.specs.Feed as feed;
 ghost use Rattle.feed_rows.specs.Latest.{shown_in};
 
@@ -60,8 +60,8 @@ pub fn rows(
     since: &Key,
     options: &Options,
 ) -> Result<Rows, AllocError>
-    requires { front ≤ length (history log.now) }
-    ensures { IfOk result (λ rows. rows ≡ feed.feed (past (history log.now) front) user.now since.now options.now) }
+    requires { front ≤ length (entries_of log.now) }
+    ensures { IfOk result (λ rows. rows ≡ feed.feed (past (entries_of log.now) front) user.now since.now options.now) }
 {
     let entries = &log.entries.as_slice()[..front as usize];
     Ok(Rows::from_vec(rows_of_pass(alloc, entries, user.as_bytes(), since, options)?))

@@ -8,3 +8,4 @@ pub mod OneLine
 pub mod JournalTexts
 pub mod Books
 pub mod Boards
+pub mod AloneWrites

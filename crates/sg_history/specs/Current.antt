@@ -33,6 +33,16 @@ abbrev pub write_of_rev : List Entry → List ℕ → RevId → Option Sequenced
 write_of_rev [] doc rev = None
 write_of_rev (e ∷ older) doc rev = with_rev_or (write_to e doc) (length older + 1) rev (write_of_rev older doc rev)
 
+-- a write without its sequence
+abbrev pub write_alone : Option Sequenced → Option Write
+write_alone None = None
+write_alone (Some written) = Some written.write
+
+-- a write where it has this revision, else the other, both without their sequences
+abbrev pub rev_or : Option Write → RevId → Option Write → Option Write
+rev_or None rev other = other
+rev_or (Some w) rev other = if same_rev w.rev rev then Some w else other
+
 -- what the sync function made of a revision: the channels that it is in, the channels that it grants, and the roles that it gives
 pub record Effects : Type 0 where
   pub channels : List (List ℕ)

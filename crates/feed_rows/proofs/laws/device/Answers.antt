@@ -3,8 +3,7 @@ use Rattle.sg_history.specs.declared.entries.Entry.{Entry}
 use Rattle.sg_history.specs.declared.row.Options.{Options}
 use Rattle.sg_history.specs.History.{past}
 use Rattle.sg_history.specs.Feed.{row_of}
-use Rattle.sg_history.specs.Device.{shown_to}
-use Rattle.feed_rows.specs.Laws.{Turn, DeviceState, IsRun, state_after}
+use Rattle.sg_history.specs.Device.{shown_to, DeviceTurn, DeviceState, IsRun, state_after}
 use Rattle.feed_rows.proofs.AnyDevice.{Good, good_start, good_later, good_after, took_all}
 use Rattle.feed_rows.proofs.Places.{past_length, past_extends}
 use Rattle.feed_rows.proofs.ShownRows.{feed_facts}
@@ -16,7 +15,7 @@ GoodAt user options es state =
     Good (λ es doc. row_of es user options.filter doc) (λ es doc. shown_to es user options.filter doc) (feed_facts user options.filter) options es state.copy state.since
 
 -- so it is before each turn of a run
-good_before : (user : List ℕ) (options : Options) → options.revocations ≡ true → (turn : Turn) (earlier : List Turn) → IsRun (turn ∷ earlier) → GoodAt user options (past turn.history turn.front) (state_after user options earlier)
+good_before : (user : List ℕ) (options : Options) → options.revocations ≡ true → (turn : DeviceTurn) (earlier : List DeviceTurn) → IsRun (turn ∷ earlier) → GoodAt user options (past turn.history turn.front) (state_after user options earlier)
 good_before user options asked turn [] run = good_start _ _ (feed_facts user options.filter) options (past turn.history turn.front)
 good_before user options asked turn (before ∷ earlier) run =
     let was = good_before user options asked before earlier run.2 in

@@ -3,7 +3,7 @@ use Rattle.std.specs.Borrow.{Bor}
 use Rattle.std.proofs.lemmas.Bool.{and_parts}
 use Rattle.std.proofs.lemmas.List.{length-reverse}
 use Rattle.sg_history.specs.History.{among}
-use Rattle.sg_history.specs.Current.{current_of}
+use Rattle.feed_rows.specs.Latest.{written_as}
 use Rattle.sg_history.specs.Principals.{has_channel}
 use Rattle.feed_rows.specs.Index.{IsIndex, winner_among}
 use Rattle.feed_rows.specs.Numbers.{Holds}
@@ -40,7 +40,7 @@ returns-clause-ready c =
     let numbers = c.numbers_sought.new.numbered.numbers in
     let P : List Noted → Type 0 = AreNoted user filter numbers in
     ready_write e w es user filter before c.requires.known c.requires.writes k placed c.in_ok-place.ensures.documents c.in_ok-place.ensures.place latest _
-    (c.latest_after-latest.ensures ∙ ap (λ n. current_of (n + 1) (winner_among before.writes w)) (sym (length-reverse c.args.older.now)))
+    (c.latest_after-latest.ensures ∙ ap (λ n. written_as (n + 1) (winner_among before.writes w)) (sym (length-reverse c.args.older.now)))
     c.set_latest-before.ensures.documents c.in_ok-place.ensures.places c.in_ok-add_write.ensures refl refl (c.in_ok-numbers.ensures.grown.numbering c.requires.known.numbering)
     (subst P (sym c.set_latest-before.ensures.noted) (notes_set e w es user filter before c.requires.known c.requires.writes k placed c.in_ok-place.ensures.documents c.in_ok-place.ensures.place numbers c.in_ok-numbers.ensures.grown.goes_on c.in_ok-place.ensures.noted latest c.in_ok-numbers.numbers.items c.is_quiet-quiet.result c.in_ok-numbers.ensures.numbers c.is_quiet-quiet.ensures))
 
@@ -70,5 +70,5 @@ returns-clause-stays c = λ stays.
     let latest = c.latest_after-latest.result in
     let quiet = and_parts _ _ (sym c.both_quiet.ensures ∙ stays) in
     quiet_same c.args.entry.now w es c.args.user.now c.args.filter.now before c.requires.known c.requires.writes c.in_ok-place.place c.place_for.new.documents.items c.in_ok-place.ensures.documents c.in_ok-place.ensures.place latest c.set_latest-before.result
-    (c.latest_after-latest.ensures ∙ ap (λ n. current_of (n + 1) (winner_among before.writes w)) (sym (length-reverse c.args.older.now)))
+    (c.latest_after-latest.ensures ∙ ap (λ n. written_as (n + 1) (winner_among before.writes w)) (sym (length-reverse c.args.older.now)))
     c.set_latest-before.ensures.before quiet.0 (sym c.is_quiet-quiet.ensures ∙ quiet.1)
