@@ -8,8 +8,8 @@ use Rattle.sg_names.specs.declared.rev_id.RevId.{RevId}
 use Rattle.sg_history.specs.declared.entries.Entry.{Entry}
 use Rattle.sg_history.specs.declared.entries.Write.{Write}
 use Rattle.sg_history.specs.History.{past, Extends, write_to}
-use Rattle.sg_history.specs.Current.{Sequenced, last_write, sequenced_or, write_of_rev, with_rev_or}
-use Rattle.sg_history.specs.Book.{Book, book_of, Numbered, waiting_at, entry_or, book_with, write_at, written_in, Keeps, Later, IsLastWrite, sequenced_before, writes_up_to, first_write, first_of_rev, last_write_up_to, write_of_rev_up_to}
+use Rattle.sg_history.specs.Current.{Sequenced, sequenced_before, writes_to, last_write, sequenced_or, write_of_rev, with_rev_or}
+use Rattle.sg_history.specs.Book.{Book, book_of, Numbered, waiting_at, entry_or, book_with, write_at, written_in, Keeps, Later, IsLastWrite, writes_up_to, first_write, first_of_rev, last_write_up_to, write_of_rev_up_to}
 
 -- what is kept is written as it was
 write_kept : (earlier later : Book) (doc : List ℕ) (number : ℕ) (w : Write) → Keeps earlier later → write_at earlier doc number ≡ Some w → write_at later doc number ≡ Some w
@@ -167,39 +167,40 @@ rev_before : (o : Option Write) (seq : ℕ) (older : List Sequenced) (rev : RevI
 rev_before None seq older rev = refl
 rev_before (Some w) seq older rev = refl
 
+-- the writes of a document up to a number, in the book of a history and among its entries
+pub writes_in_past : (h : List Entry) (number : ℕ) (doc : List ℕ) → writes_up_to (book_of h) number doc ≡ writes_to (past h number) doc
+writes_in_past h zero doc = refl
+writes_in_past h (suc place) doc =
+    ap (λ (l : List Sequenced). sequenced_before (write_at (book_of h) doc (suc place)) (suc place) l) (writes_in_past h place doc) ∙ go (slice_get h place) refl
+  where
+    go : (o : Option Entry) → slice_get h place ≡ o → sequenced_before (written_in (slice_get h place) doc) (suc place) (writes_to (past h place) doc) ≡ writes_to (past h (suc place)) doc
+    go None is =
+        ap (λ (o : Option Entry). sequenced_before (written_in o doc) (suc place) (writes_to (past h place) doc)) is
+        ∙ ap (λ (l : List Entry). writes_to l doc) (sym (past_end h place (past_of_none h place is)))
+    go (Some e) is =
+        ap (λ (o : Option Entry). sequenced_before (written_in o doc) (suc place) (writes_to (past h place) doc)) is
+        ∙ ap (λ (n : ℕ). sequenced_before (write_to e doc) n (writes_to (past h place) doc)) (sym (past_length h place e is))
+        ∙ ap (λ (l : List Entry). writes_to l doc) (sym (past_more h place e is))
+
+first_is_last : (es : List Entry) (doc : List ℕ) → first_write (writes_to es doc) ≡ last_write es doc
+first_is_last [] doc = refl
+first_is_last (e ∷ older) doc =
+    first_before (write_to e doc) (length older + 1) (writes_to older doc)
+    ∙ ap (λ (o : Option Sequenced). sequenced_or (write_to e doc) (length older + 1) o) (first_is_last older doc)
+
+first_of_rev_is : (es : List Entry) (doc : List ℕ) (rev : RevId) → first_of_rev (writes_to es doc) rev ≡ write_of_rev es doc rev
+first_of_rev_is [] doc rev = refl
+first_of_rev_is (e ∷ older) doc rev =
+    rev_before (write_to e doc) (length older + 1) (writes_to older doc) rev
+    ∙ ap (λ (o : Option Sequenced). with_rev_or (write_to e doc) (length older + 1) rev o) (first_of_rev_is older doc rev)
+
 -- the last write up to a number, in the book of a history and among its entries
 pub last_in_past : (h : List Entry) (number : ℕ) (doc : List ℕ) → last_write_up_to (book_of h) number doc ≡ last_write (past h number) doc
-last_in_past h zero doc = refl
-last_in_past h (suc place) doc =
-    first_before (write_at (book_of h) doc (suc place)) (suc place) (writes_up_to (book_of h) place doc)
-    ∙ ap (λ (o : Option Sequenced). sequenced_or (write_at (book_of h) doc (suc place)) (suc place) o) (last_in_past h place doc)
-    ∙ go (slice_get h place) refl
-  where
-    go : (o : Option Entry) → slice_get h place ≡ o → sequenced_or (written_in (slice_get h place) doc) (suc place) (last_write (past h place) doc) ≡ last_write (past h (suc place)) doc
-    go None is =
-        ap (λ (o : Option Entry). sequenced_or (written_in o doc) (suc place) (last_write (past h place) doc)) is
-        ∙ ap (λ (l : List Entry). last_write l doc) (sym (past_end h place (past_of_none h place is)))
-    go (Some e) is =
-        ap (λ (o : Option Entry). sequenced_or (written_in o doc) (suc place) (last_write (past h place) doc)) is
-        ∙ ap (λ (n : ℕ). sequenced_or (write_to e doc) n (last_write (past h place) doc)) (sym (past_length h place e is))
-        ∙ ap (λ (l : List Entry). last_write l doc) (sym (past_more h place e is))
+last_in_past h number doc = ap (λ (l : List Sequenced). first_write l) (writes_in_past h number doc) ∙ first_is_last (past h number) doc
 
 -- the write of a revision up to a number, in the book of a history and among its entries
 pub rev_in_past : (h : List Entry) (number : ℕ) (doc : List ℕ) (rev : RevId) → write_of_rev_up_to (book_of h) number doc rev ≡ write_of_rev (past h number) doc rev
-rev_in_past h zero doc rev = refl
-rev_in_past h (suc place) doc rev =
-    rev_before (write_at (book_of h) doc (suc place)) (suc place) (writes_up_to (book_of h) place doc) rev
-    ∙ ap (λ (o : Option Sequenced). with_rev_or (write_at (book_of h) doc (suc place)) (suc place) rev o) (rev_in_past h place doc rev)
-    ∙ go (slice_get h place) refl
-  where
-    go : (o : Option Entry) → slice_get h place ≡ o → with_rev_or (written_in (slice_get h place) doc) (suc place) rev (write_of_rev (past h place) doc rev) ≡ write_of_rev (past h (suc place)) doc rev
-    go None is =
-        ap (λ (o : Option Entry). with_rev_or (written_in o doc) (suc place) rev (write_of_rev (past h place) doc rev)) is
-        ∙ ap (λ (l : List Entry). write_of_rev l doc rev) (sym (past_end h place (past_of_none h place is)))
-    go (Some e) is =
-        ap (λ (o : Option Entry). with_rev_or (written_in o doc) (suc place) rev (write_of_rev (past h place) doc rev)) is
-        ∙ ap (λ (n : ℕ). with_rev_or (write_to e doc) n rev (write_of_rev (past h place) doc rev)) (sym (past_length h place e is))
-        ∙ ap (λ (l : List Entry). write_of_rev l doc rev) (sym (past_more h place e is))
+rev_in_past h number doc rev = ap (λ (l : List Sequenced). first_of_rev l rev) (writes_in_past h number doc) ∙ first_of_rev_is (past h number) doc rev
 
 -- what is found of a document's last write up to a number
 record FoundUpTo (book : Book) (doc : List ℕ) (number : ℕ) (last : Sequenced) : Type 0 where

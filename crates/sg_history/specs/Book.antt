@@ -6,7 +6,7 @@ use Rattle.sg_names.specs.RevId.{same_rev}
 use Rattle.sg_history.specs.declared.entries.Entry.{Entry}
 use Rattle.sg_history.specs.declared.entries.Write.{Write}
 use Rattle.sg_history.specs.History.{write_to}
-use Rattle.sg_history.specs.Current.{Sequenced}
+use Rattle.sg_history.specs.Current.{Sequenced, sequenced_before}
 
 -- which entry stands at a number, if one does
 abbrev pub Book : Type 0
@@ -58,10 +58,6 @@ pub record IsLastWrite (book : Book) (doc : List ℕ) (last : Sequenced) : Type 
   pub number : 1 ≤ last.seq
   pub there : write_at book doc last.seq ≡ Some last.write
   pub none_above : (number : ℕ) (w : Write) → write_at book doc number ≡ Some w → number ≤ last.seq
-
-abbrev pub sequenced_before : Option Write → ℕ → List Sequenced → List Sequenced
-sequenced_before None seq older = older
-sequenced_before (Some w) seq older = record { seq = seq; write = w } ∷ older
 
 -- the writes of a document in a book at the numbers from 1 up to this one, the last one first
 abbrev pub writes_up_to : Book → ℕ → List ℕ → List Sequenced

@@ -13,6 +13,15 @@ pub record Sequenced : Type 0 where
   pub seq : ℕ
   pub write : Write
 
+abbrev pub sequenced_before : Option Write → ℕ → List Sequenced → List Sequenced
+sequenced_before None seq older = older
+sequenced_before (Some w) seq older = record { seq = seq; write = w } ∷ older
+
+-- the writes of a document, each with its sequence, the last one first
+abbrev pub writes_to : List Entry → List ℕ → List Sequenced
+writes_to [] doc = []
+writes_to (e ∷ older) doc = sequenced_before (write_to e doc) (length older + 1) (writes_to older doc)
+
 -- the first choice where there is one, else the other
 abbrev pub sequenced_or : Option Write → ℕ → Option Sequenced → Option Sequenced
 sequenced_or None seq other = other

@@ -5,7 +5,7 @@ ghost use Rattle.sg_names.specs.declared.rev_id.RevId.{RevId};
 ghost use Rattle.sg_history.specs.declared.entries.Entry.{Entry};
 ghost use Rattle.sg_history.specs.Board.{BoardState, After};
 ghost use Rattle.sg_history.specs.Book.{Book, Numbered, book_of, book_with, Later, IsLastWrite, writes_up_to, last_write_up_to, write_of_rev_up_to};
-ghost use Rattle.sg_history.specs.Current.{Sequenced, last_write, write_of_rev};
+ghost use Rattle.sg_history.specs.Current.{Sequenced, writes_to, last_write, write_of_rev};
 ghost use Rattle.sg_history.specs.History.{History, Extends, past};
 ghost use Rattle.sg_history.specs.Journal.{IsEntry, line_of, Spells};
 
@@ -39,6 +39,7 @@ pub fn writes()
 
 /// The book of a history up to a number says of a document's writes what the entries up to that number say.
 pub fn books()
+    ensures writes { (h : List Entry) (number : ℕ) (doc : List ℕ) → writes_up_to (book_of h) number doc ≡ writes_to (past h number) doc }
     ensures last { (h : List Entry) (number : ℕ) (doc : List ℕ) → last_write_up_to (book_of h) number doc ≡ last_write (past h number) doc }
     ensures is_last { (h : List Entry) (doc : List ℕ) (last : Sequenced) → last_write_up_to (book_of h) (length h) doc ≡ Some last → IsLastWrite (book_of h) doc last }
     ensures of_rev { (h : List Entry) (number : ℕ) (doc : List ℕ) (rev : RevId) → write_of_rev_up_to (book_of h) number doc rev ≡ write_of_rev (past h number) doc rev }
