@@ -8,3 +8,4 @@ pub mod HexDigests
 pub mod OfWrites
 pub mod Firsts
 pub mod Parents
+mod DocumentTrees

@@ -6,3 +6,4 @@ pub mod Search
 pub mod Shape
 pub mod Tree
 pub mod Writes
+pub mod Documents

@@ -1,14 +1,19 @@
 //! Laws of trees: what holds of them by the definitions alone.
 
-ghost use Rattle.std.specs.Prelude.{◌≡◌, ◌&&◌, ◌||◌, not, List, Some, None, ◌↔◌, [], IsTrue};
+ghost use Rattle.std.specs.Prelude.{◌≡◌, ◌≤◌, ◌&&◌, ◌||◌, not, ℕ, List, Some, None, ◌↔◌, [], IsTrue};
 ghost use Rattle.std.specs.List.{list_any};
 ghost use Rattle.std.specs.List.Sorted.{IsPermutation};
 ghost use Rattle.sg_names.specs.declared.rev_id.RevId.{RevId};
 ghost use Rattle.sg_names.specs.RevId.{same_rev};
+ghost use Rattle.sg_history.specs.declared.entries.Entry.{Entry};
+ghost use Rattle.sg_history.specs.Book.{Book, book_of, Later, IsLastWrite};
+ghost use Rattle.sg_history.specs.Current.{Sequenced};
+ghost use Rattle.sg_history.specs.History.{past};
 ghost use Rattle.rev_tree.specs.declared.leaf.Leaf.{Leaf};
 ghost use Rattle.rev_tree.specs.declared.tree.Node.{Node};
 ghost use Rattle.rev_tree.specs.Order as order;
 ghost use Rattle.rev_tree.specs.Tree as trees;
+ghost use Rattle.rev_tree.specs.Documents.{writes_in, tree_in, last_in, base_in, writes_of, tree_at, last_at, base_write};
 ghost use Rattle.rev_tree.specs.Extension.{Recorded, with_write};
 ghost use Rattle.rev_tree.specs.Writes as writes;
 
@@ -41,3 +46,23 @@ pub fn leaves()
 pub fn extensions()
     ensures { (tree : List Node) (w : Recorded) (rev : RevId) → IsTrue (writes.is_accepted tree w) → trees.knows (with_write tree w) rev ≡ (writes.among (writes.path_of w) rev || trees.knows tree rev) }
 {}
+
+/// The tree of a document, up to the number of the last write that a book has of it, is the same in each later book, and so are that
+/// last write and the write on which a revision is based.
+pub fn later_books()
+    ensures trees { (earlier later : Book) (doc : List ℕ) (last : Sequenced) (number : ℕ) → Later earlier later → IsLastWrite earlier doc last → number ≤ last.seq → tree_in later number doc ≡ tree_in earlier number doc }
+    ensures last { (earlier later : Book) (doc : List ℕ) (last : Sequenced) → Later earlier later → IsLastWrite earlier doc last → last_in later last.seq doc ≡ last.seq }
+    ensures based { (earlier later : Book) (doc : List ℕ) (last : Sequenced) (ancestors : List RevId) → Later earlier later → IsLastWrite earlier doc last → base_in later last.seq doc ancestors ≡ base_in earlier last.seq doc ancestors }
+{
+    sg_history::laws::writes();
+}
+
+/// The book of a history says of a document, up to a number, what the entries up to that number say.
+pub fn histories()
+    ensures writes { (h : List Entry) (number : ℕ) (doc : List ℕ) → writes_in (book_of h) number doc ≡ writes_of (past h number) doc }
+    ensures trees { (h : List Entry) (number : ℕ) (doc : List ℕ) → tree_in (book_of h) number doc ≡ tree_at (past h number) doc }
+    ensures last { (h : List Entry) (number : ℕ) (doc : List ℕ) → last_in (book_of h) number doc ≡ last_at (past h number) doc }
+    ensures based { (h : List Entry) (number : ℕ) (doc : List ℕ) (ancestors : List RevId) → base_in (book_of h) number doc ancestors ≡ base_write (past h number) doc ancestors }
+{
+    sg_history::laws::books();
+}
