@@ -14,9 +14,10 @@ use Rattle.rev_tree.specs.declared.tree.Node.{Node}
 use Rattle.rev_tree.specs.Extension.{Recorded, with_write}
 use Rattle.rev_tree.specs.Writes.{tree_of, is_accepted, AreAccepted}
 use Rattle.doc_board.specs.declared.document.Document.{Document}
-use Rattle.doc_board.specs.Candidates.{Extends, is_write}
-use Rattle.doc_board.specs.Kept.{document_at, AreKept, or_blank, placed, blank, last_in, tree_in, nodes_in}
-use Rattle.doc_board.specs.Trees.{recorded, recorded_before, writes_of, tree_at, sequence_of, last_at, tree_when}
+use Rattle.sg_history.specs.Line.{is_write}
+use Rattle.doc_board.specs.Candidates.{ExtendsTree}
+use Rattle.doc_board.specs.Kept.{document_at, AreKept, or_blank, placed, blank, kept_last, kept_tree, kept_nodes}
+use Rattle.rev_tree.specs.Documents.{recorded, recorded_before, writes_of, tree_at, sequence_of, last_at, tree_when}
 
 abbrev pub Documents : Type 0
 Documents = BTreeMap (String Global) Document
@@ -51,24 +52,24 @@ there (e ∷ older) doc = there_next (write_to e doc) (writes_of older doc) (len
 
 -- ---- what is found of a document
 
-pub last_found : (es : List Entry) (documents : Documents) (doc : List ℕ) → AreKept es documents → last_in (get_by_text documents doc) ≡ last_at es doc
+pub last_found : (es : List Entry) (documents : Documents) (doc : List ℕ) → AreKept es documents → kept_last (get_by_text documents doc) ≡ last_at es doc
 last_found es documents doc kept = go (get_by_text documents doc) (kept doc)
   where
-    go : (found : Option Document) → IsPlaced es doc found → last_in found ≡ last_at es doc
+    go : (found : Option Document) → IsPlaced es doc found → kept_last found ≡ last_at es doc
     go None h = sym (never es doc h)
     go (Some d) h = ap (λ (k : Document). k.last) h
 
-pub tree_found : (es : List Entry) (documents : Documents) (doc : List ℕ) → AreKept es documents → tree_in (get_by_text documents doc) ≡ tree_when (writes_of es doc)
+pub tree_found : (es : List Entry) (documents : Documents) (doc : List ℕ) → AreKept es documents → kept_tree (get_by_text documents doc) ≡ tree_when (writes_of es doc)
 tree_found es documents doc kept = go (get_by_text documents doc) (kept doc)
   where
-    go : (found : Option Document) → IsPlaced es doc found → tree_in found ≡ tree_when (writes_of es doc)
+    go : (found : Option Document) → IsPlaced es doc found → kept_tree found ≡ tree_when (writes_of es doc)
     go None h = sym (ap tree_when h)
-    go (Some d) h = ap (λ (k : Document). tree_in (Some k)) h ∙ there es doc
+    go (Some d) h = ap (λ (k : Document). kept_tree (Some k)) h ∙ there es doc
 
-pub nodes_found : (es : List Entry) (documents : Documents) (doc : List ℕ) → AreKept es documents → nodes_in (get_by_text documents doc) ≡ tree_at es doc
+pub nodes_found : (es : List Entry) (documents : Documents) (doc : List ℕ) → AreKept es documents → kept_nodes (get_by_text documents doc) ≡ tree_at es doc
 nodes_found es documents doc kept = go (get_by_text documents doc) (kept doc)
   where
-    go : (found : Option Document) → IsPlaced es doc found → nodes_in found ≡ tree_at es doc
+    go : (found : Option Document) → IsPlaced es doc found → kept_nodes found ≡ tree_at es doc
     go None h = sym (ap tree_of h)
     go (Some d) h = ap (λ (k : Document). k.tree) h
 
@@ -129,7 +130,7 @@ accepted_past e es h accepted doc = subst AreAccepted (sym (writes_past e es doc
 
 -- ---- a write
 
-pub kept_with : (w : Write) (es : List Entry) (before after : Documents) (sequence : ℕ) (tree : List Node) → sequence ≡ length es + 1 → Extends (tree_at es w.doc) w tree → ((name : List ℕ) → get_by_text after name ≡ (if bytes_eq w.doc name then Some (record { last = sequence; tree = tree }) else get_by_text before name)) → AreKept es before → AreKept (entry.Write w ∷ es) after
+pub kept_with : (w : Write) (es : List Entry) (before after : Documents) (sequence : ℕ) (tree : List Node) → sequence ≡ length es + 1 → ExtendsTree (tree_at es w.doc) w tree → ((name : List ℕ) → get_by_text after name ≡ (if bytes_eq w.doc name then Some (record { last = sequence; tree = tree }) else get_by_text before name)) → AreKept es before → AreKept (entry.Write w ∷ es) after
 kept_with w es before after sequence tree next extends put kept doc =
     let P : Option Document → Type 0 = IsPlaced (entry.Write w ∷ es) doc in
     subst P (sym (put doc)) (go (bytes_eq w.doc doc) refl)
@@ -148,7 +149,7 @@ kept_with w es before after sequence tree next extends put kept doc =
     go true e = here e
     go false e = apart e (get_by_text before doc) (kept doc)
 
-pub accepted_with : (w : Write) (es : List Entry) (tree : List Node) → Extends (tree_at es w.doc) w tree → ((doc : List ℕ) → AreAccepted (writes_of es doc)) → (doc : List ℕ) → AreAccepted (writes_of (entry.Write w ∷ es) doc)
+pub accepted_with : (w : Write) (es : List Entry) (tree : List Node) → ExtendsTree (tree_at es w.doc) w tree → ((doc : List ℕ) → AreAccepted (writes_of es doc)) → (doc : List ℕ) → AreAccepted (writes_of (entry.Write w ∷ es) doc)
 accepted_with w es tree extends accepted doc = go (bytes_eq w.doc doc) refl
   where
     P : Bool → Type 0

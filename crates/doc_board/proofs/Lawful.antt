@@ -11,7 +11,7 @@ use Rattle.sg_history.specs.declared.entries.Entry.{Entry}
 use Rattle.sg_history.specs.declared.entries.Entry.TheVariants as entry
 use Rattle.sg_history.specs.declared.entries.Write.{Write}
 use Rattle.sg_history.specs.History.{write_to}
-use Rattle.sg_history.specs.Current.{with_rev_or, write_of_rev}
+use Rattle.sg_history.specs.Current.{Sequenced, with_rev_or, write_of_rev}
 use Rattle.sg_history.specs.Journal.{falls_from, has_rev, follows_rules, IsRecord, IsEntry}
 use Rattle.doc_board.specs.Lawful.{AreLawful}
 use Rattle.rev_tree.specs.declared.leaf.Leaf.{Leaf}
@@ -21,8 +21,8 @@ use Rattle.rev_tree.specs.Tree.{knows, leaves_of, winner_of}
 use Rattle.rev_tree.specs.Extension.{Recorded, falls}
 use Rattle.rev_tree.specs.Writes.{among, path_of, revisions, Pair, neighbours, pairs, is_parent_in, is_deleted_in, leaves_in, tree_of, only_last_known, AreAccepted}
 use Rattle.rev_tree.proofs.Sames.{same_is_equal, same_itself}
-use Rattle.doc_board.specs.Candidates.{Extends}
-use Rattle.doc_board.specs.Trees.{recorded, recorded_before, writes_of, tree_at}
+use Rattle.doc_board.specs.Candidates.{ExtendsTree}
+use Rattle.rev_tree.specs.Documents.{recorded, recorded_before, writes_of, tree_at}
 
 abbrev held : {X : Type 0} → X → Option X → X
 held d None = d
@@ -44,17 +44,17 @@ SameLeaves = (ws : List Recorded) → AreAccepted ws → leaves_of (tree_of ws) 
 abbrev pub is_written : List Recorded → RevId → Bool
 is_written ws rev = list_any (λ (w : Recorded). same_rev w.rev rev) ws
 
-written_next : (o : Option Write) (ws : List Recorded) (other : Option Write) (rev : RevId) → is_written ws rev ≡ is_some other → is_written (recorded_before o ws) rev ≡ is_some (with_rev_or o rev other)
-written_next None ws other rev h = h
-written_next (Some w) ws other rev h = go (same_rev w.rev rev) refl
+written_next : (o : Option Write) (ws : List Recorded) (seq : ℕ) (other : Option Sequenced) (rev : RevId) → is_written ws rev ≡ is_some other → is_written (recorded_before o ws) rev ≡ is_some (with_rev_or o seq rev other)
+written_next None ws seq other rev h = h
+written_next (Some w) ws seq other rev h = go (same_rev w.rev rev) refl
   where
-    go : (b : Bool) → same_rev w.rev rev ≡ b → (same_rev w.rev rev || is_written ws rev) ≡ is_some (if same_rev w.rev rev then Some w else other)
+    go : (b : Bool) → same_rev w.rev rev ≡ b → (same_rev w.rev rev || is_written ws rev) ≡ is_some (if same_rev w.rev rev then Some (record { seq = seq; write = w }) else other)
     go true e = rw e refl
     go false e = rw e h
 
 same_written : (es : List Entry) (doc : List ℕ) (rev : RevId) → is_written (writes_of es doc) rev ≡ has_rev es doc rev
 same_written [] doc rev = refl
-same_written (e ∷ older) doc rev = written_next (write_to e doc) (writes_of older doc) (write_of_rev older doc rev) rev (same_written older doc rev)
+same_written (e ∷ older) doc rev = written_next (write_to e doc) (writes_of older doc) (length older + 1) (write_of_rev older doc rev) rev (same_written older doc rev)
 
 among-append : (xs ys : List RevId) (rev : RevId) → among (xs ++ ys) rev ≡ (among xs rev || among ys rev)
 among-append xs ys rev = list_any-append (λ (r : RevId). same_rev r rev) xs ys
@@ -148,7 +148,7 @@ won_by same ws rev None accepted h e = absurd (none-some _ e)
 won_by same ws rev (Some won) accepted h e =
     subst (λ (r : RevId). is_written ws r ≡ true) (same_some _ _ e) (winner_is_written same ws won accepted h)
 
-pub follows : SameRevisions → SameLeaves → (w : Write) (es : List Entry) (after : List Node) → AreAccepted (writes_of es w.doc) → Extends (tree_at es w.doc) w after → w.at < length es + 1 → follows_rules es w ≡ true
+pub follows : SameRevisions → SameLeaves → (w : Write) (es : List Entry) (after : List Node) → AreAccepted (writes_of es w.doc) → ExtendsTree (tree_at es w.doc) w after → w.at < length es + 1 → follows_rules es w ≡ true
 follows same_revisions same_leaves w es after accepted extends judged =
     let ws : List Recorded = writes_of es w.doc in
     let tree : List Node = tree_of ws in
@@ -174,9 +174,9 @@ recorded_is_lawful (e ∷ older) h = (h.0.grammar, h.0.rules, recorded_is_lawful
 
 -- ---- the winner's name
 
-named_next : (o : Option Write) (other : Option Write) (rev : RevId) → ((w : Write) → o ≡ Some w → IsTrue (is_rev w.rev)) → (is_some other ≡ true → IsTrue (is_rev rev)) → is_some (with_rev_or o rev other) ≡ true → IsTrue (is_rev rev)
-named_next None other rev named rest h = rest h
-named_next (Some w) other rev named rest h =
+named_next : (o : Option Write) (seq : ℕ) (other : Option Sequenced) (rev : RevId) → ((w : Write) → o ≡ Some w → IsTrue (is_rev w.rev)) → (is_some other ≡ true → IsTrue (is_rev rev)) → is_some (with_rev_or o seq rev other) ≡ true → IsTrue (is_rev rev)
+named_next None seq other rev named rest h = rest h
+named_next (Some w) seq other rev named rest h =
     elim (cases_Bool (same_rev w.rev rev)) [
       | inl s ↦ subst (λ (r : RevId). IsTrue (is_rev r)) (same_is_equal w.rev rev s) (named w refl)
       | inr s ↦ rest (rw s at h)
@@ -198,9 +198,9 @@ write_named entry.Unused doc is w h = absurd (none-some _ h)
 written_named : (es : List Entry) (doc : List ℕ) (rev : RevId) → AreLawful es → has_rev es doc rev ≡ true → IsTrue (is_rev rev)
 written_named [] doc rev lawful h = absurd (both_ways false refl h)
 written_named (e ∷ older) doc rev lawful h =
-    named_next (write_to e doc) (write_of_rev older doc rev) rev (write_named e doc lawful.0) (written_named older doc rev lawful.2) h
+    named_next (write_to e doc) (length older + 1) (write_of_rev older doc rev) rev (write_named e doc lawful.0) (written_named older doc rev lawful.2) h
 
-pub winner_named : SameLeaves → (es : List Entry) (w : Write) (after : List Node) → AreLawful es → AreAccepted (writes_of es w.doc) → Extends (tree_at es w.doc) w after → IsTrue (is_rev w.rev) → IsTrue (is_rev w.winner)
+pub winner_named : SameLeaves → (es : List Entry) (w : Write) (after : List Node) → AreLawful es → AreAccepted (writes_of es w.doc) → ExtendsTree (tree_at es w.doc) w after → IsTrue (is_rev w.rev) → IsTrue (is_rev w.winner)
 winner_named same es w after lawful accepted extends named =
     let ws : List Recorded = writes_of es w.doc in
     let won : is_written (recorded w ∷ ws) w.winner ≡ true =

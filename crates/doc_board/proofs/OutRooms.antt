@@ -8,7 +8,7 @@ use Rattle.std.specs.Str.{bytes_eq}
 use Rattle.std.proofs.lemmas.Bool.{and_parts, and_from, or_left, or_right, eq-eqb}
 use Rattle.std.proofs.lemmas.List.Folds.{list_any-append}
 use Rattle.doc_board.specs.declared.document.Document.{Document}
-use Rattle.doc_board.specs.declared.room.RoomFor.{RoomFor}
+use Rattle.sg_history.specs.declared.room.RoomFor.{RoomFor}
 use Rattle.doc_board.specs.Kept.{has_place, or_blank, placed}
 use Rattle.doc_board.specs.Rooms.{same_doc, same_room, is_out, without}
 use Rattle.std.proofs.lemmas.Slice.Eq.{bytes_eq-Decides}

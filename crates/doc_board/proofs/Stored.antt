@@ -10,13 +10,14 @@ use Rattle.sg_history.specs.Kept as entries
 use Rattle.sg_history.specs.Journal.{IsEntry, may_follow}
 use Rattle.rev_tree.specs.declared.tree.Node.{Node}
 use Rattle.rev_tree.specs.Writes.{AreAccepted}
-use Rattle.doc_board.specs.declared.room.RoomFor.{RoomFor}
-use Rattle.doc_board.specs.Candidates.{Extends, is_write}
+use Rattle.sg_history.specs.declared.room.RoomFor.{RoomFor}
+use Rattle.sg_history.specs.Line.{is_write}
+use Rattle.doc_board.specs.Candidates.{ExtendsTree}
 use Rattle.doc_board.specs.Kept.{AreKept, IsKept, has_place, placed}
 use Rattle.doc_board.specs.Lawful.{AreLawful}
 use Rattle.doc_board.proofs.Lawful.{SameRevisions, SameLeaves, follows}
 use Rattle.doc_board.specs.Rooms.{is_out, without}
-use Rattle.doc_board.specs.Trees.{writes_of, tree_at}
+use Rattle.rev_tree.specs.Documents.{writes_of, tree_at}
 use Rattle.doc_board.proofs.Documents.{Documents, kept_with, accepted_with, kept_past, accepted_past, place_made}
 use Rattle.doc_board.proofs.OutRooms.{all_without, one_less, places_stay, all_placed, all_with}
 
@@ -32,7 +33,7 @@ no_rule (entry.DropRole name) es h = refl
 no_rule entry.Unused es h = refl
 
 -- a write
-pub kept_write : SameRevisions → SameLeaves → (w : Write) (log new : entries.Kept) (before after : Documents) (rooms : List RoomFor) (room : RoomFor) (sequence : ℕ) (tree : List Node) → IsKept log before rooms → is_out rooms room ≡ true → IsEntry (entry.Write w) → w.at < sequence → sequence ≡ length log.list + 1 → Extends (tree_at (reverse log.list) w.doc) w tree → ((name : List ℕ) → get_by_text after name ≡ (if bytes_eq w.doc name then Some (record { last = sequence; tree = tree }) else get_by_text before name)) → new.list ≡ log.list ++ entry.Write w ∷ [] → new.spare + 1 ≡ log.spare → IsKept new after (without room rooms)
+pub kept_write : SameRevisions → SameLeaves → (w : Write) (log new : entries.Kept) (before after : Documents) (rooms : List RoomFor) (room : RoomFor) (sequence : ℕ) (tree : List Node) → IsKept log before rooms → is_out rooms room ≡ true → IsEntry (entry.Write w) → w.at < sequence → sequence ≡ length log.list + 1 → ExtendsTree (tree_at (reverse log.list) w.doc) w tree → ((name : List ℕ) → get_by_text after name ≡ (if bytes_eq w.doc name then Some (record { last = sequence; tree = tree }) else get_by_text before name)) → new.list ≡ log.list ++ entry.Write w ∷ [] → new.spare + 1 ≡ log.spare → IsKept new after (without room rooms)
 kept_write same_revisions same_leaves w log new before after rooms room sequence tree kept out named judged next extends put list spare =
     let es : List Entry = reverse log.list in
     let at : sequence ≡ length es + 1 = next ∙ ap (λ (n : ℕ). n + 1) (sym (length-reverse log.list)) in

@@ -1,10 +1,11 @@
 -- What may be stored, and what storing it makes of a board.
-use Rattle.std.specs.Prelude.{◌≡◌, ◌≤◌, ◌<◌, ℕ, Bool, true, false, not, nat_eq, List, length, option_map, Option, Some, None, IsTrue}
+use Rattle.std.specs.Prelude.{◌≡◌, ◌≤◌, ◌<◌, ℕ, Bool, false, not, nat_eq, List, length, option_map, Option, Some, None, IsTrue}
 use Rattle.sg_history.specs.declared.entries.Entry.{Entry}
 use Rattle.sg_history.specs.declared.entries.Entry.TheVariants as entry
 use Rattle.sg_history.specs.declared.entries.Write.{Write}
 use Rattle.sg_history.specs.declared.number.Number.{Number}
 use Rattle.sg_history.specs.Journal.{IsEntry}
+use Rattle.sg_history.specs.Line.{is_write}
 use Rattle.json_doc.specs.Tree.{Tree}
 use Rattle.json_doc.specs.Reading.{IsDocument}
 use Rattle.rev_tree.specs.declared.tree.Node.{Node}
@@ -16,8 +17,8 @@ use Rattle.doc_board.specs.declared.candidate.Candidate.TheVariants as candidate
 use Rattle.doc_board.specs.declared.candidate.Commit.{Commit}
 use Rattle.doc_board.specs.declared.candidate.Commit.TheVariants as commit
 use Rattle.doc_board.specs.declared.room.Room.{Room}
-use Rattle.doc_board.specs.declared.room.RoomFor.{RoomFor}
-use Rattle.doc_board.specs.Trees.{recorded, tree_at, last_at}
+use Rattle.sg_history.specs.declared.room.RoomFor.{RoomFor}
+use Rattle.rev_tree.specs.Documents.{recorded, tree_at, last_at}
 
 -- the entry that is to be stored
 abbrev pub entry_of : Candidate → Entry
@@ -39,16 +40,8 @@ abbrev pub front_of : Candidate → ℕ → ℕ
 front_of (candidate.Write w tree base) before = w.at
 front_of (candidate.Plain e) before = before
 
-abbrev pub is_write : Entry → Bool
-is_write (entry.Write w) = true
-is_write (entry.PutUser name channels roles) = false
-is_write (entry.PutRole name channels) = false
-is_write (entry.DropUser name) = false
-is_write (entry.DropRole name) = false
-is_write entry.Unused = false
-
 -- the tree accepts the write, the new tree is the one with it, and the write names that tree's winner
-pub record Extends (before : List Node) (w : Write) (after : List Node) : Type 0 where
+pub record ExtendsTree (before : List Node) (w : Write) (after : List Node) : Type 0 where
   pub accepted : IsTrue (is_accepted before (recorded w))
   pub tree : after ≡ with_write before (recorded w)
   pub winner : option_map (λ l. l.rev) (winner_of after) ≡ Some w.winner
@@ -56,7 +49,7 @@ pub record Extends (before : List Node) (w : Write) (after : List Node) : Type 0
 -- a candidate is in its grammar, its body is a document, it was judged before it is stored, and it extends the tree that its document has where that was not written since
 abbrev pub MayBeStored : List Entry → ℕ → Candidate → Type 0
 MayBeStored es number (candidate.Write w tree base) =
-    IsEntry (entry.Write w) × ((doc : Tree) × IsDocument w.body doc) × (w.at < number) × (base ≡ last_at es w.doc → Extends (tree_at es w.doc) w tree)
+    IsEntry (entry.Write w) × ((doc : Tree) × IsDocument w.body doc) × (w.at < number) × (base ≡ last_at es w.doc → ExtendsTree (tree_at es w.doc) w tree)
 MayBeStored es number (candidate.Plain e) = IsEntry e × (is_write e ≡ false)
 
 -- the room was made for the candidate's document, or for none, and for at least so many bytes

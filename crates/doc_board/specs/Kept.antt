@@ -10,9 +10,9 @@ use Rattle.sg_history.specs.Kept as entries
 use Rattle.rev_tree.specs.declared.tree.Node.{Node}
 use Rattle.rev_tree.specs.Writes.{AreAccepted}
 use Rattle.doc_board.specs.declared.document.Document.{Document}
-use Rattle.doc_board.specs.declared.room.RoomFor.{RoomFor}
+use Rattle.sg_history.specs.declared.room.RoomFor.{RoomFor}
 use Rattle.doc_board.specs.Lawful.{AreLawful}
-use Rattle.doc_board.specs.Trees.{writes_of, tree_at, last_at}
+use Rattle.rev_tree.specs.Documents.{writes_of, tree_at, last_at}
 
 -- what is to be kept of a document after these entries, the newest first
 abbrev pub document_at : List Entry → List ℕ → Document
@@ -41,19 +41,19 @@ placed None documents name = get_by_text documents name
 placed (Some doc) documents name = if bytes_eq doc name then Some (or_blank (get_by_text documents doc)) else get_by_text documents name
 
 -- the sequence of the last write, 0 where there is none
-abbrev pub last_in : Option Document → ℕ
-last_in None = 0
-last_in (Some kept) = kept.last
+abbrev pub kept_last : Option Document → ℕ
+kept_last None = 0
+kept_last (Some kept) = kept.last
 
 -- the tree, where there is one of a document that was written
-abbrev pub tree_in : Option Document → Option (List Node)
-tree_in None = None
-tree_in (Some kept) = if nat_eq kept.last 0 then None else Some kept.tree
+abbrev pub kept_tree : Option Document → Option (List Node)
+kept_tree None = None
+kept_tree (Some kept) = if nat_eq kept.last 0 then None else Some kept.tree
 
 -- the revisions of the tree, none where there is no document
-abbrev pub nodes_in : Option Document → List Node
-nodes_in None = []
-nodes_in (Some kept) = kept.tree
+abbrev pub kept_nodes : Option Document → List Node
+kept_nodes None = []
+kept_nodes (Some kept) = kept.tree
 
 -- a board keeps each document that was written; each room that is out has the place of its document, and two places of the log; each write of a document was an accepted extension of the tree of those before it; and each entry is in its grammar and follows the rules of a journal
 pub record IsKept (log : entries.Kept) (places : BTreeMap (String Global) Document) (rooms : List RoomFor) : Type 0 where

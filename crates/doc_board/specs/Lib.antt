@@ -5,4 +5,3 @@ pub mod Lawful
 pub mod Recorded
 pub mod Rooms
 pub mod State
-pub mod Trees

@@ -1,15 +1,14 @@
 -- Logs that were recorded: which are those of a board.
-use Rattle.std.specs.Prelude.{◌≡◌, ◌+◌, ℕ, false, List, [], ◌∷◌, length, option_map, slice_get, Some}
+use Rattle.std.specs.Prelude.{◌≡◌, ◌+◌, ℕ, false, List, [], ◌∷◌, length, option_map, slice_get, Option, Some, None}
 use Rattle.sg_history.specs.declared.entries.Entry.{Entry}
-use Rattle.sg_history.specs.declared.entries.Entry.TheVariants as entry
 use Rattle.sg_history.specs.declared.entries.Write.{Write}
-use Rattle.sg_history.specs.History.{past}
+use Rattle.sg_history.specs.History.{as_write, past}
 use Rattle.json_doc.specs.Tree.{Tree}
 use Rattle.json_doc.specs.Reading.{IsDocument}
 use Rattle.rev_tree.specs.declared.tree.Node.{Node}
 use Rattle.rev_tree.specs.Tree.{winner_of}
 use Rattle.rev_tree.specs.Extension.{verdict_of, extends_tree, kept_of, with_write}
-use Rattle.doc_board.specs.Trees.{recorded, tree_at}
+use Rattle.rev_tree.specs.Documents.{recorded, tree_at}
 
 -- the bytes are a document
 abbrev pub HasDocument : List ℕ → Type 0
@@ -25,14 +24,14 @@ pub record Follows (before : List Node) (w : Write) : Type 0 where
 abbrev pub IsNext : List Node → Write → Type 0
 IsNext before w = HasDocument w.body × Follows before w
 
+-- a write that a board may have after these, where there is one
+abbrev pub WriteMayFollow : List Entry → Option Write → Type 0
+WriteMayFollow older None = Unit {0}
+WriteMayFollow older (Some w) = IsNext (tree_at older w.doc) w
+
 -- an entry that a board may have after these, the newest first
 abbrev pub MayFollow : List Entry → Entry → Type 0
-MayFollow older (entry.Write w) = IsNext (tree_at older w.doc) w
-MayFollow older (entry.PutUser name channels roles) = Unit {0}
-MayFollow older (entry.PutRole name channels) = Unit {0}
-MayFollow older (entry.DropUser name) = Unit {0}
-MayFollow older (entry.DropRole name) = Unit {0}
-MayFollow older entry.Unused = Unit {0}
+MayFollow older e = WriteMayFollow older (as_write e)
 
 -- entries that a board may have, the newest first
 abbrev pub AreFollowing : List Entry → Type 0

@@ -2,7 +2,7 @@
 use Rattle.std.specs.Prelude.{ℕ, Bool, true, false, ◌&&◌, nat_eq, List, [], ◌∷◌, Option, Some, None, if◌then◌else◌}
 use Rattle.std.specs.List.{list_any}
 use Rattle.std.specs.Str.{bytes_eq}
-use Rattle.doc_board.specs.declared.room.RoomFor.{RoomFor}
+use Rattle.sg_history.specs.declared.room.RoomFor.{RoomFor}
 
 abbrev pub same_doc : Option (List ℕ) → Option (List ℕ) → Bool
 same_doc None None = true

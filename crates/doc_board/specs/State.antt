@@ -1,7 +1,7 @@
 -- What a board is: the history that it keeps, and the rooms that are out.
 use Rattle.std.specs.Prelude.{List, reverse}
 use Rattle.sg_history.specs.declared.entries.Entry.{Entry}
-use Rattle.doc_board.specs.declared.room.RoomFor.{RoomFor}
+use Rattle.sg_history.specs.declared.room.RoomFor.{RoomFor}
 
 pub record State : Type 0 where
   pub log : List Entry

@@ -2,29 +2,30 @@
 
 ghost use Rattle.std.specs.Prelude.{◌≡◌, ◌≢◌, ◌≤◌, ◌<◌, ◌+◌, ◌++◌, ◌∷◌, [], ℕ, List, true, false, length, reverse, is_some, Some, option_map, OnOk, OnErr, IfOk, IfSome, IsTrue, Err};
 ghost use Rattle.std.specs.Option.{option_copied};
-ghost use Rattle.sg_history.specs.History.{history, among};
+ghost use Rattle.sg_history.specs.History.{entries_of, among};
 ghost use Rattle.sg_history.specs.Principals as principals;
 ghost use Rattle.rev_tree.specs.Writes.{AreAccepted};
 ghost use Rattle.doc_board.specs.Answers.{IsStep, proposer_exists};
 ghost use Rattle.sg_history.specs.declared.entries.Entry.TheVariants as kinds;
-ghost use Rattle.doc_board.specs.Candidates.{MayBeStored, Extends, Fits, IfStored, IfStale, is_stale, is_write, entry_of, front_of, last_of};
+ghost use Rattle.doc_board.specs.Candidates.{MayBeStored, ExtendsTree, Fits, IfStored, IfStale, is_stale, entry_of, front_of, last_of};
 ghost use Rattle.sg_history.specs.Journal.{IsEntry};
+ghost use Rattle.sg_history.specs.Line.{is_write};
 ghost use Rattle.doc_board.specs.Lawful.{AreLawful};
 ghost use Rattle.doc_board.specs.Recorded.{AreFollowing, IsFirstBad};
 ghost use Rattle.doc_board.specs.Rooms.{is_out, room_for, without};
 ghost use Rattle.doc_board.specs.State.{book};
-ghost use Rattle.doc_board.specs.Trees.{writes_of, tree_at, tree_when, last_at, base_write, deletes};
+ghost use Rattle.rev_tree.specs.Documents.{writes_of, tree_at, tree_when, last_at, base_write, deletes};
 
 use crate::candidate::{Candidate, Commit, NoRoom};
 use crate::document::{self, Document, Documents};
 use crate::open::{OpenFault, documents_of};
-use crate::room::{self, Room, RoomFor};
+use crate::room::{self, Room};
 use crate::snapshot::{Snapshot, base_of, body_of, is_deletion, proposer_exists, step_in};
 use feed_rows::channels_of;
 use repl_messages::Revision;
 use rev_tree::Tree;
 use rev_tree::laws::trees_of_writes;
-use sg_history::{Channels, DocId, Entry, Log, Name, Number, Write};
+use sg_history::{Channels, DocId, Entry, Log, Name, Number, RoomFor, Write};
 use sg_outside::Memory;
 use std::alloc::{AllocError, Global};
 use std::collections::BTreeMap;
@@ -42,13 +43,13 @@ pub struct Board {
 impl Model for Board {
     ghost use Rattle.std.specs.Prelude.{◌≤◌, reverse, length, IsTrue};
     ghost use Rattle.std.specs.List.{list_all};
-    ghost use Rattle.sg_history.specs.History.{history};
+    ghost use Rattle.sg_history.specs.History.{entries_of};
     ghost use Rattle.doc_board.specs.Kept.{IsKept};
     ghost use Rattle.doc_board.specs.State.{State};
 
     ghost Value = { State };
 
-    ghost view = { λ b. record { log = history b.log; rooms = b.rooms.items } };
+    ghost view = { λ b. record { log = entries_of b.log; rooms = b.rooms.items } };
 
     ghost invariant = { λ b. IsKept b.log.entries b.documents b.rooms.items };
 }
@@ -68,11 +69,11 @@ impl Board {
 
     /// The board of a log that was recorded.
     pub fn open(alloc: Global, log: Log) -> Result<Board, OpenFault>
-        requires { AreLawful (reverse (history log)) }
-        ensures log { IfOk result (λ board. board.log ≡ history log) }
+        requires { AreLawful (reverse (entries_of log)) }
+        ensures log { IfOk result (λ board. board.log ≡ entries_of log) }
         ensures rooms { IfOk result (λ board. board.rooms ≡ []) }
-        ensures following { IfOk result (λ board. AreFollowing (reverse (history log))) }
-        ensures bad { (sequence : ℕ) → result ≡ Err (OpenFault.Bad sequence) → IsFirstBad (history log) sequence }
+        ensures following { IfOk result (λ board. AreFollowing (reverse (entries_of log))) }
+        ensures bad { (sequence : ℕ) → result ≡ Err (OpenFault.Bad sequence) → IsFirstBad (entries_of log) sequence }
     {
         let documents = documents_of(alloc, log.entries.as_slice())?;
         Ok(Board {
@@ -92,7 +93,7 @@ impl Board {
 
     /// The log. Takes no memory.
     pub fn log(&self) -> &Log
-        ensures log { history result.now ≡ self.now.log }
+        ensures log { entries_of result.now ≡ self.now.log }
         ensures lawful { AreLawful (book self.now) }
         ensures accepted { (doc : List ℕ) → AreAccepted (writes_of (book self.now) doc) }
     {
@@ -200,7 +201,7 @@ impl Board {
         requires doc { room.made_for.doc ≡ Some entry.doc }
         requires entry { IsEntry (kinds.Write entry) }
         requires at { entry.at < sequence }
-        requires extends { Extends (tree_at (book self.old) entry.doc) entry tree }
+        requires extends { ExtendsTree (tree_at (book self.old) entry.doc) entry tree }
         ensures log { self.new.log ≡ self.old.log ++ kinds.Write entry ∷ [] }
         ensures rooms { self.new.rooms ≡ without room.made_for self.old.rooms }
     {

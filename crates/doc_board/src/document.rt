@@ -30,7 +30,7 @@ pub fn document_of<'a>(documents: &'a Documents, doc: &DocId) -> Option<&'a Docu
 
 /// The sequence of a document's last write, 0 where there is none.
 pub fn last_of(document: Option<&Document>) -> u64
-    ensures { result ≡ kept.last_in (option_copied document.entry) }
+    ensures { result ≡ kept.kept_last (option_copied document.entry) }
 {
     match document {
         None => 0,
@@ -40,7 +40,7 @@ pub fn last_of(document: Option<&Document>) -> u64
 
 /// A document's tree, where it was written.
 pub fn tree_of(document: Option<&Document>) -> Option<&Tree>
-    ensures { option_copied result ≡ kept.tree_in (option_copied document.entry) }
+    ensures { option_copied result ≡ kept.kept_tree (option_copied document.entry) }
 {
     match document {
         Some(document) if document.last != 0 => Some(&document.tree),

@@ -12,5 +12,6 @@ pub mod snapshot;
 pub use board::Board;
 pub use candidate::{Candidate, Commit, NoRoom};
 pub use open::OpenFault;
-pub use room::{Room, RoomFor};
+pub use room::Room;
+pub use sg_history::RoomFor;
 pub use snapshot::Snapshot;

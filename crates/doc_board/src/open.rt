@@ -5,10 +5,10 @@ ghost use Rattle.std.specs.BTreeMap.{get_by_text};
 ghost use Rattle.sg_history.specs.declared.entries.Entry.TheVariants as kinds;
 ghost use Rattle.rev_tree.specs.Tree.{winner_of};
 ghost use Rattle.rev_tree.specs.Writes.{AreAccepted};
-ghost use Rattle.doc_board.specs.Candidates.{Extends};
-ghost use Rattle.doc_board.specs.Kept.{AreKept, nodes_in};
+ghost use Rattle.doc_board.specs.Candidates.{ExtendsTree};
+ghost use Rattle.doc_board.specs.Kept.{AreKept, kept_nodes};
 ghost use Rattle.doc_board.specs.Recorded.{HasDocument, IsNext, MayFollow, Follows, AreFollowing, IsFirstBad};
-ghost use Rattle.doc_board.specs.Trees.{writes_of, tree_at};
+ghost use Rattle.rev_tree.specs.Documents.{writes_of, tree_at};
 
 use crate::document::{self, Document, Documents};
 use json_doc::{DocFault, read_doc};
@@ -50,7 +50,7 @@ fn wins(tree: &Tree, rev: &RevId) -> bool
 
 /// The tree after a write, where that write is an accepted extension with all its ancestors, and names the winner.
 fn extended(tree: &Tree, write: &Write) -> Result<Option<Tree>, AllocError>
-    ensures some { IfOk result (λ found. IfSome found (λ after. Extends tree.now write.now after)) }
+    ensures some { IfOk result (λ found. IfSome found (λ after. ExtendsTree tree.now write.now after)) }
     ensures follows { IfOk result (λ found. IfSome found (λ after. Follows tree.now write.now)) }
     ensures none { IfOk result (λ found. IfNone found (¬ Follows tree.now write.now)) }
 {
@@ -86,9 +86,9 @@ fn tree_after(
     documents: &Documents,
     write: &Write,
 ) -> Result<Option<Tree>, AllocError>
-    ensures some { IfOk result (λ found. IfSome found (λ after. Extends (nodes_in (get_by_text documents.now write.now.doc)) write.now after)) }
-    ensures next { IfOk result (λ found. IfSome found (λ after. IsNext (nodes_in (get_by_text documents.now write.now.doc)) write.now)) }
-    ensures none { IfOk result (λ found. IfNone found (¬ IsNext (nodes_in (get_by_text documents.now write.now.doc)) write.now)) }
+    ensures some { IfOk result (λ found. IfSome found (λ after. ExtendsTree (kept_nodes (get_by_text documents.now write.now.doc)) write.now after)) }
+    ensures next { IfOk result (λ found. IfSome found (λ after. IsNext (kept_nodes (get_by_text documents.now write.now.doc)) write.now)) }
+    ensures none { IfOk result (λ found. IfNone found (¬ IsNext (kept_nodes (get_by_text documents.now write.now.doc)) write.now)) }
 {
     if !is_document(alloc, write.body.as_slice())? {
         return Ok(None);

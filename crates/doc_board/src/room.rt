@@ -4,15 +4,8 @@ ghost use Rattle.std.specs.Prelude.{◌≡◌, ◌<◌, ◌+◌, ◌++◌, take,
 ghost use Rattle.std.specs.Option.{option_copied};
 ghost use Rattle.doc_board.specs.Rooms as rooms;
 
-use sg_history::DocId;
+use sg_history::{DocId, RoomFor};
 use std::alloc::{AllocError, Global};
-
-/// What a room was made for: a document, or an entry that is no write; and how many bytes the body may have.
-#[derive(Drop)]
-pub struct RoomFor {
-    pub doc: Option<DocId>,
-    pub bytes: u64,
-}
 
 /// Room for one entry. It can't be let go: it ends where the board stores the entry.
 #[non_exhaustive]

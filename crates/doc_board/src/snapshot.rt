@@ -2,11 +2,11 @@
 
 ghost use Rattle.std.specs.Prelude.{◌≡◌, reverse, option_map, IfOk};
 ghost use Rattle.std.specs.Option.{option_copied};
-ghost use Rattle.sg_history.specs.History.{history};
+ghost use Rattle.sg_history.specs.History.{entries_of};
 ghost use Rattle.doc_board.specs.Answers as answers;
 ghost use Rattle.doc_board.specs.Answers.{IsStep};
 ghost use Rattle.doc_board.specs.Kept as kept;
-ghost use Rattle.doc_board.specs.Trees.{base_write, deletes};
+ghost use Rattle.rev_tree.specs.Documents.{base_write, deletes};
 
 use crate::document::Document;
 use feed_rows::{channels_of, write_of_rev};
@@ -40,7 +40,7 @@ pub(crate) fn step_in(
     revision: &Revision,
     strict: bool,
 ) -> Result<Extended, AllocError>
-    ensures { IfOk result (IsStep (kept.nodes_in (option_copied document.entry)) revision.now strict) }
+    ensures { IfOk result (IsStep (kept.kept_nodes (option_copied document.entry)) revision.now strict) }
 {
     let empty = Tree::new(alloc);
     let tree = match document {
@@ -69,7 +69,7 @@ pub(crate) fn base_of<'a>(
     ensures { option_copied result ≡ base_write (reverse entries.now) doc.now ancestors.now }
 {
     let parent = ancestors.first()?;
-    write_of_rev(entries, doc, parent)
+    Some(write_of_rev(entries, doc, parent)?.write)
 }
 
 pub(crate) fn body_of(alloc: Global, write: Option<&Write>) -> Result<Option<Bytes>, AllocError>
@@ -96,7 +96,7 @@ pub(crate) fn proposer_exists(
     log: &Log,
     by: Option<&Name>,
 ) -> Result<bool, AllocError>
-    ensures { IfOk result (λ found. found ≡ answers.proposer_exists (reverse (history log.now)) (option_copied by.entry)) }
+    ensures { IfOk result (λ found. found ≡ answers.proposer_exists (reverse (entries_of log.now)) (option_copied by.entry)) }
 {
     match by {
         None => Ok(true),

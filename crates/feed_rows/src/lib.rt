@@ -14,6 +14,6 @@ mod principals;
 mod scan;
 mod views;
 
-pub use documents::write_of_rev;
+pub use documents::{Latest, write_of_rev};
 pub use granted::channels_of;
 pub use scan::rows;

@@ -6,7 +6,7 @@ use Rattle.sg_history.specs.declared.entries.Write.{Write}
 use Rattle.sg_history.specs.declared.row.Row.{Row}
 use Rattle.sg_history.specs.declared.row.Options.{Options}
 use Rattle.sg_history.specs.History.{past}
-use Rattle.sg_history.specs.Current.{Sequenced, last_write, write_of_rev, write_or}
+use Rattle.sg_history.specs.Current.{Sequenced, last_write, winning_of}
 use Rattle.sg_history.specs.View.{Shown, view, same_view}
 use Rattle.sg_history.specs.Feed.{feed, changed, is_deleted}
 use Rattle.repl_messages.specs.declared.looks.Body.{Body}
@@ -31,7 +31,7 @@ IsFed h user since options (fed.Future front) = front < since.by
 
 abbrev pub winner_after : List Entry → List ℕ → Option Sequenced → Option Write
 winner_after es doc None = None
-winner_after es doc (Some last) = Some (write_or (write_of_rev es doc last.write.winner) last.write)
+winner_after es doc (Some last) = Some (winning_of es doc last).write
 
 -- the write of a document's current revision: of the winner that its last write names (or, in a log that names one which was
 -- never written, that write itself)

@@ -2,7 +2,7 @@ use Rattle.std.proofs.Common.{List, ℕ, take, reverse}
 use Rattle.rev_tree.specs.Writes.{AreAccepted}
 use Rattle.doc_board.specs.Kept.{AreKept}
 use Rattle.doc_board.specs.Recorded.{AreFollowing}
-use Rattle.doc_board.specs.Trees.{writes_of}
+use Rattle.rev_tree.specs.Documents.{writes_of}
 use Rattle.doc_board.proofs.open.documents_of.Given as goal
 
 abbrev pub invariant-loop-i : goal.invariant-loop-i

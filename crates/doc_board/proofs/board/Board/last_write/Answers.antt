@@ -1,14 +1,14 @@
 use Rattle.std.proofs.Common.{◌∙◌, ap, Option, reverse}
 use Rattle.doc_board.specs.declared.document.Document.{Document}
-use Rattle.doc_board.specs.Kept.{last_in}
+use Rattle.doc_board.specs.Kept.{kept_last}
 use Rattle.doc_board.specs.State.{State, book}
-use Rattle.doc_board.specs.Trees.{last_at}
+use Rattle.rev_tree.specs.Documents.{last_at}
 use Rattle.doc_board.proofs.Documents.{last_found}
 use Rattle.doc_board.proofs.board.Board.last_write.Goals as goal
 
 pub returns : goal.returns
 returns c =
     c.last_of.ensures
-    ∙ ap (λ (o : Option Document). last_in o) c.document_of.ensures
+    ∙ ap (λ (o : Option Document). kept_last o) c.document_of.ensures
     ∙ last_found (reverse c.self.inside.log.entries.list) c.self.inside.documents c.args.doc.now c.self.invariant.documents
     ∙ ap (λ (s : State). last_at (book s) c.args.doc.now) c.self.view_is

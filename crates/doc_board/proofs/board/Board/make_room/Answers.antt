@@ -1,7 +1,7 @@
 use Rattle.std.proofs.Common.{◌∙◌, ◌++◌, ◌∷◌, [], true, ◌≡◌, ◌≤◌, ◌+◌, ◌*◌, ℕ, List, Option, length, sym, ap, subst, arith}
 use Rattle.std.specs.BTreeMap.{get_by_text}
 use Rattle.std.specs.Option.{option_copied}
-use Rattle.doc_board.specs.declared.room.RoomFor.{RoomFor}
+use Rattle.sg_history.specs.declared.room.RoomFor.{RoomFor}
 use Rattle.doc_board.specs.Kept.{IsKept, placed}
 use Rattle.doc_board.specs.Rooms.{is_out}
 use Rattle.doc_board.proofs.OutRooms.{made_out}
