@@ -15,7 +15,8 @@ use Rattle.sg_history.specs.declared.entries.Write.{Write}
 use Rattle.sg_history.specs.declared.row.Row.{Row}
 use Rattle.sg_history.specs.declared.row.Options.{Options}
 use Rattle.sg_history.specs.History.{past}
-use Rattle.sg_history.specs.Current.{current, write_of_rev}
+use Rattle.sg_names.specs.declared.rev_id.RevId.{RevId}
+use Rattle.sg_history.specs.Current.{current, write_of_rev, write_alone}
 use Rattle.sg_history.specs.View.{Shown, view, same_view}
 use Rattle.sg_history.specs.Feed.{changed, feed, keeps, is_gone, row_of}
 use Rattle.feed_rows.specs.Laws.{HasRow, IsAskedFor}
@@ -96,17 +97,17 @@ module _ (es : List Entry) (user : List ℕ) (filter : Option (List (List ℕ)))
       else (if left_by_write row.bits && is_none shown && nat_eq place row.key.by then body.Removed else body.NoRev)
 
   -- where the row still is what is shown, the write of the row's revision is the winner's
-  winner_is : (now : Option Row) (winner : Option Write) → shown_by now ≡ Some (said_by row) → view es user filter row.doc ≡ Some (said_by row) → ((r : Row) → now ≡ Some r → winner ≡ write_of_rev es row.doc r.rev) → winner ≡ winning_write es row.doc
+  winner_is : (now : Option Row) (winner : Option Write) → shown_by now ≡ Some (said_by row) → view es user filter row.doc ≡ Some (said_by row) → ((r : Row) → now ≡ Some r → winner ≡ write_alone (write_of_rev es row.doc r.rev)) → winner ≡ winning_write es row.doc
   winner_is None winner h v found = absurd (none-some _ h)
   winner_is (Some r) winner h v found =
       let c = seen es user filter (current es row.doc) (said_by row) v in
-      found r refl ∙ ap (write_of_rev es row.doc) (go (is_gone r.bits) h ∙ ap (λ (s : Shown). s.rev) c.3) ∙ winner_of_rev es row.doc c.0 c.1
+      found r refl ∙ ap (λ (r : RevId). write_alone (write_of_rev es row.doc r)) (go (is_gone r.bits) h ∙ ap (λ (s : Shown). s.rev) c.3) ∙ winner_of_rev es row.doc c.0 c.1
     where
       go : (b : Bool) → (if b then None else Some (said_by r)) ≡ Some (said_by row) → r.rev ≡ row.rev
       go true h = absurd (none-some _ h)
       go false h = ap (λ (s : Shown). s.rev) (same_Some (said_by r) (said_by row) h)
 
-  body_is : (now : Option Row) (winner : Option Write) → now ≡ row_of es user filter row.doc → ((r : Row) → now ≡ Some r → winner ≡ write_of_rev es row.doc r.rev) → body_by now winner most row ≡ body_of es user filter most row
+  body_is : (now : Option Row) (winner : Option Write) → now ≡ row_of es user filter row.doc → ((r : Row) → now ≡ Some r → winner ≡ write_alone (write_of_rev es row.doc r.rev)) → body_by now winner most row ≡ body_of es user filter most row
   body_is now winner is found =
       let shown : shown_by now ≡ view es user filter row.doc = ap shown_by is ∙ shown_now es user filter row.doc in
       let place : place_by now ≡ length (changed es user filter row.doc) = ap place_by is ∙ place_now es user filter row.doc in
@@ -121,10 +122,10 @@ module _ (es : List Entry) (user : List ℕ) (filter : Option (List (List ℕ)))
       go false e shown other = refl
 
 -- the answers for all rows
-pub bodies_are : Exact → (h entries : List Entry) (user : List ℕ) (filter : Option (List (List ℕ))) (most : ℕ) (all listed rows : List Row) (now : List ℕ → Option Row) (winners : List ℕ → Option Write) → entries ≡ h → all ≡ feed (past h (length h)) user before_all (all_rows filter) → listed ≡ all → ((doc : List ℕ) → now doc ≡ last_named None listed doc) → ((doc : List ℕ) (row : Row) → now doc ≡ Some row → winners doc ≡ write_of_rev (reverse entries) doc row.rev) → map (λ row. body_by (now row.doc) (winners row.doc) most row) rows ≡ map (body_of (past h (length h)) user filter most) rows
+pub bodies_are : Exact → (h entries : List Entry) (user : List ℕ) (filter : Option (List (List ℕ))) (most : ℕ) (all listed rows : List Row) (now : List ℕ → Option Row) (winners : List ℕ → Option Write) → entries ≡ h → all ≡ feed (past h (length h)) user before_all (all_rows filter) → listed ≡ all → ((doc : List ℕ) → now doc ≡ last_named None listed doc) → ((doc : List ℕ) (row : Row) → now doc ≡ Some row → winners doc ≡ write_alone (write_of_rev (reverse entries) doc row.rev)) → map (λ row. body_by (now row.doc) (winners row.doc) most row) rows ≡ map (body_of (past h (length h)) user filter most) rows
 bodies_are exact h entries user filter most all listed rows now winners one is same found written =
     let es : List Entry = past h (length h) in
     let whole : reverse entries ≡ es = ap reverse (one ∙ sym (take-length h)) in
     let named : (doc : List ℕ) → now doc ≡ row_of es user filter doc = λ doc. found doc ∙ ap (λ (l : List Row). last_named None l doc) (same ∙ is) ∙ named_row exact es user filter doc in
-    let of : (doc : List ℕ) (row : Row) → now doc ≡ Some row → winners doc ≡ write_of_rev es doc row.rev = λ doc row k. written doc row k ∙ ap (λ (l : List Entry). write_of_rev l doc row.rev) whole in
+    let of : (doc : List ℕ) (row : Row) → now doc ≡ Some row → winners doc ≡ write_alone (write_of_rev es doc row.rev) = λ doc row k. written doc row k ∙ ap (λ (l : List Entry). write_alone (write_of_rev l doc row.rev)) whole in
     ap (λ (f : Row → Body). map f rows) (fun_ext (λ row. body_is es user filter most row (now row.doc) (winners row.doc) (named row.doc) (of row.doc)))

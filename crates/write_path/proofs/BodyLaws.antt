@@ -53,7 +53,7 @@ module _ (es : List Entry) (user : List ℕ) (filter : Option (List (List ℕ)))
       let w = x.1.0 in
       let y = seen es user filter (current es row.doc) (said_by row) (rev_shown ancestors bytes h) in
       let z = current_winner es row.doc y.0 y.1 in
-      let one : z.0 ≡ w = same_Some z.0 w (sym z.1 ∙ x.1.1) in
+      let one : z.0.write ≡ w = same_Some z.0.write w (sym z.1 ∙ x.1.1) in
       let rev : w.rev ≡ row.rev = sym (ap (λ (v : Write). v.rev) one) ∙ sym (ap (λ (c : Current). c.rev) z.2) ∙ sym (ap (λ (s : Shown). s.rev) y.3) in
       (w, x.1.1, winner_names es row.doc w x.1.1, rev, x.1.2, x.1.3)
 
@@ -62,7 +62,7 @@ module _ (es : List Entry) (user : List ℕ) (filter : Option (List (List ℕ)))
       let y = seen es user filter (current es row.doc) (said_by row) h in
       let z = current_winner es row.doc y.0 y.1 in
       let same : is_still_shown es user filter row ≡ true = rw h (view_itself (Some (said_by row))) in
-      (z.0, z.1, go (is_still_shown es user filter row) (winning_write es row.doc) same z.0 z.1)
+      (z.0.write, z.1, go (is_still_shown es user filter row) (winning_write es row.doc) same z.0.write z.1)
     where
       go : (b : Bool) (o : Option Write) → b ≡ true → (w : Write) → o ≡ Some w → chosen b (is_still_gone es user filter row) most o ≡ body.Rev (take most w.ancestors) w.body
       go true None e w h = absurd (none-some _ h)

@@ -10,7 +10,7 @@ use Rattle.std.specs.Str.{bytes_eq}
 use Rattle.sg_names.specs.RevId.{same_rev}
 use Rattle.sg_history.specs.declared.entries.Write.{Write}
 use Rattle.sg_history.specs.declared.row.Row.{Row}
-use Rattle.sg_history.specs.Current.{with_rev_or}
+use Rattle.sg_history.specs.Current.{rev_or}
 use Rattle.write_path.specs.ByName.{under}
 use Rattle.write_path.proofs.Same.{same_bytes}
 
@@ -26,10 +26,10 @@ under_after m n name key v e h doc =
 
 -- a write under its document's name, where that document has a row
 module _ (w : Write) (now : List ℕ → Option Row) (r : Row) (before : List ℕ → Option Write) (is : now w.doc ≡ Some r) where
-  pub taken : same_rev w.rev r.rev ≡ true → (after : List ℕ → Option Write) → ((doc : List ℕ) → after doc ≡ (if bytes_eq w.doc doc then Some w else before doc)) → (doc : List ℕ) (row : Row) → now doc ≡ Some row → after doc ≡ with_rev_or (if bytes_eq w.doc doc then Some w else None) row.rev (before doc)
+  pub taken : same_rev w.rev r.rev ≡ true → (after : List ℕ → Option Write) → ((doc : List ℕ) → after doc ≡ (if bytes_eq w.doc doc then Some w else before doc)) → (doc : List ℕ) (row : Row) → now doc ≡ Some row → after doc ≡ rev_or (if bytes_eq w.doc doc then Some w else None) row.rev (before doc)
   taken same after put doc row has = put doc ∙ go (bytes_eq w.doc doc) refl
     where
-      go : (b : Bool) → bytes_eq w.doc doc ≡ b → (if b then Some w else before doc) ≡ with_rev_or (if b then Some w else None) row.rev (before doc)
+      go : (b : Bool) → bytes_eq w.doc doc ≡ b → (if b then Some w else before doc) ≡ rev_or (if b then Some w else None) row.rev (before doc)
       go true e =
           let d : w.doc ≡ doc = same_bytes w.doc doc e in
           let one : r ≡ row = same_Some r row (sym is ∙ ap now d ∙ has) in
@@ -37,10 +37,10 @@ module _ (w : Write) (now : List ℕ → Option Row) (r : Row) (before : List �
           rw yes refl
       go false e = refl
 
-  pub left : same_rev w.rev r.rev ≡ false → (doc : List ℕ) (row : Row) → now doc ≡ Some row → before doc ≡ with_rev_or (if bytes_eq w.doc doc then Some w else None) row.rev (before doc)
+  pub left : same_rev w.rev r.rev ≡ false → (doc : List ℕ) (row : Row) → now doc ≡ Some row → before doc ≡ rev_or (if bytes_eq w.doc doc then Some w else None) row.rev (before doc)
   left other doc row has = go (bytes_eq w.doc doc) refl
     where
-      go : (b : Bool) → bytes_eq w.doc doc ≡ b → before doc ≡ with_rev_or (if b then Some w else None) row.rev (before doc)
+      go : (b : Bool) → bytes_eq w.doc doc ≡ b → before doc ≡ rev_or (if b then Some w else None) row.rev (before doc)
       go true e =
           let d : w.doc ≡ doc = same_bytes w.doc doc e in
           let one : r ≡ row = same_Some r row (sym is ∙ ap now d ∙ has) in

@@ -8,7 +8,7 @@ use Rattle.sg_history.specs.declared.entries.Entry.{Entry}
 use Rattle.sg_history.specs.declared.entries.Write.{Write}
 use Rattle.sg_history.specs.declared.row.Row.{Row}
 use Rattle.sg_history.specs.History.{write_to}
-use Rattle.sg_history.specs.Current.{Current, Sequenced, sequenced_or, last_write, write_of_rev, with_rev_or, write_or, current, current_after, current_of}
+use Rattle.sg_history.specs.Current.{Current, Sequenced, sequenced_or, last_write, write_of_rev, with_rev_or, write_or, current, current_after, current_by, write_alone}
 use Rattle.sg_history.specs.View.{Shown, view, view_of, is_shown, same_view}
 use Rattle.sg_history.specs.Feed.{changed, writes, bits_of, row_with, row_at, row_of}
 use Rattle.repl_messages.specs.Looks.{winning_write, winner_after}
@@ -120,42 +120,42 @@ pub row_names : (es : List Entry) (user : List ℕ) (filter : Option (List (List
 row_names es user filter doc r h = row_at_names (changed es user filter doc) user filter doc r h
 
 -- the write of a revision is of that revision
-of_rev_is : (es : List Entry) (doc : List ℕ) (rev : RevId) (w : Write) → write_of_rev es doc rev ≡ Some w → w.rev ≡ rev
+of_rev_is : (es : List Entry) (doc : List ℕ) (rev : RevId) (w : Sequenced) → write_of_rev es doc rev ≡ Some w → w.write.rev ≡ rev
 of_rev_is [] doc rev w h = absurd (none-some _ h)
 of_rev_is (e ∷ older) doc rev w h = go (write_to e doc) (of_rev_is older doc rev w) h
   where
-    pick : (v : Write) (b : Bool) → same_rev v.rev rev ≡ b → (write_of_rev older doc rev ≡ Some w → w.rev ≡ rev) → (if b then Some v else write_of_rev older doc rev) ≡ Some w → w.rev ≡ rev
-    pick v true p rest h = let same : v ≡ w = same_Some v w h in sym (ap (λ (x : Write). x.rev) same) ∙ same_revs v.rev rev p
+    pick : (v : Write) (b : Bool) → same_rev v.rev rev ≡ b → (write_of_rev older doc rev ≡ Some w → w.write.rev ≡ rev) → (if b then Some (record { seq = length older + 1; write = v }) else write_of_rev older doc rev) ≡ Some w → w.write.rev ≡ rev
+    pick v true p rest h = let same : record { seq = length older + 1; write = v } ≡ w = same_Some (record { seq = length older + 1; write = v }) w h in sym (ap (λ (x : Sequenced). x.write.rev) same) ∙ same_revs v.rev rev p
     pick v false p rest h = rest h
 
-    go : (v : Option Write) → (write_of_rev older doc rev ≡ Some w → w.rev ≡ rev) → with_rev_or v rev (write_of_rev older doc rev) ≡ Some w → w.rev ≡ rev
+    go : (v : Option Write) → (write_of_rev older doc rev ≡ Some w → w.write.rev ≡ rev) → with_rev_or v (length older + 1) rev (write_of_rev older doc rev) ≡ Some w → w.write.rev ≡ rev
     go None rest h = rest h
     go (Some v) rest h = pick v (same_rev v.rev rev) refl rest h
 
 -- the last write is the write of its revision
-last_of_rev : (es : List Entry) (doc : List ℕ) (l : Sequenced) → last_write es doc ≡ Some l → write_of_rev es doc l.write.rev ≡ Some l.write
+last_of_rev : (es : List Entry) (doc : List ℕ) (l : Sequenced) → last_write es doc ≡ Some l → write_of_rev es doc l.write.rev ≡ Some l
 last_of_rev [] doc l h = absurd (none-some _ h)
 last_of_rev (e ∷ older) doc l h = go (write_to e doc) (last_of_rev older doc l) h
   where
-    go : (v : Option Write) → (last_write older doc ≡ Some l → write_of_rev older doc l.write.rev ≡ Some l.write) → sequenced_or v (length older + 1) (last_write older doc) ≡ Some l → with_rev_or v l.write.rev (write_of_rev older doc l.write.rev) ≡ Some l.write
+    go : (v : Option Write) → (last_write older doc ≡ Some l → write_of_rev older doc l.write.rev ≡ Some l) → sequenced_or v (length older + 1) (last_write older doc) ≡ Some l → with_rev_or v (length older + 1) l.write.rev (write_of_rev older doc l.write.rev) ≡ Some l
     go None rest h = rest h
     go (Some v) rest h =
-        let same : v ≡ l.write = cc in
-        let yes : same_rev v.rev l.write.rev ≡ true = rw same (rev_itself l.write.rev) in
-        rw yes (ap (λ (x : Write). Some x) same)
+        let same : record { seq = length older + 1; write = v } ≡ l = same_Some (record { seq = length older + 1; write = v }) l h in
+        let yes : same_rev v.rev l.write.rev ≡ true = ap (λ (x : Sequenced). same_rev x.write.rev l.write.rev) same ∙ rev_itself l.write.rev in
+        rw yes h
 
 -- the winner's write is the write of the current revision
-pub winner_of_rev : (es : List Entry) (doc : List ℕ) (c : Current) → current es doc ≡ Some c → write_of_rev es doc c.rev ≡ winning_write es doc
+pub winner_of_rev : (es : List Entry) (doc : List ℕ) (c : Current) → current es doc ≡ Some c → write_alone (write_of_rev es doc c.rev) ≡ winning_write es doc
 winner_of_rev es doc c h = go (last_write es doc) refl h
   where
-    pick : (l : Sequenced) → last_write es doc ≡ Some l → (v : Option Write) → write_of_rev es doc l.write.winner ≡ v → Some (current_of l.seq (write_or v l.write)) ≡ Some c → write_of_rev es doc c.rev ≡ Some (write_or v l.write)
+    pick : (l : Sequenced) → last_write es doc ≡ Some l → (v : Option Sequenced) → write_of_rev es doc l.write.winner ≡ v → Some (current_by es l.seq (write_or v l)) ≡ Some c → write_alone (write_of_rev es doc c.rev) ≡ Some (write_or v l).write
     pick l p None q h =
         let rev : l.write.rev ≡ c.rev = ap (λ (x : Current). x.rev) (same_Some _ c h) in
-        ap (write_of_rev es doc) (sym rev) ∙ last_of_rev es doc l p
+        ap (λ (r : RevId). write_alone (write_of_rev es doc r)) (sym rev) ∙ ap (λ (o : Option Sequenced). write_alone o) (last_of_rev es doc l p)
     pick l p (Some v) q h =
-        let rev : v.rev ≡ c.rev = ap (λ (x : Current). x.rev) (same_Some _ c h) in
-        ap (write_of_rev es doc) (sym rev ∙ of_rev_is es doc l.write.winner v q) ∙ q
+        let rev : v.write.rev ≡ c.rev = ap (λ (x : Current). x.rev) (same_Some _ c h) in
+        ap (λ (r : RevId). write_alone (write_of_rev es doc r)) (sym rev ∙ of_rev_is es doc l.write.winner v q) ∙ ap (λ (o : Option Sequenced). write_alone o) q
 
-    go : (o : Option Sequenced) → last_write es doc ≡ o → current_after es doc o ≡ Some c → write_of_rev es doc c.rev ≡ winner_after es doc o
+    go : (o : Option Sequenced) → last_write es doc ≡ o → current_after es doc o ≡ Some c → write_alone (write_of_rev es doc c.rev) ≡ winner_after es doc o
     go None p h = absurd (none-some _ h)
     go (Some l) p h = pick l p (write_of_rev es doc l.write.winner) refl h

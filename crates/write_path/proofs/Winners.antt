@@ -1,5 +1,7 @@
 -- The write of a document's current revision.
-use Rattle.std.proofs.Common.{◌≡◌, ℕ, ◌+◌, refl, sym, ◌∙◌, ap, subst, Bool, true, false, if◌then◌else◌, List, [], ◌∷◌, length, Option, Some, None}
+use Rattle.std.proofs.Common.{◌≡◌, ℕ, ◌+◌, ◌<◌, add-one, get_or, take, reverse, refl, sym, ◌∙◌, ap, subst, Bool, true, false, if◌then◌else◌, List, [], ◌∷◌, length, Option, Some, None}
+use Rattle.std.proofs.Math.Seq.{take-suc}
+use Rattle.std.proofs.lemmas.List.{reverse-append}
 use Rattle.std.proofs.lemmas.Option.{none-some, same_Some}
 use Rattle.std.specs.Str.{bytes_eq}
 use Rattle.sg_names.specs.declared.rev_id.RevId.{RevId}
@@ -8,7 +10,8 @@ use Rattle.sg_history.specs.declared.entries.Entry.{Entry}
 use Rattle.sg_history.specs.declared.entries.Entry.TheVariants as entry
 use Rattle.sg_history.specs.declared.entries.Write.{Write}
 use Rattle.sg_history.specs.History.{write_to}
-use Rattle.sg_history.specs.Current.{Current, Sequenced, sequenced_or, last_write, write_of_rev, with_rev_or, write_or, current, current_after, current_of}
+use Rattle.sg_history.specs.Current.{Current, Sequenced, sequenced_or, last_write, write_of_rev, with_rev_or, write_or, current, current_after, current_by, winning_of, write_alone, rev_or}
+use Rattle.sg_history.proofs.AloneWrites.{alone_next}
 use Rattle.repl_messages.specs.Looks.{winning_write, winner_after}
 use Rattle.write_path.proofs.Same.{same_bytes}
 
@@ -32,15 +35,15 @@ last_names (e ∷ older) doc l h = go (write_to e doc) refl (last_names older do
     go None p rest h = rest h
     go (Some w) p rest h = let same : w ≡ l.write = cc in sym (ap (λ (x : Write). x.doc) same) ∙ write_names e doc w p
 
-of_rev_names : (es : List Entry) (doc : List ℕ) (rev : RevId) (w : Write) → write_of_rev es doc rev ≡ Some w → w.doc ≡ doc
+of_rev_names : (es : List Entry) (doc : List ℕ) (rev : RevId) (w : Sequenced) → write_of_rev es doc rev ≡ Some w → w.write.doc ≡ doc
 of_rev_names [] doc rev w h = absurd (none-some _ h)
 of_rev_names (e ∷ older) doc rev w h = go (write_to e doc) refl (of_rev_names older doc rev w) h
   where
-    pick : (v : Write) (b : Bool) → write_to e doc ≡ Some v → (write_of_rev older doc rev ≡ Some w → w.doc ≡ doc) → (if b then Some v else write_of_rev older doc rev) ≡ Some w → w.doc ≡ doc
-    pick v true p rest h = let same : v ≡ w = same_Some v w h in sym (ap (λ (x : Write). x.doc) same) ∙ write_names e doc v p
+    pick : (v : Write) (b : Bool) → write_to e doc ≡ Some v → (write_of_rev older doc rev ≡ Some w → w.write.doc ≡ doc) → (if b then Some (record { seq = length older + 1; write = v }) else write_of_rev older doc rev) ≡ Some w → w.write.doc ≡ doc
+    pick v true p rest h = let same : record { seq = length older + 1; write = v } ≡ w = same_Some (record { seq = length older + 1; write = v }) w h in sym (ap (λ (x : Sequenced). x.write.doc) same) ∙ write_names e doc v p
     pick v false p rest h = rest h
 
-    go : (v : Option Write) → write_to e doc ≡ v → (write_of_rev older doc rev ≡ Some w → w.doc ≡ doc) → with_rev_or v rev (write_of_rev older doc rev) ≡ Some w → w.doc ≡ doc
+    go : (v : Option Write) → write_to e doc ≡ v → (write_of_rev older doc rev ≡ Some w → w.write.doc ≡ doc) → with_rev_or v (length older + 1) rev (write_of_rev older doc rev) ≡ Some w → w.write.doc ≡ doc
     go None p rest h = rest h
     go (Some v) p rest h = pick v (same_rev v.rev rev) p rest h
 
@@ -48,21 +51,31 @@ of_rev_names (e ∷ older) doc rev w h = go (write_to e doc) refl (of_rev_names 
 pub winner_names : (es : List Entry) (doc : List ℕ) (w : Write) → winning_write es doc ≡ Some w → w.doc ≡ doc
 winner_names es doc w h = go (last_write es doc) refl h
   where
-    pick : (l : Sequenced) (v : Option Write) → last_write es doc ≡ Some l → write_of_rev es doc l.write.winner ≡ v → Some (write_or v l.write) ≡ Some w → w.doc ≡ doc
+    pick : (l : Sequenced) (v : Option Sequenced) → last_write es doc ≡ Some l → write_of_rev es doc l.write.winner ≡ v → Some (write_or v l).write ≡ Some w → w.doc ≡ doc
     pick l None p q h = let same : l.write ≡ w = same_Some l.write w h in sym (ap (λ (x : Write). x.doc) same) ∙ last_names es doc l p
-    pick l (Some v) p q h = let same : v ≡ w = same_Some v w h in sym (ap (λ (x : Write). x.doc) same) ∙ of_rev_names es doc l.write.winner v q
+    pick l (Some v) p q h = let same : v.write ≡ w = same_Some v.write w h in sym (ap (λ (x : Write). x.doc) same) ∙ of_rev_names es doc l.write.winner v q
 
     go : (o : Option Sequenced) → last_write es doc ≡ o → winner_after es doc o ≡ Some w → w.doc ≡ doc
     go None p h = absurd (none-some _ h)
     go (Some l) p h = pick l (write_of_rev es doc l.write.winner) p refl h
 
 -- a document's current state is of the winner's write
-pub current_winner : (es : List Entry) (doc : List ℕ) (c : Current) → current es doc ≡ Some c → (w : Write) × (winning_write es doc ≡ Some w) × (c ≡ current_of c.seq w)
+pub current_winner : (es : List Entry) (doc : List ℕ) (c : Current) → current es doc ≡ Some c → (winning : Sequenced) × (winning_write es doc ≡ Some winning.write) × (c ≡ current_by es c.seq winning)
 current_winner es doc c h = go (last_write es doc) h
   where
-    go : (o : Option Sequenced) → current_after es doc o ≡ Some c → (w : Write) × (winner_after es doc o ≡ Some w) × (c ≡ current_of c.seq w)
+    go : (o : Option Sequenced) → current_after es doc o ≡ Some c → (winning : Sequenced) × (winner_after es doc o ≡ Some winning.write) × (c ≡ current_by es c.seq winning)
     go None h = absurd (none-some _ h)
     go (Some l) h =
-        let w : Write = write_or (write_of_rev es doc l.write.winner) l.write in
-        let P : Current → Type 0 = λ x. x ≡ current_of x.seq w in
-        (w, refl, subst P (same_Some (current_of l.seq w) c h) refl)
+        let winning : Sequenced = winning_of es doc l in
+        let P : Current → Type 0 = λ x. x ≡ current_by es x.seq winning in
+        (winning, refl, subst P (same_Some (current_by es l.seq winning) c h) refl)
+
+-- the entries up to a place and the one there
+past_at : {X : Type 0} (xs : List X) (i : ℕ) (x : X) → x ≡ get_or xs i x → i < length xs → reverse (take (i + 1) xs) ≡ x ∷ reverse (take i xs)
+past_at {X = X} xs i x is low = rw (add-one, take-suc xs i x, reverse-append) (ap (λ (y : X). y ∷ reverse (take i xs)) (sym is))
+
+-- the write of a revision after one entry more
+pub winner_next : (xs : List Entry) (i : ℕ) (e : Entry) (doc : List ℕ) (rev : RevId) → e ≡ get_or xs i e → i < length xs → write_alone (write_of_rev (reverse (take (i + 1) xs)) doc rev) ≡ rev_or (write_to e doc) rev (write_alone (write_of_rev (reverse (take i xs)) doc rev))
+winner_next xs i e doc rev is low =
+    ap (λ (l : List Entry). write_alone (write_of_rev l doc rev)) (past_at xs i e is low)
+    ∙ alone_next (write_to e doc) (length (reverse (take i xs)) + 1) rev (write_of_rev (reverse (take i xs)) doc rev)

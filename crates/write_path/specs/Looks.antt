@@ -1,22 +1,19 @@
 -- Histories that are looked at, one after another.
 use Rattle.std.specs.Prelude.{◌≡◌, ◌⊎◌, ◌≤◌, ℕ, List, [], ◌∷◌, ◌++◌, length, Option, Some, None}
 use Rattle.sg_history.specs.declared.entries.Entry.{Entry}
+use Rattle.sg_history.specs.History.{Extends}
 
--- the later history goes on from the earlier one: it begins with it
-abbrev pub Later : List Entry → List Entry → Type 0
-Later earlier later = (rest : List Entry) × (later ≡ earlier ++ rest)
-
--- the history goes on from each of these
+-- the history extends each of these
 abbrev pub IsLaterThanAll : List (List Entry) → List Entry → Type 0
 IsLaterThanAll [] h = Unit {0}
-IsLaterThanAll (earlier ∷ others) h = Later earlier h × IsLaterThanAll others h
+IsLaterThanAll (earlier ∷ others) h = Extends earlier h × IsLaterThanAll others h
 
 -- the history is one of these
 abbrev pub IsOneOf : List (List Entry) → List Entry → Type 0
 IsOneOf [] h = ⊥
 IsOneOf (first ∷ others) h = (first ≡ h) ⊎ IsOneOf others h
 
--- each of the added histories, the newest first, goes on from all that were met before it
+-- each of the added histories, the newest first, extends all that were met before it
 abbrev pub AreLater : List (List Entry) → List (List Entry) → Type 0
 AreLater [] before = Unit {0}
 AreLater (h ∷ added) before = IsLaterThanAll (added ++ before) h × AreLater added before

@@ -4,7 +4,7 @@ ghost use Rattle.std.specs.Prelude.{◌≡◌, ◌&&◌, nat_eq, is_none, List, 
 ghost use Rattle.std.specs.Option.{option_copied};
 ghost use Rattle.sg_names.specs.declared.rev_id.RevId.{RevId};
 ghost use Rattle.sg_history.specs.declared.row.Row.{Row};
-ghost use Rattle.sg_history.specs.History.{history, past};
+ghost use Rattle.sg_history.specs.History.{entries_of, past};
 ghost use Rattle.sg_history.specs.View.{same_view};
 ghost use Rattle.sg_history.specs.Feed as feed;
 ghost use Rattle.repl_messages.specs.Looks as bodies;
@@ -150,7 +150,7 @@ pub fn bodies_at(
     rows: &[Row],
     most: u64,
 ) -> Result<Bodies, Memory>
-    ensures { IfOk result (BodiesAt (history log.now) user.now options.now rows.now most) }
+    ensures { IfOk result (BodiesAt (entries_of log.now) user.now options.now rows.now most) }
 {
     let all = rows_now(alloc, log, user, &options.filter)?;
     let now = rows_by_name(alloc, all.as_slice())?;

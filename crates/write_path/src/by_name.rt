@@ -4,8 +4,8 @@ ghost use Rattle.std.specs.Prelude.{◌≡◌, List, ℕ, length, reverse, Optio
 ghost use Rattle.std.specs.Option.{option_copied};
 ghost use Rattle.std.specs.Str.{bytes_eq};
 ghost use Rattle.sg_history.specs.declared.row.Row.{Row};
-ghost use Rattle.sg_history.specs.History.{history, past, write_to};
-ghost use Rattle.sg_history.specs.Current.{write_of_rev, with_rev_or};
+ghost use Rattle.sg_history.specs.History.{entries_of, past, write_to};
+ghost use Rattle.sg_history.specs.Current.{write_of_rev, write_alone, rev_or};
 ghost use Rattle.sg_history.specs.Feed.{feed};
 ghost use Rattle.write_path.specs.ByName as by_name;
 ghost use Rattle.write_path.specs.ByName.{under};
@@ -31,7 +31,7 @@ pub fn rows_now(
     user: &Name,
     filter: &Option<Channels>,
 ) -> Result<Rows, Memory>
-    ensures { IfOk result (λ rows. rows ≡ feed (past (history log.now) (length (history log.now))) user.now by_name.before_all (by_name.all_rows filter.now)) }
+    ensures { IfOk result (λ rows. rows ≡ feed (past (entries_of log.now) (length (entries_of log.now))) user.now by_name.before_all (by_name.all_rows filter.now)) }
 {
     let options = Options {
         filter: filter_copy(alloc, filter)?,
@@ -91,7 +91,7 @@ fn take_write<'a>(
     rows: &BTreeMap<&'a str, &'a Row>,
     winners: &mut BTreeMap<&'a str, &'a Write>,
 ) -> Result<(), Memory>
-    ensures { OnOk result ((doc : List ℕ) (row : Row) → under rows.now doc ≡ Some row → under winners.new doc ≡ with_rev_or (if bytes_eq write.now.doc doc then Some write.now else None) row.rev (under winners.old doc)) }
+    ensures { OnOk result ((doc : List ℕ) (row : Row) → under rows.now doc ≡ Some row → under winners.new doc ≡ rev_or (if bytes_eq write.now.doc doc then Some write.now else None) row.rev (under winners.old doc)) }
 {
     if let Some(row) = row_under(rows, &write.doc) {
         if write.rev.equals(&row.rev) {
@@ -106,11 +106,11 @@ fn put_winner<'a>(
     rows: &BTreeMap<&'a str, &'a Row>,
     winners: &mut BTreeMap<&'a str, &'a Write>,
 ) -> Result<(), Memory>
-    ensures { OnOk result ((doc : List ℕ) (row : Row) → under rows.now doc ≡ Some row → under winners.new doc ≡ with_rev_or (write_to entry.now doc) row.rev (under winners.old doc)) }
+    ensures { OnOk result ((doc : List ℕ) (row : Row) → under rows.now doc ≡ Some row → under winners.new doc ≡ rev_or (write_to entry.now doc) row.rev (under winners.old doc)) }
 {
-    match entry {
-        Entry::Write(write) => take_write(write, rows, winners),
-        _ => Ok(()),
+    match entry.as_write() {
+        Some(write) => take_write(write, rows, winners),
+        None => Ok(()),
     }
 }
 
@@ -120,7 +120,7 @@ pub fn winners_by_name<'a>(
     entries: &'a [Entry],
     rows: &BTreeMap<&'a str, &'a Row>,
 ) -> Result<BTreeMap<&'a str, &'a Write>, Memory>
-    ensures { IfOk result (λ m. (doc : List ℕ) (row : Row) → under rows.now doc ≡ Some row → under m doc ≡ write_of_rev (reverse entries.now) doc row.rev) }
+    ensures { IfOk result (λ m. (doc : List ℕ) (row : Row) → under rows.now doc ≡ Some row → under m doc ≡ write_alone (write_of_rev (reverse entries.now) doc row.rev)) }
 {
     let mut winners = BTreeMap::new(alloc);
     for entry in entries {

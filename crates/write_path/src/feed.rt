@@ -1,7 +1,7 @@
 //! The feed at the end of a log.
 
 ghost use Rattle.std.specs.Prelude.{◌≡◌, IfOk};
-ghost use Rattle.sg_history.specs.History.{history};
+ghost use Rattle.sg_history.specs.History.{entries_of};
 ghost use Rattle.write_path.specs.Feed.{FeedAt};
 
 use repl_messages::Fed;
@@ -17,7 +17,7 @@ pub fn feed_at(
     since: &Key,
     options: &Options,
 ) -> Result<Fed, Memory>
-    ensures { IfOk result (FeedAt (history log.now) user.now since.now options.now) }
+    ensures { IfOk result (FeedAt (entries_of log.now) user.now since.now options.now) }
 {
     let front = log.entries.len() as u64;
     if since.by > front {

@@ -1,7 +1,7 @@
 //! The histories that were looked at, which only clauses read.
 
 ghost use Rattle.std.specs.Prelude.{◌≡◌, [], ◌∷◌};
-ghost use Rattle.sg_history.specs.History.{history};
+ghost use Rattle.sg_history.specs.History.{entries_of};
 
 use sg_history::Log;
 use std::marker::Model;
@@ -42,7 +42,7 @@ impl Met {
 
     /// Puts the history of a log in front. Takes no memory.
     pub fn add(&mut self, log: &Log)
-        ensures { self.new ≡ history log.now ∷ self.old }
+        ensures { self.new ≡ entries_of log.now ∷ self.old }
     {
         self.looked = Looked::After(Snapshot::of(&self.looked), Snapshot::of(log));
     }

@@ -1,7 +1,7 @@
 //! A ground that owns its log.
 
 ghost use Rattle.std.specs.Prelude.{◌≡◌, [], Some, length};
-ghost use Rattle.sg_history.specs.History.{history};
+ghost use Rattle.sg_history.specs.History.{entries_of};
 ghost use Rattle.write_path.specs.Looks.{IsLaterThanAll};
 
 use crate::bodies::bodies_at;
@@ -22,7 +22,7 @@ pub struct SoloGround {
 }
 
 impl Model for SoloGround {
-    ghost use Rattle.sg_history.specs.History.{history};
+    ghost use Rattle.sg_history.specs.History.{entries_of};
     ghost use Rattle.write_path.specs.Looks.{IsLaterThanAll};
     ghost use Rattle.write_path.specs.Solo.{Solo};
 
@@ -30,7 +30,7 @@ impl Model for SoloGround {
 
     ghost view = { λ g. record { log = g.log; met = g.met } };
 
-    ghost invariant = { λ g. IsLaterThanAll g.met (history g.log) };
+    ghost invariant = { λ g. IsLaterThanAll g.met (entries_of g.log) };
 }
 
 impl SoloGround {
@@ -48,7 +48,7 @@ impl SoloGround {
     /// The log, which goes on from every history that was met.
     pub fn into_inner(self) -> Log
         ensures log { result ≡ self.log }
-        ensures later { IsLaterThanAll self.met (history result) }
+        ensures later { IsLaterThanAll self.met (entries_of result) }
     {
         self.log
     }
@@ -56,13 +56,13 @@ impl SoloGround {
 
 impl Ground for SoloGround {
     ghost use Rattle.std.specs.Prelude.{Some, length};
-    ghost use Rattle.sg_history.specs.History.{history};
+    ghost use Rattle.sg_history.specs.History.{entries_of};
 
     ghost met = { λ g. g.met };
 
-    ghost floor = { λ g. length (history g.log) };
+    ghost floor = { λ g. length (entries_of g.log) };
 
-    ghost told = { λ g. Some (history g.log) };
+    ghost told = { λ g. Some (entries_of g.log) };
 
     fn front(&mut self) -> u64 {
         self.log.entries.len() as u64
