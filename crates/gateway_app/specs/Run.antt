@@ -2,7 +2,7 @@
 use Rattle.std.specs.Prelude.{◌≡◌, ℕ, ◌≤◌, ◌<◌, List, ◌++◌, length, Option, Some, None, Result, Ok, Err}
 use Rattle.sg_outside.specs.Files.{largest_file}
 use Rattle.sg_names.specs.declared.key.Key.{Key}
-use Rattle.sg_history.specs.declared.entries.Entry.{Entry}
+use Rattle.sg_history.specs.History.{History}
 use Rattle.sg_history.specs.Journal.{Spells}
 use Rattle.gateway_app.specs.declared.status.Status.{Status}
 use Rattle.gateway_app.specs.declared.status.Status.TheVariants as status
@@ -18,8 +18,8 @@ abbrev pub HasNoFile : Option (List ℕ → Option (List ℕ)) → List ℕ → 
 HasNoFile told name = (files : List ℕ → Option (List ℕ)) × (told ≡ Some files) × (files name ≡ None)
 
 -- the bytes are no more than a file may have, and are the journal of this history
-abbrev pub IsInput : List ℕ → List Entry → Type 0
-IsInput bytes es = (length bytes ≤ largest_file) × Spells bytes es
+abbrev pub IsInput : List ℕ → History → Type 0
+IsInput bytes h = (length bytes ≤ largest_file) × Spells bytes h
 
 -- a sink that tells what it took has taken this text besides
 abbrev pub Took : Option (List ℕ) → Option (List ℕ) → List ℕ → Type 0
@@ -41,11 +41,11 @@ EndsAbsent status.WriteFault = ⊥
 
 -- each status with what it tells of the journal's bytes and of the sink
 abbrev pub Ends : Status → FeedWords → List ℕ → Option (List ℕ) → Option (List ℕ) → Type 0
-Ends status.Ok f bytes before after = (es : List Entry) × IsInput bytes es × Took before after (feed_text es f.user f.since)
+Ends status.Ok f bytes before after = (h : History) × IsInput bytes h × Took before after (feed_text h.entries f.user f.since)
 Ends status.BadWords f bytes before after = ⊥
-Ends (status.BadInput file place why) f bytes before after = (file ≡ 1) × ((es : List Entry) → ¬ IsInput bytes es)
+Ends (status.BadInput file place why) f bytes before after = (file ≡ 1) × ((h : History) → ¬ IsInput bytes h)
 Ends status.ReadFault f bytes before after = Unit {0}
-Ends status.WriteFault f bytes before after = (es : List Entry) × IsInput bytes es × TookPart before after (feed_text es f.user f.since)
+Ends status.WriteFault f bytes before after = (h : History) × IsInput bytes h × TookPart before after (feed_text h.entries f.user f.since)
 Ends status.Memory f bytes before after = Unit {0}
 
 -- a fault that is told was counted
@@ -98,11 +98,11 @@ Prints status.Memory text faults faults' before after = after ≡ before
 -- how a run may end with the journal in hand, with the count of the sink's faults and what the sink took
 abbrev pub EndsFeed : Status → List ℕ → List ℕ → Key → ℕ → ℕ → Option (List ℕ) → Option (List ℕ) → Type 0
 EndsFeed status.Ok journal user since faults faults' before after =
-    (es : List Entry) × Spells journal es × Took before after (feed_text es user since)
+    (h : History) × Spells journal h × Took before after (feed_text h.entries user since)
 EndsFeed status.BadWords journal user since faults faults' before after = ⊥
 EndsFeed (status.BadInput file place why) journal user since faults faults' before after =
-    (file ≡ 1) × ((es : List Entry) → ¬ Spells journal es) × (after ≡ before)
+    (file ≡ 1) × ((h : History) → ¬ Spells journal h) × (after ≡ before)
 EndsFeed status.ReadFault journal user since faults faults' before after = ⊥
 EndsFeed status.WriteFault journal user since faults faults' before after =
-    (es : List Entry) × Spells journal es × TookPart before after (feed_text es user since) × (faults < faults')
+    (h : History) × Spells journal h × TookPart before after (feed_text h.entries user since) × (faults < faults')
 EndsFeed status.Memory journal user since faults faults' before after = after ≡ before

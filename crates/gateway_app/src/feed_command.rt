@@ -1,7 +1,7 @@
 //! The command `feed`: prints the rows of a user's changes feed over a journal.
 
 ghost use Rattle.std.specs.Prelude.{◌≡◌, ◌≢◌, ◌↔◌, ℕ, List, Option, Some, None, map, string_bytes, IfOk, IfErr, IsErrAnd};
-ghost use Rattle.sg_history.specs.declared.entries.Entry.{Entry};
+ghost use Rattle.sg_history.specs.History.{History};
 ghost use Rattle.sg_history.specs.Journal.{Spells};
 ghost use Rattle.sg_history.specs.Refusal.{RefusesLog};
 ghost use Rattle.gateway_app.specs.FeedText.{feed_text};
@@ -22,8 +22,8 @@ const JOURNAL: u64 = 1;
 
 /// The printed feed of the history that a journal spells, over its whole length, with revocations.
 fn feed_of(alloc: Global, journal: &[u8], user: &Name, since: &Key) -> Result<Bytes, ReadLog>
-    ensures ok { IfOk result (λ text. (es : List Entry) × Spells journal.now es × (text ≡ feed_text es user.now since.now)) }
-    ensures bad { IfErr result (λ e. RefusesLog e ((es : List Entry) → ¬ (Spells journal.now es))) }
+    ensures ok { IfOk result (λ text. (h : History) × Spells journal.now h × (text ≡ feed_text h.entries user.now since.now)) }
+    ensures bad { IfErr result (λ e. RefusesLog e ((h : History) → ¬ (Spells journal.now h))) }
 {
     let log = read_journal(alloc, journal)?;
     let options = Options {
