@@ -1,7 +1,7 @@
 //! Journals that the tests begin with.
 
 ghost use Rattle.std.specs.Prelude.{reverse, IfOk};
-ghost use Rattle.sg_history.specs.History.{history};
+ghost use Rattle.sg_history.specs.History.{entries_of};
 ghost use Rattle.doc_board.specs.Lawful.{AreLawful};
 
 use doc_board::laws::recorded;
@@ -12,7 +12,7 @@ use std::test::Fail;
 
 /// The log of a journal whose lines are given with `|` for TAB and `;` for the line feed.
 pub fn log_of(alloc: Global, lines: &str) -> Result<Log, Fail>
-    ensures { IfOk result (λ log. AreLawful (reverse (history log))) }
+    ensures { IfOk result (λ log. AreLawful (reverse (entries_of log))) }
 {
     let mut journal = Bytes::from_slice(alloc, b"sgjournal 1\n")?;
     for byte in lines.as_bytes() {
