@@ -18,7 +18,8 @@ use Rattle.doc_board.specs.declared.candidate.Commit.{Commit}
 use Rattle.doc_board.specs.declared.candidate.Commit.TheVariants as commit
 use Rattle.doc_board.specs.declared.room.Room.{Room}
 use Rattle.sg_history.specs.declared.room.RoomFor.{RoomFor}
-use Rattle.rev_tree.specs.Documents.{recorded, tree_at, last_at}
+use Rattle.rev_tree.specs.Documents.{recorded}
+use Rattle.doc_board.specs.State.{State, tree_on, last_on}
 
 -- the entry that is to be stored
 abbrev pub entry_of : Candidate → Entry
@@ -47,10 +48,10 @@ pub record ExtendsTree (before : List Node) (w : Write) (after : List Node) : Ty
   pub winner : option_map (λ l. l.rev) (winner_of after) ≡ Some w.winner
 
 -- a candidate is in its grammar, its body is a document, it was judged before it is stored, and it extends the tree that its document has where that was not written since
-abbrev pub MayBeStored : List Entry → ℕ → Candidate → Type 0
-MayBeStored es number (candidate.Write w tree base) =
-    IsEntry (entry.Write w) × ((doc : Tree) × IsDocument w.body doc) × (w.at < number) × (base ≡ last_at es w.doc → ExtendsTree (tree_at es w.doc) w tree)
-MayBeStored es number (candidate.Plain e) = IsEntry e × (is_write e ≡ false)
+abbrev pub MayBeStored : State → ℕ → Candidate → Type 0
+MayBeStored s number (candidate.Write w tree base) =
+    IsEntry (entry.Write w) × ((doc : Tree) × IsDocument w.body doc) × (w.at < number) × (base ≡ last_on s w.doc → ExtendsTree (tree_on s w.doc) w tree)
+MayBeStored s number (candidate.Plain e) = IsEntry e × (is_write e ≡ false)
 
 -- the room was made for the candidate's document, or for none, and for at least so many bytes
 pub record Fits (room : RoomFor) (c : Candidate) : Type 0 where
@@ -58,14 +59,14 @@ pub record Fits (room : RoomFor) (c : Candidate) : Type 0 where
   pub bytes : body_bytes c ≤ room.bytes
 
 -- whether the document was written since a candidate was made for it
-abbrev pub is_stale : List Entry → Candidate → Bool
-is_stale es (candidate.Write w tree base) = not (nat_eq base (last_at es w.doc))
-is_stale es (candidate.Plain e) = false
+abbrev pub is_stale : State → Candidate → Bool
+is_stale s (candidate.Write w tree base) = not (nat_eq base (last_on s w.doc))
+is_stale s (candidate.Plain e) = false
 
 -- the sequence of the last write of a candidate's document, 0 where there is none
-abbrev pub last_of : List Entry → Candidate → ℕ
-last_of es (candidate.Write w tree base) = last_at es w.doc
-last_of es (candidate.Plain e) = 0
+abbrev pub last_of : State → Candidate → ℕ
+last_of s (candidate.Write w tree base) = last_on s w.doc
+last_of s (candidate.Plain e) = 0
 
 -- the fact holds of the sequence and the front of what was stored
 abbrev pub IfStored : Commit → (ℕ → ℕ → Type 0) → Type 0

@@ -13,8 +13,8 @@ ghost use Rattle.sg_history.specs.Line.{is_write};
 ghost use Rattle.doc_board.specs.Lawful.{AreLawful};
 ghost use Rattle.doc_board.specs.Recorded.{AreFollowing, IsFirstBad};
 ghost use Rattle.doc_board.specs.Rooms.{is_out, room_for, without};
-ghost use Rattle.doc_board.specs.State.{book};
-ghost use Rattle.rev_tree.specs.Documents.{writes_of, tree_at, tree_when, last_at, base_write, deletes};
+ghost use Rattle.doc_board.specs.State.{newest_first, writes_on, tree_on, last_on, base_on};
+ghost use Rattle.rev_tree.specs.Documents.{tree_at, tree_when, last_at, base_write, deletes};
 
 use crate::candidate::{Candidate, Commit, NoRoom};
 use crate::document::{self, Document, Documents};
@@ -24,7 +24,7 @@ use crate::snapshot::{Snapshot, base_of, body_of, is_deletion, proposer_exists, 
 use feed_rows::channels_of;
 use repl_messages::Revision;
 use rev_tree::Tree;
-use rev_tree::laws::trees_of_writes;
+use rev_tree::laws::{histories, trees_of_writes};
 use sg_history::{Channels, DocId, Entry, Log, Name, Number, RoomFor, Write};
 use sg_outside::Memory;
 use std::alloc::{AllocError, Global};
@@ -94,50 +94,51 @@ impl Board {
     /// The log. Takes no memory.
     pub fn log(&self) -> &Log
         ensures log { entries_of result.now ≡ self.now.log }
-        ensures lawful { AreLawful (book self.now) }
-        ensures accepted { (doc : List ℕ) → AreAccepted (writes_of (book self.now) doc) }
+        ensures lawful { AreLawful (newest_first self.now) }
+        ensures accepted { (doc : List ℕ) → AreAccepted (writes_on self.now doc) }
     {
+        histories();
         &self.log
     }
 
     /// The tree that the writes of a document make; none where it was never written. Takes no memory.
     pub fn tree(&self, doc: &DocId) -> Option<&Tree>
-        ensures tree { option_copied result ≡ tree_when (writes_of (book self.now) doc.now) }
-        ensures accepted { AreAccepted (writes_of (book self.now) doc.now) }
+        ensures tree { option_copied result ≡ tree_when (writes_on self.now doc.now) }
+        ensures accepted { AreAccepted (writes_on self.now doc.now) }
     {
+        histories();
         document::tree_of(document::document_of(&self.documents, doc))
     }
 
     /// The sequence of the last write of a document, 0 where there is none.
     fn last_write(&self, doc: &DocId) -> u64
-        ensures { result ≡ last_at (book self.now) doc.now }
+        ensures { result ≡ last_on self.now doc.now }
     {
+        histories();
         document::last_of(document::document_of(&self.documents, doc))
     }
 
     /// The channels of a user at the end of the log, each once; none where the user does not exist.
     pub fn channels(&mut self, user: &Name) -> Result<Option<Channels>, Memory>
         ensures same { self.new ≡ self.old }
-        ensures exists { IfOk result (λ found. is_some found ≡ principals.exists (principals.user_at (book self.old) user.now)) }
-        ensures channels { IfOk result (λ found. IfSome found (λ channels. (channel : List ℕ) → among channels channel ≡ principals.has_channel (book self.old) user.now channel)) }
+        ensures exists { IfOk result (λ found. is_some found ≡ principals.exists (principals.user_at (newest_first self.old) user.now)) }
+        ensures channels { IfOk result (λ found. IfSome found (λ channels. (channel : List ℕ) → among channels channel ≡ principals.has_channel (newest_first self.old) user.now channel)) }
     {
         channels_of(*self.rooms.allocator(), &self.log, self.front(), user)
     }
 
-    /// What is needed to judge a revision that is proposed, by a user or by the administrator.
-    pub fn snapshot(
-        &mut self,
+    fn snapshot_of(
+        &self,
         revision: &Revision,
         strict: bool,
         by: Option<&Name>,
     ) -> Result<Snapshot, Memory>
-        ensures same { self.new ≡ self.old }
-        ensures at { IfOk result (λ s. s.at ≡ length self.old.log) }
-        ensures last { IfOk result (λ s. s.last ≡ last_at (book self.old) revision.now.doc) }
-        ensures step { IfOk result (λ s. IsStep (tree_at (book self.old) revision.now.doc) revision.now strict s.step) }
-        ensures old { IfOk result (λ s. s.old ≡ option_map (λ w. w.body) (base_write (book self.old) revision.now.doc revision.now.ancestors)) }
-        ensures old_deleted { IfOk result (λ s. s.old_deleted ≡ deletes (base_write (book self.old) revision.now.doc revision.now.ancestors)) }
-        ensures user { IfOk result (λ s. s.user_exists ≡ proposer_exists (book self.old) (option_copied by.entry)) }
+        ensures at { IfOk result (λ s. s.at ≡ length self.now.log) }
+        ensures last { IfOk result (λ s. s.last ≡ last_at (newest_first self.now) revision.now.doc) }
+        ensures step { IfOk result (λ s. IsStep (tree_at (newest_first self.now) revision.now.doc) revision.now strict s.step) }
+        ensures old { IfOk result (λ s. s.old ≡ option_map (λ w. w.body) (base_write (newest_first self.now) revision.now.doc revision.now.ancestors)) }
+        ensures old_deleted { IfOk result (λ s. s.old_deleted ≡ deletes (base_write (newest_first self.now) revision.now.doc revision.now.ancestors)) }
+        ensures user { IfOk result (λ s. s.user_exists ≡ proposer_exists (newest_first self.now) (option_copied by.entry)) }
     {
         let alloc = *self.rooms.allocator();
         let entries = self.log.entries.as_slice();
@@ -151,6 +152,25 @@ impl Board {
             old_deleted: is_deletion(base),
             user_exists: proposer_exists(alloc, &self.log, by)?,
         })
+    }
+
+    /// What is needed to judge a revision that is proposed, by a user or by the administrator.
+    pub fn snapshot(
+        &mut self,
+        revision: &Revision,
+        strict: bool,
+        by: Option<&Name>,
+    ) -> Result<Snapshot, Memory>
+        ensures same { self.new ≡ self.old }
+        ensures at { IfOk result (λ s. s.at ≡ length self.old.log) }
+        ensures last { IfOk result (λ s. s.last ≡ last_on self.old revision.now.doc) }
+        ensures step { IfOk result (λ s. IsStep (tree_on self.old revision.now.doc) revision.now strict s.step) }
+        ensures old { IfOk result (λ s. s.old ≡ option_map (λ w. w.body) (base_on self.old revision.now.doc revision.now.ancestors)) }
+        ensures old_deleted { IfOk result (λ s. s.old_deleted ≡ deletes (base_on self.old revision.now.doc revision.now.ancestors)) }
+        ensures user { IfOk result (λ s. s.user_exists ≡ proposer_exists (newest_first self.old) (option_copied by.entry)) }
+    {
+        histories();
+        self.snapshot_of(revision, strict, by)
     }
 
     fn make_room(&mut self, doc: Option<&DocId>, bytes: u64) -> Result<RoomFor, AllocError>
@@ -201,11 +221,12 @@ impl Board {
         requires doc { room.made_for.doc ≡ Some entry.doc }
         requires entry { IsEntry (kinds.Write entry) }
         requires at { entry.at < sequence }
-        requires extends { ExtendsTree (tree_at (book self.old) entry.doc) entry tree }
+        requires extends { ExtendsTree (tree_on self.old entry.doc) entry tree }
         ensures log { self.new.log ≡ self.old.log ++ kinds.Write entry ∷ [] }
         ensures rooms { self.new.rooms ≡ without room.made_for self.old.rooms }
     {
         trees_of_writes();
+        histories();
         let document = Document {
             last: sequence,
             tree,
@@ -220,10 +241,10 @@ impl Board {
         requires number { number.value ≡ length self.old.log + 1 }
         requires out { IsTrue (is_out self.old.rooms room.made_for) }
         requires fits { Fits room.made_for candidate }
-        requires candidate { MayBeStored (book self.old) number.value candidate }
-        ensures stale { IfStale result (λ r n c last. is_stale (book self.old) candidate ≡ true) }
-        ensures stored { IfStored result (λ sequence at. is_stale (book self.old) candidate ≡ false) }
-        ensures back { IfStale result (λ r n c last. (r ≡ room) × (n ≡ number) × (c ≡ candidate) × (last ≡ last_of (book self.old) candidate)) }
+        requires candidate { MayBeStored self.old number.value candidate }
+        ensures stale { IfStale result (λ r n c last. is_stale self.old candidate ≡ true) }
+        ensures stored { IfStored result (λ sequence at. is_stale self.old candidate ≡ false) }
+        ensures back { IfStale result (λ r n c last. (r ≡ room) × (n ≡ number) × (c ≡ candidate) × (last ≡ last_of self.old candidate)) }
         ensures same { IfStale result (λ r n c last. self.new ≡ self.old) }
         ensures answer { IfStored result (λ sequence at. (sequence ≡ number.value) × (at ≡ front_of candidate (length self.old.log))) }
         ensures log { IfStored result (λ sequence at. self.new.log ≡ self.old.log ++ entry_of candidate ∷ []) }

@@ -1,14 +1,38 @@
-use Rattle.std.proofs.Common.{◌∙◌, ap, Option, reverse}
-use Rattle.doc_board.specs.declared.document.Document.{Document}
-use Rattle.doc_board.specs.Kept.{kept_last}
-use Rattle.doc_board.specs.State.{State, book}
-use Rattle.rev_tree.specs.Documents.{last_at}
-use Rattle.doc_board.proofs.Documents.{last_found}
+use Rattle.std.proofs.Common.{◌≡◌, ◌∙◌, ℕ, sym, subst, List, length, option_map, IfOk, Option}
+use Rattle.sg_history.specs.declared.entries.Entry.{Entry}
+use Rattle.sg_history.specs.declared.entries.Write.{Write}
+use Rattle.rev_tree.specs.declared.tree.Node.{Node}
+use Rattle.rev_tree.specs.Documents.{tree_at, last_at, base_write, deletes}
+use Rattle.doc_board.specs.Answers.{IsStep}
+use Rattle.doc_board.proofs.OnBoards.{whole}
 use Rattle.doc_board.proofs.board.Board.snapshot.Goals as goal
 
 pub returns-clause-last : goal.returns-clause-last
 returns-clause-last c =
-    c.last_of.ensures
-    ∙ ap (λ (o : Option Document). kept_last o) c.document_of-document.ensures
-    ∙ last_found (reverse c.self.inside.log.entries.list) c.self.inside.documents c.args.revision.now.doc c.self.invariant.documents
-    ∙ ap (λ (s : State). last_at (book s) c.args.revision.now.doc) c.self.view_is
+    let h = c.args.self.now.log in
+    let doc = c.args.revision.now.doc in
+    let same = c.histories.ensures.last h (length h) doc ∙ whole (λ es. last_at es doc) h in
+    subst (λ (n : ℕ). IfOk c.snapshot_of.result (λ s. s.last ≡ n)) (sym same) c.snapshot_of.ensures.last
+
+pub returns-clause-step : goal.returns-clause-step
+returns-clause-step c =
+    let h = c.args.self.now.log in
+    let doc = c.args.revision.now.doc in
+    let same = c.histories.ensures.trees h (length h) doc ∙ whole (λ es. tree_at es doc) h in
+    subst (λ (t : List Node). IfOk c.snapshot_of.result (λ s. IsStep t c.args.revision.now c.args.strict s.step)) (sym same) c.snapshot_of.ensures.step
+
+pub returns-clause-old : goal.returns-clause-old
+returns-clause-old c =
+    let h = c.args.self.now.log in
+    let doc = c.args.revision.now.doc in
+    let ancestors = c.args.revision.now.ancestors in
+    let same = c.histories.ensures.based h (length h) doc ancestors ∙ whole (λ es. base_write es doc ancestors) h in
+    subst (λ (o : Option Write). IfOk c.snapshot_of.result (λ s. s.old ≡ option_map (λ w. w.body) o)) (sym same) c.snapshot_of.ensures.old
+
+pub returns-clause-old_deleted : goal.returns-clause-old_deleted
+returns-clause-old_deleted c =
+    let h = c.args.self.now.log in
+    let doc = c.args.revision.now.doc in
+    let ancestors = c.args.revision.now.ancestors in
+    let same = c.histories.ensures.based h (length h) doc ancestors ∙ whole (λ es. base_write es doc ancestors) h in
+    subst (λ (o : Option Write). IfOk c.snapshot_of.result (λ s. s.old_deleted ≡ deletes o)) (sym same) c.snapshot_of.ensures.old_deleted
