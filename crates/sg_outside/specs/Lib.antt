@@ -3,3 +3,5 @@ pub mod MemFiles
 pub mod Sink
 pub mod Wire
 pub mod MemWire
+pub mod Scripts
+pub mod Streams

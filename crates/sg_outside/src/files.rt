@@ -1,6 +1,6 @@
 //! Files that are read whole.
 
-ghost use Rattle.std.specs.Prelude.{◌≡◌, ℕ, List, Option, Some};
+ghost use Rattle.std.specs.Prelude.{◌≡◌, ◌⊎◌, ℕ, List, Option, Some};
 ghost use Rattle.sg_outside.specs.Files.{CountsLoad, LoadsIfTold};
 
 use crate::bytes::Bytes;
@@ -20,6 +20,18 @@ pub enum Loaded {
     Failed,
     /// Want of memory.
     Memory,
+}
+
+/// Counts a fault; at the counter's end it can't be counted, and is answered as want of memory.
+pub(crate) fn count_fault(faults: &mut u64) -> Loaded
+    ensures counted { CountsLoad faults.old result faults.new }
+    ensures answer { (result ≡ Loaded.Failed) ⊎ (result ≡ Loaded.Memory) }
+{
+    if *faults == u64::MAX {
+        return Loaded::Memory;
+    }
+    *faults += 1;
+    Loaded::Failed
 }
 
 /// Files by name.

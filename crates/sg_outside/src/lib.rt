@@ -10,6 +10,7 @@ pub mod real;
 pub mod scripted_sink;
 pub mod scripted_wire;
 pub mod sink;
+pub mod streams;
 pub mod wire;
 
 pub use bytes::Bytes;
@@ -20,10 +21,8 @@ pub use real::{RealFiles, StdoutSink};
 pub use scripted_sink::ScriptedSink;
 pub use scripted_wire::ScriptedWire;
 pub use sink::{Gave, MemSink, Sink};
+pub use streams::{read_whole, write_whole};
 pub use wire::{Got, Wire};
 
 /// Want of memory.
 pub type Memory = std::alloc::AllocError;
-
-#[cfg(test)]
-mod tests;

@@ -2,11 +2,12 @@
 
 ghost use Rattle.std.specs.Prelude.{◌≡◌, ◌≢◌, ◌⊎◌, [], ◌≤◌, ◌<◌, IfSome, IfNone, IfOk, OnOk, OnErr, Some, None, string_bytes};
 ghost use Rattle.std.specs.Option.{option_copied};
-ghost use Rattle.sg_outside.specs.Files.{Loads, CountsLoad};
+ghost use Rattle.sg_outside.specs.Files.{Loads};
 ghost use Rattle.sg_outside.specs.MemFiles.{file_under, bytes_under};
+ghost use Rattle.sg_outside.specs.Scripts.{fails_at, one_more};
 
 use crate::bytes::Bytes;
-use crate::files::{Files, LARGEST_FILE, Loaded};
+use crate::files::{Files, LARGEST_FILE, Loaded, count_fault};
 use std::alloc::{AllocError, Global};
 
 /// A file in memory.
@@ -83,10 +84,14 @@ pub struct ScriptedFiles {
 }
 
 impl ScriptedFiles {
+    ghost use Rattle.sg_outside.specs.Scripts.{loads_of};
+
     /// These files, of which no call was made yet. Takes no memory.
     pub fn new(files: Vec<MemFile>, fails: Vec<bool>) -> ScriptedFiles
         ensures files { result.files.items ≡ files.items }
         ensures fails { result.fails.items ≡ fails.items }
+        ensures calls { loads_of result ≡ 0 }
+        ensures faults { ⟦<ScriptedFiles as Files>⟧.faults result ≡ 0 }
     {
         ScriptedFiles {
             files,
@@ -103,7 +108,10 @@ impl ScriptedFiles {
 }
 
 /// Whether the script says that this call fails; counts the call.
-pub(crate) fn next_fails(fails: &[bool], calls: &mut usize) -> bool {
+pub(crate) fn next_fails(fails: &[bool], calls: &mut usize) -> bool
+    ensures fails { result ≡ fails_at fails.now calls.old }
+    ensures counted { calls.new ≡ one_more calls.old }
+{
     let call = *calls;
     *calls = call.saturating_add(1);
     match fails.get(call) {
@@ -112,30 +120,28 @@ pub(crate) fn next_fails(fails: &[bool], calls: &mut usize) -> bool {
     }
 }
 
-/// What a fault answers: at the counter's end it can't be counted, and is answered as want of memory.
-fn fault(faults: &mut u64) -> Loaded
-    ensures counted { CountsLoad faults.old result faults.new }
-    ensures answer { (result ≡ Loaded.Failed) ⊎ (result ≡ Loaded.Memory) }
-{
-    if *faults == u64::MAX {
-        return Loaded::Memory;
-    }
-    *faults += 1;
-    Loaded::Failed
-}
-
 impl Files for ScriptedFiles {
+    ghost use Rattle.sg_outside.specs.Files.{CountsLoad};
+    ghost use Rattle.sg_outside.specs.Scripts.{LoadsByScript, loads_of};
+
     ghost faults = { λ f. f.faults };
 
     ghost told = { λ f. Some (λ name. file_under f.files.items name) };
 
-    fn load(&mut self, name: &str, into: &mut Bytes) -> Loaded {
+    fn load(&mut self, name: &str, into: &mut Bytes) -> Loaded
+        ensures counted { CountsLoad self.old.faults result self.new.faults }
+        ensures kept { (self.new.files ≡ self.old.files) × (self.new.fails ≡ self.old.fails) }
+        ensures loaded { Loads (file_under self.old.files.items name.now) result into.old into.new }
+        ensures script { LoadsByScript (fails_at self.old.fails.items (loads_of self.old))
+            (file_under self.old.files.items name.now) result }
+        ensures calls { loads_of self.new ≡ one_more (loads_of self.old) }
+    {
         if next_fails(self.fails.as_slice(), &mut self.calls) {
-            return fault(&mut self.faults);
+            return count_fault(&mut self.faults);
         }
         match find(self.files.as_slice(), name) {
             Some(bytes) => append(bytes.as_slice(), into),
-            None => fault(&mut self.faults),
+            None => count_fault(&mut self.faults),
         }
     }
 }

@@ -1,7 +1,8 @@
 //! A sink in memory with a script of the calls that fail.
 
-ghost use Rattle.std.specs.Prelude.{◌≡◌, ◌≢◌, [], Some};
+ghost use Rattle.std.specs.Prelude.{◌≡◌, ◌≢◌, ◌++◌, [], Some, take};
 ghost use Rattle.sg_outside.specs.Sink.{Counts, Takes};
+ghost use Rattle.sg_outside.specs.Scripts.{fault_at, one_more};
 
 use crate::bytes::Bytes;
 use crate::sink::{Gave, Sink};
@@ -18,10 +19,14 @@ pub struct ScriptedSink {
 }
 
 impl ScriptedSink {
+    ghost use Rattle.sg_outside.specs.Scripts.{gives_of};
+
     /// A sink that took nothing yet. Takes no memory.
     pub fn new(alloc: Global, script: Vec<Option<usize>>) -> ScriptedSink
         ensures bytes { result.bytes ≡ [] }
         ensures script { result.script.items ≡ script.items }
+        ensures calls { gives_of result ≡ 0 }
+        ensures faults { ⟦<ScriptedSink as Sink>⟧.faults result ≡ 0 }
     {
         ScriptedSink {
             bytes: Bytes::new(alloc),
@@ -38,7 +43,10 @@ impl ScriptedSink {
 }
 
 /// The bytes that are taken before the next call fails, if it does.
-fn next_fault(script: &[Option<usize>], calls: &mut usize) -> Option<usize> {
+fn next_fault(script: &[Option<usize>], calls: &mut usize) -> Option<usize>
+    ensures fault { result ≡ fault_at script.now calls.old }
+    ensures counted { calls.new ≡ one_more calls.old }
+{
     let call = *calls;
     *calls = call.saturating_add(1);
     match script.get(call) {
@@ -50,6 +58,8 @@ fn next_fault(script: &[Option<usize>], calls: &mut usize) -> Option<usize> {
 fn take_part(bytes: &[u8], most: usize, into: &mut Bytes, faults: &mut u64) -> Gave
     ensures counted { Counts faults.old result faults.new }
     ensures taken { Takes into.old bytes.now result into.new }
+    ensures part { result ≡ Gave.Failed → into.new ≡ into.old ++ take most bytes.now }
+    ensures fault { result ≢ Gave.Done }
 {
     if *faults == u64::MAX {
         return Gave::Memory;
@@ -75,11 +85,22 @@ fn take_all(bytes: &[u8], into: &mut Bytes) -> Gave
 }
 
 impl Sink for ScriptedSink {
+    ghost use Rattle.std.specs.Prelude.{List, ℕ, ◌++◌};
+    ghost use Rattle.sg_outside.specs.Sink.{TakesIfTold};
+    ghost use Rattle.sg_outside.specs.Scripts.{GivesByScript, gives_of};
+
     ghost faults = { λ s. s.faults };
 
     ghost taken = { λ s. Some s.bytes };
 
-    fn give(&mut self, bytes: &[u8]) -> Gave {
+    fn give(&mut self, bytes: &[u8]) -> Gave
+        ensures counted { Counts self.old.faults result self.new.faults }
+        ensures taken { TakesIfTold (Some self.old.bytes) bytes.now result (Some self.new.bytes) }
+        ensures script { GivesByScript (fault_at self.old.script.items (gives_of self.old))
+            self.old.bytes bytes.now result self.new.bytes }
+        ensures kept { self.new.script ≡ self.old.script }
+        ensures calls { gives_of self.new ≡ one_more (gives_of self.old) }
+    {
         match next_fault(self.script.as_slice(), &mut self.calls) {
             Some(most) => take_part(bytes, most, &mut self.bytes, &mut self.faults),
             None => take_all(bytes, &mut self.bytes),

@@ -5,6 +5,7 @@ ghost use Rattle.std.specs.Prelude.{vec_len, vec_capacity};
 ghost use Rattle.sg_outside.specs.Sink.{Counts};
 ghost use Rattle.sg_outside.specs.Wire.{CountsGot, next_of};
 ghost use Rattle.sg_outside.specs.MemWire.{traffic, sent_by};
+ghost use Rattle.sg_outside.specs.Scripts.{SendsByScript};
 
 use crate::bytes::Bytes;
 use crate::mem_files::next_fails;
@@ -66,6 +67,7 @@ fn send_or_fail(
 ) -> Gave
     requires { vec_len gave.old < vec_capacity gave.old }
     ensures counted { Counts faults.old result faults.new }
+    ensures script { SendsByScript fails result }
     ensures sent { (sent.new.items, gave.new.items) ≡ sent_by (sent.old.items, gave.old.items) frame.now result }
 {
     if fails {
@@ -103,10 +105,14 @@ pub struct ScriptedWire {
 }
 
 impl ScriptedWire {
+    ghost use Rattle.sg_outside.specs.Scripts.{sendings_of};
+
     /// A wire with this script, of which nothing has come yet. Takes no memory.
     pub fn new(alloc: Global, script: Vec<Got>, send_fails: Vec<bool>) -> ScriptedWire
         ensures script { result.script.items ≡ script.items }
         ensures send_fails { result.send_fails.items ≡ send_fails.items }
+        ensures sendings { sendings_of result ≡ 0 }
+        ensures faults { ⟦<ScriptedWire as Wire>⟧.faults result ≡ 0 }
         ensures told { ⟦<ScriptedWire as Wire>⟧.told result ≡ Some (traffic script.items 0 [] []) }
     {
         ScriptedWire {
@@ -128,6 +134,9 @@ impl ScriptedWire {
 }
 
 impl Wire for ScriptedWire {
+    ghost use Rattle.sg_outside.specs.Scripts.{fails_at, sendings_of};
+    ghost use Rattle.sg_outside.specs.Wire.{SendsIfTold};
+
     ghost faults = { λ w. w.faults };
 
     ghost told = { λ w. Some (traffic w.script.items w.calls w.sent.items w.gave.items) };
@@ -148,7 +157,15 @@ impl Wire for ScriptedWire {
         }
     }
 
-    fn send(&mut self, frame: &[u8]) -> Gave {
+    fn send(&mut self, frame: &[u8]) -> Gave
+        ensures counted { Counts self.old.faults result self.new.faults }
+        ensures told { SendsIfTold
+            (Some (traffic self.old.script.items self.old.calls self.old.sent.items self.old.gave.items))
+            frame.now result
+            (Some (traffic self.new.script.items self.new.calls self.new.sent.items self.new.gave.items)) }
+        ensures script { SendsByScript (fails_at self.old.send_fails.items (sendings_of self.old)) result }
+        ensures kept { self.new.send_fails ≡ self.old.send_fails }
+    {
         if self.gave.reserve(1).is_err() {
             return Gave::Memory;
         }

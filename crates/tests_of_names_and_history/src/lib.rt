@@ -1,5 +1,7 @@
-//! Tests of names, journals and feeds.
+//! Tests of what no clause says of names, journals, feeds and the outside.
 #![tactic(auto)]
 
 #[cfg(test)]
 mod feeds;
+#[cfg(test)]
+mod outside;
