@@ -1,13 +1,14 @@
 -- lists by their texts
-use Rattle.std.proofs.Common.{◌≡◌, ◌≢◌, ℕ, ◌<◌, ◌≤◌, Bool, true, false, not, List, [], ◌∷◌, ◌++◌, length, get_or, map, refl, sym, ap, ◌∙◌, arith, zero, suc, inl, inr, Ordering}
+use Rattle.std.proofs.Common.{◌≡◌, ◌≢◌, ℕ, ◌≤◌, Bool, true, false, not, List, [], ◌∷◌, ◌++◌, length, map, refl, sym, ap, ◌∙◌, arith, append_assoc, inl, inr, Ordering}
 use Rattle.std.specs.Prelude.{nat_eq}
 use Rattle.std.specs.List.{list_all, slice_split, onto_first, join_with_byte}
 use Rattle.std.proofs.lemmas.Bool.{and_parts, not_from_true, cases_Bool}
+use Rattle.std.proofs.lemmas.List.{map-append}
 use Rattle.std.proofs.lemmas.List.Splits.{slice_split-cons_yes, slice_split-cons_no, join_with_byte-slice_split, length-slice_split}
 use Rattle.sg_names.specs.Grammar.{lacks}
 use Rattle.sg_names.specs.ItemList.{list_text, rises, AreApart}
 
-abbrev is_comma : ℕ → Bool
+abbrev pub is_comma : ℕ → Bool
 is_comma b = nat_eq b 44
 
 other_byte : (c b : ℕ) → not (nat_eq b c) ≡ true → nat_eq b c ≡ false
@@ -80,23 +81,52 @@ pub parts_from_list : {X : Type 0} (text : X → List ℕ) (admits : X → Bool)
 parts_from_list text admits apart whole [] other h e = absurd (other e)
 parts_from_list text admits apart whole (x ∷ xs) other h e = ap (slice_split is_comma) e ∙ split_joined text admits apart x xs h
 
--- the item at a place, whose text stands there
-pub record HasItem {P X : Type 0} (now : P → List ℕ) (text : X → List ℕ) (admits : X → Bool) (pieces : List P) (i : ℕ) : Type 0 where
+-- an item whose text is the part
+pub record HasItem {X : Type 0} (text : X → List ℕ) (admits : X → Bool) (part : List ℕ) : Type 0 where
   pub item : X
   pub admitted : admits item ≡ true
-  pub spelled : (d : P) → now (get_or pieces i d) ≡ text item
+  pub spelled : part ≡ text item
 
-pub item_at : {P X : Type 0} (now : P → List ℕ) (text : X → List ℕ) (admits : X → Bool) (pieces : List P) (xs : List X) (i : ℕ) → i < length pieces
-    → map now pieces ≡ map text xs → list_all admits xs ≡ true → HasItem now text admits pieces i
-item_at now text admits [] xs i inside e h = absurd (omega arith)
-item_at now text admits (p ∷ ps) [] i inside e h = absurd (cc (e))
-item_at now text admits (p ∷ ps) (x ∷ xs) zero inside e h =
-    let first : now p ≡ text x = cc in
-    record { item = x; admitted = (and_parts (admits x) (list_all admits xs) h).0; spelled = λ d. first }
-item_at now text admits (p ∷ ps) (x ∷ xs) (suc i) inside e h =
-    let others : map now ps ≡ map text xs = cc in
-    let at = item_at now text admits ps xs i (omega arith) others (and_parts (admits x) (list_all admits xs) h).1 in
-    record { item = at.item; admitted = at.admitted; spelled = at.spelled }
+item_behind : {X : Type 0} (text : X → List ℕ) (admits : X → Bool) (before : List X) (part : List ℕ) (others : List (List ℕ)) (xs : List X)
+    → map text before ++ part ∷ others ≡ map text xs → list_all admits xs ≡ true → HasItem text admits part
+item_behind text admits [] part others [] e h = absurd (cc (e))
+item_behind text admits [] part others (x ∷ xs) e h = record { item = x; admitted = (and_parts (admits x) (list_all admits xs) h).0; spelled = cc }
+item_behind text admits (b ∷ before) part others [] e h = absurd (cc (e))
+item_behind text admits (b ∷ before) part others (x ∷ xs) e h =
+    let rest : map text before ++ part ∷ others ≡ map text xs = cc in
+    item_behind text admits before part others xs rest (and_parts (admits x) (list_all admits xs) h).1
+
+-- the part before the next comma is the text of an item, where the parts are those of items
+pub next_item : {X : Type 0} (text : X → List ℕ) (admits : X → Bool) (items : List X) (whole rest part after : List ℕ) (xs : List X)
+    → slice_split is_comma whole ≡ map text items ++ slice_split is_comma rest → rest ≡ part ++ 44 ∷ after → lacks 44 part ≡ true
+    → slice_split is_comma whole ≡ map text xs → list_all admits xs ≡ true → HasItem text admits part
+next_item text admits items whole rest part after xs so_far cut first e h =
+    item_behind text admits items part (slice_split is_comma after) xs
+    (ap (λ parts. map text items ++ parts) (sym (ap (slice_split is_comma) cut ∙ split_front part after first)) ∙ sym so_far ∙ e) h
+
+-- and so is the last part
+pub last_item : {X : Type 0} (text : X → List ℕ) (admits : X → Bool) (items : List X) (whole rest : List ℕ) (xs : List X)
+    → slice_split is_comma whole ≡ map text items ++ slice_split is_comma rest → lacks 44 rest ≡ true
+    → slice_split is_comma whole ≡ map text xs → list_all admits xs ≡ true → HasItem text admits rest
+last_item text admits items whole rest xs so_far none e h =
+    item_behind text admits items rest [] xs (ap (λ parts. map text items ++ parts) (sym (split_whole rest none)) ∙ sym so_far ∙ e) h
+
+-- one item more was read
+pub parts_more : {X : Type 0} (text : X → List ℕ) (items more : List X) (x : X) (whole rest part after : List ℕ)
+    → slice_split is_comma whole ≡ map text items ++ slice_split is_comma rest → rest ≡ part ++ 44 ∷ after → lacks 44 part ≡ true
+    → part ≡ text x → more ≡ items ++ x ∷ [] → slice_split is_comma whole ≡ map text more ++ slice_split is_comma after
+parts_more text items more x whole rest part after so_far cut first spelled pushed =
+    so_far ∙ ap (λ parts. map text items ++ parts) (ap (slice_split is_comma) cut ∙ split_front part after first ∙ ap (λ p. p ∷ slice_split is_comma after) spelled)
+    ∙ sym (append_assoc (map text items) (text x ∷ []) (slice_split is_comma after))
+    ∙ ap (λ parts. parts ++ slice_split is_comma after) (sym (ap (map text) pushed ∙ map-append text items (x ∷ [])))
+
+-- and the last one
+pub parts_last : {X : Type 0} (text : X → List ℕ) (items more : List X) (x : X) (whole rest : List ℕ)
+    → slice_split is_comma whole ≡ map text items ++ slice_split is_comma rest → lacks 44 rest ≡ true
+    → rest ≡ text x → more ≡ items ++ x ∷ [] → slice_split is_comma whole ≡ map text more
+parts_last text items more x whole rest so_far none spelled pushed =
+    so_far ∙ ap (λ parts. map text items ++ parts) (split_whole rest none ∙ ap (λ p. p ∷ []) spelled)
+    ∙ sym (ap (map text) pushed ∙ map-append text items (x ∷ []))
 
 -- one item rises, and so does none
 pub rises_short : {X : Type 0} (order : X → X → Ordering) (xs : List X) → length xs ≤ 1 → rises order xs ≡ true

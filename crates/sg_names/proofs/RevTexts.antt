@@ -1,7 +1,7 @@
 -- texts of revisions
-use Rattle.std.proofs.Common.{◌≡◌, ◌≢◌, ℕ, ◌<◌, ◌≤◌, ◌^◌, true, ◌&&◌, List, ◌∷◌, ◌++◌, refl, sym, ◌∙◌, arith}
+use Rattle.std.proofs.Common.{◌≡◌, ◌≢◌, ℕ, ◌<◌, ◌≤◌, ◌^◌, true, ◌&&◌, List, ◌∷◌, ◌++◌, refl, sym, ap, ◌∙◌, arith}
 use Rattle.std.specs.Prelude.{decimal, nat_le, nat_lt}
-use Rattle.std.proofs.lemmas.Bool.{and_parts, leb-true}
+use Rattle.std.proofs.lemmas.Bool.{and_parts, and_from, leb-true, le-leb, lt-ltb}
 use borrow.Author.Tests.{ltb-true}
 use Rattle.sg_names.proofs.Cuts.{cut_same, lacks_seam}
 use Rattle.sg_names.proofs.Decimals.{lacks-decimal}
@@ -20,6 +20,14 @@ rev_parts r h =
     let outer = and_parts (nat_le 1 r.generation && nat_lt r.generation 4294967296) (is_digest r.digest) h in
     let range = and_parts (nat_le 1 r.generation) (nat_lt r.generation 4294967296) outer.0 in
     record { low = leb-true 1 r.generation range.0; high = ltb-true r.generation 4294967296 range.1; digest = outer.1 }
+
+-- a generation and a digest behind it, which are a revision's, are no text outside the grammar
+pub rev_spelled : (text front back : List ℕ) (generation : ℕ) → text ≡ front ++ 45 ∷ back → front ≡ decimal generation → 1 ≤ generation → generation < 2 ^ 32
+    → ((r : RevId) → is_rev r ≡ true → text ≢ rev_text r) → ¬ (is_digest back ≡ true)
+rev_spelled text front back generation cut spelled low high none digest =
+    none (record { generation = generation; digest = back })
+    (and_from _ _ (and_from _ _ (le-leb 1 generation low) (lt-ltb generation 4294967296 (omega (arith, high)))) digest)
+    (cut ∙ ap (λ f. f ++ 45 ∷ back) spelled)
 
 -- a text without `-` is no revision's
 pub rev_whole : (text : List ℕ) (r : RevId) → lacks 45 text ≡ true → text ≢ rev_text r

@@ -1,5 +1,5 @@
 -- lower-case hexadecimal texts of bytes
-use Rattle.std.specs.Prelude.{ℕ, ◌+◌, ◌/◌, ◌%◌, ◌==◌, Bool, ◌&&◌, ◌||◌, if◌then◌else◌, nat_lt, nat_le, List, [], ◌∷◌, length}
+use Rattle.std.specs.Prelude.{◌≡◌, ℕ, ◌+◌, ◌*◌, ◌/◌, ◌%◌, ◌==◌, Bool, true, ◌++◌, take, ◌&&◌, ◌||◌, if◌then◌else◌, nat_lt, nat_le, List, [], ◌∷◌, length}
 use Rattle.std.specs.List.{list_all}
 
 -- the digit of a number below 16: `0` to `9`, `a` to `f`
@@ -21,3 +21,10 @@ is_hex text = nat_lt 0 (length text) && (length text % 2 == 0) && list_all (λ b
 -- each number is a byte
 abbrev pub are_bytes : List ℕ → Bool
 are_bytes bytes = list_all (λ b. nat_lt b 256) bytes
+
+-- the first so many pairs of digits were read as bytes, which were put at the end
+pub record HasRead (text : List ℕ) (pairs : ℕ) (before after : List ℕ) : Type 0 where
+  pub bytes : List ℕ
+  pub spelled : take (2 * pairs) text ≡ hex_text bytes
+  pub appended : after ≡ before ++ bytes
+  pub are : are_bytes bytes ≡ true

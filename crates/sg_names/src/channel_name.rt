@@ -94,6 +94,10 @@ impl Item for ChannelName {
         ChannelName::parse(alloc, piece)
     }
 
+    fn duplicate(&self, alloc: Global) -> Result<ChannelName, AllocError> {
+        self.copy(alloc)
+    }
+
     fn print(&self, out: &mut Bytes) -> Result<(), Memory> {
         out.extend_from_slice(self.text.as_bytes())
     }

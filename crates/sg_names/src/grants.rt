@@ -7,6 +7,7 @@ ghost use Rattle.std.specs.Cmp.Lexicographic.{slice_cmp};
 use crate::channel_name::ChannelName;
 use crate::fault::TextFault;
 use crate::item_list::{self, Item, Rising};
+use crate::list::List;
 use crate::name::Name;
 use crate::pieces;
 use sg_outside::{Bytes, Memory};
@@ -133,6 +134,10 @@ impl Item for Grant {
         Grant::parse(alloc, piece)
     }
 
+    fn duplicate(&self, alloc: Global) -> Result<Grant, AllocError> {
+        self.copy(alloc)
+    }
+
     fn print(&self, out: &mut Bytes) -> Result<(), Memory> {
         self.write(out)
     }
@@ -149,46 +154,11 @@ impl Rising for Grant {
 }
 
 /// A list of grants.
-#[derive(Drop)]
-pub struct Grants {
-    items: Vec<Grant>,
-}
+pub type Grants = List<Grant>;
 
-impl Model for Grants {
-    ghost use Rattle.std.specs.Prelude.{List};
-    ghost use Rattle.sg_names.specs.declared.grants.Grant.{Grant};
-
-    ghost Value = { List Grant };
-
-    ghost view = { λ l. l.items.items };
-}
-
-impl Grants {
+impl List<Grant> {
     ghost use Rattle.sg_names.specs.Grants.{grants_text, is_grants};
     ghost use Rattle.sg_names.specs.declared.grants.Grant.{Grant};
-
-    /// None. Takes no memory.
-    pub fn new(alloc: Global) -> Grants
-        ensures { result ≡ [] }
-    {
-        Grants {
-            items: Vec::new(alloc),
-        }
-    }
-
-    /// The list of a vector's items. Takes no memory.
-    pub fn from_vec(items: Vec<Grant>) -> Grants
-        ensures { result ≡ items.items }
-    {
-        Grants { items }
-    }
-
-    /// The vector of the items. Takes no memory.
-    pub fn into_vec(self) -> Vec<Grant>
-        ensures { result.items ≡ self }
-    {
-        self.items
-    }
 
     /// Reads the text of a list: `Bad` where it is outside the grammar, or does not rise.
     pub fn parse(alloc: Global, text: &str) -> Result<Grants, TextFault>
@@ -200,31 +170,7 @@ impl Grants {
         if !item_list::rises(items.as_slice()) {
             return Err(TextFault::Bad);
         }
-        Ok(Grants { items })
-    }
-
-    pub fn as_slice(&self) -> &[Grant]
-        ensures { result.now ≡ self.now }
-    {
-        self.items.as_slice()
-    }
-
-    pub fn push(&mut self, item: Grant) -> Result<(), AllocError>
-        ensures ok { OnOk result (self.new ≡ self.old ++ item ∷ []) }
-        ensures err { OnErr result (self.new ≡ self.old) }
-    {
-        self.items.push(item)?;
-        Ok(())
-    }
-
-    pub fn copy(&self, alloc: Global) -> Result<Grants, AllocError>
-        ensures { IfOk result (λ l. l ≡ self.now) }
-    {
-        let mut items = Vec::new(alloc);
-        for item in self.items.as_slice() {
-            items.push(item.copy(alloc)?)?;
-        }
-        Ok(Grants { items })
+        Ok(List::from_vec(items))
     }
 
     /// Puts the text at the end. An error leaves the bytes as they were.
@@ -232,6 +178,6 @@ impl Grants {
         ensures ok { OnOk result (out.new ≡ out.old ++ grants_text self.now) }
         ensures err { OnErr result (out.new ≡ out.old) }
     {
-        item_list::write_list(self.items.as_slice(), out)
+        item_list::write_list(self.as_slice(), out)
     }
 }

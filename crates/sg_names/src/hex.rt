@@ -1,8 +1,9 @@
 //! Lower-case hexadecimal texts of bytes.
 
-ghost use Rattle.std.specs.Prelude.{◌≡◌, ◌++◌, ◌<◌, ◌/◌, ◌%◌, ℕ, List, length, take, IsTrue, OnOk, OnErr};
+ghost use Rattle.std.specs.Prelude.{◌≡◌, ◌++◌, ◌<◌, ◌/◌, ◌%◌, ◌&&◌, false, ℕ, List, length, take, IsTrue, IfSome, IfNone, OnOk, OnErr};
 ghost use Rattle.std.specs.List.{list_all};
 ghost use Rattle.sg_names.specs.Hex as hex;
+ghost use Rattle.sg_names.specs.Hex.{HasRead};
 
 use crate::fault::TextFault;
 use sg_outside::{Bytes, Memory};
@@ -51,54 +52,81 @@ fn all_hex_digits(text: &[u8]) -> bool
     text.iter().all(|b| is_hex_digit(*b))
 }
 
-fn is_hex(text: &[u8]) -> bool
-    ensures { result ≡ hex.is_hex text.now }
+/// The value of a digit; none of another byte.
+fn value_of(digit: u8) -> Option<u8>
+    ensures some { IfSome result (λ n. (n < 16) × (hex.hex_digit n ≡ digit)) }
+    ensures none { IfNone result (hex.is_hex_digit digit ≡ false) }
 {
-    !text.is_empty() && text.len() % 2 == 0 && all_hex_digits(text)
-}
-
-fn value_of(digit: u8) -> u8
-    requires { IsTrue (hex.is_hex_digit digit) }
-    ensures small { result < 16 }
-    ensures digit { hex.hex_digit result ≡ digit }
-{
-    if digit <= b'9' {
-        digit - b'0'
-    } else {
-        digit - b'a' + 10
+    match digit {
+        b'0'..=b'9' => Some(digit - b'0'),
+        b'a'..=b'f' => Some(digit - b'a' + 10),
+        _ => None,
     }
 }
 
-/// Puts the bytes of a text of digits in pairs at the end, up to one for which there is no memory.
-fn read_while(text: &[u8], out: &mut Bytes) -> Result<(), Memory>
-    requires even { length text.now % 2 ≡ 0 }
-    requires digits { IsTrue (list_all (λ b. hex.is_hex_digit b) text.now) }
-    ensures ok { OnOk result ((bytes : List ℕ) × (text.now ≡ hex.hex_text bytes)
-        × (out.new ≡ out.old ++ bytes)) }
+/// The byte of two digits; none where one is another byte.
+fn byte_of(high: u8, low: u8) -> Option<u8>
+    ensures some { IfSome result (λ b. (hex.hex_digit (b / 16) ≡ high) × (hex.hex_digit (b % 16) ≡ low)) }
+    ensures none { IfNone result ((hex.is_hex_digit high && hex.is_hex_digit low) ≡ false) }
+{
+    match (value_of(high), value_of(low)) {
+        (Some(high), Some(low)) => Some(high * 16 + low),
+        _ => None,
+    }
+}
+
+/// Want of memory, where the text is one of digits, else its refusal.
+fn no_memory(text: &[u8]) -> TextFault
+    ensures bad { result ≡ TextFault.Bad → list_all (λ b. hex.is_hex_digit b) text.now ≡ false }
+    ensures memory { result ≡ TextFault.Memory → IsTrue (list_all (λ b. hex.is_hex_digit b) text.now) }
+{
+    if all_hex_digits(text) {
+        TextFault::Memory
+    } else {
+        TextFault::Bad
+    }
+}
+
+/// Puts the bytes of a text of digits in pairs at the end, up to one that has another byte, or for which there
+/// is no memory.
+fn read_while(text: &[u8], out: &mut Bytes) -> Result<(), TextFault>
+    requires { length text.now % 2 ≡ 0 }
+    ensures ok { OnOk result (HasRead text.now (length text.now / 2) out.old out.new) }
+    ensures bad { result ≡ Err TextFault.Bad → list_all (λ b. hex.is_hex_digit b) text.now ≡ false }
+    ensures memory { result ≡ Err TextFault.Memory → IsTrue (list_all (λ b. hex.is_hex_digit b) text.now) }
     ensures err { OnErr result (take (length out.old) out.new ≡ out.old) }
 {
+    if out.reserve(text.len() / 2).is_err() {
+        return Err(no_memory(text));
+    }
     for i in 0..text.len() / 2 {
-        out.push(value_of(text[2 * i]) * 16 + value_of(text[2 * i + 1]))?;
+        let Some(byte) = byte_of(text[2 * i], text[2 * i + 1]) else {
+            return Err(TextFault::Bad);
+        };
+        if out.push(byte).is_err() {
+            return Err(no_memory(text));
+        }
     }
     Ok(())
 }
 
-/// Puts the bytes of a text at the end: `Bad` where it is empty, odd in length or has a byte that is
+/// Puts the bytes of a text at the end: `Bad` exactly where it is empty, odd in length or has a byte that is
 /// no lower-case hexadecimal digit. A refusal leaves `out` as it was.
 pub fn from_hex(text: &[u8], out: &mut Bytes) -> Result<(), TextFault>
     ensures ok { OnOk result ((bytes : List ℕ) × (text.now ≡ hex.hex_text bytes)
         × (out.new ≡ out.old ++ bytes)) }
     ensures grammar { OnOk result (IsTrue (hex.is_hex text.now)) }
     ensures bad { result ≡ Err TextFault.Bad → ¬ IsTrue (hex.is_hex text.now) }
+    ensures outside { ¬ IsTrue (hex.is_hex text.now) → result ≡ Err TextFault.Bad }
     ensures err { OnErr result (out.new ≡ out.old) }
 {
-    if !is_hex(text) {
+    if text.is_empty() || text.len() % 2 != 0 {
         return Err(TextFault::Bad);
     }
     let start = out.len();
-    if read_while(text, out).is_err() {
+    let read = read_while(text, out);
+    if read.is_err() {
         out.truncate(start);
-        return Err(TextFault::Memory);
     }
-    Ok(())
+    read
 }

@@ -1,7 +1,7 @@
 //! Texts of lists: `-` for none, else the items joined by commas.
 
-ghost use Rattle.std.specs.Prelude.{◌≡◌, ◌≢◌, ◌++◌, ◌∷◌, List, [], ℕ, Bool, map, length, take, IsTrue, IfOk, OnOk, OnErr};
-ghost use Rattle.std.specs.List.{flat_map, list_all};
+ghost use Rattle.std.specs.Prelude.{◌≡◌, ◌≢◌, ◌==◌, ◌++◌, ◌∷◌, List, [], ℕ, Bool, map, length, take, IsTrue, IfOk, OnOk, OnErr};
+ghost use Rattle.std.specs.List.{flat_map, list_all, slice_split};
 ghost use Rattle.std.specs.declared.cmp.Ordering as ordering;
 ghost use Rattle.sg_names.specs.Grammar.{lacks};
 ghost use Rattle.sg_names.specs.ItemList as lists;
@@ -10,7 +10,7 @@ ghost use Rattle.sg_names.specs.ItemList.{list_text};
 use crate::fault::TextFault;
 use crate::pieces;
 use sg_outside::{Bytes, Memory};
-use std::alloc::Global;
+use std::alloc::{AllocError, Global};
 use std::cmp::Ordering;
 
 /// What stands in a list. Its text is `text`, and `admits` tells whether it is in its grammar.
@@ -26,6 +26,12 @@ pub trait Item: Drop {
         ensures ok { IfOk result (λ x. (piece.now ≡ text x) × IsTrue (admits x)) }
         ensures bad { result ≡ Err TextFault.Bad → (x : Self) → IsTrue (admits x) → piece.now ≢ text x };
 
+    /// The same again.
+    fn duplicate(&self, alloc: Global) -> Result<Self, AllocError>
+    where
+        Self: Sized,
+        ensures { IfOk result (λ x. x ≡ self.now) };
+
     /// Puts the text at the end. An error leaves the bytes as they were.
     fn print(&self, out: &mut Bytes) -> Result<(), Memory>
         ensures ok { OnOk result (out.new ≡ out.old ++ text self.now) }
@@ -40,17 +46,20 @@ pub trait Rising: Item {
         ensures { result ≡ order self.now other.now };
 }
 
-/// Reads an item from each piece: `Bad` where one is outside the grammar.
-fn read_items<T: Item>(alloc: Global, pieces: &[&str]) -> Result<Vec<T>, TextFault>
-    ensures ok { IfOk result (λ v. (map (λ p. p.now) pieces.now ≡ map T.text v.items)
+/// Reads an item from each part between commas: `Bad` where one is outside the grammar.
+fn read_items<T: Item>(alloc: Global, text: &str) -> Result<Vec<T>, TextFault>
+    ensures ok { IfOk result (λ v. (slice_split (λ b. b == 44) text.now ≡ map T.text v.items)
         × IsTrue (list_all T.admits v.items)) }
     ensures bad { result ≡ Err TextFault.Bad → (xs : List T) → IsTrue (list_all T.admits xs)
-        → map (λ p. p.now) pieces.now ≢ map T.text xs }
+        → slice_split (λ b. b == 44) text.now ≢ map T.text xs }
 {
     let mut items = Vec::new(alloc);
-    for piece in pieces {
-        items.push(T::read(alloc, piece)?)?;
+    let mut rest = text;
+    while let Some((part, after)) = pieces::cut(rest, ',') {
+        items.push(T::read(alloc, part)?)?;
+        rest = after;
     }
+    items.push(T::read(alloc, rest)?)?;
     Ok(items)
 }
 
@@ -67,8 +76,7 @@ pub fn read_list<T: Item>(alloc: Global, text: &str) -> Result<Vec<T>, TextFault
     if text == "-" {
         return Ok(Vec::new(alloc));
     }
-    let pieces = pieces::split_at_commas(alloc, text)?;
-    read_items(alloc, pieces.as_slice())
+    read_items(alloc, text)
 }
 
 /// Whether each item comes strictly before the next.

@@ -14,6 +14,7 @@ pub mod hex;
 pub mod item_list;
 pub mod key;
 pub mod laws;
+pub mod list;
 pub mod name;
 pub mod names;
 pub mod pieces;
@@ -30,10 +31,8 @@ pub use fault::TextFault;
 pub use grants::{Grant, Grantee, Grants};
 pub use hex::{from_hex, write_hex};
 pub use key::{Key, KeyFault};
+pub use list::List;
 pub use name::Name;
 pub use names::Names;
 pub use rev_id::{RevId, Revs};
 pub use role_grants::{RoleGrant, RoleGrants};
-
-#[cfg(test)]
-mod tests;

@@ -93,6 +93,10 @@ impl Item for Name {
         Name::parse(alloc, piece)
     }
 
+    fn duplicate(&self, alloc: Global) -> Result<Name, AllocError> {
+        self.copy(alloc)
+    }
+
     fn print(&self, out: &mut Bytes) -> Result<(), Memory> {
         out.extend_from_slice(self.text.as_bytes())
     }

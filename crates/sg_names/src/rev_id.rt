@@ -6,6 +6,7 @@ use crate::decimal::read_decimal;
 use crate::digest::Digest;
 use crate::fault::TextFault;
 use crate::item_list::{self, Item};
+use crate::list::List;
 use crate::pieces;
 use itoa::Buffer;
 use sg_outside::{Bytes, Memory};
@@ -27,6 +28,7 @@ impl RevId {
     pub fn parse(alloc: Global, text: &str) -> Result<RevId, TextFault>
         ensures ok { IfOk result (λ r. (text.now ≡ rev_text r) × IsTrue (is_rev r)) }
         ensures bad { result ≡ Err TextFault.Bad → (r : RevId) → IsTrue (is_rev r) → text.now ≢ rev_text r }
+        ensures outside { ((r : RevId) → IsTrue (is_rev r) → text.now ≢ rev_text r) → result ≡ Err TextFault.Bad }
     {
         let Some((front, back)) = pieces::cut(text, '-') else {
             return Err(TextFault::Bad);
@@ -79,6 +81,10 @@ impl Item for RevId {
         RevId::parse(alloc, piece)
     }
 
+    fn duplicate(&self, alloc: Global) -> Result<RevId, AllocError> {
+        self.copy(alloc)
+    }
+
     fn print(&self, out: &mut Bytes) -> Result<(), Memory> {
         self.write(out)
     }
@@ -96,46 +102,11 @@ fn read_generation(text: &str) -> Option<u32>
 }
 
 /// A list of revisions.
-#[derive(Drop)]
-pub struct Revs {
-    items: Vec<RevId>,
-}
+pub type Revs = List<RevId>;
 
-impl Model for Revs {
-    ghost use Rattle.std.specs.Prelude.{List};
-    ghost use Rattle.sg_names.specs.declared.rev_id.RevId.{RevId};
-
-    ghost Value = { List RevId };
-
-    ghost view = { λ l. l.items.items };
-}
-
-impl Revs {
+impl List<RevId> {
     ghost use Rattle.sg_names.specs.Revs.{revs_text, is_revs};
     ghost use Rattle.sg_names.specs.declared.rev_id.RevId.{RevId};
-
-    /// None. Takes no memory.
-    pub fn new(alloc: Global) -> Revs
-        ensures { result ≡ [] }
-    {
-        Revs {
-            items: Vec::new(alloc),
-        }
-    }
-
-    /// The list of a vector's items. Takes no memory.
-    pub fn from_vec(items: Vec<RevId>) -> Revs
-        ensures { result ≡ items.items }
-    {
-        Revs { items }
-    }
-
-    /// The vector of the items. Takes no memory.
-    pub fn into_vec(self) -> Vec<RevId>
-        ensures { result.items ≡ self }
-    {
-        self.items
-    }
 
     /// Reads the text of a list: `Bad` where it is outside the grammar.
     pub fn parse(alloc: Global, text: &str) -> Result<Revs, TextFault>
@@ -144,31 +115,7 @@ impl Revs {
             → text.now ≢ revs_text l }
     {
         let items = item_list::read_list(alloc, text)?;
-        Ok(Revs { items })
-    }
-
-    pub fn as_slice(&self) -> &[RevId]
-        ensures { result.now ≡ self.now }
-    {
-        self.items.as_slice()
-    }
-
-    pub fn push(&mut self, item: RevId) -> Result<(), AllocError>
-        ensures ok { OnOk result (self.new ≡ self.old ++ item ∷ []) }
-        ensures err { OnErr result (self.new ≡ self.old) }
-    {
-        self.items.push(item)?;
-        Ok(())
-    }
-
-    pub fn copy(&self, alloc: Global) -> Result<Revs, AllocError>
-        ensures { IfOk result (λ l. l ≡ self.now) }
-    {
-        let mut items = Vec::new(alloc);
-        for item in self.items.as_slice() {
-            items.push(item.copy(alloc)?)?;
-        }
-        Ok(Revs { items })
+        Ok(List::from_vec(items))
     }
 
     /// Puts the text at the end. An error leaves the bytes as they were.
@@ -176,6 +123,6 @@ impl Revs {
         ensures ok { OnOk result (out.new ≡ out.old ++ revs_text self.now) }
         ensures err { OnErr result (out.new ≡ out.old) }
     {
-        item_list::write_list(self.items.as_slice(), out)
+        item_list::write_list(self.as_slice(), out)
     }
 }

@@ -4,6 +4,7 @@ ghost use Rattle.std.specs.Prelude.{◌≡◌, ◌≢◌, ◌++◌, ◌∷◌, L
 
 use crate::fault::TextFault;
 use crate::item_list::{self, Item, Rising};
+use crate::list::List;
 use crate::name::Name;
 use crate::pieces;
 use sg_outside::{Bytes, Memory};
@@ -75,6 +76,10 @@ impl Item for RoleGrant {
         RoleGrant::parse(alloc, piece)
     }
 
+    fn duplicate(&self, alloc: Global) -> Result<RoleGrant, AllocError> {
+        self.copy(alloc)
+    }
+
     fn print(&self, out: &mut Bytes) -> Result<(), Memory> {
         self.write(out)
     }
@@ -91,46 +96,11 @@ impl Rising for RoleGrant {
 }
 
 /// A list of role grants.
-#[derive(Drop)]
-pub struct RoleGrants {
-    items: Vec<RoleGrant>,
-}
+pub type RoleGrants = List<RoleGrant>;
 
-impl Model for RoleGrants {
-    ghost use Rattle.std.specs.Prelude.{List};
-    ghost use Rattle.sg_names.specs.declared.role_grants.RoleGrant.{RoleGrant};
-
-    ghost Value = { List RoleGrant };
-
-    ghost view = { λ l. l.items.items };
-}
-
-impl RoleGrants {
+impl List<RoleGrant> {
     ghost use Rattle.sg_names.specs.RoleGrants.{role_grants_text, is_role_grants};
     ghost use Rattle.sg_names.specs.declared.role_grants.RoleGrant.{RoleGrant};
-
-    /// None. Takes no memory.
-    pub fn new(alloc: Global) -> RoleGrants
-        ensures { result ≡ [] }
-    {
-        RoleGrants {
-            items: Vec::new(alloc),
-        }
-    }
-
-    /// The list of a vector's items. Takes no memory.
-    pub fn from_vec(items: Vec<RoleGrant>) -> RoleGrants
-        ensures { result ≡ items.items }
-    {
-        RoleGrants { items }
-    }
-
-    /// The vector of the items. Takes no memory.
-    pub fn into_vec(self) -> Vec<RoleGrant>
-        ensures { result.items ≡ self }
-    {
-        self.items
-    }
 
     /// Reads the text of a list: `Bad` where it is outside the grammar, or does not rise.
     pub fn parse(alloc: Global, text: &str) -> Result<RoleGrants, TextFault>
@@ -142,31 +112,7 @@ impl RoleGrants {
         if !item_list::rises(items.as_slice()) {
             return Err(TextFault::Bad);
         }
-        Ok(RoleGrants { items })
-    }
-
-    pub fn as_slice(&self) -> &[RoleGrant]
-        ensures { result.now ≡ self.now }
-    {
-        self.items.as_slice()
-    }
-
-    pub fn push(&mut self, item: RoleGrant) -> Result<(), AllocError>
-        ensures ok { OnOk result (self.new ≡ self.old ++ item ∷ []) }
-        ensures err { OnErr result (self.new ≡ self.old) }
-    {
-        self.items.push(item)?;
-        Ok(())
-    }
-
-    pub fn copy(&self, alloc: Global) -> Result<RoleGrants, AllocError>
-        ensures { IfOk result (λ l. l ≡ self.now) }
-    {
-        let mut items = Vec::new(alloc);
-        for item in self.items.as_slice() {
-            items.push(item.copy(alloc)?)?;
-        }
-        Ok(RoleGrants { items })
+        Ok(List::from_vec(items))
     }
 
     /// Puts the text at the end. An error leaves the bytes as they were.
@@ -174,6 +120,6 @@ impl RoleGrants {
         ensures ok { OnOk result (out.new ≡ out.old ++ role_grants_text self.now) }
         ensures err { OnErr result (out.new ≡ out.old) }
     {
-        item_list::write_list(self.items.as_slice(), out)
+        item_list::write_list(self.as_slice(), out)
     }
 }

@@ -88,6 +88,13 @@ impl Bytes {
         self.items.extend_from_slice(bytes)
     }
 
+    /// Makes room for `more` further bytes, so that putting them at the end takes no memory.
+    pub fn reserve(&mut self, more: usize) -> Result<(), AllocError>
+        ensures { self.new ≡ self.old }
+    {
+        self.items.reserve(more)
+    }
+
     /// Keeps the first `len` bytes.
     pub fn truncate(&mut self, len: usize)
         ensures { self.new ≡ take len self.old }

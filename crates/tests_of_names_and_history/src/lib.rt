@@ -4,4 +4,6 @@
 #[cfg(test)]
 mod feeds;
 #[cfg(test)]
+mod names;
+#[cfg(test)]
 mod outside;

@@ -1,5 +1,5 @@
-use Rattle.sg_names.proofs.HexTexts.{HasRead}
+use Rattle.sg_names.specs.Hex.{HasRead}
 use Rattle.sg_names.proofs.hex.read_while.Given as goal
 
 abbrev pub invariant-loop-i : goal.invariant-loop-i
-invariant-loop-i l = HasRead l.text l.i l.initial.out l.out
+invariant-loop-i l = HasRead l.text l.i l.fn.out l.out

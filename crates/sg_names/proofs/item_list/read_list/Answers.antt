@@ -1,4 +1,4 @@
-use Rattle.std.proofs.Common.{◌≢◌, [], ◌∷◌, map, sym, ap, ◌∙◌, refl}
+use Rattle.std.proofs.Common.{◌≢◌, [], ◌∷◌, map, sym, ◌∙◌, refl}
 use Rattle.std.proofs.lemmas.Result.{IfOk-weaker}
 use Rattle.std.proofs.lemmas.Slice.Eq.{bytes_eq-Decides}
 use Rattle.sg_names.proofs.Lists.{lists_same, list_from_parts, parts_from_list}
@@ -11,18 +11,16 @@ returns-then-eq-clause-only g c = λ xs h e.
 
 pub returns-clause-ok : goal.returns-clause-ok
 returns-clause-ok g c =
-    let parts = sym c.in_ok-pieces.ensures ∙ ap (map (λ p. p.now)) (sym c.as_slice.ensures.value) in
-    IfOk-weaker c.read_items.result _ _ (λ v read. (list_from_parts c.args.text.now (map g.T.Item.text v.items) (parts ∙ read.0), read.1)) c.read_items.ensures.ok
+    IfOk-weaker c.read_items.result _ _ (λ v read. (list_from_parts c.args.text.now (map g.T.Item.text v.items) read.0, read.1)) c.read_items.ensures.ok
 
 pub returns-clause-only : goal.returns-clause-only
 returns-clause-only g c =
-    let parts = sym c.in_ok-pieces.ensures ∙ ap (map (λ p. p.now)) (sym c.as_slice.ensures.value) in
     IfOk-weaker c.read_items.result _ _ (λ v read. λ xs h e.
     lists_same g.T.Item.text g.T.Item.admits c.requires v.items xs read.1 h
-    (sym (list_from_parts c.args.text.now (map g.T.Item.text v.items) (parts ∙ read.0)) ∙ e)) c.read_items.ensures.ok
+    (sym (list_from_parts c.args.text.now (map g.T.Item.text v.items) read.0) ∙ e)) c.read_items.ensures.ok
 
 pub returns-clause-bad : goal.returns-clause-bad
 returns-clause-bad g c = λ fault xs h e.
     let other : c.args.text.now ≢ 45 ∷ [] = λ same. cc ((bytes_eq-Decides c.args.text.now (45 ∷ [])).1 same, c.if-eq.ensures) in
     c.read_items.ensures.bad fault xs h
-    (ap (map (λ p. p.now)) c.as_slice.ensures.value ∙ c.in_ok-pieces.ensures ∙ parts_from_list g.T.Item.text g.T.Item.admits c.requires c.args.text.now xs other h e)
+    (parts_from_list g.T.Item.text g.T.Item.admits c.requires c.args.text.now xs other h e)

@@ -1,5 +1,5 @@
 use Rattle.sg_names.proofs.ItemTexts.{revs_apart}
-use Rattle.sg_names.proofs.rev_id.Revs.parse.Goals as goal
+use Rattle.sg_names.proofs.rev_id.List+RevId.parse.Goals as goal
 
 pub read_list-requires : goal.read_list-requires
 read_list-requires c = revs_apart
