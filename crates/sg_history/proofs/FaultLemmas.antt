@@ -7,8 +7,8 @@ use Rattle.sg_history.specs.declared.fault.Why.{Why}
 use Rattle.sg_history.specs.declared.fault.Why.TheVariants as reason
 use Rattle.sg_history.specs.declared.fault.LineFault.{LineFault}
 use Rattle.sg_history.specs.declared.fault.LineFault.TheVariants as line
-use Rattle.sg_history.specs.Journal.{fields_of}
-use Rattle.sg_history.specs.Line.{IsLineEntry, NoEntry}
+use Rattle.sg_history.specs.Journal.{IsEntry, fields_of}
+use Rattle.sg_history.specs.Line.{NoEntry}
 use Rattle.sg_history.specs.Refusal.{Refuses}
 use Rattle.sg_history.specs.Faults.{Grammar, IsText, AreTexts, IsFirstBad, IsFaultAmong, IsFaultUnder, IsFault, AreTextsUnder, AreFields, grammars_of, HasReason, IsBadField}
 use Rattle.sg_names.specs.Grammar.{lacks}
@@ -46,14 +46,14 @@ apart : (fields : List (List ℕ)) (why : Why) → IsFault fields why → ¬ (Ar
 apart [] why fault h = h
 apart (kind ∷ texts) why fault h = apart_under (grammars_of kind) texts why fault h
 
-entry_fields : (e : Entry) → IsLineEntry e → AreFields (fields_of e)
-entry_fields (entry.Write w) is = write_texts w is.0
+entry_fields : (e : Entry) → IsEntry e → AreFields (fields_of e)
+entry_fields (entry.Write w) is = write_texts w is
 entry_fields (entry.PutUser name channels roles) is =
-    ((is.0.name.1, is.0.name.0), ((is.0.channels.1, channels, is.0.channels.0, refl), ((is.0.roles.1, roles, is.0.roles.0, refl), tt)))
-entry_fields (entry.PutRole name channels) is = absurd (cc (is.1))
-entry_fields (entry.DropUser name) is = absurd (cc (is.1))
-entry_fields (entry.DropRole name) is = absurd (cc (is.1))
-entry_fields entry.Unused is = absurd (cc (is.1))
+    ((is.name.1, is.name.0), ((is.channels.1, channels, is.channels.0, refl), ((is.roles.1, roles, is.roles.0, refl), tt)))
+entry_fields (entry.PutRole name channels) is = ((is.name.1, is.name.0), ((is.channels.1, channels, is.channels.0, refl), tt))
+entry_fields (entry.DropUser name) is = ((is.1, is.0), tt)
+entry_fields (entry.DropRole name) is = ((is.1, is.0), tt)
+entry_fields entry.Unused is = tt
 
 -- fields with a fault are no entry's
 pub no_entry : (fields : List (List ℕ)) (why : Why) → IsFault fields why → NoEntry fields

@@ -12,6 +12,7 @@ use Rattle.sg_history.specs.declared.entries.Entry.{Entry}
 use Rattle.sg_history.specs.declared.written.WriteRevs.{WriteRevs}
 use Rattle.sg_history.specs.History.{History}
 use Rattle.sg_history.specs.Journal.{IsNext, IsRecord, may_follow, line_of, lines_of, header, Spells}
+use Rattle.sg_history.specs.BadLine.{title}
 use Rattle.sg_history.specs.Line.{NoLine, ReadsLine, is_write}
 use Rattle.sg_history.specs.Reading.{NoNext, SpellsLines}
 use Rattle.sg_history.proofs.LineTexts.{line_whole}
@@ -20,19 +21,19 @@ use Rattle.sg_history.proofs.OneLine.{line_same}
 -- a line that was read, of an entry that breaks no rule
 pub next_read : (older : List Entry) (line : List ℕ) (e : Entry) (fits : Bool) (revs : Option WriteRevs) → ReadsLine line (record { entry = e; at_fits = fits; revs = revs })
     → may_follow older e ≡ true → (is_write e ≡ true → fits ≡ true) → IsNext older e × (line ≡ line_of e)
-next_read older line e true revs read follows fit = (record { grammar = read.0.0; recorded = read.0.1; rules = follows }, read.1)
+next_read older line e true revs read follows fit = (record { grammar = read.0; rules = follows }, read.1)
 next_read older line e false revs read follows fit = absurd (cc (fit read.0))
 
 -- a line that was read, of an entry that breaks a rule
 pub next_refused : (entries : List Entry) (line : List ℕ) (e : Entry) (fits : Bool) (revs : Option WriteRevs) → ReadsLine line (record { entry = e; at_fits = fits; revs = revs })
     → (fits ≡ true → ¬ (may_follow (reverse entries) e ≡ true)) → NoNext entries line
 next_refused entries line e true revs read breaks f next spelled =
-    let same : e ≡ f = line_same e f read.0.0 next.grammar (sym read.1 ∙ spelled) in
+    let same : e ≡ f = line_same e f read.0 next.grammar (sym read.1 ∙ spelled) in
     breaks refl (ap (may_follow (reverse entries)) same ∙ next.rules)
-next_refused entries line e false revs read breaks f next spelled = read.1 f (next.grammar, next.recorded) spelled
+next_refused entries line e false revs read breaks f next spelled = read.1 f next.grammar spelled
 
 pub no_next : (entries : List Entry) (line : List ℕ) → NoLine line → NoNext entries line
-no_next entries line none e next = none e (next.grammar, next.recorded)
+no_next entries line none e next = none e next.grammar
 
 record_rest : (newer older : List Entry) → IsRecord (newer ++ older) → IsRecord older
 record_rest [] older h = h
@@ -121,9 +122,6 @@ pub some_rest : (rest : List ℕ) → nat_eq (length rest) 0 ≡ false → rest 
 some_rest [] h e = cc (h)
 some_rest (b ∷ bs) h e = cc (e)
 
-abbrev title : List ℕ
-title = codes "sgjournal 1"
-
 -- a text of another first line is no journal
 pub no_title : (bytes first lines : List ℕ) → bytes ≡ first ++ 10 ∷ lines → lacks 10 first ≡ true → first ≢ title → (h : History) → ¬ (Spells bytes h)
 no_title bytes first lines cut lacking other h spelled =
@@ -140,6 +138,13 @@ lines_journal bytes first lines h cut same spelled = (spelled.0, cut ∙ (λ i. 
 
 pub other_bytes : (a b c : List ℕ) → true ≡ not (bytes_eq a b) → b ≡ c → a ≢ c
 other_bytes a b c h is e = cc (h, (bytes_eq-Decides a b).1 (e ∙ sym is))
+
+not_false : (t : Bool) → false ≡ not t → t ≡ true
+not_false true e = refl
+not_false false e = cc (e)
+
+pub same_bytes : (a b c : List ℕ) → false ≡ not (bytes_eq a b) → b ≡ c → a ≡ c
+same_bytes a b c h is = (bytes_eq-Decides a b).0 (not_false (bytes_eq a b) h) ∙ is
 
 appended_same : (front a b : List ℕ) → front ++ a ≡ front ++ b → a ≡ b
 appended_same [] a b e = e

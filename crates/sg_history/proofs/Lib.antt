@@ -9,3 +9,6 @@ pub mod JournalTexts
 pub mod Books
 pub mod Boards
 pub mod AloneWrites
+pub mod Places
+pub mod BadLines
+pub mod Appended

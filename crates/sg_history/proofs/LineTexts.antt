@@ -13,7 +13,7 @@ use Rattle.sg_history.specs.declared.line.ReadEntry.{ReadEntry}
 use Rattle.sg_history.specs.declared.written.WriteRevs.{WriteRevs}
 use Rattle.sg_history.specs.Pieces.{pieces, begin_with}
 use Rattle.sg_history.specs.Journal.{IsEntry, fields_of, line_of, mark_text, by_text, is_by}
-use Rattle.sg_history.specs.Line.{NoEntry, NoLine, ReadsEntry, ReadsLine}
+use Rattle.sg_history.specs.Line.{NoEntry, NoLine}
 use Rattle.sg_history.proofs.PieceLemmas.{pieces-lacking, pieces-cut, pieces-some}
 
 -- pieces that are joined are the pieces again
@@ -112,21 +112,11 @@ line_whole e is = joined_lack 10 9 refl (fields_of e) (all_lack 10 (omega arith)
 
 -- fields that are no entry's make a line that is none's
 pub no_line : (line : List ℕ) (fields : List (List ℕ)) → fields ≡ pieces 9 line → NoEntry fields → NoLine line
-no_line line fields parts none e is spelled = none e is (parts ∙ ap (pieces 9) spelled ∙ line_pieces e is.0)
-
-reads_line : (line : List ℕ) (fields : List (List ℕ)) (e : Entry) (fits : Bool) (revs : Option WriteRevs) → fields ≡ pieces 9 line
-    → ReadsEntry fields (record { entry = e; at_fits = fits; revs = revs }) → ReadsLine line (record { entry = e; at_fits = fits; revs = revs })
-reads_line line fields e true revs parts read = (read.0, sym (joined_pieces 9 line) ∙ ap (join_with_byte 9) (sym parts ∙ read.1))
-reads_line line fields e false revs parts read = (read.0, no_line line fields parts read.1)
-
-pub read_ok : (line : List ℕ) (fields : List (List ℕ)) (r : Result ReadEntry LineFault) → fields ≡ pieces 9 line
-    → IfOk r (λ read. ReadsEntry fields read) → IfOk r (λ read. ReadsLine line read)
-read_ok line fields (Ok read) parts h = reads_line line fields read.entry read.at_fits read.revs parts h
-read_ok line fields (Err e) parts h = tt
+no_line line fields parts none e is spelled = none e is (parts ∙ ap (pieces 9) spelled ∙ line_pieces e is)
 
 -- no entry has more than twelve fields
 pub no_long_line : (line : List ℕ) → 12 < length (pieces 9 line) → NoLine line
 no_long_line line more e is spelled =
-    let same = ap length (ap (pieces 9) spelled ∙ line_pieces e is.0) in
+    let same = ap length (ap (pieces 9) spelled ∙ line_pieces e is) in
     let count = fields_count e in
     omega (arith, more, same, count.1)

@@ -19,8 +19,8 @@ use Rattle.sg_history.specs.declared.fault.LineFault.{LineFault}
 use Rattle.sg_history.specs.declared.fault.LineFault.TheVariants.{Bad, Memory}
 use Rattle.sg_history.specs.declared.written.WriteRevs.{WriteRevs}
 use Rattle.sg_history.specs.declared.write_line.WriteTexts.{WriteTexts}
-use Rattle.sg_history.specs.Journal.{IsWrite, is_body, is_by, by_text, mark_text, write_fields}
-use Rattle.sg_history.specs.Line.{texts_of, NoWrite, ReadsWrite}
+use Rattle.sg_history.specs.Journal.{IsWrite, is_body, is_by, by_text, mark_text, write_fields, write_fields_at}
+use Rattle.sg_history.specs.Line.{texts_of, IsLargeFront, ReadsWrite}
 use Rattle.sg_history.specs.Refusal.{Refuses}
 use Rattle.sg_history.specs.Faults.{AreTexts, write_grammars}
 
@@ -104,8 +104,8 @@ pub record HoldsFields (t : WriteTexts) (w : Write) : Type 0 where
   pub grants : (t.grants.now ≡ grants_text w.grants) × IsTrue (is_grants w.grants) × IsUtf8 t.grants.now
   pub roles : (t.roles.now ≡ role_grants_text w.roles) × IsTrue (is_role_grants w.roles) × IsUtf8 t.roles.now
 
-write_holds : (t : WriteTexts) (w : Write) → HoldsFields t w → w.at < 2 ^ 64 → t.at.now ≡ decimal w.at → IsWrite w
-write_holds t w holds low at = record {
+write_is : (t : WriteTexts) (w : Write) → HoldsFields t w → w.at < 2 ^ 64 → IsWrite w
+write_is t w holds low = record {
   doc = (holds.doc.1, subst IsUtf8 (sym holds.doc.0) holds.doc.2);
   rev = (holds.rev.1, subst IsUtf8 holds.rev.0 holds.rev.2);
   ancestors = (holds.ancestors.1, subst IsUtf8 holds.ancestors.0 holds.ancestors.2);
@@ -118,16 +118,16 @@ write_holds t w holds low at = record {
   roles = (holds.roles.1, subst IsUtf8 holds.roles.0 holds.roles.2);
 }
 
-fields_hold : (t : WriteTexts) (w : Write) → HoldsFields t w → t.at.now ≡ decimal w.at → texts_of t ≡ write_fields w
-fields_hold t w holds at = λ i.
-    sym holds.doc.0 i ∷ holds.rev.0 i ∷ holds.ancestors.0 i ∷ holds.deleted i ∷ holds.body.0 i ∷ holds.by.0 i ∷ at i
+fields_at : (t : WriteTexts) (w : Write) → HoldsFields t w → texts_of t ≡ write_fields_at w t.at.now
+fields_at t w holds = λ i.
+    sym holds.doc.0 i ∷ holds.rev.0 i ∷ holds.ancestors.0 i ∷ holds.deleted i ∷ holds.body.0 i ∷ holds.by.0 i ∷ t.at.now
     ∷ holds.winner.0 i ∷ holds.channels.0 i ∷ holds.grants.0 i ∷ holds.roles.0 i ∷ []
 
--- the fields are read as the write, where the front fits
+-- the fields are read as the write
 pub reads_write : (t : WriteTexts) (w : Write) (at : Option ℕ) (fits : Bool) (revs : WriteRevs) → HoldsFields t w
-    → MatchOption at (NoWrite (texts_of t)) (λ n. (n < 2 ^ 64) × (t.at.now ≡ decimal n)) → w.at ≡ unwrap_or at 18446744073709551615 → fits ≡ is_some at
+    → MatchOption at (IsLargeFront t.at.now) (λ n. (n < 2 ^ 64) × (t.at.now ≡ decimal n)) → w.at ≡ unwrap_or at 18446744073709551615 → fits ≡ is_some at
     → ReadsWrite (texts_of t) (record { write = w; at_fits = fits; revs = revs })
-reads_write t w None fits revs holds front value e = rw e front
+reads_write t w None fits revs holds front value e = rw e (t.at.now, write_is t w holds (omega (arith, value)), front, fields_at t w holds)
 reads_write t w (Some n) fits revs holds front value e =
     let at : t.at.now ≡ decimal w.at = front.1 ∙ ap decimal (sym value) in
-    rw e (write_holds t w holds (omega (arith, value, front.0)) at, fields_hold t w holds at)
+    rw e (write_is t w holds (omega (arith, value, front.0)), fields_at t w holds ∙ ap (write_fields_at w) at)

@@ -58,10 +58,24 @@ write_grammars =
 abbrev pub user_grammars : List Grammar
 user_grammars = name ∷ channels ∷ names ∷ []
 
+-- the fields of the line of a put of a role after its kind
+abbrev pub role_grammars : List Grammar
+role_grammars = name ∷ channels ∷ []
+
+-- the fields of the line of a drop of a user or a role after its kind
+abbrev pub drop_grammars : List Grammar
+drop_grammars = name ∷ []
+
 -- the fields that follow a kind of line; none where this is no kind
 abbrev pub grammars_of : List ℕ → Option (List Grammar)
 grammars_of kind =
-    if bytes_eq kind (codes "W") then Some write_grammars else if bytes_eq kind (codes "U") then Some user_grammars else None
+    if bytes_eq kind (codes "W") then Some write_grammars
+    else if bytes_eq kind (codes "U") then Some user_grammars
+    else if bytes_eq kind (codes "R") then Some role_grammars
+    else if bytes_eq kind (codes "DU") then Some drop_grammars
+    else if bytes_eq kind (codes "DR") then Some drop_grammars
+    else if bytes_eq kind (codes "X") then Some []
+    else None
 
 -- each text is in the grammar at its place, and there are as many
 abbrev pub AreTexts : List Grammar → List (List ℕ) → Type 0

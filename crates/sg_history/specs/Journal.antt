@@ -31,11 +31,15 @@ abbrev pub by_text : Option (List ℕ) → List ℕ
 by_text None = 45 ∷ []
 by_text (Some name) = name
 
+-- the fields of a write after its kind, with this text of its front
+abbrev pub write_fields_at : Write → List ℕ → List (List ℕ)
+write_fields_at w at =
+    w.doc ∷ rev_text w.rev ∷ revs_text w.ancestors ∷ mark_text w.deleted ∷ hex_text w.body ∷ by_text w.by
+    ∷ at ∷ rev_text w.winner ∷ channels_text w.channels ∷ grants_text w.grants ∷ role_grants_text w.roles ∷ []
+
 -- the fields of a write after its kind
 abbrev pub write_fields : Write → List (List ℕ)
-write_fields w =
-    w.doc ∷ rev_text w.rev ∷ revs_text w.ancestors ∷ mark_text w.deleted ∷ hex_text w.body ∷ by_text w.by
-    ∷ decimal w.at ∷ rev_text w.winner ∷ channels_text w.channels ∷ grants_text w.grants ∷ role_grants_text w.roles ∷ []
+write_fields w = write_fields_at w (decimal w.at)
 
 -- the fields of an entry's line
 abbrev pub fields_of : Entry → List (List ℕ)
@@ -124,19 +128,9 @@ write_may_follow older (Some w) = follows_rules older w
 abbrev pub may_follow : List Entry → Entry → Bool
 may_follow older e = write_may_follow older (as_write e)
 
--- the kinds of entry that a journal has: writes and puts of users
-abbrev pub is_recorded : Entry → Bool
-is_recorded (entry.Write w) = true
-is_recorded (entry.PutUser name channels roles) = true
-is_recorded (entry.PutRole name channels) = false
-is_recorded (entry.DropUser name) = false
-is_recorded (entry.DropRole name) = false
-is_recorded entry.Unused = false
-
--- an entry that may be the next after these, the newest first: in its grammar, of a kind that a journal has, and by the rules
+-- an entry that may be the next after these, the newest first: in its grammar, and by the rules
 pub record IsNext (older : List Entry) (e : Entry) : Type 0 where
   pub grammar : IsEntry e
-  pub recorded : IsTrue (is_recorded e)
   pub rules : IsTrue (may_follow older e)
 
 -- entries, the newest first, of which each may be the next after the older ones

@@ -19,3 +19,5 @@ pub mod Refusal
 pub mod Rules
 pub mod Written
 pub mod Faults
+pub mod BadLine
+pub mod CountedLog

@@ -100,15 +100,18 @@ impl Entries {
     pub fn push(&mut self, entry: Entry) -> Result<(), AllocError>
         ensures ok { OnOk result (self.new.list ≡ self.old.list ++ entry ∷ []) }
         ensures err { OnErr result (self.new.list ≡ self.old.list) }
+        ensures spare { OnOk result (self.old.spare ≤ self.new.spare + 1) }
+        ensures full { OnErr result (self.old.spare ≡ 0) }
     {
         self.items.push(entry)?;
         Ok(())
     }
 
-    /// Makes room for `more` further entries, counted from the ones that are there.
+    /// Makes room for `more` further entries, counted from the ones that are there. Room that is there stays.
     pub fn reserve(&mut self, more: usize) -> Result<(), AllocError>
         ensures ok { OnOk result (more ≤ self.new.spare) }
         ensures kept { self.new.list ≡ self.old.list }
+        ensures spare { self.old.spare ≤ self.new.spare }
         ensures err { OnErr result (self.new.spare ≡ self.old.spare) }
     {
         self.items.reserve(more)?;

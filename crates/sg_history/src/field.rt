@@ -10,6 +10,7 @@ ghost use Rattle.sg_names.specs.Grants.{grants_text, is_grants};
 ghost use Rattle.sg_names.specs.RoleGrants.{role_grants_text, is_role_grants};
 ghost use Rattle.sg_names.specs.Hex.{hex_text, is_hex};
 ghost use Rattle.sg_history.specs.Journal.{mark_text, by_text, is_by};
+ghost use Rattle.sg_history.specs.Line.{IsLargeFront};
 ghost use Rattle.sg_history.specs.Refusal.{IsField};
 ghost use Rattle.sg_history.specs.Faults as faults;
 ghost use Rattle.sg_history.specs.Faults.{IsText, IsBadField};
@@ -118,8 +119,7 @@ pub fn writer(alloc: Global, field: &[u8], number: u64) -> Result<Option<Name>, 
 
 /// A decimal; none where it is too large for the type.
 pub fn number_of(field: &[u8], number: u64) -> Result<Option<u64>, LineFault>
-    ensures ok { IfOk result (λ v. MatchOption v ((n : ℕ) → n < 2 ^ 64 → field.now ≢ decimal n) (λ n. field.now ≡ decimal n)) }
-    ensures utf8 { IfOk result (λ _. IsUtf8 field.now) }
+    ensures ok { IfOk result (λ v. MatchOption v (IsLargeFront field.now) (λ n. field.now ≡ decimal n)) }
     ensures text { IfOk result (λ _. IsText faults.number field.now) }
     ensures fault { IfErr result (IsBadField number faults.number field.now) }
 {

@@ -1,47 +1,42 @@
 //! The fields of a line, which are parted by TABs.
 
-ghost use Rattle.std.specs.Prelude.{◌≡◌, ◌++◌, ◌∷◌, ◌<◌, ◌≤◌, ◌+◌, map, length, vec_len, IsTrue, IfOk, IfSome, IfNone};
+ghost use Rattle.std.specs.Prelude.{◌≡◌, ◌++◌, ◌∷◌, ◌<◌, ◌≤◌, ◌+◌, map, take, length, IsTrue, IfSome, IfNone};
 ghost use Rattle.sg_names.specs.Grammar.{lacks};
 ghost use Rattle.sg_history.specs.Pieces.{pieces};
 
-use std::alloc::{AllocError, Global};
+use memchr::memchr;
+
+/// The most fields that a line of a journal has.
+pub const MOST: usize = 12;
 
 /// What stands before and after the first such byte.
 pub fn cut(text: &[u8], at: u8) -> Option<(&[u8], &[u8])>
     ensures some { IfSome result (λ p. (text.now ≡ p.0.now ++ at ∷ p.1.now) × IsTrue (lacks at p.0.now)) }
     ensures none { IfNone result (IsTrue (lacks at text.now)) }
 {
-    for (i, byte) in text.iter().enumerate() {
-        if *byte == at {
-            return Some((&text[..i], &text[i + 1..]));
-        }
-    }
-    None
+    let place = memchr(at, text)?;
+    Some((&text[..place], &text[place + 1..]))
 }
 
-/// The pieces between such bytes, at most `most` of them.
-pub fn pieces_of(
-    alloc: Global,
-    text: &[u8],
-    at: u8,
-    most: usize,
-) -> Result<Option<Vec<&[u8]>>, AllocError>
-    ensures all { IfOk result (λ found. IfSome found (λ v. map (λ p. p.now) v.items ≡ pieces at text.now)) }
-    ensures more { IfOk result (λ found. IfNone found (most < length (pieces at text.now))) }
+/// Puts the fields of a line at the front of `into`, and tells how many they are; none where they are more than fit.
+pub fn fields_of<'a>(line: &'a [u8], into: &mut [&'a [u8]; MOST]) -> Option<usize>
+    ensures within { IfSome result (λ n. n ≤ 12) }
+    ensures room { length into.new ≡ 12 }
+    ensures all { IfSome result (λ n. map (λ p. p.now) (take n into.new) ≡ pieces 9 line.now) }
+    ensures more { IfNone result (12 < length (pieces 9 line.now)) }
 {
-    let mut found = Vec::new(alloc);
-    let mut rest = text;
-    for _ in 0..most {
-        match cut(rest, at) {
+    let mut rest = line;
+    for i in 0..MOST {
+        match cut(rest, b'\t') {
             Some((front, back)) => {
-                found.push(front)?;
+                into[i] = front;
                 rest = back;
             }
             None => {
-                found.push(rest)?;
-                return Ok(Some(found));
+                into[i] = rest;
+                return Some(i + 1);
             }
         }
     }
-    Ok(None)
+    None
 }

@@ -1,11 +1,14 @@
-//! The journal: reads the text of a history.
+//! The journal: reads the text of a history, or names its first bad line.
 
-ghost use Rattle.std.specs.Prelude.{◌≡◌, ◌++◌, ◌∷◌, [], List, IfOk, IfErr, OnOk, OnErr};
+ghost use Rattle.std.specs.Prelude.{◌≡◌, ◌++◌, ◌∷◌, ◌<◌, ◌-◌, ◌^◌, [], List, length, reverse, IfOk, IfErr, IsTrue, OnOk, OnErr};
+ghost use Rattle.sg_names.specs.Grammar.{lacks};
 ghost use Rattle.sg_history.specs.declared.entries.Entry.{Entry};
 ghost use Rattle.sg_history.specs.History.{History, history, entries_of};
 ghost use Rattle.sg_history.specs.Journal.{Spells};
 ghost use Rattle.sg_history.specs.Reading.{NoNext, AddsLine, SpellsLines};
 ghost use Rattle.sg_history.specs.Refusal.{Refuses, RefusesLog};
+ghost use Rattle.sg_history.specs.Faults.{HasReason};
+ghost use Rattle.sg_history.specs.BadLine.{IsLineFault, IsBadAfter, IsHeadFault, IsBadJournal, NamesLine};
 ghost use Rattle.sg_history.specs.Written.{Knows, HasRevs};
 
 use crate::entries::Log;
@@ -57,6 +60,7 @@ fn add_line<'a>(
     ensures ok { OnOk result (AddsLine log.old.entries.list line.now log.new.entries.list) }
     ensures err { OnErr result (log.new.entries.list ≡ log.old.entries.list) }
     ensures bad { IfErr result (λ e. Refuses e (NoNext log.old.entries.list line.now)) }
+    ensures why { IfErr result (HasReason (IsLineFault (reverse log.old.entries.list) line.now)) }
     ensures knows { Knows written.new log.new.entries.list }
 {
     let read = read_line(alloc, line)?;
@@ -69,19 +73,24 @@ fn add_line<'a>(
 
 /// Reads the lines after the header.
 fn read_lines(alloc: Global, lines: &[u8]) -> Result<Log, ReadLog>
+    requires { length lines.now < 2 ^ 64 - 2 }
     ensures ok { IfOk result (λ log. SpellsLines lines.now (entries_of log)) }
     ensures bad { IfErr result (λ e. RefusesLog e ((es : List Entry) → ¬ (SpellsLines lines.now es))) }
+    ensures line { IfErr result (NamesLine (IsBadAfter lines.now)) }
 {
     let mut log = Log::new(alloc);
     let mut written = Written::new(alloc);
     let mut rest = lines;
+    let mut place: u64 = 2;
     while !rest.is_empty() {
-        let place = (log.entries.len() as u64).saturating_add(2);
         let Some((line, after)) = cut(rest, b'\n') else {
             return Err(bad(place, Why::Ending));
         };
         match add_line(alloc, line, &mut log, &mut written) {
-            Ok(()) => rest = after,
+            Ok(()) => {
+                rest = after;
+                place += 1;
+            }
             Err(LineFault::Bad(why)) => return Err(bad(place, why)),
             Err(LineFault::Memory) => return Err(ReadLog::Memory),
         }
@@ -89,23 +98,27 @@ fn read_lines(alloc: Global, lines: &[u8]) -> Result<Log, ReadLog>
     Ok(log)
 }
 
-/// Reads a journal, or tells its first bad line.
-///
-/// A line's faults are told in this order: `Head`, `Ending`, `Kind`, `Fields`, the first `Field`, the
-/// first `Rule`. No clause speaks of the line and the fault that are told; tests show them.
+/// What is wrong with a text of one line that has no line feed.
+fn fault_of_title(line: &[u8]) -> Why
+    requires { IsTrue (lacks 10 line.now) }
+    ensures { IsHeadFault line.now result }
+{
+    if line == HEADER.as_bytes() {
+        Why::Ending
+    } else {
+        Why::Head
+    }
+}
+
+/// Reads a journal, or names its first bad line and what is wrong with it, which is the first of: `Head` (line 1 is not
+/// the header), `Ending` (no line feed), `Kind`, `Fields`, `Field` and `Rule`.
 pub fn read_journal(alloc: Global, bytes: &[u8]) -> Result<Log, ReadLog>
     ensures ok { IfOk result (λ log. Spells bytes.now (history log)) }
     ensures bad { IfErr result (λ e. RefusesLog e ((h : History) → ¬ (Spells bytes.now h))) }
+    ensures line { IfErr result (NamesLine (IsBadJournal bytes.now)) }
 {
     let Some((first, lines)) = cut(bytes, b'\n') else {
-        return Err(bad(
-            1,
-            if bytes == HEADER.as_bytes() {
-                Why::Ending
-            } else {
-                Why::Head
-            },
-        ));
+        return Err(bad(1, fault_of_title(bytes)));
     };
     if first != HEADER.as_bytes() {
         return Err(bad(1, Why::Head));

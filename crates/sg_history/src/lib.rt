@@ -7,8 +7,10 @@ pub mod fault;
 mod field;
 mod fields;
 pub mod journal;
+pub mod journal_text;
 pub mod laws;
 mod line;
+pub mod log_reads;
 pub mod number;
 pub mod room;
 pub mod row;
@@ -19,6 +21,8 @@ mod written;
 pub use entries::{Entries, Entry, Log, Write};
 pub use fault::{BadLine, ReadLog, Why};
 pub use journal::read_journal;
+pub use journal_text::write_journal;
+pub use log_reads::LogReads;
 pub use number::Number;
 pub use room::RoomFor;
 pub use row::{Options, Row, Rows};
@@ -27,6 +31,3 @@ pub use sg_names::{
     Names, RevId, Revs, RoleGrant, RoleGrants, TextFault, from_hex, is_decimal, read_decimal,
     write_decimal, write_hex,
 };
-
-#[cfg(test)]
-mod tests;

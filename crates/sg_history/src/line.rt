@@ -1,7 +1,7 @@
 //! The lines of a journal, each read as an entry.
 
 ghost use Rattle.std.specs.Prelude.{◌≡◌, ◌≢◌, ◌∷◌, ◌<◌, List, ℕ, map, length, codes, IfOk, IfErr, IfSome, IfNone};
-ghost use Rattle.sg_history.specs.Line.{texts_of, ReadsEntry, NoLine, ReadsLine};
+ghost use Rattle.sg_history.specs.Line.{texts_of, AreRead, NoLine, ReadsLine};
 ghost use Rattle.sg_history.specs.Refusal.{Refuses};
 ghost use Rattle.sg_history.specs.Faults.{AreFields, IsFault, HasReason};
 ghost use Rattle.sg_history.specs.Pieces.{pieces};
@@ -10,7 +10,7 @@ ghost use Rattle.sg_history.specs.Written.{HasRevs};
 use crate::entries::Entry;
 use crate::fault::{LineFault, Why};
 use crate::field;
-use crate::fields::{cut, pieces_of};
+use crate::fields::{MOST, cut, fields_of};
 use crate::write_line::{WriteTexts, read_write};
 use crate::written::WriteRevs;
 use std::alloc::Global;
@@ -62,7 +62,7 @@ fn write_texts<'a>(fields: &[&'a [u8]]) -> Option<WriteTexts<'a>>
 
 /// Reads the fields after the kind `W`.
 fn read_write_entry<'a>(alloc: Global, fields: &[&'a [u8]]) -> Result<ReadEntry<'a>, LineFault>
-    ensures ok { IfOk result (λ read. ReadsEntry (codes "W" ∷ map (λ p. p.now) fields.now) read) }
+    ensures ok { IfOk result (λ read. AreRead (codes "W" ∷ map (λ p. p.now) fields.now) read.entry read.at_fits) }
     ensures revs { IfOk result (λ read. HasRevs read.entry read.revs) }
     ensures texts { IfOk result (λ _. AreFields (codes "W" ∷ map (λ p. p.now) fields.now)) }
     ensures reason { IfErr result (HasReason (IsFault (codes "W" ∷ map (λ p. p.now) fields.now))) }
@@ -80,7 +80,8 @@ fn read_write_entry<'a>(alloc: Global, fields: &[&'a [u8]]) -> Result<ReadEntry<
 
 /// Reads the fields after the kind `U`.
 fn read_put_user<'a>(alloc: Global, fields: &[&'a [u8]]) -> Result<ReadEntry<'a>, LineFault>
-    ensures ok { IfOk result (λ read. ReadsEntry (codes "U" ∷ map (λ p. p.now) fields.now) read) }
+    ensures ok { IfOk result (λ read. AreRead (codes "U" ∷ map (λ p. p.now) fields.now)
+        read.entry read.at_fits) }
     ensures revs { IfOk result (λ read. HasRevs read.entry read.revs) }
     ensures texts { IfOk result (λ _. AreFields (codes "U" ∷ map (λ p. p.now) fields.now)) }
     ensures reason { IfErr result (HasReason (IsFault (codes "U" ∷ map (λ p. p.now) fields.now))) }
@@ -98,9 +99,85 @@ fn read_put_user<'a>(alloc: Global, fields: &[&'a [u8]]) -> Result<ReadEntry<'a>
     })
 }
 
+/// Reads the fields after the kind `R`.
+fn read_put_role<'a>(alloc: Global, fields: &[&'a [u8]]) -> Result<ReadEntry<'a>, LineFault>
+    ensures ok { IfOk result (λ read. AreRead (codes "R" ∷ map (λ p. p.now) fields.now)
+        read.entry read.at_fits) }
+    ensures revs { IfOk result (λ read. HasRevs read.entry read.revs) }
+    ensures texts { IfOk result (λ _. AreFields (codes "R" ∷ map (λ p. p.now) fields.now)) }
+    ensures reason { IfErr result (HasReason (IsFault (codes "R" ∷ map (λ p. p.now) fields.now))) }
+{
+    let [name, channels] = fields else {
+        return Err(LineFault::Bad(Why::Fields));
+    };
+    let name = field::name(alloc, name, 2)?;
+    let channels = field::channels(alloc, channels, 3)?;
+    Ok(ReadEntry {
+        entry: Entry::PutRole(name, channels),
+        at_fits: true,
+        revs: None,
+    })
+}
+
+/// Reads the fields after the kind `DU`.
+fn read_drop_user<'a>(alloc: Global, fields: &[&'a [u8]]) -> Result<ReadEntry<'a>, LineFault>
+    ensures ok { IfOk result (λ read. AreRead (codes "DU" ∷ map (λ p. p.now) fields.now)
+        read.entry read.at_fits) }
+    ensures revs { IfOk result (λ read. HasRevs read.entry read.revs) }
+    ensures texts { IfOk result (λ _. AreFields (codes "DU" ∷ map (λ p. p.now) fields.now)) }
+    ensures reason { IfErr result (HasReason (IsFault (codes "DU" ∷ map (λ p. p.now) fields.now))) }
+{
+    let [name] = fields else {
+        return Err(LineFault::Bad(Why::Fields));
+    };
+    let name = field::name(alloc, name, 2)?;
+    Ok(ReadEntry {
+        entry: Entry::DropUser(name),
+        at_fits: true,
+        revs: None,
+    })
+}
+
+/// Reads the fields after the kind `DR`.
+fn read_drop_role<'a>(alloc: Global, fields: &[&'a [u8]]) -> Result<ReadEntry<'a>, LineFault>
+    ensures ok { IfOk result (λ read. AreRead (codes "DR" ∷ map (λ p. p.now) fields.now)
+        read.entry read.at_fits) }
+    ensures revs { IfOk result (λ read. HasRevs read.entry read.revs) }
+    ensures texts { IfOk result (λ _. AreFields (codes "DR" ∷ map (λ p. p.now) fields.now)) }
+    ensures reason { IfErr result (HasReason (IsFault (codes "DR" ∷ map (λ p. p.now) fields.now))) }
+{
+    let [name] = fields else {
+        return Err(LineFault::Bad(Why::Fields));
+    };
+    let name = field::name(alloc, name, 2)?;
+    Ok(ReadEntry {
+        entry: Entry::DropRole(name),
+        at_fits: true,
+        revs: None,
+    })
+}
+
+/// Reads the fields after the kind `X`, which has none.
+fn read_unused<'a>(fields: &[&'a [u8]]) -> Result<ReadEntry<'a>, LineFault>
+    ensures ok { IfOk result (λ read. AreRead (codes "X" ∷ map (λ p. p.now) fields.now)
+        read.entry read.at_fits) }
+    ensures revs { IfOk result (λ read. HasRevs read.entry read.revs) }
+    ensures texts { IfOk result (λ _. AreFields (codes "X" ∷ map (λ p. p.now) fields.now)) }
+    ensures reason { IfErr result (HasReason (IsFault (codes "X" ∷ map (λ p. p.now) fields.now))) }
+{
+    let [] = fields else {
+        return Err(LineFault::Bad(Why::Fields));
+    };
+    Ok(ReadEntry {
+        entry: Entry::Unused,
+        at_fits: true,
+        revs: None,
+    })
+}
+
 /// Reads the fields of a line.
 fn read_fields<'a>(alloc: Global, fields: &[&'a [u8]]) -> Result<ReadEntry<'a>, LineFault>
-    ensures ok { IfOk result (λ read. ReadsEntry (map (λ p. p.now) fields.now) read) }
+    ensures ok { IfOk result (λ read. AreRead (map (λ p. p.now) fields.now) read.entry read.at_fits) }
     ensures revs { IfOk result (λ read. HasRevs read.entry read.revs) }
     ensures texts { IfOk result (λ _. AreFields (map (λ p. p.now) fields.now)) }
     ensures reason { IfErr result (HasReason (IsFault (map (λ p. p.now) fields.now))) }
@@ -111,6 +188,10 @@ fn read_fields<'a>(alloc: Global, fields: &[&'a [u8]]) -> Result<ReadEntry<'a>, 
     match *kind {
         b"W" => read_write_entry(alloc, further),
         b"U" => read_put_user(alloc, further),
+        b"R" => read_put_role(alloc, further),
+        b"DU" => read_drop_user(alloc, further),
+        b"DR" => read_drop_role(alloc, further),
+        b"X" => read_unused(further),
         _ => Err(LineFault::Bad(Why::Kind)),
     }
 }
@@ -120,8 +201,7 @@ fn fault_of_kind(kind: &[u8]) -> Why
     ensures { (texts : List (List ℕ)) → 11 < length texts → IsFault (kind.now ∷ texts) result }
 {
     match kind {
-        b"W" => Why::Fields,
-        b"U" => Why::Fields,
+        b"W" | b"U" | b"R" | b"DU" | b"DR" | b"X" => Why::Fields,
         _ => Why::Kind,
     }
 }
@@ -140,13 +220,15 @@ fn fault_of_many(line: &[u8]) -> Why
 /// Reads a line, without its line feed, as an entry.
 pub fn read_line(alloc: Global, line: &[u8]) -> Result<ReadEntry<'_>, LineFault>
     ensures ok { IfOk result (λ read. ReadsLine line.now read) }
+    ensures read { IfOk result (λ read. AreRead (pieces 9 line.now) read.entry read.at_fits) }
     ensures revs { IfOk result (λ read. HasRevs read.entry read.revs) }
     ensures bad { IfErr result (λ e. Refuses e (NoLine line.now)) }
     ensures texts { IfOk result (λ _. AreFields (pieces 9 line.now)) }
     ensures reason { IfErr result (HasReason (IsFault (pieces 9 line.now))) }
 {
-    match pieces_of(alloc, line, b'\t', 12)? {
-        Some(fields) => read_fields(alloc, fields.as_slice()),
+    let mut fields: [&[u8]; MOST] = [&[]; MOST];
+    match fields_of(line, &mut fields) {
+        Some(count) => read_fields(alloc, &fields[..count]),
         None => Err(LineFault::Bad(fault_of_many(line))),
     }
 }

@@ -9,7 +9,7 @@ ghost use Rattle.sg_names.specs.Grants.{grants_text, is_grants};
 ghost use Rattle.sg_names.specs.RoleGrants.{role_grants_text, is_role_grants};
 ghost use Rattle.sg_names.specs.Hex.{hex_text, is_hex};
 ghost use Rattle.sg_history.specs.Journal.{mark_text, by_text, is_by};
-ghost use Rattle.sg_history.specs.Line.{texts_of, NoWrite, ReadsWrite};
+ghost use Rattle.sg_history.specs.Line.{texts_of, IsLargeFront, ReadsWrite};
 ghost use Rattle.sg_history.specs.Faults as faults;
 ghost use Rattle.sg_history.specs.Faults.{IsText, IsBadField, AreTexts, IsFaultAmong, HasReason, write_grammars};
 ghost use Rattle.sg_history.specs.Written.{AreRevsOf, revision};
@@ -99,7 +99,7 @@ fn writer_of(alloc: Global, texts: WriteTexts<'_>) -> Result<Option<Name>, LineF
 
 /// The front; none where it is too large for the type.
 fn at_of(texts: WriteTexts<'_>) -> Result<Option<u64>, LineFault>
-    ensures ok { IfOk result (λ v. MatchOption v (NoWrite (texts_of texts.entry)) (λ n. (n < 2 ^ 64) × (texts.entry.at.now ≡ decimal n))) }
+    ensures ok { IfOk result (λ v. MatchOption v (IsLargeFront texts.entry.at.now) (λ n. (n < 2 ^ 64) × (texts.entry.at.now ≡ decimal n))) }
     ensures text { IfOk result (λ _. IsText faults.number texts.entry.at.now) }
     ensures fault { IfErr result (IsBadField 8 faults.number texts.entry.at.now) }
 {
