@@ -4,7 +4,7 @@ use Rattle.std.specs.List.{flat_map}
 use Rattle.sg_names.specs.declared.key.Key.{Key}
 use Rattle.sg_names.specs.Key.{key_text}
 use Rattle.sg_names.specs.RevId.{rev_text}
-use Rattle.sg_history.specs.declared.entries.Entry.{Entry}
+use Rattle.sg_history.specs.History.{History}
 use Rattle.sg_history.specs.declared.row.Row.{Row}
 use Rattle.sg_history.specs.declared.row.Options.{Options}
 use Rattle.sg_history.specs.Feed.{feed}
@@ -18,5 +18,5 @@ abbrev pub whole_feed : Options
 whole_feed = record { filter = None; active_only = false; revocations = true }
 
 -- the printed feed of a user over a whole history, after a since key
-abbrev pub feed_text : List Entry → List ℕ → Key → List ℕ
-feed_text es user since = flat_map (λ row. row_text row) (feed (reverse es) user since whole_feed)
+abbrev pub feed_text : History → List ℕ → Key → List ℕ
+feed_text h user since = flat_map (λ row. row_text row) (feed (reverse h.entries) user since whole_feed)

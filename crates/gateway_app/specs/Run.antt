@@ -1,9 +1,12 @@
 -- what a run of `feed` answers and does
-use Rattle.std.specs.Prelude.{◌≡◌, ℕ, ◌≤◌, ◌<◌, List, ◌++◌, length, Option, Some, None, Result, Ok, Err}
+use Rattle.std.specs.Prelude.{◌≡◌, ◌⊎◌, ℕ, ◌≤◌, ◌<◌, List, ◌++◌, length, Option, Some, None, Result, Ok, Err}
 use Rattle.sg_outside.specs.Files.{largest_file}
 use Rattle.sg_names.specs.declared.key.Key.{Key}
+use Rattle.sg_history.specs.BadLine.{IsBadJournal}
 use Rattle.sg_history.specs.History.{History}
 use Rattle.sg_history.specs.Journal.{Spells}
+use Rattle.sg_history.specs.declared.fault.Why.{Why}
+use Rattle.sg_history.specs.declared.fault.Why.TheVariants.{Long}
 use Rattle.gateway_app.specs.declared.status.Status.{Status}
 use Rattle.gateway_app.specs.declared.status.Status.TheVariants as status
 use Rattle.gateway_app.specs.FeedText.{feed_text}
@@ -20,6 +23,12 @@ HasNoFile told name = (files : List ℕ → Option (List ℕ)) × (told ≡ Some
 -- the bytes are no more than a file may have, and are the journal of this history
 abbrev pub IsInput : List ℕ → History → Type 0
 IsInput bytes h = (length bytes ≤ largest_file) × Spells bytes h
+
+-- what is wrong with the bytes, and where: they are more than a file may have, or else this is their first bad line
+abbrev pub IsBadInput : List ℕ → ℕ → Why → Type 0
+IsBadInput bytes place why =
+    ((largest_file < length bytes) × (place ≡ 0) × (why ≡ Long))
+    ⊎ ((length bytes ≤ largest_file) × IsBadJournal bytes (record { place = place; why = why }))
 
 -- a sink that tells what it took has taken this text besides
 abbrev pub Took : Option (List ℕ) → Option (List ℕ) → List ℕ → Type 0
@@ -41,11 +50,12 @@ EndsAbsent status.WriteFault = ⊥
 
 -- each status with what it tells of the journal's bytes and of the sink
 abbrev pub Ends : Status → FeedWords → List ℕ → Option (List ℕ) → Option (List ℕ) → Type 0
-Ends status.Ok f bytes before after = (h : History) × IsInput bytes h × Took before after (feed_text h.entries f.user f.since)
+Ends status.Ok f bytes before after = (h : History) × IsInput bytes h × Took before after (feed_text h f.user f.since)
 Ends status.BadWords f bytes before after = ⊥
-Ends (status.BadInput file place why) f bytes before after = (file ≡ 1) × ((h : History) → ¬ IsInput bytes h)
+Ends (status.BadInput file place why) f bytes before after =
+    (file ≡ 1) × IsBadInput bytes place why × ((h : History) → ¬ IsInput bytes h)
 Ends status.ReadFault f bytes before after = Unit {0}
-Ends status.WriteFault f bytes before after = (h : History) × IsInput bytes h × TookPart before after (feed_text h.entries f.user f.since)
+Ends status.WriteFault f bytes before after = (h : History) × IsInput bytes h × TookPart before after (feed_text h f.user f.since)
 Ends status.Memory f bytes before after = Unit {0}
 
 -- a fault that is told was counted
@@ -71,7 +81,7 @@ abbrev pub IsLoaded : List ℕ → Result (List ℕ) Status → Type 0
 IsLoaded bytes (Ok loaded) = (length bytes ≤ largest_file) × (loaded ≡ bytes)
 IsLoaded bytes (Err status.Ok) = ⊥
 IsLoaded bytes (Err status.BadWords) = ⊥
-IsLoaded bytes (Err (status.BadInput file place why)) = (file ≡ 1) × (largest_file < length bytes)
+IsLoaded bytes (Err (status.BadInput file place why)) = (file ≡ 1) × (largest_file < length bytes) × (place ≡ 0) × (why ≡ Long)
 IsLoaded bytes (Err status.ReadFault) = Unit {0}
 IsLoaded bytes (Err status.WriteFault) = ⊥
 IsLoaded bytes (Err status.Memory) = Unit {0}
@@ -98,11 +108,11 @@ Prints status.Memory text faults faults' before after = after ≡ before
 -- how a run may end with the journal in hand, with the count of the sink's faults and what the sink took
 abbrev pub EndsFeed : Status → List ℕ → List ℕ → Key → ℕ → ℕ → Option (List ℕ) → Option (List ℕ) → Type 0
 EndsFeed status.Ok journal user since faults faults' before after =
-    (h : History) × Spells journal h × Took before after (feed_text h.entries user since)
+    (h : History) × Spells journal h × Took before after (feed_text h user since)
 EndsFeed status.BadWords journal user since faults faults' before after = ⊥
 EndsFeed (status.BadInput file place why) journal user since faults faults' before after =
-    (file ≡ 1) × ((h : History) → ¬ Spells journal h) × (after ≡ before)
+    (file ≡ 1) × IsBadJournal journal (record { place = place; why = why }) × ((h : History) → ¬ Spells journal h) × (after ≡ before)
 EndsFeed status.ReadFault journal user since faults faults' before after = ⊥
 EndsFeed status.WriteFault journal user since faults faults' before after =
-    (h : History) × Spells journal h × TookPart before after (feed_text h.entries user since) × (faults < faults')
+    (h : History) × Spells journal h × TookPart before after (feed_text h user since) × (faults < faults')
 EndsFeed status.Memory journal user since faults faults' before after = after ≡ before

@@ -1,7 +1,8 @@
 //! The command `feed`: prints the rows of a user's changes feed over a journal.
 
 ghost use Rattle.std.specs.Prelude.{◌≡◌, ◌≢◌, ◌↔◌, ℕ, List, Option, Some, None, map, string_bytes, IfOk, IfErr, IsErrAnd};
-ghost use Rattle.sg_history.specs.History.{History};
+ghost use Rattle.sg_history.specs.BadLine.{IsBadJournal, NamesLine};
+ghost use Rattle.sg_history.specs.History.{History, history};
 ghost use Rattle.sg_history.specs.Journal.{Spells};
 ghost use Rattle.sg_history.specs.Refusal.{RefusesLog};
 ghost use Rattle.gateway_app.specs.FeedText.{feed_text};
@@ -13,26 +14,33 @@ use crate::status::Status;
 use crate::text::print_rows;
 use crate::words::{FeedRequest, WordsFault, read_words};
 use feed_rows::rows;
-use sg_history::{BadLine, Key, Name, Options, ReadLog, Why, read_journal};
-use sg_outside::{Bytes, Files, Gave, Loaded, Sink};
+use sg_history::{BadLine, Key, Log, Name, Options, ReadLog, Why, read_journal};
+use sg_outside::{Bytes, Files, Gave, Loaded, Memory, Sink};
 use std::alloc::Global;
 
 /// The number of the journal among the command's words.
 const JOURNAL: u64 = 1;
 
-/// The printed feed of the history that a journal spells, over its whole length, with revocations.
-fn feed_of(alloc: Global, journal: &[u8], user: &Name, since: &Key) -> Result<Bytes, ReadLog>
-    ensures ok { IfOk result (λ text. (h : History) × Spells journal.now h × (text ≡ feed_text h.entries user.now since.now)) }
-    ensures bad { IfErr result (λ e. RefusesLog e ((h : History) → ¬ (Spells journal.now h))) }
+/// The log of a journal. The journal's bytes are let go.
+fn read_log(alloc: Global, journal: Bytes) -> Result<Log, ReadLog>
+    ensures ok { IfOk result (λ log. Spells journal (history log)) }
+    ensures bad { IfErr result (λ e. RefusesLog e ((h : History) → ¬ (Spells journal h))) }
+    ensures line { IfErr result (NamesLine (IsBadJournal journal)) }
 {
-    let log = read_journal(alloc, journal)?;
+    read_journal(alloc, journal.as_slice())
+}
+
+/// The printed feed of a log, over its whole length, with revocations.
+fn feed_of(alloc: Global, log: &Log, user: &Name, since: &Key) -> Result<Bytes, Memory>
+    ensures { IfOk result (λ text. text ≡ feed_text (history log.now) user.now since.now) }
+{
     let options = Options {
         filter: None,
         active_only: false,
         revocations: true,
     };
-    let rows = rows(alloc, &log, log.entries.len() as u64, user, since, &options)?;
-    Ok(print_rows(alloc, rows.as_slice())?)
+    let rows = rows(alloc, log, log.entries.len() as u64, user, since, &options)?;
+    print_rows(alloc, rows.as_slice())
 }
 
 /// The bytes of the journal, or how the run ends without them.
@@ -56,7 +64,8 @@ fn load<F: Files>(alloc: Global, files: &mut F, path: &str) -> Result<Bytes, Sta
 }
 
 fn print<O: Sink>(text: &[u8], out: &mut O) -> Status
-    ensures { Prints result text.now (O.faults out.old) (O.faults out.new) (O.taken out.old) (O.taken out.new) }
+    ensures { Prints result text.now
+        (O.faults out.old) (O.faults out.new) (O.taken out.old) (O.taken out.new) }
 {
     match out.give(text) {
         Gave::Done => Status::Ok,
@@ -65,18 +74,30 @@ fn print<O: Sink>(text: &[u8], out: &mut O) -> Status
     }
 }
 
-/// Prints the feed of a journal that was loaded.
+/// Prints the feed of a log.
+fn print_log<O: Sink>(alloc: Global, log: &Log, user: &Name, since: &Key, out: &mut O) -> Status
+    ensures { Prints result (feed_text (history log.now) user.now since.now)
+        (O.faults out.old) (O.faults out.new) (O.taken out.old) (O.taken out.new) }
+{
+    match feed_of(alloc, log, user, since) {
+        Ok(text) => print(text.as_slice(), out),
+        Err(_) => Status::Memory,
+    }
+}
+
+/// Prints the feed of a journal that was loaded, of which the bytes are let go once they are read.
 fn print_feed<O: Sink>(
     alloc: Global,
-    journal: &[u8],
+    journal: Bytes,
     user: &Name,
     since: &Key,
     out: &mut O,
 ) -> Status
-    ensures { EndsFeed result journal.now user.now since.now (O.faults out.old) (O.faults out.new) (O.taken out.old) (O.taken out.new) }
+    ensures { EndsFeed result journal user.now since.now
+        (O.faults out.old) (O.faults out.new) (O.taken out.old) (O.taken out.new) }
 {
-    match feed_of(alloc, journal, user, since) {
-        Ok(text) => print(text.as_slice(), out),
+    match read_log(alloc, journal) {
+        Ok(log) => print_log(alloc, &log, user, since, out),
         Err(ReadLog::Bad(BadLine { place, why })) => Status::BadInput {
             file: JOURNAL,
             place,
@@ -92,32 +113,33 @@ fn run_feed<F: Files, O: Sink>(
     files: &mut F,
     out: &mut O,
 ) -> Status
-    ensures ends { (bytes : List ℕ) → HasFile (F.told files.old) request.now.journal.now bytes → Ends result (words_of request.now) bytes (O.taken out.old) (O.taken out.new) }
+    ensures ends { (bytes : List ℕ) → HasFile (F.told files.old) request.now.journal.now bytes
+        → Ends result (words_of request.now) bytes (O.taken out.old) (O.taken out.new) }
     ensures absent { HasNoFile (F.told files.old) request.now.journal.now → EndsAbsent result }
     ensures words { result ≢ Status.BadWords }
-    ensures counted { Counted result (F.faults files.old) (F.faults files.new) (O.faults out.old) (O.faults out.new) }
+    ensures counted { Counted result (F.faults files.old) (F.faults files.new)
+        (O.faults out.old) (O.faults out.new) }
     ensures silent { Silent result (O.taken out.old) (O.taken out.new) }
     ensures kept { F.told files.new ≡ F.told files.old }
 {
     match load(alloc, files, request.journal) {
-        Ok(journal) => print_feed(
-            alloc,
-            journal.as_slice(),
-            &request.user,
-            &request.since,
-            out,
-        ),
+        Ok(journal) => print_feed(alloc, journal, &request.user, &request.since, out),
         Err(status) => status,
     }
 }
 
 /// Runs a command: the words are those after the program's name.
 pub fn run<F: Files, O: Sink>(alloc: Global, words: &[String], files: &mut F, out: &mut O) -> Status
-    ensures words { (result ≡ Status.BadWords) ↔ ((f : FeedWords) → ¬ IsFeed (map (λ w. string_bytes w) words.now) f) }
+    ensures words { (result ≡ Status.BadWords)
+        ↔ ((f : FeedWords) → ¬ IsFeed (map (λ w. string_bytes w) words.now) f) }
     ensures untouched { result ≡ Status.BadWords → (files.new ≡ files.old) × (out.new ≡ out.old) }
-    ensures ends { (f : FeedWords) (bytes : List ℕ) → IsFeed (map (λ w. string_bytes w) words.now) f → HasFile (F.told files.old) f.journal bytes → Ends result f bytes (O.taken out.old) (O.taken out.new) }
-    ensures absent { (f : FeedWords) → IsFeed (map (λ w. string_bytes w) words.now) f → HasNoFile (F.told files.old) f.journal → EndsAbsent result }
-    ensures counted { Counted result (F.faults files.old) (F.faults files.new) (O.faults out.old) (O.faults out.new) }
+    ensures ends { (f : FeedWords) (bytes : List ℕ) → IsFeed (map (λ w. string_bytes w) words.now) f
+        → HasFile (F.told files.old) f.journal bytes
+        → Ends result f bytes (O.taken out.old) (O.taken out.new) }
+    ensures absent { (f : FeedWords) → IsFeed (map (λ w. string_bytes w) words.now) f
+        → HasNoFile (F.told files.old) f.journal → EndsAbsent result }
+    ensures counted { Counted result (F.faults files.old) (F.faults files.new)
+        (O.faults out.old) (O.faults out.new) }
     ensures silent { Silent result (O.taken out.old) (O.taken out.new) }
     ensures kept { F.told files.new ≡ F.told files.old }
 {

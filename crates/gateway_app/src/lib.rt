@@ -8,6 +8,3 @@ pub mod words;
 
 pub use feed_command::run;
 pub use status::Status;
-
-#[cfg(test)]
-mod tests;

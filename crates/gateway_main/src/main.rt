@@ -2,6 +2,9 @@
 //! and tells how they ended: one line on standard error for each status but Ok, and the exit number.
 #![tactic(auto)]
 
+ghost use Rattle.std.specs.Prelude.{◌≡◌};
+ghost use Rattle.gateway_main.specs.Exit.{exit_number};
+
 use gateway_app::{Status, run};
 use sg_outside::{RealFiles, StdoutSink};
 use std::alloc::AllocError;
@@ -26,35 +29,38 @@ fn words_of(rt: &(impl Env + AllocGlobal)) -> Result<Vec<String>, Status> {
     Ok(words)
 }
 
-/// The exit number of a status, after its line on standard error.
-fn tell(rt: &impl Eprint, status: Status) -> io::Result<u8> {
+/// The exit number of a status.
+fn number_of(status: &Status) -> u8
+    ensures { result ≡ exit_number status.now }
+{
     match status {
-        Status::Ok => Ok(0),
-        Status::BadWords => {
-            eprintln!(rt; "sgate: bad words")?;
-            Ok(1)
-        }
-        Status::BadInput {
-            file,
-            place,
-            why: _,
-        } => {
-            eprintln!(rt; "sgate: bad input {file} {place}")?;
-            Ok(2)
-        }
-        Status::ReadFault => {
-            eprintln!(rt; "sgate: read fault")?;
-            Ok(3)
-        }
-        Status::WriteFault => {
-            eprintln!(rt; "sgate: write fault")?;
-            Ok(4)
-        }
-        Status::Memory => {
-            eprintln!(rt; "sgate: no memory")?;
-            Ok(6)
-        }
+        Status::Ok => 0,
+        Status::BadWords => 1,
+        Status::BadInput { .. } => 2,
+        Status::ReadFault => 3,
+        Status::WriteFault => 4,
+        Status::Memory => 6,
     }
+}
+
+/// Prints the line of a status on standard error; Ok has none.
+fn tell(rt: &impl Eprint, status: &Status) -> io::Result<()> {
+    match status {
+        Status::Ok => Ok(()),
+        Status::BadWords => eprintln!(rt; "sgate: bad words"),
+        Status::BadInput { file, place, .. } => eprintln!(rt; "sgate: bad input {file} {place}"),
+        Status::ReadFault => eprintln!(rt; "sgate: read fault"),
+        Status::WriteFault => eprintln!(rt; "sgate: write fault"),
+        Status::Memory => eprintln!(rt; "sgate: no memory"),
+    }
+}
+
+/// Prints the line of a status, if that can be done, and gives its number in any case.
+fn end(rt: &impl Eprint, status: &Status) -> u8
+    ensures { result ≡ exit_number status.now }
+{
+    let _ = tell(rt, status);
+    number_of(status)
 }
 
 fn main(rt: HostRuntime) -> ExitCode {
@@ -66,8 +72,5 @@ fn main(rt: HostRuntime) -> ExitCode {
         }
         Err(status) => status,
     };
-    match tell(&rt, status) {
-        Ok(number) => ExitCode::from(number),
-        Err(_) => ExitCode::FAILURE,
-    }
+    ExitCode::from(end(&rt, &status))
 }

@@ -1,7 +1,6 @@
 -- texts that were put at the end of others
 use Rattle.std.proofs.Common.{◌≡◌, ℕ, List, [], ◌∷◌, ◌++◌, length, take, refl, sym, ap, ◌∙◌, append_assoc, OnOk, OnErr}
 use Rattle.std.specs.Prelude.{Result, Ok, Err}
-use Rattle.std.proofs.lemmas.Grind.{common_steps}
 
 front_kept : (before more after : List ℕ) → take (length (before ++ more)) after ≡ before ++ more → take (length before) after ≡ before
 front_kept [] more after kept = refl

@@ -1,6 +1,6 @@
 -- the line of an entry and its fields
-use Rattle.std.proofs.Common.{◌≡◌, ℕ, ◌<◌, ◌≤◌, Bool, true, false, ◌&&◌, not, List, [], ◌∷◌, length, refl, sym, ap, ◌∙◌, arith, if◌then◌else◌, IfOk, Option, Some, None, inl, inr}
-use Rattle.std.specs.Prelude.{nat_eq, nat_lt, nat_le, Result, Ok, Err}
+use Rattle.std.proofs.Common.{◌≡◌, ℕ, ◌<◌, ◌≤◌, Bool, true, false, ◌&&◌, not, List, [], ◌∷◌, length, refl, sym, ap, ◌∙◌, arith, if◌then◌else◌, Option, Some, None, inl, inr}
+use Rattle.std.specs.Prelude.{nat_eq, nat_lt, nat_le}
 use Rattle.std.specs.List.{list_all, join_with_byte}
 use Rattle.std.proofs.lemmas.Bool.{and_parts, and_from, cases_Bool, eqb-true}
 use Rattle.std.proofs.lemmas.List.Folds.{list_all-append}
@@ -8,9 +8,6 @@ use Rattle.sg_names.proofs.PlainTexts.{plain_decimal, plain_hex, plain_rev, plai
 use Rattle.sg_names.specs.Grammar.{lacks, is_plain, is_plain_text, is_channel_name, is_name, is_doc_id, is_dash, begins_with_underscore}
 use Rattle.sg_history.specs.declared.entries.Entry.{Entry}
 use Rattle.sg_history.specs.declared.entries.Entry.TheVariants as entry
-use Rattle.sg_history.specs.declared.fault.LineFault.{LineFault}
-use Rattle.sg_history.specs.declared.line.ReadEntry.{ReadEntry}
-use Rattle.sg_history.specs.declared.written.WriteRevs.{WriteRevs}
 use Rattle.sg_history.specs.Pieces.{pieces, begin_with}
 use Rattle.sg_history.specs.Journal.{IsEntry, fields_of, line_of, mark_text, by_text, is_by}
 use Rattle.sg_history.specs.Line.{NoEntry, NoLine}

@@ -37,6 +37,13 @@ impl<'a> LogReads<'a> {
         self.log.entries.len() as u64
     }
 
+    /// How many reads there were so far.
+    pub fn reads(&self) -> u64
+        ensures { result ≡ self.now.reads }
+    {
+        self.reads
+    }
+
     /// Reads the entry of this sequence, counted from 1. Takes no memory.
     pub fn entry(&mut self, k: u64) -> &'a Entry
         requires low { 1 ≤ k }

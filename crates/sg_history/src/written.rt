@@ -5,7 +5,7 @@ ghost use Rattle.sg_names.specs.declared.rev_id.RevId.{RevId};
 ghost use Rattle.sg_history.specs.Written.{has, is_rev_of, revision};
 
 use std::alloc::{AllocError, Global};
-use std::collections::BTreeSet;
+use std::collections::HashSet;
 use std::marker::Model;
 
 /// The texts of a document and of one of its revisions.
@@ -26,7 +26,7 @@ pub struct WriteRevs<'a> {
 /// Revisions of documents, each once. Their texts are borrowed.
 #[derive(Drop)]
 pub struct Written<'a> {
-    keys: BTreeSet<(&'a [u8], u32, &'a [u8])>,
+    keys: HashSet<(&'a [u8], u32, &'a [u8])>,
 }
 
 impl<'a> Model for Written<'a> {
@@ -44,7 +44,7 @@ impl<'a> Written<'a> {
         ensures { result ≡ [] }
     {
         Written {
-            keys: BTreeSet::new(alloc),
+            keys: HashSet::new(alloc),
         }
     }
 

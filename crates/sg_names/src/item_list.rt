@@ -53,7 +53,8 @@ fn read_items<T: Item>(alloc: Global, text: &str) -> Result<Vec<T>, TextFault>
     ensures bad { result ≡ Err TextFault.Bad → (xs : List T) → IsTrue (list_all T.admits xs)
         → slice_split (λ b. b == 44) text.now ≢ map T.text xs }
 {
-    let mut items = Vec::new(alloc);
+    // most lists have one item
+    let mut items = Vec::with_capacity(alloc, 1)?;
     let mut rest = text;
     while let Some((part, after)) = pieces::cut(rest, ',') {
         items.push(T::read(alloc, part)?)?;

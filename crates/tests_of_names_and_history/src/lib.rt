@@ -1,8 +1,12 @@
-//! Tests of what no clause says of names, journals, feeds and the outside.
+//! Tests of what no clause says of names, journals, feeds, commands and the outside.
 #![tactic(auto)]
 
 #[cfg(test)]
+mod commands;
+#[cfg(test)]
 mod feeds;
+#[cfg(test)]
+mod journals;
 #[cfg(test)]
 mod names;
 #[cfg(test)]

@@ -6,7 +6,7 @@ use Rattle.gateway_app.proofs.feed_command.run_feed.Goals as goal
 pub returns-in-Ok-clause-ends : goal.returns-in-Ok-clause-ends
 returns-in-Ok-clause-ends g c = λ bytes file.
     let loaded = c.in-Ok.ensures.told bytes file in
-    with_bytes c.print_feed.result (words_of c.args.request.now) bytes c.as_slice.result.now _ _ _ _ (loaded.0, c.as_slice.ensures ∙ loaded.1) c.print_feed.ensures
+    with_bytes c.print_feed.result (words_of c.args.request.now) bytes c.in-Ok.journal _ _ _ _ (loaded.0, loaded.1) c.print_feed.ensures
 
 pub returns-in-Ok-clause-absent : goal.returns-in-Ok-clause-absent
 returns-in-Ok-clause-absent g c = λ absent. absurd (c.in-Ok.ensures.absent absent)

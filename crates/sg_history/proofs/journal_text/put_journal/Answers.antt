@@ -1,5 +1,4 @@
-use Rattle.std.specs.Prelude.{codes}
-use Rattle.std.proofs.Common.{subst, ap, List, OnOk, ◌≡◌, ◌++◌}
+use Rattle.std.proofs.Common.{subst, List, OnOk, ◌≡◌, ◌++◌}
 use Rattle.sg_history.specs.declared.entries.Entry.{Entry}
 use Rattle.sg_history.specs.Journal.{header, lines_of}
 use Rattle.sg_history.proofs.Appended.{both_put, both_kept}

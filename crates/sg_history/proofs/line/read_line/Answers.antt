@@ -1,4 +1,4 @@
-use Rattle.std.proofs.Common.{List, ℕ, map, ap, ◌∙◌, Bor, subst, IfOk, IfErr, sym, arith}
+use Rattle.std.proofs.Common.{subst, IfOk, IfErr, sym, arith}
 use Rattle.std.proofs.lemmas.List.{length-take-le}
 use Rattle.sg_history.proofs.WriteFields.{refused}
 use Rattle.sg_history.proofs.LineTexts.{no_line, no_long_line}

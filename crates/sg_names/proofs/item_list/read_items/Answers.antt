@@ -8,7 +8,7 @@ use Rattle.sg_names.proofs.item_list.read_items.Goals as goal
 
 pub returns-in_err-read-clause-bad : goal.returns-in_err-read-clause-bad
 returns-in_err-read-clause-bad g c = λ fault xs h e.
-    let exit = err_from_is_err_and c.from_residual.result c.from_residual.ensures.1 in
+    let exit = err_from_is_err_and c.from_residual-in_err-read.result c.from_residual-in_err-read.ensures.1 in
     let inner : c.in_err-read.field-0.0 ≡ Bad = cc in
     let cut = c.in-Some.ensures.some in
     let at = next_item g.T.Item.text g.T.Item.admits c.loop-part.items.items c.args.text.now c.loop-part.rest.now c.in-Some.part.now c.in-Some.after.now xs c.loop-part.invariant.parts cut.0 cut.1 e h in

@@ -1,6 +1,6 @@
-//! Runs over files and sinks in memory, with each call of a small run failing in turn.
+//! Runs of commands over files and sinks in memory, with each call of a small run failing in turn.
 
-use crate::{Status, run};
+use gateway_app::{Status, run};
 use sg_history::Why;
 use sg_outside::{Bytes, MemFile, MemFiles, MemSink, ScriptedFiles, ScriptedSink};
 use std::alloc::Global;
@@ -46,6 +46,24 @@ fn prints_the_rows_of_a_journal(rt: HostRuntime) -> Result<(), Fail> {
     let (status, text) = run_on(rt.alloc(), b"sgjournal 1\n", "feed j ann 0")?;
     assert_eq!(rt; status, Status::Ok);
     assert!(rt; text.is_empty());
+    Ok(())
+}
+
+/// The journal of a user who has every channel, and is dropped at the end.
+const DROPPED: &[u8] = b"sgjournal 1\nU\tbob\t*\t-\nW\td1\t1-a\t-\t0\t7b7d\t-\t1\t1-a\tA\t-\t-\nW\td2\t1-b\t-\t0\t7b7d\t-\t2\t1-b\t-\t-\t-\nDU\tbob\n";
+
+#[test]
+fn a_dropped_user_loses_all(rt: HostRuntime) -> Result<(), Fail> {
+    let (status, text) = run_on(rt.alloc(), DROPPED, "feed j bob 3")?;
+    assert_eq!(rt; status, Status::Ok);
+    assert!(rt; text.as_slice() == b"4:2\td1\t1-a\t2\n4:3\td2\t1-b\t2\n".as_slice());
+    let before = match DROPPED.strip_suffix(b"DU\tbob\n".as_slice()) {
+        Some(before) => before,
+        None => b"",
+    };
+    let (status, text) = run_on(rt.alloc(), before, "feed j bob 0")?;
+    assert_eq!(rt; status, Status::Ok);
+    assert!(rt; text.as_slice() == b"2\td1\t1-a\t0\n3\td2\t1-b\t0\n".as_slice());
     Ok(())
 }
 
