@@ -50,7 +50,8 @@ fn prints_the_rows_of_a_journal(rt: HostRuntime) -> Result<(), Fail> {
 }
 
 /// The journal of a user who has every channel, and is dropped at the end.
-const DROPPED: &[u8] = b"sgjournal 1\nU\tbob\t*\t-\nW\td1\t1-a\t-\t0\t7b7d\t-\t1\t1-a\tA\t-\t-\nW\td2\t1-b\t-\t0\t7b7d\t-\t2\t1-b\t-\t-\t-\nDU\tbob\n";
+const DROPPED: &[u8] =
+    b"sgjournal 1\nU\tbob\t*\t-\nW\td1\t1-a\t-\t0\t7b7d\t-\t1\t1-a\tA\t-\t-\nW\td2\t1-b\t-\t0\t7b7d\t-\t2\t1-b\t-\t-\t-\nDU\tbob\n";
 
 #[test]
 fn a_dropped_user_loses_all(rt: HostRuntime) -> Result<(), Fail> {

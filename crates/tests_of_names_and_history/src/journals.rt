@@ -1,8 +1,6 @@
 //! Journals that are read, written and refused.
 
-use sg_history::{
-    BadLine, Entry, Log, LogReads, ReadLog, Why, Write, read_journal, write_journal,
-};
+use sg_history::{BadLine, Entry, Log, LogReads, ReadLog, Why, Write, read_journal, write_journal};
 use sg_outside::Bytes;
 use std::alloc::{AllocError, Global};
 use std::process::Abort;
@@ -34,7 +32,8 @@ fn expect_bad(
 }
 
 /// A journal of each kind of entry.
-const EACH_KIND: &str = "sgjournal 1\nU|ann|A|r\nR|r|!,*\nW|d,é|3-c|2-b,1-a|1|00ff|ann|0|3-c|A,B|ann=B,role:r=C|ann=r\nX\nDR|r\nDU|ann\nW|d,é|4-d|3-c|0|7b7d|-|6|3-c|-|-|-\n";
+const EACH_KIND: &str =
+    "sgjournal 1\nU|ann|A|r\nR|r|!,*\nW|d,é|3-c|2-b,1-a|1|00ff|ann|0|3-c|A,B|ann=B,role:r=C|ann=r\nX\nDR|r\nDU|ann\nW|d,é|4-d|3-c|0|7b7d|-|6|3-c|-|-|-\n";
 
 #[test]
 fn journals_are_read_and_written_again(rt: HostRuntime) -> Result<(), Fail> {
