@@ -1,10 +1,11 @@
 //! Pieces of a text.
 
 ghost use Rattle.std.specs.Prelude.{◌≡◌, ◌<◌, ◌++◌, ◌∷◌, length, take, map, ◌==◌, IsTrue, IfOk, IfSome, IfNone, OnOk, OnErr};
-ghost use Rattle.std.specs.List.{flat_map};
+ghost use Rattle.std.specs.List.{flat_map, slice_split};
 ghost use Rattle.sg_names.specs.Grammar.{lacks};
 
 use sg_outside::{Bytes, Memory};
+use std::alloc::{AllocError, Global};
 
 /// Puts the pieces at the end, up to one for which there is no memory.
 fn append_while(pieces: &[&[u8]], out: &mut Bytes) -> Result<(), Memory>
@@ -37,4 +38,11 @@ pub fn cut(text: &str, at: char) -> Option<(&str, &str)>
     ensures none { IfNone result (IsTrue (lacks at text.now)) }
 {
     text.split_once(at)
+}
+
+/// The parts of a text between its commas, of which there is one more than commas.
+pub fn split_at_commas(alloc: Global, text: &str) -> Result<Vec<&str>, AllocError>
+    ensures { IfOk result (λ v. map (λ p. p.now) v.items ≡ slice_split (λ b. b == 44) text.now) }
+{
+    text.split(',').collect(alloc)
 }
