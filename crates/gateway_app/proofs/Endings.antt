@@ -7,7 +7,7 @@ use Rattle.sg_history.specs.History.{History}
 use Rattle.sg_history.specs.Journal.{Spells}
 use Rattle.gateway_app.specs.declared.status.Status.{Status}
 use Rattle.gateway_app.specs.declared.status.Status.TheVariants as status
-use Rattle.gateway_app.specs.FeedText.{feed_text, row_text, whole_feed}
+use Rattle.gateway_app.specs.FeedText.{feed_text}
 use Rattle.gateway_app.specs.Words.{FeedWords}
 use Rattle.gateway_app.specs.Run.{Ends, EndsFeed, IsLoaded, Prints, Took, TookPart}
 
@@ -48,9 +48,3 @@ not_loaded (status.BadInput file place why) f bytes before after loaded =
 not_loaded status.ReadFault f bytes before after loaded = tt
 not_loaded status.WriteFault f bytes before after loaded = absurd loaded
 not_loaded status.Memory f bytes before after loaded = tt
-
--- rows of the feed over a whole history, printed
-pub whole_text : (es : List Entry) (n : ℕ) (user : List ℕ) (since : Key) (rows : List Row) (text : List ℕ) → n ≡ length es → rows ≡ feed (past es n) user since whole_feed → text ≡ flat_map (λ row. row_text row) rows → text ≡ feed_text es user since
-whole_text es n user since rows text count is printed =
-    printed ∙ ap (λ (l : List Row). flat_map (λ row. row_text row) l)
-    (is ∙ ap (λ (k : ℕ). feed (past es k) user since whole_feed) count ∙ ap (λ (l : List Entry). feed (reverse l) user since whole_feed) (take-length es))
