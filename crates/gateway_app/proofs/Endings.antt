@@ -9,7 +9,7 @@ use Rattle.gateway_app.specs.declared.status.Status.{Status}
 use Rattle.gateway_app.specs.declared.status.Status.TheVariants as status
 use Rattle.gateway_app.specs.FeedText.{feed_text}
 use Rattle.gateway_app.specs.Words.{FeedWords}
-use Rattle.gateway_app.specs.Run.{Ends, EndsFeed, IsLoaded, Prints, Took, TookPart}
+use Rattle.gateway_app.specs.Run.{Ends, EndsFeed, IsLoaded, Prints}
 
 -- what was printed is the feed of the journal's history
 pub printed : (s : Status) (h : History) (journal user : List ℕ) (since : Key) (faults faults' : ℕ) (before after : Option (List ℕ)) → Spells journal h → Prints s (feed_text h user since) faults faults' before after → EndsFeed s journal user since faults faults' before after

@@ -1,4 +1,3 @@
-use Rattle.std.proofs.Common.{◌∙◌}
 use Rattle.gateway_app.specs.Request.{words_of}
 use Rattle.gateway_app.proofs.Endings.{with_bytes, not_loaded}
 use Rattle.gateway_app.proofs.feed_command.run_feed.Goals as goal
