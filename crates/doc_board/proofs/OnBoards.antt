@@ -1,5 +1,5 @@
 -- what a board's book says, and what its entries say
-use Rattle.std.proofs.Common.{◌≡◌, ap, List, length, reverse, take}
+use Rattle.std.proofs.Common.{◌≡◌, ap, List, length, reverse}
 use Rattle.std.proofs.Math.Seq.{take-length}
 use Rattle.sg_history.specs.declared.entries.Entry.{Entry}
 use Rattle.sg_history.specs.History.{past}

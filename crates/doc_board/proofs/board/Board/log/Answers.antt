@@ -1,4 +1,4 @@
-use Rattle.std.proofs.Common.{◌≡◌, ◌∙◌, sym, subst, List, length}
+use Rattle.std.proofs.Common.{◌∙◌, sym, subst, List, length}
 use Rattle.rev_tree.specs.Extension.{Recorded}
 use Rattle.rev_tree.specs.Writes.{AreAccepted}
 use Rattle.rev_tree.specs.Documents.{writes_of}

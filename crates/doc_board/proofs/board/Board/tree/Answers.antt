@@ -1,4 +1,4 @@
-use Rattle.std.proofs.Common.{◌≡◌, ◌∙◌, ap, sym, subst, List, length, Option, reverse}
+use Rattle.std.proofs.Common.{◌∙◌, ap, sym, subst, List, length, Option, reverse}
 use Rattle.doc_board.specs.declared.document.Document.{Document}
 use Rattle.doc_board.specs.Kept.{kept_tree}
 use Rattle.doc_board.specs.State.{State, newest_first}
