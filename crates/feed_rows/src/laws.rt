@@ -20,9 +20,17 @@ pub fn members()
 /// A row says what is shown of its document at the front: it is gone exactly where the document is not shown, and else it has the
 /// winner and the deleted mark that are shown.
 pub fn said()
-    ensures gone { (es : List Entry) (user : List ℕ) (filter : Option (List (List ℕ))) (doc : List ℕ) (row : Row) → row_of es user filter doc ≡ Some row → IsTrue (is_gone row.bits) ↔ (view es user filter doc ≡ None) }
-    ensures shown { (es : List Entry) (user : List ℕ) (filter : Option (List (List ℕ))) (doc : List ℕ) (row : Row) → row_of es user filter doc ≡ Some row → held_after row ≡ shown_to es user filter doc }
-    ensures of_feed { (es : List Entry) (user : List ℕ) (since : Key) (options : Options) (row : Row) → HasRow (feed es user since options) row → held_after row ≡ shown_to es user options.filter row.doc }
+    ensures gone { (es : List Entry) (user : List ℕ) (filter : Option (List (List ℕ)))
+        (doc : List ℕ) (row : Row)
+        → row_of es user filter doc ≡ Some row
+        → IsTrue (is_gone row.bits) ↔ (view es user filter doc ≡ None) }
+    ensures shown { (es : List Entry) (user : List ℕ) (filter : Option (List (List ℕ)))
+        (doc : List ℕ) (row : Row)
+        → row_of es user filter doc ≡ Some row → held_after row ≡ shown_to es user filter doc }
+    ensures of_feed { (es : List Entry) (user : List ℕ) (since : Key) (options : Options)
+        (row : Row)
+        → HasRow (feed es user since options) row
+        → held_after row ≡ shown_to es user options.filter row.doc }
 {}
 
 /// The keys of a feed rise. A plain number S is the key (S, S), and a since key at or past the last key gives

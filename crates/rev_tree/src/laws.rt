@@ -50,19 +50,29 @@ pub fn extensions()
 /// The tree of a document, up to the number of the last write that a book has of it, is the same in each later book, and so are that
 /// last write and the write on which a revision is based.
 pub fn later_books()
-    ensures trees { (earlier later : Book) (doc : List ℕ) (last : Sequenced) (number : ℕ) → Later earlier later → IsLastWrite earlier doc last → number ≤ last.seq → tree_in later number doc ≡ tree_in earlier number doc }
-    ensures last { (earlier later : Book) (doc : List ℕ) (last : Sequenced) → Later earlier later → IsLastWrite earlier doc last → last_in later last.seq doc ≡ last.seq }
-    ensures based { (earlier later : Book) (doc : List ℕ) (last : Sequenced) (ancestors : List RevId) → Later earlier later → IsLastWrite earlier doc last → base_in later last.seq doc ancestors ≡ base_in earlier last.seq doc ancestors }
+    ensures trees { (earlier later : Book) (doc : List ℕ) (last : Sequenced) (number : ℕ)
+        → Later earlier later → IsLastWrite earlier doc last → number ≤ last.seq
+        → tree_in later number doc ≡ tree_in earlier number doc }
+    ensures last { (earlier later : Book) (doc : List ℕ) (last : Sequenced) → Later earlier later
+        → IsLastWrite earlier doc last → last_in later last.seq doc ≡ last.seq }
+    ensures based { (earlier later : Book) (doc : List ℕ) (last : Sequenced)
+        (ancestors : List RevId)
+        → Later earlier later → IsLastWrite earlier doc last
+        → base_in later last.seq doc ancestors ≡ base_in earlier last.seq doc ancestors }
 {
     sg_history::laws::writes();
 }
 
 /// The book of a history says of a document, up to a number, what the entries up to that number say.
 pub fn histories()
-    ensures writes { (h : List Entry) (number : ℕ) (doc : List ℕ) → writes_in (book_of h) number doc ≡ writes_of (past h number) doc }
-    ensures trees { (h : List Entry) (number : ℕ) (doc : List ℕ) → tree_in (book_of h) number doc ≡ tree_at (past h number) doc }
-    ensures last { (h : List Entry) (number : ℕ) (doc : List ℕ) → last_in (book_of h) number doc ≡ last_at (past h number) doc }
-    ensures based { (h : List Entry) (number : ℕ) (doc : List ℕ) (ancestors : List RevId) → base_in (book_of h) number doc ancestors ≡ base_write (past h number) doc ancestors }
+    ensures writes { (h : List Entry) (number : ℕ) (doc : List ℕ)
+        → writes_in (book_of h) number doc ≡ writes_of (past h number) doc }
+    ensures trees { (h : List Entry) (number : ℕ) (doc : List ℕ)
+        → tree_in (book_of h) number doc ≡ tree_at (past h number) doc }
+    ensures last { (h : List Entry) (number : ℕ) (doc : List ℕ)
+        → last_in (book_of h) number doc ≡ last_at (past h number) doc }
+    ensures based { (h : List Entry) (number : ℕ) (doc : List ℕ) (ancestors : List RevId)
+        → base_in (book_of h) number doc ancestors ≡ base_write (past h number) doc ancestors }
 {
     sg_history::laws::books();
 }

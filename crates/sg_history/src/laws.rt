@@ -26,23 +26,33 @@ pub fn later()
     ensures itself { (book : Book) → Later book book }
     ensures again { (a b c : Book) → Later a b → Later b c → Later a c }
     ensures extended { (g h : List Entry) → Extends g h → Later (book_of g) (book_of h) }
-    ensures log { (log : List Entry) (waiting : List Numbered) (h : List Entry) → Later (book_with log waiting) (book_of h) → Extends log h }
-    ensures fronts { (log h : List Entry) (front : ℕ) → Extends log h → front ≤ length log → past h front ≡ past log front }
+    ensures log { (log : List Entry) (waiting : List Numbered) (h : List Entry)
+        → Later (book_with log waiting) (book_of h) → Extends log h }
+    ensures fronts { (log h : List Entry) (front : ℕ) → Extends log h → front ≤ length log
+        → past h front ≡ past log front }
 {}
 
 /// The writes of a document in later books: up to the number of the last write that the earlier book has, they are the same, and
 /// that write is the last of them.
 pub fn writes()
-    ensures same { (earlier later : Book) (doc : List ℕ) (last : Sequenced) (number : ℕ) → Later earlier later → IsLastWrite earlier doc last → number ≤ last.seq → writes_up_to later number doc ≡ writes_up_to earlier number doc }
-    ensures last { (earlier later : Book) (doc : List ℕ) (last : Sequenced) → Later earlier later → IsLastWrite earlier doc last → last_write_up_to later last.seq doc ≡ Some last }
+    ensures same { (earlier later : Book) (doc : List ℕ) (last : Sequenced) (number : ℕ)
+        → Later earlier later → IsLastWrite earlier doc last → number ≤ last.seq
+        → writes_up_to later number doc ≡ writes_up_to earlier number doc }
+    ensures last { (earlier later : Book) (doc : List ℕ) (last : Sequenced) → Later earlier later
+        → IsLastWrite earlier doc last → last_write_up_to later last.seq doc ≡ Some last }
 {}
 
 /// The book of a history up to a number says of a document's writes what the entries up to that number say.
 pub fn books()
-    ensures writes { (h : List Entry) (number : ℕ) (doc : List ℕ) → writes_up_to (book_of h) number doc ≡ writes_to (past h number) doc }
-    ensures last { (h : List Entry) (number : ℕ) (doc : List ℕ) → last_write_up_to (book_of h) number doc ≡ last_write (past h number) doc }
-    ensures is_last { (h : List Entry) (doc : List ℕ) (last : Sequenced) → last_write_up_to (book_of h) (length h) doc ≡ Some last → IsLastWrite (book_of h) doc last }
-    ensures of_rev { (h : List Entry) (number : ℕ) (doc : List ℕ) (rev : RevId) → write_of_rev_up_to (book_of h) number doc rev ≡ write_of_rev (past h number) doc rev }
+    ensures writes { (h : List Entry) (number : ℕ) (doc : List ℕ)
+        → writes_up_to (book_of h) number doc ≡ writes_to (past h number) doc }
+    ensures last { (h : List Entry) (number : ℕ) (doc : List ℕ)
+        → last_write_up_to (book_of h) number doc ≡ last_write (past h number) doc }
+    ensures is_last { (h : List Entry) (doc : List ℕ) (last : Sequenced)
+        → last_write_up_to (book_of h) (length h) doc ≡ Some last
+        → IsLastWrite (book_of h) doc last }
+    ensures of_rev { (h : List Entry) (number : ℕ) (doc : List ℕ) (rev : RevId)
+        → write_of_rev_up_to (book_of h) number doc rev ≡ write_of_rev (past h number) doc rev }
 {}
 
 /// Each board comes after itself, and after all that the boards before it come after.
