@@ -1,16 +1,16 @@
 -- The table of the checksum against its bits.
-use Rattle.std.proofs.Common.{◌≡◌, ℕ, zero, suc, ◌+◌, ◌*◌, ◌/◌, ◌%◌, ◌^◌, ◌<◌, List, [], ◌∷◌, ◌++◌, map, get_or, refl, sym, ap, ◌∙◌, arith, length, drop, add-one, ◌≤◌}
+use Rattle.std.proofs.Common.{◌≡◌, ℕ, zero, suc, ◌+◌, ◌*◌, ◌/◌, ◌%◌, ◌^◌, ◌<◌, List, [], ◌∷◌, ◌++◌, map, get_or, refl, sym, ap, ◌∙◌, arith, length, take, drop, add-one, ◌≤◌}
 use Rattle.std.specs.Int.Bits.{bit_xor, bit_and, xor_assoc, xor_shr, xor_mod, xor_zero_r, xor_self, xor_shifted}
-use Rattle.std.specs.List.{flat_map, range_with_len}
-use Rattle.std.proofs.lemmas.Nat.{xor_comm, and_mask}
+use Rattle.std.specs.List.{flat_map, range_with_len, AllByRecursion}
+use Rattle.std.specs.Int.{w64, from_le_bytes}
+use Rattle.std.proofs.lemmas.Nat.{xor_comm, xor_lt, and_mask}
 use Rattle.std.proofs.lemmas.List.Concat.{flat_map-append, flat_map-cons}
 use Rattle.std.proofs.lemmas.List.FromFn.{get_or-map-range_with_len}
-use Rattle.std.proofs.lemmas.List.{drop_all}
+use Rattle.std.proofs.lemmas.List.{drop_all, take-append-drop}
 use Rattle.std.proofs.Math.Seq.{drop-cons}
 use Rattle.blip_frame.specs.Checksum.{polynomial, all_ones, after_bit, after_bits, bits_of, checksum_after, checksum}
-use Rattle.blip_frame.specs.declared.crc.TheConstants.{TABLE}
+use Rattle.blip_frame.specs.declared.tables.TheConstants.{TABLE_1, TABLE_2, TABLE_3, TABLE_4, TABLE_5, TABLE_6, TABLE_7, TABLE_8}
 
--- the register after a bit of 0
 -- the register after a bit of 0
 abbrev step : ℕ → ℕ
 step x = bit_xor (x / 2) (polynomial * (x % 2))
@@ -91,6 +91,11 @@ unfolding steps low_bits halved after_bits
 steps_byte zero r b = refl
 steps_byte (suc k) r b = ap (steps k) (step_byte r b) ∙ steps_byte k (after_bit r (b % 2)) (b / 2)
 
+steps_xor : (k a b : ℕ) → steps k (bit_xor a b) ≡ bit_xor (steps k a) (steps k b)
+unfolding steps
+steps_xor zero a b = refl
+steps_xor (suc k) a b = ap (steps k) (step_xor a b) ∙ steps_xor k (step a) (step b)
+
 step_double : (h : ℕ) → step (2 * h) ≡ h
 step_double h =
     let half : 2 * h / 2 ≡ h = omega arith in
@@ -133,19 +138,60 @@ steps_split x =
     rw (eight_doubled (x / 256)) (rw (xor_shifted (x / 256) 8 (x % 256) (omega arith)) (omega arith)) in
     ap (steps 8) parts ∙ steps_high 8 (x / 256) (x % 256)
 
-table_is : TABLE ≡ map (steps 8) (range_with_len 0 256)
-unfolding steps
-table_is = refl
+-- so many bytes of 0 take the register on
+unfoldable on_by : ℕ → ℕ → ℕ
+on_by zero x = x
+on_by (suc n) x = on_by n (steps 8 x)
 
-table_at : (i : ℕ) → i < 256 → get_or TABLE i 0 ≡ steps 8 i
-table_at i h = ap (λ (t : List ℕ). get_or t i 0) table_is ∙ get_or-map-range_with_len (steps 8) 0 256 i i 0 h (omega arith)
+-- what a table has
+abbrev Tells : ℕ → List ℕ → Type 0
+Tells n table = (i : ℕ) → i < 256 → get_or table i 0 ≡ on_by n i
+
+tells : (n : ℕ) (table : List ℕ) → table ≡ map (on_by n) (range_with_len 0 256) → Tells n table
+tells n table is i h = ap (λ (t : List ℕ). get_or t i 0) is ∙ get_or-map-range_with_len (on_by n) 0 256 i i 0 h (omega arith)
+
+tells_1 : Tells 1 TABLE_1
+unfolding on_by steps
+tells_1 = tells 1 TABLE_1 refl
+
+tells_2 : Tells 2 TABLE_2
+unfolding on_by steps
+tells_2 = tells 2 TABLE_2 refl
+
+tells_3 : Tells 3 TABLE_3
+unfolding on_by steps
+tells_3 = tells 3 TABLE_3 refl
+
+tells_4 : Tells 4 TABLE_4
+unfolding on_by steps
+tells_4 = tells 4 TABLE_4 refl
+
+tells_5 : Tells 5 TABLE_5
+unfolding on_by steps
+tells_5 = tells 5 TABLE_5 refl
+
+tells_6 : Tells 6 TABLE_6
+unfolding on_by steps
+tells_6 = tells 6 TABLE_6 refl
+
+tells_7 : Tells 7 TABLE_7
+unfolding on_by steps
+tells_7 = tells 7 TABLE_7 refl
+
+tells_8 : Tells 8 TABLE_8
+unfolding on_by steps
+tells_8 = tells 8 TABLE_8 refl
+
+table_at : (i : ℕ) → i < 256 → get_or TABLE_1 i 0 ≡ steps 8 i
+unfolding on_by
+table_at i h = tells_1 i h
 
 -- one look into the table takes a byte in
-pub by_table : (r b : ℕ) → b < 256 → bit_xor (get_or TABLE (bit_and (bit_xor r b) 255) 0) (bit_xor r b / 256) ≡ after_bits r (bits_of b)
+pub by_table : (r b : ℕ) → b < 256 → bit_xor (get_or TABLE_1 (bit_and (bit_xor r b) 255) 0) (bit_xor r b / 256) ≡ after_bits r (bits_of b)
 by_table r b h =
     let x = bit_xor r b in
     let low : bit_and x 255 ≡ x % 256 = and_mask x 8 in
-    ap (λ (i : ℕ). bit_xor (get_or TABLE i 0) (x / 256)) low
+    ap (λ (i : ℕ). bit_xor (get_or TABLE_1 i 0) (x / 256)) low
     ∙ ap (λ (t : ℕ). bit_xor t (x / 256)) (table_at (x % 256) (omega arith))
     ∙ xor_comm (steps 8 (x % 256)) (x / 256)
     ∙ sym (steps_split x)
@@ -178,6 +224,111 @@ checksum_after-zero xs = refl
 
 pub checksum_after-checksum : (xs ys : List ℕ) → checksum_after (checksum xs) ys ≡ checksum (xs ++ ys)
 checksum_after-checksum xs ys = ap (λ (v : ℕ). checksum_after v ys) (sym (checksum_after-zero xs)) ∙ checksum_after-append 0 xs ys ∙ checksum_after-zero (xs ++ ys)
+
+-- ---- bytes at a time
+
+-- bytes as a number, the lowest first
+abbrev pub lowest_first : List ℕ → ℕ
+lowest_first [] = 0
+lowest_first (b ∷ bs) = b + 256 * lowest_first bs
+
+on_by_xor : (n a b : ℕ) → on_by n (bit_xor a b) ≡ bit_xor (on_by n a) (on_by n b)
+unfolding on_by
+on_by_xor zero a b = refl
+on_by_xor (suc n) a b = ap (on_by n) (steps_xor 8 a b) ∙ on_by_xor n (steps 8 a) (steps 8 b)
+
+-- a byte that goes in before others has them above it
+one_below : (r b h : ℕ) → b < 256 → bit_xor (steps 8 (bit_xor r b)) h ≡ steps 8 (bit_xor r (b + 256 * h))
+one_below r b h small =
+    let above : b + 256 * h ≡ bit_xor (doubled 8 h) b = rw (eight_doubled h) (rw (xor_shifted h 8 b small) (omega arith)) in
+    xor_comm (steps 8 (bit_xor r b)) h
+    ∙ sym (steps_high 8 h (bit_xor r b))
+    ∙ ap (steps 8) (sym (xor_assoc (doubled 8 h) r b) ∙ ap (λ (x : ℕ). bit_xor x b) (xor_comm (doubled 8 h) r) ∙ xor_assoc r (doubled 8 h) b)
+    ∙ ap (λ (x : ℕ). steps 8 (bit_xor r x)) (sym above)
+
+-- bytes go in as their number does, before as many bytes of 0
+bytes_in : (r : ℕ) (bs : List ℕ) → AllByRecursion (λ b. b < 256) bs → after_bits r (flat_map bits_of bs) ≡ on_by (length bs) (bit_xor r (lowest_first bs))
+unfolding on_by after_bits
+bytes_in r [] small = sym (xor_zero_r r)
+bytes_in r (b ∷ bs) small =
+    ap (after_bits r) (flat_map-cons bits_of b bs)
+    ∙ after_bits-append r (bits_of b) (flat_map bits_of bs)
+    ∙ ap (λ (x : ℕ). after_bits x (flat_map bits_of bs)) (after_byte_is r b small.0)
+    ∙ bytes_in (steps 8 (bit_xor r b)) bs small.1
+    ∙ ap (on_by (length bs)) (one_below r b (lowest_first bs) small.0)
+
+-- the lowest byte goes all the way, and what is above it one byte less
+byte_out : (n x : ℕ) → on_by (suc n) x ≡ bit_xor (on_by n (x / 256)) (on_by (suc n) (x % 256))
+unfolding on_by
+byte_out n x = ap (on_by n) (steps_split x) ∙ on_by_xor n (x / 256) (steps 8 (x % 256))
+
+-- eight looks into the tables take eight bytes in, which with the register are a number of eight bytes
+eight_looks : (x : ℕ) → x < 2 ^ 64
+    → bit_xor (bit_xor (bit_xor (bit_xor (bit_xor (bit_xor (bit_xor (on_by 1 (x / 256 ^ 7 % 256)) (on_by 2 (x / 256 ^ 6 % 256))) (on_by 3 (x / 256 ^ 5 % 256))) (on_by 4 (x / 256 ^ 4 % 256))) (on_by 5 (x / 256 ^ 3 % 256))) (on_by 6 (x / 256 ^ 2 % 256))) (on_by 7 (x / 256 ^ 1 % 256))) (on_by 8 (x % 256)) ≡ on_by 8 x
+eight_looks x small =
+    let q1 : x / 256 ^ 1 ≡ x / 256 = omega arith in
+    let q2 : x / 256 ^ 2 ≡ x / 256 / 256 = omega arith in
+    let q3 : x / 256 ^ 3 ≡ x / 256 / 256 / 256 = omega arith in
+    let q4 : x / 256 ^ 4 ≡ x / 256 / 256 / 256 / 256 = omega arith in
+    let q5 : x / 256 ^ 5 ≡ x / 256 / 256 / 256 / 256 / 256 = omega arith in
+    let q6 : x / 256 ^ 6 ≡ x / 256 / 256 / 256 / 256 / 256 / 256 = omega arith in
+    let q7 : x / 256 ^ 7 % 256 ≡ x / 256 / 256 / 256 / 256 / 256 / 256 / 256 = omega arith in
+    let o7 = byte_out 1 (x / 256 / 256 / 256 / 256 / 256 / 256) in
+    let o6 = byte_out 2 (x / 256 / 256 / 256 / 256 / 256) in
+    let o5 = byte_out 3 (x / 256 / 256 / 256 / 256) in
+    let o4 = byte_out 4 (x / 256 / 256 / 256) in
+    let o3 = byte_out 5 (x / 256 / 256) in
+    let o2 = byte_out 6 (x / 256) in
+    let o1 = byte_out 7 x in
+    cc
+
+-- what is known of eight bytes: each is one, and their number is as the code reads it
+record Eight (bs : List ℕ) : Type 0 where
+  small : AllByRecursion (λ b. b < 256) bs
+  number : from_le_bytes w64 bs ≡ lowest_first bs
+  below : lowest_first bs < 2 ^ 64
+
+eight_of : (bs : List ℕ) → length bs ≡ 8 → ((i : ℕ) → get_or bs i 0 < 256) → Eight bs
+eight_of (b0 ∷ b1 ∷ b2 ∷ b3 ∷ b4 ∷ b5 ∷ b6 ∷ b7 ∷ []) e small =
+    let s0 = small 0 in
+    let s1 = small 1 in
+    let s2 = small 2 in
+    let s3 = small 3 in
+    let s4 = small 4 in
+    let s5 = small 5 in
+    let s6 = small 6 in
+    let s7 = small 7 in
+    record {
+      small = (s0, (s1, (s2, (s3, (s4, (s5, (s6, (s7, tt))))))));
+      number = omega arith;
+      below = omega arith;
+    }
+eight_of _ e small = absurd (omega arith)
+
+-- eight looks take eight bytes in
+pub eight_in : (r : ℕ) (bs : List ℕ) (x : ℕ) → r < 2 ^ 64 → length bs ≡ 8 → ((i : ℕ) → get_or bs i 0 < 256) → x ≡ bit_xor r (from_le_bytes w64 bs)
+    → bit_xor (bit_xor (bit_xor (bit_xor (bit_xor (bit_xor (bit_xor (get_or TABLE_1 (x / 256 ^ 7 % 256) 0) (get_or TABLE_2 (x / 256 ^ 6 % 256) 0)) (get_or TABLE_3 (x / 256 ^ 5 % 256) 0)) (get_or TABLE_4 (x / 256 ^ 4 % 256) 0)) (get_or TABLE_5 (x / 256 ^ 3 % 256) 0)) (get_or TABLE_6 (x / 256 ^ 2 % 256) 0)) (get_or TABLE_7 (x / 256 ^ 1 % 256) 0)) (get_or TABLE_8 (x % 256) 0) ≡ after_bits r (flat_map bits_of bs)
+eight_in r bs x fits e small is =
+    let eight = eight_of bs e small in
+    let below : x < 2 ^ 64 = rw is (rw eight.number (xor_lt 64 r (lowest_first bs) fits eight.below)) in
+    let t1 = tells_1 (x / 256 ^ 7 % 256) (omega arith) in
+    let t2 = tells_2 (x / 256 ^ 6 % 256) (omega arith) in
+    let t3 = tells_3 (x / 256 ^ 5 % 256) (omega arith) in
+    let t4 = tells_4 (x / 256 ^ 4 % 256) (omega arith) in
+    let t5 = tells_5 (x / 256 ^ 3 % 256) (omega arith) in
+    let t6 = tells_6 (x / 256 ^ 2 % 256) (omega arith) in
+    let t7 = tells_7 (x / 256 ^ 1 % 256) (omega arith) in
+    let t8 = tells_8 (x % 256) (omega arith) in
+    rw (t1, t2, t3, t4, t5, t6, t7, t8)
+    (eight_looks x below ∙ ap (on_by 8) (is ∙ ap (bit_xor r) eight.number) ∙ ap (λ (n : ℕ). on_by n (bit_xor r (lowest_first bs))) (sym e) ∙ sym (bytes_in r bs eight.small))
+
+-- bytes that are taken in bring the rest on
+pub first_in : (r : ℕ) (bytes : List ℕ) (n : ℕ) (total : ℕ) → after_bits r (flat_map bits_of bytes) ≡ total
+    → after_bits (after_bits r (flat_map bits_of (take n bytes))) (flat_map bits_of (drop n bytes)) ≡ total
+first_in r bytes n total so_far =
+    sym (after_bits-append r (flat_map bits_of (take n bytes)) (flat_map bits_of (drop n bytes)))
+    ∙ ap (after_bits r) (sym (flat_map-append bits_of (take n bytes) (drop n bytes)) ∙ ap (flat_map bits_of) (take-append-drop n bytes))
+    ∙ so_far
 
 -- ---- the loop over bytes
 

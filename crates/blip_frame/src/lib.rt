@@ -6,6 +6,7 @@ pub mod frame;
 pub mod laws;
 pub mod payload;
 pub mod props;
+mod tables;
 pub mod varint;
 
 pub use crc::Crc;

@@ -2,7 +2,7 @@ use Rattle.std.proofs.Common.{refl}
 use Rattle.std.specs.List.{flat_map}
 use Rattle.blip_frame.specs.Checksum.{after_bits, bits_of}
 use Rattle.blip_frame.proofs.Register.{one_more, none_left}
-use Rattle.blip_frame.proofs.crc.register_after.Goals as goal
+use Rattle.blip_frame.proofs.crc.after_each.Goals as goal
 
 pub loop-byte-preserved : goal.loop-byte-preserved
 loop-byte-preserved c =

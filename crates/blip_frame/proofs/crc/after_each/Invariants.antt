@@ -1,7 +1,7 @@
 use Rattle.std.proofs.Common.{◌≡◌, drop}
 use Rattle.std.specs.List.{flat_map}
 use Rattle.blip_frame.specs.Checksum.{after_bits, bits_of}
-use Rattle.blip_frame.proofs.crc.register_after.Given as goal
+use Rattle.blip_frame.proofs.crc.after_each.Given as goal
 
 -- what is left of the bytes takes the register to its end
 abbrev pub invariant-loop-byte : goal.invariant-loop-byte
