@@ -1,21 +1,22 @@
 -- Property blocks read.
-use Rattle.std.proofs.Common.{◌≡◌, ℕ, suc, ◌+◌, ◌-◌, ◌<◌, Bool, true, false, ◌||◌, cond, eqb, List, [], ◌∷◌, ◌++◌, length, get_or, take, drop, refl, sym, ap, ◌∙◌, add-one, arith, inl, inr}
-use Rattle.std.specs.Prelude.{IsUtf8, All, count_by}
+use Rattle.std.proofs.Common.{◌≡◌, ℕ, zero, suc, ◌+◌, ◌-◌, ◌%◌, ◌<◌, ◌≤◌, Bool, true, false, ◌||◌, ◌&&◌, cond, eqb, List, [], ◌∷◌, ◌++◌, length, get_or, take, drop, refl, sym, ap, subst, ◌∙◌, add-one, arith, inl, inr, append_assoc, length-append, length-drop}
+use Rattle.std.specs.Prelude.{IsUtf8, All, count_by, Option, Some, None, unwrap_or}
 use Rattle.std.specs.List.{list_any, list_all, AllByRecursion}
 use Rattle.std.specs.Str.{bytes_eq, is_utf8}
 use Rattle.std.specs.String.{string_bytes}
-use Rattle.std.proofs.lemmas.Bool.{cases_Bool, or_cases, and_left}
+use Rattle.std.proofs.lemmas.Bool.{cases_Bool, or_cases, eqb-true}
 use Rattle.std.proofs.lemmas.Bool.Decides.{same_from_decides}
-use Rattle.std.proofs.lemmas.List.{take_more, map_push, map-append, take-append-drop}
+use Rattle.std.proofs.lemmas.List.{take-append-drop, map-append}
 use Rattle.std.proofs.lemmas.List.Folds.{list_any-append}
 use Rattle.std.proofs.lemmas.List.Elements.{All-from_recursion}
 use Rattle.std.proofs.lemmas.List.Recursion.{is_count_by}
 use Rattle.std.proofs.lemmas.Slice.Eq.{bytes_eq-Decides}
-use Rattle.std.proofs.lemmas.Str.{IsUtf8-from_is_utf8, IsUtf8-string_bytes}
-use Rattle.std.proofs.Math.Seq.{drop-cons}
+use Rattle.std.proofs.lemmas.Str.{IsUtf8-nil, IsUtf8-take, IsUtf8-drop, IsUtf8-append, IsUtf8-from_is_utf8, is_utf8-from_IsUtf8, IsUtf8-string_bytes, encode_ascii, IsCharBoundary-before_ascii, IsCharBoundary-after_ascii}
+use Rattle.std.proofs.Math.Seq.{drop-cons, drop-append-add}
+use Rattle.memchr.specs.Find.{IsFirstByte, is_byte}
 use Rattle.blip_frame.specs.declared.props.Prop.{Prop}
 use Rattle.blip_frame.specs.Props.{Pair, pair_of, pairs_of, keys_of, stands_twice, AreUtf8}
-use Rattle.blip_frame.specs.Payload.{is_closed, begun, texts_of, text_len}
+use Rattle.blip_frame.specs.Payload.{is_closed, begun, texts_of, paired, text_len}
 
 -- ---- the end of a block
 
@@ -46,6 +47,7 @@ length-texts_of = is_count_by (λ bs. length (texts_of bs)) (λ b. eqb b 0) refl
 -- what the first text of a block is, and what follows its NUL
 pub record First (bs : List ℕ) : Type 0 where
   pub within : text_len bs < length bs
+  pub nul : get_or bs (text_len bs) 0 ≡ 0
   pub texts : texts_of bs ≡ take (text_len bs) bs ∷ texts_of (drop (text_len bs + 1) bs)
   pub rest : is_closed (drop (text_len bs + 1) bs) ≡ true
 
@@ -56,6 +58,7 @@ after_nul b (c ∷ bs) is h = h
 at_nul : (b : ℕ) (bs : List ℕ) → eqb b 0 ≡ true → is_closed bs ≡ true → First (b ∷ bs)
 at_nul b bs is h = record {
   within = rw is (omega arith);
+  nul = rw is (eqb-true b 0 is);
   texts = rw is refl;
   rest = rw is h;
 }
@@ -66,6 +69,7 @@ past_byte b bs off f =
     let m : text_len (b ∷ bs) + 1 ≡ suc (text_len bs + 1) = omega (arith, n) in
     record {
       within = omega (arith, n, f.within);
+      nul = ap (λ (i : ℕ). get_or (b ∷ bs) i 0) n ∙ f.nul;
       texts =
           rw off refl
           ∙ ap (begun b) f.texts
@@ -83,13 +87,92 @@ first_text_of (b ∷ c ∷ bs) h lt =
       | inr off ↦ past_byte b (c ∷ bs) off (first_text_of (c ∷ bs) h (omega arith))
     ]
 
-not_utf8 : (b : Bool) (text : List ℕ) → is_utf8 text ≡ b → ¬ (IsUtf8 text) → b ≡ false
-not_utf8 true text e off = absurd (off (IsUtf8-from_is_utf8 text e))
-not_utf8 false text e off = refl
+and_true : (x y : Bool) → (x && y) ≡ true → y ≡ true
+and_true true y h = h
+and_true false y h = absurd cc
 
--- a text that is not UTF-8 is one among all
-pub first_not_text : (text : List ℕ) (texts : List (List ℕ)) → ¬ (IsUtf8 text) → list_all is_utf8 (text ∷ texts) ≡ false
-first_not_text text texts off = and_left (is_utf8 text) (list_all is_utf8 texts) (not_utf8 (is_utf8 text) text refl off)
+not_true : (b : Bool) → ¬ (b ≡ true) → b ≡ false
+not_true true off = absurd (off refl)
+not_true false off = refl
+
+-- ---- the place of the first NUL
+
+pub len_nowhere : (bs : List ℕ) → ((i : ℕ) → i < length bs → ¬ (eqb (get_or bs i 0) 0 ≡ true)) → text_len bs ≡ length bs
+len_nowhere [] off = refl
+len_nowhere (b ∷ bs) off =
+    let here : eqb b 0 ≡ false = not_true (eqb b 0) (off 0 (omega arith)) in
+    rw here (ap (λ (n : ℕ). n + 1) (len_nowhere bs (λ i lt. off (suc i) (omega arith))) ∙ omega arith)
+
+pub len_at : (bs : List ℕ) (k : ℕ) → k < length bs → eqb (get_or bs k 0) 0 ≡ true → ((i : ℕ) → i < k → ¬ (eqb (get_or bs i 0) 0 ≡ true)) → text_len bs ≡ k
+len_at [] k lt is off = absurd (omega arith)
+len_at (b ∷ bs) zero lt is off = rw is refl
+len_at (b ∷ bs) (suc k) lt is off =
+    let here : eqb b 0 ≡ false = not_true (eqb b 0) (off 0 (omega arith)) in
+    rw here (ap (λ (n : ℕ). n + 1) (len_at bs k (omega arith) is (λ i below. off (suc i) (omega arith))) ∙ omega arith)
+
+pub len_found : (bs : List ℕ) (r : Option ℕ) (n : ℕ) → IsFirstByte (is_byte 0) bs r → n ≡ unwrap_or r (length bs) → n ≡ text_len bs
+len_found bs None n first e = e ∙ sym (len_nowhere bs (λ i lt. first i (omega arith) lt))
+len_found bs (Some k) n first e = e ∙ sym (len_at bs k first.0.high first.1 (λ i lt. first.0.before i (omega arith) lt))
+
+-- ---- UTF-8
+
+and_both : (x y z : Bool) → (x ≡ true → (y ≡ true) × (z ≡ true)) → (y ≡ true → z ≡ true → x ≡ true) → (y && z) ≡ x
+and_both true y z there back = let p = there refl in rw (p.0, p.1) refl
+and_both false true true there back = sym (back refl refl)
+and_both false true false there back = refl
+and_both false false z there back = refl
+
+one_nul : IsUtf8 (0 ∷ [])
+one_nul = (0 ∷ [], (refl, ap (λ (bs : List ℕ). bs ++ []) (encode_ascii 0 (omega arith))))
+
+-- a text is UTF-8 where what stands before and after a NUL of it is
+utf8_around : (bs : List ℕ) (k : ℕ) → k < length bs → get_or bs k 0 ≡ 0 → (is_utf8 (take k bs) && is_utf8 (drop (k + 1) bs)) ≡ is_utf8 bs
+utf8_around bs k lt nul =
+    let low : get_or bs k 0 < 128 = omega arith in
+    let parts : bs ≡ take k bs ++ (0 ∷ []) ++ drop (k + 1) bs = sym (take-append-drop k bs) ∙ ap (λ (rest : List ℕ). take k bs ++ rest) (rw add-one (drop-cons bs k 0 lt ∙ ap (λ (b : ℕ). b ∷ drop (suc k) bs) nul)) ∙ sym (append_assoc (take k bs) (0 ∷ []) (drop (k + 1) bs)) in
+    and_both (is_utf8 bs) (is_utf8 (take k bs)) (is_utf8 (drop (k + 1) bs))
+    (λ e.
+    let u = IsUtf8-from_is_utf8 bs e in (
+      is_utf8-from_IsUtf8 (take k bs) (IsUtf8-take bs k u (IsCharBoundary-before_ascii bs k lt low)),
+      is_utf8-from_IsUtf8 (drop (k + 1) bs) (IsUtf8-drop bs (k + 1) u (IsCharBoundary-after_ascii bs k u lt low)),
+    ))
+    (λ front back.
+    is_utf8-from_IsUtf8 bs
+    (subst (λ (xs : List ℕ). IsUtf8 xs) (sym parts)
+    (IsUtf8-append (take k bs ++ (0 ∷ [])) (drop (k + 1) bs)
+    (IsUtf8-append (take k bs) (0 ∷ []) (IsUtf8-from_is_utf8 (take k bs) front) one_nul)
+    (IsUtf8-from_is_utf8 (drop (k + 1) bs) back))))
+
+texts_within : (n : ℕ) (bs : List ℕ) → length bs < n → is_closed bs ≡ true → list_all is_utf8 (texts_of bs) ≡ is_utf8 bs
+texts_within zero bs lt h = absurd (omega arith)
+texts_within (suc n) [] lt h = sym (is_utf8-from_IsUtf8 [] IsUtf8-nil)
+texts_within (suc n) (b ∷ bs) lt h =
+    let whole = b ∷ bs in
+    let f = first_text_of whole h (omega arith) in
+    let k = text_len whole in
+    ap (list_all is_utf8) f.texts
+    ∙ ap (λ (r : Bool). is_utf8 (take k whole) && r) (texts_within n (drop (k + 1) whole) (omega (arith, length-drop (k + 1) whole)) f.rest)
+    ∙ utf8_around whole k f.within f.nul
+
+-- the texts of a block are UTF-8 where it is
+pub texts_utf8 : (bs : List ℕ) → is_closed bs ≡ true → list_all is_utf8 (texts_of bs) ≡ is_utf8 bs
+texts_utf8 bs h = texts_within (length bs + 1) bs (omega arith) h
+
+pub not_utf8 : (text : List ℕ) → ¬ (IsUtf8 text) → is_utf8 text ≡ false
+not_utf8 text off = not_true (is_utf8 text) (λ e. off (IsUtf8-from_is_utf8 text e))
+
+-- ---- where the body stands
+
+-- what is left of the end of bytes is at their end
+pub after_both : (bytes front rest : List ℕ) (size : ℕ) (body : List ℕ) → bytes ≡ front ++ rest → body ≡ drop size rest → (before : List ℕ) × (bytes ≡ before ++ body)
+after_both bytes front rest size body e is =
+    (front ++ take size rest, e ∙ ap (λ (xs : List ℕ). front ++ xs) (sym (take-append-drop size rest)) ∙ sym (append_assoc front (take size rest) (drop size rest)) ∙ ap (λ (xs : List ℕ). (front ++ take size rest) ++ xs) (sym is))
+
+-- the end of bytes stands as many bytes before their end as it has
+pub dropped_front : (bytes front body : List ℕ) → bytes ≡ front ++ body → drop (length bytes - length body) bytes ≡ body
+dropped_front bytes front body e =
+    let place : length bytes - length body ≡ length front + 0 = omega (arith, simp length-append at (ap length e)) in
+    rw (place, e) (drop-append-add front body 0)
 
 -- ---- keys
 
@@ -128,21 +211,6 @@ is_twice key (k ∷ keys) rest h =
       | inr later ↦ rw (is_twice key keys rest later) (or_true (list_any (bytes_eq k) (keys ++ key ∷ rest)))
     ]
 
--- the keys up to a place and the key there
-pub keys_more : (props : List Prop) (i : ℕ) (d : Prop) → i < length props → keys_of (pairs_of (take (i + 1) props)) ≡ keys_of (pairs_of (take i props)) ++ string_bytes (get_or props i d).key ∷ []
-keys_more props i d lt =
-    ap (λ (ps : List Prop). keys_of (pairs_of ps)) (take_more props i d lt)
-    ∙ ap keys_of (map_push pair_of (take i props) (get_or props i d))
-    ∙ map_push (λ (p : Pair). p.0) (pairs_of (take i props)) (pair_of (get_or props i d))
-
--- all keys, with the one at a place
-pub keys_whole : (props : List Prop) (i : ℕ) (d : Prop) → i < length props → keys_of (pairs_of props) ≡ keys_of (pairs_of (take i props)) ++ string_bytes (get_or props i d).key ∷ keys_of (pairs_of (drop (i + 1) props))
-keys_whole props i d lt =
-    let parts : props ≡ take i props ++ get_or props i d ∷ drop (i + 1) props = sym (take-append-drop i props) ∙ ap (λ (ps : List Prop). take i props ++ ps) (rw add-one (drop-cons props i d lt)) in
-    ap (λ (ps : List Prop). keys_of (pairs_of ps)) parts
-    ∙ ap keys_of (map-append pair_of (take i props) (get_or props i d ∷ drop (i + 1) props))
-    ∙ map-append (λ (p : Pair). p.0) (pairs_of (take i props)) (pairs_of (get_or props i d ∷ drop (i + 1) props))
-
 pub member_more : (q key : List ℕ) (keys : List (List ℕ)) → list_any (bytes_eq q) (keys ++ key ∷ []) ≡ cond (bytes_eq key q) true (list_any (bytes_eq q) keys)
 member_more q key keys = list_any-append (bytes_eq q) keys (key ∷ []) ∙ by (list_any (bytes_eq q) keys) (bytes_eq q key) (bytes_eq key q) (bytes_eq_symm q key) where
   by : (a b c : Bool) → b ≡ c → (a || (b || false)) ≡ cond c true a
@@ -151,24 +219,35 @@ member_more q key keys = list_any-append (bytes_eq q) keys (key ∷ []) ∙ by (
   by true b false e = refl
   by false b false e = rw e refl
 
-module _ (props : List Prop) (i : ℕ) (item : Prop) (key : List ℕ) (lt : i < length props) (is : item ≡ get_or props i item) (key_is : key ≡ string_bytes item.key) where
-  key_at : string_bytes (get_or props i item).key ≡ key
-  key_at = ap (λ (p : Prop). string_bytes p.key) (sym is) ∙ sym key_is
+-- ---- two texts of a block
 
-  pub finds_twice : list_any (bytes_eq key) (keys_of (pairs_of (take i props))) ≡ true → true ≡ stands_twice (keys_of (pairs_of props))
-  finds_twice h =
-      let before = keys_of (pairs_of (take i props)) in
-      let after = keys_of (pairs_of (drop (i + 1) props)) in
-      sym (ap stands_twice (keys_whole props i item lt ∙ ap (λ (k : List ℕ). before ++ k ∷ after) key_at) ∙ is_twice key before after h)
+module _ (all after_key after : List (List ℕ)) (key value : List ℕ) (first : all ≡ key ∷ after_key) (second : after_key ≡ value ∷ after) where
+  two : all ≡ key ∷ value ∷ after
+  two = first ∙ ap (λ (texts : List (List ℕ)). key ∷ texts) second
 
-  more_keys : keys_of (pairs_of (take (i + 1) props)) ≡ keys_of (pairs_of (take i props)) ++ key ∷ []
-  more_keys = keys_more props i item lt ∙ ap (λ (k : List ℕ). keys_of (pairs_of (take i props)) ++ k ∷ []) key_at
+  pub still_even : length all % 2 ≡ 0 → length after % 2 ≡ 0
+  still_even even = omega (arith, ap length two)
 
-  pub still_once : list_any (bytes_eq key) (keys_of (pairs_of (take i props))) ≡ false → stands_twice (keys_of (pairs_of (take i props))) ≡ false → stands_twice (keys_of (pairs_of (take (i + 1) props))) ≡ false
-  still_once h g = ap stands_twice more_keys ∙ none_twice key (keys_of (pairs_of (take i props))) h g
+  pub still_texts : list_all is_utf8 all ≡ true → list_all is_utf8 after ≡ true
+  still_texts h = (and_true (is_utf8 value) (list_all is_utf8 after) (and_true (is_utf8 key) (is_utf8 value && list_all is_utf8 after) (sym (ap (list_all is_utf8) two) ∙ h)))
 
-  pub member_next : (q : List ℕ) → cond (bytes_eq key q) true (list_any (bytes_eq q) (keys_of (pairs_of (take i props)))) ≡ list_any (bytes_eq q) (keys_of (pairs_of (take (i + 1) props)))
-  member_next q = sym (ap (list_any (bytes_eq q)) more_keys ∙ member_more q key (keys_of (pairs_of (take i props))))
+  first_key : keys_of (paired all) ≡ key ∷ keys_of (paired after)
+  first_key = ap (λ (texts : List (List ℕ)). keys_of (paired texts)) two
+
+  pub more_pairs : (props : List Prop) (p : Prop) (whole : List Pair) → string_bytes p.key ≡ key → string_bytes p.value ≡ value → pairs_of props ++ paired all ≡ whole → pairs_of (props ++ p ∷ []) ++ paired after ≡ whole
+  more_pairs props p whole is_key is_value so_far =
+      ap (λ (ps : List Pair). ps ++ paired after) (map-append pair_of props (p ∷ []))
+      ∙ append_assoc (pairs_of props) (pair_of p ∷ []) (paired after)
+      ∙ ap (λ (k : List ℕ). pairs_of props ++ (k, string_bytes p.value) ∷ paired after) is_key
+      ∙ ap (λ (v : List ℕ). pairs_of props ++ (key, v) ∷ paired after) is_value
+      ∙ ap (λ (texts : List (List ℕ)). pairs_of props ++ paired texts) (sym two)
+      ∙ so_far
+
+  pub found_twice : (before whole : List (List ℕ)) → whole ≡ before ++ keys_of (paired all) → list_any (bytes_eq key) before ≡ true → true ≡ stands_twice whole
+  found_twice before whole e h = sym (ap stands_twice (e ∙ ap (λ (ks : List (List ℕ)). before ++ ks) first_key) ∙ is_twice key before (keys_of (paired after)) h)
+
+  pub more_keys : (before whole : List (List ℕ)) → whole ≡ before ++ keys_of (paired all) → whole ≡ (before ++ key ∷ []) ++ keys_of (paired after)
+  more_keys before whole e = e ∙ ap (λ (ks : List (List ℕ)). before ++ ks) first_key ∙ sym (append_assoc before (key ∷ []) (keys_of (paired after)))
 
 -- keys and values of properties are texts
 utf8_props : (props : List Prop) → AllByRecursion AreUtf8 (pairs_of props)

@@ -261,7 +261,7 @@ answer_short (Err fault) bytes e = (λ h. number_short bytes (e ∙ ap (λ (f : 
 -- ---- a turn of the writing loop
 
 pub writes_more : (k rest : ℕ) (out mid whole : List ℕ) → 128 ≤ rest → rest < 2 ^ (7 * (k + 1)) → mid ≡ out ++ (rest % 128 + 128) ∷ [] → out ++ varint_within k rest ≡ whole
-    → (j : ℕ) × (rest / 128 < 2 ^ (7 * (j + 1))) × (mid ++ varint_within j (rest / 128) ≡ whole)
+    → (j : ℕ) × (j + 1 ≡ k) × (rest / 128 < 2 ^ (7 * (j + 1))) × (mid ++ varint_within j (rest / 128) ≡ whole)
 unfolding varint_within
 writes_more zero rest out mid whole large below added so_far = absurd (omega arith)
 writes_more (suc k) rest out mid whole large below added so_far =
@@ -270,6 +270,7 @@ writes_more (suc k) rest out mid whole large below added so_far =
     let below' : rest < 2 ^ (7 * (k + 1 + 1)) = subst (λ (n : ℕ). rest < 2 ^ (7 * n)) same below in
     let is : varint_within (suc k) rest ≡ (rest % 128 + 128) ∷ varint_within k (rest / 128) = rw (le-ltb rest 128 large) refl in (
       k,
+      omega arith,
       omega (arith, scale, below'),
       ap (λ (x : List ℕ). x ++ varint_within k (rest / 128)) added
           ∙ append_assoc out ((rest % 128 + 128) ∷ []) (varint_within k (rest / 128))

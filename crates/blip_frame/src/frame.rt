@@ -6,7 +6,7 @@ ghost use Rattle.blip_frame.specs.Varint.{AddsSome};
 ghost use Rattle.blip_frame.specs.Frame.{FrameParts, parts_of, has_checksum, flags_of, largest_written, IsMarkedAsKind, IsFrameAfter, IsFrameFrom, WritesAfter, kind_number, sent_after, value_after, kind_at, is_set, content_at, checked_at, frame_at, spelling};
 
 use crate::crc::Crc;
-use crate::varint::{VarintFault, push_varint, read_varint};
+use crate::varint::{VarintFault, read_varint, write_varint};
 use sg_outside::{Bytes, Memory};
 
 /// What a frame carries: a request, a reply or an error reply, or an acknowledgement of one of these.
@@ -268,8 +268,8 @@ fn push_frame(kept: u32, frame: &Frame<'_>, out: &mut Bytes) -> Result<(), Memor
     ensures err { OnErr result (AddsSome out.old out.new) }
     ensures number { frame.now.number < 2 ^ 64 }
 {
-    push_varint(frame.number, out)?;
-    push_varint(flags_of(frame), out)?;
+    write_varint(frame.number, out)?;
+    write_varint(flags_of(frame), out)?;
     out.extend_from_slice(frame.payload)?;
     if frame.kind.has_checksum() {
         out.extend_from_slice(&kept.to_be_bytes())?;

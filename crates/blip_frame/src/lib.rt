@@ -11,9 +11,9 @@ pub mod varint;
 
 pub use crc::Crc;
 pub use frame::{Frame, FrameFault, Kind, read_frame, write_frame};
-pub use payload::{Payload, PayloadFault, read_payload, write_payload};
+pub use payload::{Payload, PayloadFault, read_payload, take_payload, write_payload};
 pub use props::{Prop, Props};
-pub use varint::{VarintFault, read_varint, write_varint};
+pub use varint::{Varint, VarintFault, read_varint, write_varint};
 
 #[cfg(test)]
 mod tests;

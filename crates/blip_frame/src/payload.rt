@@ -1,6 +1,6 @@
 //! Payloads of messages: the length of the property block, the block, and the body.
 
-ghost use Rattle.std.specs.Prelude.{◌≡◌, ◌≢◌, ◌<◌, ◌^◌, ◌++◌, ◌∷◌, ◌%◌, true, false, length, count_by, ◌==◌, List, ℕ, Ok, Err, MatchResult, IfOk, IfErr, OnOk, OnErr, IfSome, All};
+ghost use Rattle.std.specs.Prelude.{◌≡◌, ◌≢◌, ◌<◌, ◌^◌, ◌++◌, ◌∷◌, ◌%◌, ◌≤◌, true, false, length, drop, count_by, ◌==◌, List, ℕ, Ok, Err, MatchResult, IfOk, IfErr, OnOk, OnErr, IfSome, All};
 ghost use Rattle.std.specs.List.{list_all};
 ghost use Rattle.std.specs.Str.{is_utf8};
 ghost use Rattle.std.specs.String.{string_bytes};
@@ -8,10 +8,13 @@ ghost use Rattle.blip_frame.specs.Varint.{AddsSome};
 ghost use Rattle.blip_frame.specs.Props.{Pair, pairs_of, pair_of, keys_of, stands_twice};
 ghost use Rattle.blip_frame.specs.Payload.{HasNoNul, IsPayload, payload_at, block_at, is_closed, texts_of, paired, text_len, block_of, closed, closed_pair, payload_text};
 
-use crate::props::{Prop, Props, has_twice};
-use crate::varint::{VarintFault, push_varint, read_varint};
+use crate::props::{Prop, Props};
+use crate::varint::{VarintFault, read_varint, write_varint};
+use memchr::memchr;
 use sg_outside::{Bytes, Memory};
 use std::alloc::{AllocError, AllocFailed, Global};
+use std::collections::BTreeSet;
+use std::mem;
 
 /// A message's properties and body.
 #[derive(Drop)]
@@ -89,9 +92,42 @@ pub fn read_payload(alloc: Global, bytes: &[u8]) -> Result<Payload, PayloadFault
     payload_of(alloc, bytes)
 }
 
-#[tactic(auto, unfolding(crate::specs::Payload::payload_at))]
 fn payload_of(alloc: Global, bytes: &[u8]) -> Result<Payload, PayloadFault>
     ensures ok { IfOk result (λ p. payload_at bytes.now ≡ Ok (p.props, p.body)) }
+    ensures err { IfErr result (λ fault. fault ≢ PayloadFault.Memory → payload_at bytes.now ≡ Err fault) }
+{
+    let (props, body) = props_and_body(alloc, bytes)?;
+    let body = Bytes::from_slice(alloc, body)?;
+    Ok(Payload { props, body })
+}
+
+/// The same of a buffer, which then is the body's, and which stays as it was at a fault.
+pub fn take_payload(alloc: Global, bytes: &mut Bytes) -> Result<Payload, PayloadFault>
+    ensures ok { IfOk result (λ p. payload_at bytes.old ≡ Ok (p.props, p.body)) }
+    ensures err { IfErr result (λ fault. fault ≢ PayloadFault.Memory → payload_at bytes.old ≡ Err fault) }
+    ensures unchanged { OnErr result (bytes.new ≡ bytes.old) }
+{
+    let (props, body) = props_and_body(alloc, bytes.as_slice())?;
+    let start = bytes.len() - body.len();
+    let whole = mem::replace(bytes, Bytes::new(alloc));
+    let body = without_front(whole, start);
+    Ok(Payload { props, body })
+}
+
+/// The bytes from a place on, in the same buffer.
+fn without_front(bytes: Bytes, start: usize) -> Bytes
+    requires { start ≤ length bytes }
+    ensures { result ≡ drop start bytes }
+{
+    let mut items = bytes.into_vec();
+    items.drain(..start);
+    Bytes::from_vec(items)
+}
+
+#[tactic(auto, unfolding(crate::specs::Payload::payload_at))]
+fn props_and_body(alloc: Global, bytes: &[u8]) -> Result<(Props, &[u8]), PayloadFault>
+    ensures ok { IfOk result (λ x. payload_at bytes.now ≡ Ok (x.0, x.1.now)) }
+    ensures last { IfOk result (λ x. (front : List ℕ) × (bytes.now ≡ front ++ x.1.now)) }
     ensures err { IfErr result (λ fault. fault ≢ PayloadFault.Memory → payload_at bytes.now ≡ Err fault) }
 {
     let (size, rest) = read_varint(bytes)?;
@@ -100,10 +136,10 @@ fn payload_of(alloc: Global, bytes: &[u8]) -> Result<Payload, PayloadFault>
     }
     let (block, body) = rest.split_at(size as usize);
     let props = props_of(alloc, block)?;
-    let body = Bytes::from_slice(alloc, body)?;
-    Ok(Payload { props, body })
+    Ok((props, body))
 }
 
+/// The properties of a block, which are made once nothing in it is at fault.
 #[tactic(auto, unfolding(crate::specs::Payload::block_at))]
 fn props_of(alloc: Global, block: &[u8]) -> Result<Props, PayloadFault>
     ensures ok { IfOk result (λ p. block_at block.now ≡ Ok p) }
@@ -112,13 +148,17 @@ fn props_of(alloc: Global, block: &[u8]) -> Result<Props, PayloadFault>
     if !is_closed(block) {
         return Err(PayloadFault::NotClosed);
     }
-    if count_texts(block) % 2 != 0 {
+    let texts = count_texts(block);
+    if texts % 2 != 0 {
         return Err(PayloadFault::Odd);
     }
-    let props = pairs(alloc, block)?;
-    if has_twice(alloc, props.as_slice())? {
+    if !are_texts(block) {
+        return Err(PayloadFault::NotText);
+    }
+    if has_twice(alloc, block)? {
         return Err(PayloadFault::Twice);
     }
+    let props = pairs(alloc, block, texts / 2)?;
     Ok(Props::from_vec(props))
 }
 
@@ -143,40 +183,78 @@ fn count_nuls(block: &[u8]) -> usize
     block.iter().filter(|b| **b == 0).count()
 }
 
-/// The keys and values of a block in turn.
-fn pairs(alloc: Global, block: &[u8]) -> Result<Vec<Prop>, PayloadFault>
+/// Whether the texts of a block are UTF-8: its NULs are, so that all of it is where they are.
+fn are_texts(block: &[u8]) -> bool
+    requires { is_closed block.now ≡ true }
+    ensures { result ≡ list_all is_utf8 (texts_of block.now) }
+{
+    match str::from_utf8(block) {
+        Ok(_) => true,
+        Err(_) => false,
+    }
+}
+
+/// Whether a key stands twice.
+fn has_twice(alloc: Global, block: &[u8]) -> Result<bool, AllocError>
     requires closed { is_closed block.now ≡ true }
     requires even { length (texts_of block.now) % 2 ≡ 0 }
-    ensures ok { IfOk result (λ v. (list_all is_utf8 (texts_of block.now) ≡ true) × (pairs_of v.items ≡ paired (texts_of block.now))) }
-    ensures err { IfErr result (λ fault. fault ≢ PayloadFault.Memory
-        → (fault ≡ PayloadFault.NotText) × (list_all is_utf8 (texts_of block.now) ≡ false)) }
+    ensures { IfOk result (λ twice. twice ≡ stands_twice (keys_of (paired (texts_of block.now)))) }
 {
-    let mut props = Vec::new(alloc);
+    let mut seen: BTreeSet<&[u8]> = BTreeSet::new(alloc);
     let mut rest = block;
     while !rest.is_empty() {
-        let (key, after_key) = first_text(alloc, rest)?;
-        let (value, after) = first_text(alloc, after_key)?;
-        props.push(Prop { key, value })?;
+        let (key, after_key) = first_text(rest);
+        let (_, after) = first_text(after_key);
+        if !seen.insert(key)? {
+            return Ok(true);
+        }
+        rest = after;
+    }
+    Ok(false)
+}
+
+/// The keys and values of a block in turn, of which there are about so many.
+fn pairs(alloc: Global, block: &[u8], count: usize) -> Result<Vec<Prop>, AllocError>
+    requires closed { is_closed block.now ≡ true }
+    requires even { length (texts_of block.now) % 2 ≡ 0 }
+    requires texts { list_all is_utf8 (texts_of block.now) ≡ true }
+    ensures { IfOk result (λ v. pairs_of v.items ≡ paired (texts_of block.now)) }
+{
+    let mut props = Vec::with_capacity(alloc, count)?;
+    let mut rest = block;
+    while !rest.is_empty() {
+        let (key, after_key) = first_text(rest);
+        let (value, after) = first_text(after_key);
+        props.push(Prop {
+            key: text_of(alloc, key)?,
+            value: text_of(alloc, value)?,
+        })?;
         rest = after;
     }
     Ok(props)
 }
 
 /// The first text of a block, and what follows its NUL.
-fn first_text(alloc: Global, block: &[u8]) -> Result<(String, &[u8]), PayloadFault>
+fn first_text(block: &[u8]) -> (&[u8], &[u8])
     requires closed { is_closed block.now ≡ true }
     requires some { 0 < length block.now }
-    ensures ok { IfOk result (λ x. (texts_of block.now ≡ string_bytes x.0 ∷ texts_of x.1.now) × (is_utf8 (string_bytes x.0) ≡ true)
-        × (is_closed x.1.now ≡ true) × (length x.1.now < length block.now)) }
-    ensures err { IfErr result (λ fault. fault ≢ PayloadFault.Memory
-        → (fault ≡ PayloadFault.NotText) × (list_all is_utf8 (texts_of block.now) ≡ false)) }
+    ensures texts { texts_of block.now ≡ result.0.now ∷ texts_of result.1.now }
+    ensures rest { is_closed result.1.now ≡ true }
+    ensures shorter { length result.1.now < length block.now }
 {
     let len = text_len(block);
     let (text, _) = block.split_at(len);
     let (_, rest) = block.split_at(len + 1);
+    (text, rest)
+}
+
+fn text_of(alloc: Global, text: &[u8]) -> Result<String, AllocError>
+    requires { is_utf8 text.now ≡ true }
+    ensures { IfOk result (λ s. string_bytes s ≡ text.now) }
+{
     match str::from_utf8(text) {
-        Ok(text) => Ok((String::from_str(alloc, text)?, rest)),
-        Err(_) => Err(PayloadFault::NotText),
+        Ok(text) => String::from_str(alloc, text),
+        Err(_) => unreachable!(),
     }
 }
 
@@ -184,12 +262,7 @@ fn first_text(alloc: Global, block: &[u8]) -> Result<(String, &[u8]), PayloadFau
 fn text_len(block: &[u8]) -> usize
     ensures { result ≡ text_len block.now }
 {
-    for (i, b) in block.iter().enumerate() {
-        if *b == 0 {
-            return i;
-        }
-    }
-    block.len()
+    memchr(0, block).unwrap_or(block.len())
 }
 
 /// Puts a payload at the end of `out`: the length of the property block, the block, and the body. At
@@ -220,7 +293,7 @@ fn push_payload(props: &[Prop], body: &[u8], out: &mut Bytes) -> Result<(), Memo
     let Some(len) = block_len(props) else {
         return Err(AllocError);
     };
-    push_varint(len, out)?;
+    write_varint(len, out)?;
     push_block(props, out)?;
     out.extend_from_slice(body)
 }

@@ -1,11 +1,10 @@
 //! Properties of a message: keys and values, in order.
 
-ghost use Rattle.std.specs.Prelude.{◌≡◌, [], ◌↔◌, IsTrue, IfOk, length, All};
+ghost use Rattle.std.specs.Prelude.{◌≡◌, [], ◌↔◌, IsTrue, length, All};
 ghost use Rattle.std.specs.Option.{option_copied};
-ghost use Rattle.blip_frame.specs.Props.{pairs_of, value_at, keys_of, stands_twice, AreUtf8};
+ghost use Rattle.blip_frame.specs.Props.{pairs_of, value_at, AreUtf8};
 
-use std::alloc::{AllocError, Global};
-use std::collections::BTreeSet;
+use std::alloc::Global;
 use std::marker::Model;
 
 /// One property.
@@ -91,17 +90,4 @@ fn value_of<'a>(props: &'a [Prop], key: &str) -> Option<&'a str>
         }
     }
     None
-}
-
-/// Whether a key stands twice.
-pub(crate) fn has_twice(alloc: Global, props: &[Prop]) -> Result<bool, AllocError>
-    ensures { IfOk result (λ twice. twice ≡ stands_twice (keys_of (pairs_of props.now))) }
-{
-    let mut seen: BTreeSet<&str> = BTreeSet::new(alloc);
-    for prop in props {
-        if !seen.insert(prop.key.as_str())? {
-            return Ok(true);
-        }
-    }
-    Ok(false)
 }

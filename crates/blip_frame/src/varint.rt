@@ -1,9 +1,10 @@
 //! Varints: numbers as bytes of seven bits each, the lowest first.
 
-ghost use Rattle.std.specs.Prelude.{◌≡◌, ◌++◌, ◌↔◌, List, ℕ, Ok, Err, MatchResult, IfOk, OnOk, OnErr, IsOkAnd};
-ghost use Rattle.blip_frame.specs.Varint.{number_at, IsRead, EndsInside, varint, AddsSome};
+ghost use Rattle.std.specs.Prelude.{◌≡◌, ◌++◌, ◌↔◌, ◌≤◌, length, List, ℕ, Ok, Err, MatchResult, IfOk, OnOk, OnErr, IsOkAnd};
+ghost use Rattle.blip_frame.specs.Varint.{number_at, IsRead, EndsInside, varint};
 
 use sg_outside::{Bytes, Memory};
+use std::marker::Model;
 
 /// Why no number is read.
 #[derive(Clone, Copy, Debug, PartialEq, Eq)]
@@ -46,30 +47,54 @@ fn number_of(bytes: &[u8]) -> Result<(u64, &[u8]), VarintFault>
     Err(VarintFault::Short)
 }
 
+/// The shortest varint of a number. Contracts see its bytes.
+#[derive(Drop)]
+pub struct Varint {
+    bytes: [u8; 10],
+    len: usize,
+}
+
+impl Model for Varint {
+    ghost use Rattle.std.specs.Prelude.{List, ℕ, ◌≤◌, take};
+
+    ghost Value = { List ℕ };
+
+    ghost view = { λ v. take v.len v.bytes };
+
+    ghost invariant = { λ v. v.len ≤ 10 };
+}
+
+impl Varint {
+    pub fn new(n: u64) -> Varint
+        ensures { result ≡ varint n }
+    {
+        let mut bytes = [0; 10];
+        let mut len = 0;
+        let mut rest = n;
+        while rest >= 128 {
+            bytes[len] = (rest % 128) as u8 + 128;
+            len += 1;
+            rest /= 128;
+        }
+        bytes[len] = rest as u8;
+        Varint {
+            bytes,
+            len: len + 1,
+        }
+    }
+
+    pub fn as_slice(&self) -> &[u8]
+        ensures value { result.now ≡ self.now }
+        ensures few { length result.now ≤ 10 }
+    {
+        &self.bytes[..self.len]
+    }
+}
+
 /// Puts the shortest varint of a number at the end.
 pub fn write_varint(n: u64, out: &mut Bytes) -> Result<(), Memory>
     ensures ok { OnOk result (out.new ≡ out.old ++ varint n) }
     ensures err { OnErr result (out.new ≡ out.old) }
 {
-    let start = out.len();
-    match push_varint(n, out) {
-        Ok(()) => Ok(()),
-        Err(refused) => {
-            out.truncate(start);
-            Err(refused)
-        }
-    }
-}
-
-/// The same, which at want of memory may leave some bytes there.
-pub(crate) fn push_varint(n: u64, out: &mut Bytes) -> Result<(), Memory>
-    ensures ok { OnOk result (out.new ≡ out.old ++ varint n) }
-    ensures err { OnErr result (AddsSome out.old out.new) }
-{
-    let mut rest = n;
-    while rest >= 128 {
-        out.push((rest % 128) as u8 + 128)?;
-        rest /= 128;
-    }
-    out.push(rest as u8)
+    out.extend_from_slice(Varint::new(n).as_slice())
 }

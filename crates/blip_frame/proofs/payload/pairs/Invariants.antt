@@ -10,7 +10,7 @@ abbrev pub invariant-loop-rest : goal.invariant-loop-rest
 invariant-loop-rest l = record {
   closed : is_closed l.rest ≡ true;
   even : length (texts_of l.rest) % 2 ≡ 0;
-  texts : list_all is_utf8 (texts_of l.rest) ≡ list_all is_utf8 (texts_of l.block);
+  texts : list_all is_utf8 (texts_of l.rest) ≡ true;
   so_far : pairs_of l.props.items ++ paired (texts_of l.rest) ≡ paired (texts_of l.block);
 }
 
