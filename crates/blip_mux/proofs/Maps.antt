@@ -1,6 +1,6 @@
 -- The finite map of a tree's entries, as keys come and go.
 use Rattle.std.proofs.Common.{◌≡◌, ℕ, Bool, true, false, cond, List, [], ◌∷◌, Some, None, refl, sym, ap, ◌∙◌}
-use Rattle.std.specs.Prelude.{Option}
+use Rattle.std.specs.Prelude.{Option, Result, Ok, Err, OnOk, OnErr}
 use Rattle.std.specs.Map.{lookup}
 use Rattle.std.specs.BTreeMap.{is_at}
 use Rattle.std.specs.Ordering.{nat_cmp, eq_by_cmp}
@@ -60,3 +60,32 @@ module _ {X : Type 0} where
       → ((q : ℕ) → lookup (is_at (nat_cmp q)) new ≡ cond (eq_by_cmp nat_cmp k q) (Some v) (lookup (is_at (nat_cmp q)) old))
       → map.from_entries new ≡ m
   written_again old new m k v e there each = written old new m k v e each ∙ put_again m k v there
+
+  -- what was put at a key is removed as what stood there
+  pub remove_put : (m : map.FinMap nat_cmp X) (k : ℕ) (v : X) → map.remove (map.insert m k v) k ≡ map.remove m k
+  remove_put m k v = map.same_map nat_cmp_total map.nat_cmp-IsAntisymmetric _ _ (λ q.
+      map.get-remove nat_cmp_total (map.insert m k v) k q
+      ∙ none_both (eq_by_cmp nat_cmp q k) (map.get (map.insert m k v) q) (map.get m q) (λ off. map.get-insert nat_cmp_total m k v q ∙ ap (λ (b : Bool). cond b (Some v) (map.get m q)) off)
+      ∙ sym (map.get-remove nat_cmp_total m k q)) where
+    none_both : (b : Bool) (x y : Option X) → (b ≡ false → x ≡ y) → cond b None x ≡ cond b None y
+    none_both true x y e = refl
+    none_both false x y e = e refl
+
+  pub put_removed : (old new : List (ℕ × X)) (m : map.FinMap nat_cmp X) (k : ℕ) (v : X) → map.from_entries old ≡ m
+      → ((q : ℕ) → lookup (is_at (nat_cmp q)) new ≡ cond (eq_by_cmp nat_cmp k q) (Some v) (lookup (is_at (nat_cmp q)) old))
+      → map.remove (map.from_entries new) k ≡ map.remove m k
+  put_removed old new m k v e each = ap (λ (n : map.FinMap nat_cmp X). map.remove n k) (written old new m k v e each) ∙ remove_put m k v
+
+-- ---- what holds of an answer
+
+pub on_ok : {A E : Type 0} (r : Result A E) (P : Type 0) → P → OnOk r P
+on_ok (Ok x) P h = h
+on_ok (Err e) P h = tt
+
+pub on_err : {A E : Type 0} (r : Result A E) (P : Type 0) → P → OnErr r P
+on_err (Ok x) P h = tt
+on_err (Err e) P h = h
+
+pub err_too : {A E : Type 0} (r : Result A E) (P Q : Type 0) → OnErr r P → (P → Q) → OnErr r Q
+err_too (Ok x) P Q h f = tt
+err_too (Err e) P Q h f = f h

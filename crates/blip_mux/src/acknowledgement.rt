@@ -5,9 +5,8 @@ ghost use Rattle.blip_frame.specs.Checksum.{checksum};
 ghost use Rattle.blip_frame.specs.Frame.{has_checksum, value_after, spelling, sent_after, WritesAfter};
 ghost use Rattle.blip_mux.specs.Told.{told_by};
 
-use blip_frame::{Crc, Frame, Kind, write_frame, write_varint};
+use blip_frame::{Crc, Frame, Kind, Varint, write_frame};
 use sg_outside::{Bytes, Memory};
-use std::alloc::{AllocError, Global};
 use std::marker::Model;
 
 /// How many bytes of a message have come: of a request, or of a reply.
@@ -43,16 +42,14 @@ impl Acknowledgement {
     }
 
     /// Writes its frame. At want of memory checksum and `out` stay as they were.
-    #[tactic(auto, using(crate::proofs::Payloads::varint_fits))]
-    pub(crate) fn write(&self, alloc: Global, crc: &mut Crc, out: &mut Bytes) -> Result<(), Memory>
+    pub(crate) fn write(&self, crc: &mut Crc, out: &mut Bytes) -> Result<(), Memory>
         ensures ok { OnOk result (out.new ≡ out.old ++ spelling (value_after crc.old.value (told_by self.now)) (told_by self.now)) }
         ensures value { OnOk result (crc.new.value ≡ value_after crc.old.value (told_by self.now)) }
         ensures sent { (sent : List ℕ) → crc.old.value ≡ checksum sent
             → OnOk result (WritesAfter sent out.old out.new (told_by self.now) × (crc.new.value ≡ checksum (sent_after sent (told_by self.now)))) }
         ensures err { OnErr result ((out.new ≡ out.old) × (crc.new ≡ crc.old)) }
     {
-        let mut payload = Bytes::new(alloc);
-        write_varint(self.bytes, &mut payload)?;
+        let payload = Varint::new(self.bytes);
         let frame = Frame {
             number: self.number,
             kind: self.kind,

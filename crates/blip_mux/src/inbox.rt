@@ -86,7 +86,7 @@ impl Inbox {
 
     /// Takes a frame: one of a message that has begun, the first of the next request or of a reply
     /// that is expected, or an acknowledgement. At a fault the inbox stays as it was.
-    pub fn take(&mut self, alloc: Global, frame: &Frame<'_>) -> Result<Taken, TakeFault>
+    pub fn take(&mut self, frame: &Frame<'_>) -> Result<Taken, TakeFault>
         // The answer is that of the frame, and a fault is the first one, unless memory runs out.
         ensures taken { IfOk result (λ taken. answer_at self.old (parts_of frame.now) ≡ Ok taken) }
         ensures fault { IfErr result (λ fault. fault ≢ TakeFault.Memory → answer_at self.old (parts_of frame.now) ≡ Err fault) }
@@ -108,7 +108,7 @@ impl Inbox {
                 number: frame.number,
             });
         }
-        self.take_part(alloc, frame)
+        self.take_part(frame)
     }
 
     fn may_take(&self, frame: &Frame<'_>) -> bool
@@ -144,7 +144,7 @@ impl Inbox {
     }
 
     /// Takes a frame that may come.
-    fn take_part(&mut self, alloc: Global, frame: &Frame<'_>) -> Result<Taken, TakeFault>
+    fn take_part(&mut self, frame: &Frame<'_>) -> Result<Taken, TakeFault>
         requires { has_checksum frame.now.kind ≡ true }
         ensures taken { IfOk result (λ taken. given_by (begun_or (so_far_at self.old (parts_of frame.now)) (parts_of frame.now)) (parts_of frame.now) ≡ Ok taken) }
         ensures fault { IfErr result (λ fault. fault ≢ TakeFault.Memory
@@ -154,11 +154,11 @@ impl Inbox {
         ensures unchanged { OnErr result (self.new ≡ self.old) }
     {
         if frame.kind == Kind::Msg {
-            let taken = self.requests_begun.take(alloc, frame)?;
+            let taken = self.requests_begun.take(frame)?;
             self.requests = self.requests.max(frame.number);
             return Ok(taken);
         }
-        let taken = self.replies_begun.take(alloc, frame)?;
+        let taken = self.replies_begun.take(frame)?;
         if !frame.more {
             self.expected.remove(frame.number);
         }

@@ -157,7 +157,7 @@ impl Outbox {
         ensures err { OnErr result ((self.new ≡ self.old) × (crc.new ≡ crc.old) × (out.new ≡ out.old)) }
     {
         if let Some(first) = self.acknowledgements.front() {
-            first.write(self.alloc, crc, out)?;
+            first.write(crc, out)?;
             self.acknowledgements.pop_front();
             return Ok(Next::Frame);
         }

@@ -7,7 +7,7 @@ ghost use Rattle.blip_mux.specs.Joining.{begun_by, with_frame, part_by, message_
 
 use crate::inbox::{TakeFault, Taken};
 use crate::message::Message;
-use blip_frame::{Frame, Kind, Payload, PayloadFault, read_payload};
+use blip_frame::{Frame, Kind, Payload, PayloadFault, read_payload, take_payload};
 use sg_outside::{Bytes, Memory};
 use std::alloc::{AllocError, Global};
 use std::marker::Model;
@@ -78,7 +78,8 @@ impl Part {
         })
     }
 
-    /// The message whose last frame this is. The part stays as it was.
+    /// The message whose last frame this is, whose body then has the part's buffer. At a fault the part
+    /// stays as it was.
     pub(crate) fn message_with(
         &mut self,
         alloc: Global,
@@ -87,7 +88,7 @@ impl Part {
         ensures ok { IfOk result (λ message. message_by self.old (parts_of frame.now) ≡ Ok message) }
         ensures fault { IfErr result (λ fault. fault ≢ TakeFault.Memory → message_by self.old (parts_of frame.now) ≡ Err fault) }
         ensures memory { IfErr result (λ fault. fault ≢ TakeFault.Payload PayloadFault.Memory) }
-        ensures unchanged { self.new ≡ self.old }
+        ensures unchanged { OnErr result (self.new ≡ self.old) }
     {
         let payload = payload_with(alloc, &mut self.bytes, frame.payload)?;
         Ok(Message {
@@ -116,20 +117,25 @@ pub(crate) fn only_message(alloc: Global, frame: &Frame<'_>) -> Result<Message, 
     })
 }
 
-/// The payload that bytes are with these last ones. The bytes stay as they were.
+/// The payload that bytes are with these last ones, in the buffer of these bytes. They stay as they
+/// were at a fault.
 fn payload_with(alloc: Global, bytes: &mut Bytes, last: &[u8]) -> Result<Payload, TakeFault>
     ensures ok { IfOk result (λ p. payload_at (bytes.old ++ last.now) ≡ Ok (p.props, p.body)) }
     ensures fault { IfErr result (λ fault. fault ≢ TakeFault.Memory → with_fault (payload_at (bytes.old ++ last.now)) ≡ Err fault) }
     ensures memory { IfErr result (λ fault. fault ≢ TakeFault.Payload PayloadFault.Memory) }
-    ensures unchanged { bytes.new ≡ bytes.old }
+    ensures unchanged { OnErr result (bytes.new ≡ bytes.old) }
 {
     let before = bytes.len();
     if bytes.extend_from_slice(last).is_err() {
         return Err(TakeFault::Memory);
     }
-    let payload = payload_of(alloc, bytes.as_slice());
-    bytes.truncate(before);
-    payload
+    match take_payload(alloc, bytes) {
+        Ok(payload) => Ok(payload),
+        Err(fault) => {
+            bytes.truncate(before);
+            Err(fault_of(fault))
+        }
+    }
 }
 
 fn payload_of(alloc: Global, bytes: &[u8]) -> Result<Payload, TakeFault>

@@ -19,6 +19,7 @@ use std::marker::Model;
 /// What has come of messages that are not whole. Contracts see the map from their numbers.
 #[derive(Drop)]
 pub(crate) struct Parts {
+    alloc: Global,
     parts: BTreeMap<u64, Part>,
 }
 
@@ -39,6 +40,7 @@ impl Parts {
         ensures { result ≡ map.empty }
     {
         Parts {
+            alloc,
             parts: BTreeMap::new(alloc),
         }
     }
@@ -81,7 +83,7 @@ impl Parts {
     }
 
     /// Takes a frame that is not the last of its message.
-    fn take_more(&mut self, alloc: Global, frame: &Frame<'_>) -> Result<Taken, Memory>
+    fn take_more(&mut self, frame: &Frame<'_>) -> Result<Taken, Memory>
         ensures taken { IfOk result (λ taken. taken ≡ part_by (begun_or (map.get self.old frame.now.number) (parts_of frame.now)) (parts_of frame.now)) }
         ensures after { OnOk result (self.new ≡ map.insert self.old frame.now.number (with_frame (begun_or (map.get self.old frame.now.number) (parts_of frame.now)) (parts_of frame.now))) }
         ensures err { OnErr result (self.new ≡ self.old) }
@@ -89,28 +91,29 @@ impl Parts {
         if let Some(taken) = self.grow(frame)? {
             return Ok(taken);
         }
-        let mut part = Part::new(alloc, frame);
+        let mut part = Part::new(self.alloc, frame);
         let taken = part.take(frame)?;
         self.put(frame.number, part)?;
         Ok(taken)
     }
 
-    /// The message whose last frame this is.
-    fn message_with(&mut self, alloc: Global, frame: &Frame<'_>) -> Result<Message, TakeFault>
+    /// The message whose last frame this is. At a fault all stays as it was.
+    fn message_with(&mut self, frame: &Frame<'_>) -> Result<Message, TakeFault>
         ensures ok { IfOk result (λ message. message_by (begun_or (map.get self.old frame.now.number) (parts_of frame.now)) (parts_of frame.now) ≡ Ok message) }
         ensures fault { IfErr result (λ fault. fault ≢ TakeFault.Memory
             → message_by (begun_or (map.get self.old frame.now.number) (parts_of frame.now)) (parts_of frame.now) ≡ Err fault) }
         ensures memory { IfErr result (λ fault. fault ≢ TakeFault.Payload PayloadFault.Memory) }
-        ensures unchanged { self.new ≡ self.old }
+        ensures after { OnOk result (map.remove self.new frame.now.number ≡ map.remove self.old frame.now.number) }
+        ensures unchanged { OnErr result (self.new ≡ self.old) }
     {
         match self.parts.get_mut(&frame.number) {
-            Some(part) => part.message_with(alloc, frame),
-            None => only_message(alloc, frame),
+            Some(part) => part.message_with(self.alloc, frame),
+            None => only_message(self.alloc, frame),
         }
     }
 
     /// Takes a frame of a message that has begun, or the first of one.
-    pub(crate) fn take(&mut self, alloc: Global, frame: &Frame<'_>) -> Result<Taken, TakeFault>
+    pub(crate) fn take(&mut self, frame: &Frame<'_>) -> Result<Taken, TakeFault>
         ensures taken { IfOk result (λ taken. given_by (begun_or (map.get self.old frame.now.number) (parts_of frame.now)) (parts_of frame.now) ≡ Ok taken) }
         ensures fault { IfErr result (λ fault. fault ≢ TakeFault.Memory
             → given_by (begun_or (map.get self.old frame.now.number) (parts_of frame.now)) (parts_of frame.now) ≡ Err fault) }
@@ -119,12 +122,12 @@ impl Parts {
         ensures unchanged { OnErr result (self.new ≡ self.old) }
     {
         if frame.more {
-            return match self.take_more(alloc, frame) {
+            return match self.take_more(frame) {
                 Ok(taken) => Ok(taken),
                 Err(_) => Err(TakeFault::Memory),
             };
         }
-        let message = self.message_with(alloc, frame)?;
+        let message = self.message_with(frame)?;
         self.remove(frame.number);
         Ok(Taken::Whole(message))
     }

@@ -148,7 +148,7 @@ enum Gave {
 }
 
 fn answer(inbox: &mut Inbox, alloc: Global, frame: &Frame<'_>) -> Gave {
-    match inbox.take(alloc, frame) {
+    match inbox.take(frame) {
         Ok(Taken::Nothing) => Gave::Nothing,
         Ok(
             Taken::Ack {
