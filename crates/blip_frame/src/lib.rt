@@ -14,6 +14,3 @@ pub use frame::{Frame, FrameFault, Kind, read_frame, write_frame};
 pub use payload::{Payload, PayloadFault, read_payload, take_payload, write_payload};
 pub use props::{Prop, Props};
 pub use varint::{Varint, VarintFault, read_varint, write_varint};
-
-#[cfg(test)]
-mod tests;

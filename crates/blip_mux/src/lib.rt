@@ -15,6 +15,3 @@ mod waiting;
 pub use inbox::{Inbox, TakeFault, Taken};
 pub use message::Message;
 pub use outbox::{BadAck, Next, Outbox};
-
-#[cfg(test)]
-mod tests;

@@ -4,6 +4,10 @@
 #[cfg(test)]
 mod documents;
 #[cfg(test)]
+mod frames;
+#[cfg(test)]
+mod joining;
+#[cfg(test)]
 mod records;
 #[cfg(test)]
 mod texts;

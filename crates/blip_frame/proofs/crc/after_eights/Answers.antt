@@ -1,6 +1,3 @@
-use Rattle.std.proofs.Common.{ap, ◌∙◌, arith}
-use Rattle.std.specs.List.{flat_map}
-use Rattle.blip_frame.specs.Checksum.{after_bits, bits_of}
 use Rattle.blip_frame.proofs.Register.{first_in}
 use Rattle.blip_frame.proofs.crc.after_eights.Goals as goal
 

@@ -1,5 +1,5 @@
-use Rattle.std.proofs.Common.{ℕ, List, ap, ◌∙◌, ◌++◌}
-use Rattle.blip_frame.specs.Props.{Pair, pairs_of}
+use Rattle.std.proofs.Common.{List, ap, ◌∙◌, ◌++◌}
+use Rattle.blip_frame.specs.Props.{pairs_of}
 use Rattle.blip_frame.specs.Payload.{texts_of, paired}
 use Rattle.blip_frame.specs.declared.props.Prop.{Prop}
 use Rattle.blip_frame.proofs.Blocks.{still_even, still_texts, more_pairs}

@@ -1,6 +1,6 @@
 //! Examples from outside: checksums of zlib, frames of BLIP, and each fault once.
 
-use crate::{BadAck, Inbox, Next, Outbox, TakeFault, Taken};
+use blip_mux::{BadAck, Inbox, Next, Outbox, TakeFault, Taken};
 use blip_frame::{Crc, Frame, Kind, Payload, PayloadFault, Props, read_frame};
 use sg_outside::Bytes;
 use std::alloc::{AllocError, Global};
@@ -147,7 +147,7 @@ enum Gave {
     Refused(TakeFault),
 }
 
-fn answer(inbox: &mut Inbox, alloc: Global, frame: &Frame<'_>) -> Gave {
+fn answer(inbox: &mut Inbox, frame: &Frame<'_>) -> Gave {
     match inbox.take(frame) {
         Ok(Taken::Nothing) => Gave::Nothing,
         Ok(
@@ -178,7 +178,6 @@ fn answer(inbox: &mut Inbox, alloc: Global, frame: &Frame<'_>) -> Gave {
 /// A frame of request 1 to 4 or so: urgent where it is said to be, and with no reply else.
 fn take(
     inbox: &mut Inbox,
-    alloc: Global,
     number: u64,
     kind: Kind,
     urgent: bool,
@@ -193,7 +192,7 @@ fn take(
         more,
         payload,
     };
-    answer(inbox, alloc, &frame)
+    answer(inbox, &frame)
 }
 
 #[test]
@@ -225,14 +224,14 @@ fn frames_that_do_not_fit(rt: HostRuntime) -> Result<(), Fail> {
         (6, Kind::Err, false),
     ];
     for (i, (number, kind, more)) in out_of_order.iter().enumerate() {
-        let gave = take(&mut inbox, alloc, *number, *kind, false, *more, b"\x00");
+        let gave = take(&mut inbox, *number, *kind, false, *more, b"\x00");
         let refused = gave == Gave::Refused(TakeFault::OutOfOrder { number: *number });
         assert_eq!(rt; refused, i >= 3, "{number} {kind:?} {more}");
     }
     // What was refused left the inbox as it was; the reply has come whole once.
-    let reply = take(&mut inbox, alloc, 5, Kind::Err, true, false, b"c");
+    let reply = take(&mut inbox, 5, Kind::Err, true, false, b"c");
     assert_eq!(rt; reply, Gave::Whole(Kind::Err, 5, false, true, Some(b'c')));
-    let again = take(&mut inbox, alloc, 5, Kind::Err, true, false, b"\x00");
+    let again = take(&mut inbox, 5, Kind::Err, true, false, b"\x00");
     assert_eq!(rt; again, Gave::Refused(TakeFault::OutOfOrder { number: 5 }));
     Ok(())
 }
@@ -240,7 +239,7 @@ fn frames_that_do_not_fit(rt: HostRuntime) -> Result<(), Fail> {
 #[test]
 fn request_two_before_one(rt: HostRuntime) -> Result<(), Fail> {
     let mut inbox = Inbox::new(rt.alloc());
-    let gave = take(&mut inbox, rt.alloc(), 2, Kind::Msg, true, false, b"\x00");
+    let gave = take(&mut inbox, 2, Kind::Msg, true, false, b"\x00");
     assert_eq!(rt; gave, Gave::Refused(TakeFault::OutOfOrder { number: 2 }));
     Ok(())
 }
@@ -258,7 +257,7 @@ fn payloads_of_acknowledgements(rt: HostRuntime) -> Result<(), Fail> {
     ];
     let mut inbox = Inbox::new(rt.alloc());
     for (payload, want) in &table {
-        let gave = take(&mut inbox, rt.alloc(), 3, Kind::AckRpy, true, true, payload);
+        let gave = take(&mut inbox, 3, Kind::AckRpy, true, true, payload);
         assert_eq!(rt; gave, *want);
     }
     Ok(())
@@ -283,7 +282,6 @@ fn acknowledgements_owed(rt: HostRuntime) -> Result<(), Fail> {
     for (kind, want) in table {
         let gave = take(
             &mut inbox,
-            rt.alloc(),
             1,
             kind,
             true,
@@ -336,7 +334,6 @@ fn joined_whatever_comes_between(rt: HostRuntime) -> Result<(), Fail> {
     for (number, kind, urgent, more, payload, want) in &table {
         let gave = take(
             &mut inbox,
-            rt.alloc(),
             *number,
             *kind,
             *urgent,
@@ -355,7 +352,7 @@ fn carried(alloc: Global, outbox: &mut Outbox) -> Result<Vec<Gave>, Fail> {
     let mut given = Vec::new(alloc);
     for bytes in &frames(alloc, outbox)? {
         match read_frame(&mut crc, bytes.as_slice()) {
-            Ok(frame) => given.push(answer(&mut inbox, alloc, &frame))?,
+            Ok(frame) => given.push(answer(&mut inbox, &frame))?,
             Err(_) => return Err("no frame")?,
         }
     }

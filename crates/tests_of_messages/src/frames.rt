@@ -1,8 +1,8 @@
 //! Examples from outside: CRC-32 values of zlib, frames and payloads of BLIP, and each fault once.
 
-use crate::{
+use blip_frame::{
     Crc, Frame, FrameFault, Kind, Payload, PayloadFault, Prop, Props, VarintFault, read_frame,
-    read_payload, read_varint, write_frame, write_payload, write_varint,
+    read_payload, read_varint, take_payload, write_frame, write_payload, write_varint,
 };
 use sg_outside::Bytes;
 use std::alloc::{AllocError, Global};
@@ -255,9 +255,11 @@ fn payloads(rt: HostRuntime) -> Result<(), Fail> {
     assert_eq!(rt; read.props.as_slice().len(), 2);
     assert_eq!(rt; read.props.into_vec().len(), 2);
 
-    let none = read_payload(alloc, b"\x00body").ok().ok_or("fault")?;
-    assert!(rt; none.props.is_empty());
-    assert_eq!(rt; none.body.as_slice(), b"body".as_slice());
+    let mut buffer = Bytes::from_slice(alloc, b"\x04a\x00b\x00body")?;
+    let taken = take_payload(alloc, &mut buffer).ok().ok_or("fault")?;
+    assert_eq!(rt; taken.props.get("a"), Some("b"));
+    assert_eq!(rt; taken.body.as_slice(), b"body".as_slice());
+    assert!(rt; buffer.is_empty());
     assert!(rt; Props::new(alloc).is_empty());
     Ok(())
 }
