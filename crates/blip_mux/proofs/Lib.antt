@@ -12,3 +12,6 @@ pub mod Choices
 pub mod Trips
 pub mod Apart
 pub mod AckKinds
+pub mod Owing
+pub mod Limits
+pub mod Arrivals

@@ -2,9 +2,11 @@ pub mod Begun
 pub mod Remembered
 pub mod Joining
 pub mod Standing
+pub mod Owing
 pub mod Order
 pub mod Told
 pub mod Sending
 pub mod Cutting
 pub mod Between
 pub mod Apart
+pub mod Arriving

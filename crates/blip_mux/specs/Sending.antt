@@ -1,5 +1,5 @@
 -- What an outbox still has to send, and the next frame of it.
-use Rattle.std.specs.Prelude.{◌≡◌, ℕ, ◌+◌, ◌-◌, Bool, ◌&&◌, ◌||◌, false, List, [], ◌∷◌, ◌++◌, length, take, drop, max, find, Option, Some, None, option_map, nat_lt, nat_le, ◌==◌, if◌then◌else◌}
+use Rattle.std.specs.Prelude.{◌≡◌, ℕ, ◌+◌, ◌-◌, ◌≤◌, Bool, ◌&&◌, ◌||◌, false, List, [], ◌∷◌, ◌++◌, length, take, drop, max, find, Option, Some, None, option_map, nat_lt, nat_le, ◌==◌, if◌then◌else◌}
 use Rattle.std.specs.Option.{option_or, option_map_or}
 use Rattle.blip_frame.specs.Checksum.{checksum}
 use Rattle.blip_frame.specs.Frame.{FrameParts, largest_written, sent_after, spelling, value_after, WritesAfter}
@@ -68,6 +68,10 @@ may_send w = nat_le (w.sent - w.acknowledged) pause_above
 
 abbrev pub is_paused : Waiting → Bool
 is_paused w = nat_lt pause_above (w.sent - w.acknowledged)
+
+-- the most bytes of a message that are sent and not acknowledged, since one that may send sends a frame
+abbrev pub IsWithinLimit : Waiting → Type 0
+IsWithinLimit w = w.sent ≤ w.acknowledged + (pause_above + largest_written)
 
 -- the first message that passes, and the others in their order
 abbrev pub taken_out : (Waiting → Bool) → List Waiting → Option (Waiting × List Waiting)

@@ -1,21 +1,23 @@
 //! Laws of joining and cutting. Each function says one, and does nothing.
 
-ghost use Rattle.std.specs.Prelude.{◌≡◌, ◌≤◌, ◌++◌, ◌∷◌, true, false, [], take, None, List, ℕ, Ok};
-ghost use Rattle.std.specs.List.{list_any};
+ghost use Rattle.std.specs.Prelude.{◌≡◌, ◌≤◌, ◌++◌, ◌∷◌, true, false, [], length, take, nat_le, None, List, ℕ, Ok, IsOkAnd};
+ghost use Rattle.std.specs.List.{list_any, AllByRecursion};
 ghost use Rattle.blip_frame.specs.Frame.{FrameParts, has_checksum};
 ghost use Rattle.blip_frame.specs.declared.frame.Kind.{Kind};
 ghost use Rattle.blip_mux.specs.declared.message.Message.{Message};
 ghost use Rattle.blip_mux.specs.declared.inbox.Taken.{Taken};
 ghost use Rattle.blip_mux.specs.Remembered.{Standing};
 ghost use Rattle.blip_mux.specs.Standing.{new_standing, expecting, answer_at, taken_after, taken_from, StandsFor};
-ghost use Rattle.blip_mux.specs.Joining.{Event, came, expected, answer_in, joined, is_request, is_reply};
+ghost use Rattle.blip_mux.specs.Joining.{Event, came, expected, answer_in, joined, is_request, is_reply, acknowledge_after};
+ghost use Rattle.blip_mux.specs.Owing.{bytes_in, answer_after, owes, NoneOwed};
+ghost use Rattle.blip_mux.specs.Arriving.{Arrival, AreSentAfter, events_at};
 ghost use Rattle.blip_mux.specs.Order.{messages_in, times_in, times_expected, beginnings, CountsFrom};
 ghost use Rattle.blip_mux.specs.Apart.{HasCome, AreApart};
-ghost use Rattle.blip_mux.specs.Sending.{Waiting, Sending, new_sending, is_reply_to, heard_in, after_picked};
+ghost use Rattle.blip_mux.specs.Sending.{Waiting, Sending, new_sending, IsWithinLimit, is_reply_to, heard_in, after_picked};
 ghost use Rattle.blip_mux.specs.Cutting.{Deed, with_message, AreCut, AreFull, ArePicked, AreAllPicked, frames_after, are_acknowledgements, bytes_sent, bytes_left, times_waiting};
 ghost use Rattle.blip_mux.specs.Between.{Step, AreAllowed, sending_in, events_in, put_in, messages_of};
 
-use blip_frame::laws::{payloads, varints};
+use blip_frame::laws::{frames, payloads, running_checksum, varints};
 
 /// What a new inbox answers to events, one after another, is what joining all that came before says
 /// of each.
@@ -48,6 +50,24 @@ pub fn replies()
 pub fn acknowledgements()
     ensures heard { (s : Standing) (f : FrameParts) (kind : Kind) (number bytes : ℕ) → answer_at s f ≡ Ok (Taken.Ack kind number bytes) → has_checksum kind ≡ false }
     ensures owed { (s : Standing) (f : FrameParts) (kind : Kind) (number bytes : ℕ) → answer_at s f ≡ Ok (Taken.Owed kind number bytes) → has_checksum kind ≡ false }
+{}
+
+/// Of a message whose last acknowledgement was owed for one of its frames, the next is owed for the
+/// first frame with which 50,000 bytes of it came since. The first one is so from the beginning, and
+/// each tells all bytes so far.
+pub fn owing()
+    ensures first { (between : List FrameParts) (f : FrameParts) → NoneOwed [] between
+        → owes (answer_after between f) ≡ nat_le acknowledge_after (bytes_in (f ∷ between)) }
+    ensures next { (before between : List FrameParts) (last f : FrameParts) → owes (answer_after before last) ≡ true → NoneOwed (last ∷ before) between
+        → owes (answer_after (between ++ last ∷ before) f) ≡ nat_le acknowledge_after (bytes_in (f ∷ between)) }
+    ensures all { (before : List FrameParts) (f : FrameParts) (kind : Kind) (number bytes : ℕ) → answer_after before f ≡ Taken.Owed kind number bytes
+        → bytes ≡ bytes_in (f ∷ before) }
+{}
+
+/// Whatever is put, acknowledged and sent, of no message that waits more than 128,000 + 16,384 bytes
+/// are sent and not acknowledged.
+pub fn limit()
+    ensures { (steps : List Step) → AllByRecursion IsWithinLimit (sending_in new_sending steps).waiting }
 {}
 
 /// Where no frame is refused, requests begin in the order 1, 2, 3 and so on. A request comes whole at
@@ -90,4 +110,23 @@ pub fn round_trip()
 {
     payloads();
     varints();
+}
+
+/// The same over bytes: where each frame is written in its place, the bytes are read as these frames,
+/// and the messages that come are those that were put.
+pub fn bytes()
+    ensures read { (steps : List Step) (arrivals : List Arrival) → AreSentAfter [] arrivals (events_in new_sending steps)
+        → events_at 0 arrivals ≡ Ok (events_in new_sending steps) }
+    ensures accepted { (steps : List Step) (arrivals : List Arrival) → AreAllowed new_sending [] steps → AreSentAfter [] arrivals (events_in new_sending steps)
+        → IsOkAnd (events_at 0 arrivals) (λ events. (joined events).1 ≡ None) }
+    ensures requests { (number : ℕ) (steps : List Step) (arrivals : List Arrival) → AreAllowed new_sending [] steps → AreSentAfter [] arrivals (events_in new_sending steps)
+        → times_waiting is_request number (sending_in new_sending steps).waiting ≡ 0
+        → IsOkAnd (events_at 0 arrivals) (λ events. messages_of is_request number (messages_in (joined events).0) ≡ messages_of is_request number (put_in steps)) }
+    ensures replies { (number : ℕ) (steps : List Step) (arrivals : List Arrival) → AreAllowed new_sending [] steps → AreSentAfter [] arrivals (events_in new_sending steps)
+        → times_waiting is_reply number (sending_in new_sending steps).waiting ≡ 0
+        → IsOkAnd (events_at 0 arrivals) (λ events. messages_of is_reply number (messages_in (joined events).0) ≡ messages_of is_reply number (put_in steps)) }
+{
+    frames();
+    running_checksum();
+    round_trip();
 }
