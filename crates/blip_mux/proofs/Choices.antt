@@ -8,7 +8,7 @@ use Rattle.blip_frame.specs.Frame.{largest_written}
 use Rattle.blip_mux.specs.Joining.{is_request}
 use Rattle.blip_mux.specs.Sending.{Waiting, may_send, pause_above, has_more, without_piece, back, taken_out, chosen}
 use Rattle.blip_mux.specs.Order.{CountsFrom}
-use Rattle.blip_mux.proofs.Cuts.{Found, Split}
+use Rattle.blip_mux.proofs.Cuts.{Found, Split, behind}
 use Rattle.blip_mux.proofs.Pending.{Pending, waits, further, waits_further}
 
 pub map-append : (xs ys : List Pending) → map waits (xs ++ ys) ≡ map waits xs ++ map waits ys
@@ -29,9 +29,6 @@ pub record Out (passes : Waiting → Bool) (ps : List Pending) : Type 0 where
   pub taken : taken_out passes (map waits ps) ≡ Some (waits it, map waits (front ++ rear))
   pub passed : passes (waits it) ≡ true
   pub failed : AllFail passes front
-
-abbrev behind : Waiting → Found → Found
-behind x found = option_map (λ y. (y.0, x ∷ y.1)) found
 
 out_of : (passes : Waiting → Bool) (ps : List Pending) → (taken_out passes (map waits ps) ≡ None) ⊎ Out passes ps
 out_of passes [] = inl refl

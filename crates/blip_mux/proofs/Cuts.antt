@@ -13,6 +13,10 @@ use Rattle.blip_mux.proofs.Payloads.{varint_fits}
 abbrev pub Found : Type 0
 Found = Option (Waiting × List Waiting)
 
+-- a message before those that were left
+abbrev pub behind : Waiting → Found → Found
+behind x found = option_map (λ y. (y.0, x ∷ y.1)) found
+
 pub some_same : {X : Type 0} (x y : X) → Some x ≡ Some y → x ≡ y
 some_same x y e = ap (λ o. option_map_or (λ z. z) o x) e
 

@@ -1,6 +1,7 @@
 pub mod Sets
 pub mod Maps
 pub mod Joins
+pub mod Classes
 pub mod Orders
 pub mod Pieces
 pub mod Payloads

@@ -15,36 +15,10 @@ use Rattle.blip_mux.specs.declared.inbox.TakeFault.{TakeFault}
 use Rattle.blip_mux.specs.declared.inbox.TakeFault.TheVariants as faults
 use Rattle.blip_mux.specs.Begun.{Begun}
 use Rattle.blip_mux.specs.Joining.{Event, came, expected, is_request, is_reply, acknowledges, acknowledge_after, begun_or, brought_by, count_in, acknowledged, with_fault, read_as, part_by, whole, may_come, answer_to, frames_of, so_far_in, requests_in, is_awaited, Joined, followed_by, joined_after, joined}
+use Rattle.blip_mux.proofs.Classes.{same_kind, no_request, no_reply}
 use Rattle.blip_mux.specs.Order.{messages_in, times_in, times_expected, is_among, beginnings, CountsFrom}
 
 -- ---- what an answer tells
-
-pub same_kind : (a b : Kind) → eqb (kind_number a) (kind_number b) ≡ true → a ≡ b
-same_kind kinds.Msg kinds.Msg e = refl
-same_kind kinds.Msg kinds.Rpy e = absurd cc
-same_kind kinds.Msg kinds.Err e = absurd cc
-same_kind kinds.Msg kinds.AckMsg e = absurd cc
-same_kind kinds.Msg kinds.AckRpy e = absurd cc
-same_kind kinds.Rpy kinds.Msg e = absurd cc
-same_kind kinds.Rpy kinds.Rpy e = refl
-same_kind kinds.Rpy kinds.Err e = absurd cc
-same_kind kinds.Rpy kinds.AckMsg e = absurd cc
-same_kind kinds.Rpy kinds.AckRpy e = absurd cc
-same_kind kinds.Err kinds.Msg e = absurd cc
-same_kind kinds.Err kinds.Rpy e = absurd cc
-same_kind kinds.Err kinds.Err e = refl
-same_kind kinds.Err kinds.AckMsg e = absurd cc
-same_kind kinds.Err kinds.AckRpy e = absurd cc
-same_kind kinds.AckMsg kinds.Msg e = absurd cc
-same_kind kinds.AckMsg kinds.Rpy e = absurd cc
-same_kind kinds.AckMsg kinds.Err e = absurd cc
-same_kind kinds.AckMsg kinds.AckMsg e = refl
-same_kind kinds.AckMsg kinds.AckRpy e = absurd cc
-same_kind kinds.AckRpy kinds.Msg e = absurd cc
-same_kind kinds.AckRpy kinds.Rpy e = absurd cc
-same_kind kinds.AckRpy kinds.Err e = absurd cc
-same_kind kinds.AckRpy kinds.AckMsg e = absurd cc
-same_kind kinds.AckRpy kinds.AckRpy e = refl
 
 -- the kind of a message that a frame may come of
 kind_kept : (r : ℕ) (a : Bool) (o : Option Begun) (f : FrameParts) → may_come r a o f ≡ true → (begun_or o f).kind ≡ f.kind
@@ -187,21 +161,6 @@ sound_expected before n sound = record {
   requests = sound.requests;
   replies = λ q e. or_true (eqb q n) (is_awaited before q) (sound.replies q e);
 }
-
--- an acknowledgement is no frame of a message
-pub no_request : (k : Kind) → has_checksum k ≡ false → is_request k ≡ false
-no_request kinds.Msg e = absurd cc
-no_request kinds.Rpy e = refl
-no_request kinds.Err e = refl
-no_request kinds.AckMsg e = refl
-no_request kinds.AckRpy e = refl
-
-pub no_reply_kind : (k : Kind) → has_checksum k ≡ false → is_reply k ≡ false
-no_reply_kind kinds.Msg e = refl
-no_reply_kind kinds.Rpy e = absurd cc
-no_reply_kind kinds.Err e = absurd cc
-no_reply_kind kinds.AckMsg e = refl
-no_reply_kind kinds.AckRpy e = refl
 
 -- ---- a request comes whole once
 
@@ -349,7 +308,7 @@ sound_came before f sound may = sound_after before f sound (λ is. request_comes
 -- and with an acknowledgement
 pub sound_acknowledged : (before : List Event) (f : FrameParts) → IsSound before → has_checksum f.kind ≡ false → IsSound (came f ∷ before)
 sound_acknowledged before f sound none =
-    sound_after before f sound (λ is. false_true (is_request f.kind) _ (no_request f.kind none) is) (λ is. false_true (is_reply f.kind) _ (no_reply_kind f.kind none) is)
+    sound_after before f sound (λ is. false_true (is_request f.kind) _ (no_request f.kind none) is) (λ is. false_true (is_reply f.kind) _ (no_reply f.kind none) is)
 
 replies_from : (q : ℕ) (before events : List Event) → IsSound before → times_in is_reply q (messages_in (joined_after before events).0) ≤ times_expected q events + cond (is_awaited before q) 1 0
 replies_from q before [] sound = omega arith
@@ -359,7 +318,7 @@ replies_from q before (came f ∷ events) sound =
     let t = eqb q f.number in
     by_message (λ x. times_in is_reply q x ≤ times_expected q events + cond a 1 0) (requests_in before) (is_awaited before f.number) (so_far_in before f) f (joined_after (came f ∷ before) events)
     (λ _. omega arith)
-    (λ none. reply_ack f.kind t f.more a (times_in is_reply q ms) (times_expected q events) (no_reply_kind f.kind none) (replies_from q (came f ∷ before) events (sound_acknowledged before f sound none)))
+    (λ none. reply_ack f.kind t f.more a (times_in is_reply q ms) (times_expected q events) (no_reply f.kind none) (replies_from q (came f ∷ before) events (sound_acknowledged before f sound none)))
     (λ may more. reply_part f.kind t a (times_in is_reply q ms) (times_expected q events)
     (subst (λ (b : Bool). times_in is_reply q ms ≤ times_expected q events + cond (not (is_reply f.kind && not b && t) && a) 1 0) more (replies_from q (came f ∷ before) events (sound_came before f sound may))))
     (λ may more m number kind. counted is_reply q f.number f.kind m ms (times_expected q events + cond a 1 0) number kind

@@ -15,6 +15,7 @@ use Rattle.blip_mux.specs.declared.inbox.Taken.TheVariants as takens
 use Rattle.blip_mux.specs.declared.inbox.TakeFault.{TakeFault}
 use Rattle.blip_mux.specs.declared.inbox.TakeFault.TheVariants as faults
 use Rattle.blip_mux.specs.Begun.{Begun}
+use Rattle.blip_mux.proofs.Classes.{other_class}
 use Rattle.blip_mux.specs.Joining.{Event, came, expected, is_request, is_reply, begun_by, begun_or, with_frame, brought_by, with_fault, read_as, part_by, whole, message_by, given_by, may_come, answer_in, acknowledged, count_in, frames_of, requests_in, is_awaited}
 use Rattle.blip_frame.specs.Varint.{number_at}
 use Rattle.blip_mux.specs.Sending.{Waiting, has_more, first_piece, without_piece}
@@ -170,33 +171,21 @@ abbrev pub class_of : Bool → Kind → Bool
 class_of true k = is_request k
 class_of false k = is_reply k
 
+kept_in : (r r' t : Bool) (xs xs' ys ys' : List FrameParts) → (cond r r' (not r') && t) ≡ false → cond r' (cond (r && t) xs' xs) (cond (not r && t) ys' ys) ≡ cond r' xs ys
+kept_in true true t xs xs' ys ys' apart = ap (λ (b : Bool). cond b xs' xs) apart
+kept_in true false t xs xs' ys ys' apart = refl
+kept_in false true t xs xs' ys ys' apart = refl
+kept_in false false t xs xs' ys ys' apart = ap (λ (b : Bool). cond b ys' ys) apart
+
+class_by : (r : Bool) (k : Kind) → has_checksum k ≡ true → class_of r k ≡ cond r (is_request k) (not (is_request k))
+class_by true k message = refl
+class_by false k message = other_class k message
+
 kept_of_kind : (k k' : Kind) (t : Bool) (xs xs' ys ys' : List FrameParts) → has_checksum k ≡ true → has_checksum k' ≡ true → (class_of (is_request k) k' && t) ≡ false
     → cond (is_request k') (cond (is_request k && t) xs' xs) (cond (is_reply k && t) ys' ys) ≡ cond (is_request k') xs ys
-kept_of_kind kinds.Msg kinds.Msg t xs xs' ys ys' message message' apart = ap (λ (b : Bool). cond b xs' xs) apart
-kept_of_kind kinds.Msg kinds.Rpy t xs xs' ys ys' message message' apart = refl
-kept_of_kind kinds.Msg kinds.Err t xs xs' ys ys' message message' apart = refl
-kept_of_kind kinds.Msg kinds.AckMsg t xs xs' ys ys' message message' apart = absurd cc
-kept_of_kind kinds.Msg kinds.AckRpy t xs xs' ys ys' message message' apart = absurd cc
-kept_of_kind kinds.Rpy kinds.Msg t xs xs' ys ys' message message' apart = refl
-kept_of_kind kinds.Rpy kinds.Rpy t xs xs' ys ys' message message' apart = ap (λ (b : Bool). cond b ys' ys) apart
-kept_of_kind kinds.Rpy kinds.Err t xs xs' ys ys' message message' apart = ap (λ (b : Bool). cond b ys' ys) apart
-kept_of_kind kinds.Rpy kinds.AckMsg t xs xs' ys ys' message message' apart = absurd cc
-kept_of_kind kinds.Rpy kinds.AckRpy t xs xs' ys ys' message message' apart = absurd cc
-kept_of_kind kinds.Err kinds.Msg t xs xs' ys ys' message message' apart = refl
-kept_of_kind kinds.Err kinds.Rpy t xs xs' ys ys' message message' apart = ap (λ (b : Bool). cond b ys' ys) apart
-kept_of_kind kinds.Err kinds.Err t xs xs' ys ys' message message' apart = ap (λ (b : Bool). cond b ys' ys) apart
-kept_of_kind kinds.Err kinds.AckMsg t xs xs' ys ys' message message' apart = absurd cc
-kept_of_kind kinds.Err kinds.AckRpy t xs xs' ys ys' message message' apart = absurd cc
-kept_of_kind kinds.AckMsg kinds.Msg t xs xs' ys ys' message message' apart = absurd cc
-kept_of_kind kinds.AckMsg kinds.Rpy t xs xs' ys ys' message message' apart = absurd cc
-kept_of_kind kinds.AckMsg kinds.Err t xs xs' ys ys' message message' apart = absurd cc
-kept_of_kind kinds.AckMsg kinds.AckMsg t xs xs' ys ys' message message' apart = absurd cc
-kept_of_kind kinds.AckMsg kinds.AckRpy t xs xs' ys ys' message message' apart = absurd cc
-kept_of_kind kinds.AckRpy kinds.Msg t xs xs' ys ys' message message' apart = absurd cc
-kept_of_kind kinds.AckRpy kinds.Rpy t xs xs' ys ys' message message' apart = absurd cc
-kept_of_kind kinds.AckRpy kinds.Err t xs xs' ys ys' message message' apart = absurd cc
-kept_of_kind kinds.AckRpy kinds.AckMsg t xs xs' ys ys' message message' apart = absurd cc
-kept_of_kind kinds.AckRpy kinds.AckRpy t xs xs' ys ys' message message' apart = absurd cc
+kept_of_kind k k' t xs xs' ys ys' message message' apart =
+    ap (λ (b : Bool). cond (is_request k') (cond (is_request k && t) xs' xs) (cond (b && t) ys' ys)) (other_class k message)
+    ∙ kept_in (is_request k) (is_request k') t xs xs' ys ys' (sym (ap (λ (b : Bool). b && t) (class_by (is_request k) k' message')) ∙ apart)
 
 awaited_kept : (k k' : Kind) (t more a : Bool) → has_checksum k ≡ true → (class_of (is_request k) k' && t) ≡ false → is_reply k' ≡ true → a ≡ true → (not (is_reply k && not more && t) && a) ≡ true
 awaited_kept kinds.Msg k' t more a carried apart reply there = there

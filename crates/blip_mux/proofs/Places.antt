@@ -2,24 +2,16 @@
 use Rattle.std.proofs.Common.{◌≡◌, ℕ, zero, suc, ◌+◌, ◌-◌, ◌<◌, ◌≤◌, Bool, true, false, ◌&&◌, cond, ltb, get_or, List, [], ◌∷◌, ◌++◌, length, Some, None, refl, sym, ap, subst, ◌∙◌, arith}
 use Rattle.std.specs.Prelude.{not, Option, option_map, slice_get, slice_set, remove, position, IfSome}
 use Rattle.std.specs.Option.{option_or, option_map_or}
-use Rattle.std.specs.List.{position_or_len, list_all}
-use Rattle.std.proofs.lemmas.Bool.{ltb-true, ltb-false, lt-leb, leb-false, lt-ltb}
+use Rattle.std.specs.List.{position_or_len, list_all, count_by}
+use Rattle.std.proofs.lemmas.Bool.{ltb-true, ltb-false, lt-leb, leb-false, lt-ltb, le-ltb}
 use Rattle.std.proofs.lemmas.List.{append-nil}
 use Rattle.std.proofs.lemmas.List.Folds.{find_at}
+use Rattle.std.proofs.lemmas.List.Sums.{sum_by-cons}
 use Rattle.blip_frame.specs.Frame.{FrameParts}
 use Rattle.blip_frame.specs.declared.frame.Kind.{Kind}
 use Rattle.blip_mux.specs.declared.outbox.Next.TheVariants as nexts
+use Rattle.blip_mux.proofs.Cuts.{Found, behind, some_same}
 use Rattle.blip_mux.specs.Sending.{Sends, Waiting, may_send, is_paused, pause_above, taken_out, chosen, next_piece, after_piece, first_piece, without_piece, has_more, back, is_of, heard, heard_of, heard_in}
-
-some_same : {X : Type 0} (x y : X) → Some x ≡ Some y → x ≡ y
-some_same x y e = ap (λ o. option_map_or (λ z. z) o x) e
-
-abbrev Found : Type 0
-Found = Option (Waiting × List Waiting)
-
--- a message before those that were left
-abbrev behind : Waiting → Found → Found
-behind x found = option_map (λ y. (y.0, x ∷ y.1)) found
 
 -- ---- the first message that passes
 
@@ -99,6 +91,22 @@ next_of ws w others e = ap (option_map (λ found. first_piece found.0)) e
 
 pub after_of : (ws : List Waiting) (w : Waiting) (others : List Waiting) → chosen ws ≡ Some (w, others) → after_piece ws ≡ others ++ back w
 after_of ws w others e = ap (λ o. option_map_or (λ found. found.1 ++ back found.0) o ws) e
+
+-- ---- where none is urgent
+
+count_cons : (w : Waiting) (ws : List Waiting) → count_by (λ x. x.urgent) (w ∷ ws) ≡ cond w.urgent 1 0 + count_by (λ x. x.urgent) ws
+count_cons w ws = sum_by-cons (λ (x : Waiting). cond x.urgent 1 0) w ws
+
+none_first : (ws : List Waiting) → count_by (λ w. w.urgent) ws ≡ 0 → position_or_len urgently ws ≡ length ws
+none_first [] none = refl
+none_first (w ∷ ws) none = go w.urgent (sym (count_cons w ws) ∙ none) (λ h. none_first ws h) where
+  go : (b : Bool) → cond b 1 0 + count_by (λ w. w.urgent) ws ≡ 0 → (count_by (λ w. w.urgent) ws ≡ 0 → position_or_len urgently ws ≡ length ws)
+      → cond (not (b && may_send w)) (1 + position_or_len urgently ws) 0 ≡ suc (length ws)
+  go true none rest = absurd (omega arith)
+  go false none rest = let h = rest (omega arith) in omega arith
+
+pub none_urgent : (ws : List Waiting) → count_by (λ w. w.urgent) ws ≡ 0 → None ≡ position urgently ws
+none_urgent ws none = sym (ap (λ (b : Bool). cond b (Some (position_or_len urgently ws)) None) (le-ltb (position_or_len urgently ws) (length ws) (omega (arith, none_first ws none))))
 
 -- ---- where every message pauses
 

@@ -11,6 +11,7 @@ use Rattle.blip_mux.specs.Joining.{is_request, is_reply}
 use Rattle.blip_mux.specs.Told.{Acknowledgement, told_by}
 use Rattle.blip_mux.specs.Sending.{Waiting, Sending, has_more, first_piece, without_piece, back, chosen, picked_of, after_picked, picked_from}
 use Rattle.blip_mux.specs.Cutting.{ArePicked, are_acknowledgements, bytes_sent, bytes_left, times_waiting}
+use Rattle.blip_mux.proofs.Classes.{no_request, no_reply}
 use Rattle.blip_mux.proofs.Cuts.{Found, Split, split_chosen, some_same}
 
 module _ (class : Kind → Bool) (number : ℕ) where
@@ -129,20 +130,6 @@ module _ (class : Kind → Bool) (number : ℕ) where
         ∙ ap (λ (t : Bool). (cond (t && eqb number a.number) (told_by a).payload [] ++ bytes_sent class number frames) ++ bytes_left class number left.waiting) other
         ∙ rest parts.1 once
     go [] e acks is rest = by_choice (chosen s.waiting) refl is (λ few. rest (ap are_acknowledgements e) few)
-
-pub no_request : (k : Kind) → has_checksum k ≡ false → is_request k ≡ false
-no_request kinds.Msg e = absurd cc
-no_request kinds.Rpy e = refl
-no_request kinds.Err e = refl
-no_request kinds.AckMsg e = refl
-no_request kinds.AckRpy e = refl
-
-pub no_reply : (k : Kind) → has_checksum k ≡ false → is_reply k ≡ false
-no_reply kinds.Msg e = refl
-no_reply kinds.Rpy e = absurd cc
-no_reply kinds.Err e = absurd cc
-no_reply kinds.AckMsg e = refl
-no_reply kinds.AckRpy e = refl
 
 pub requests_shared : (number : ℕ) (s : Sending) (frames : List FrameParts) (left : Sending) → ArePicked s frames left → are_acknowledgements s.acknowledgements ≡ true → times_waiting is_request number s.waiting ≤ 1
     → bytes_sent is_request number frames ++ bytes_left is_request number left.waiting ≡ bytes_left is_request number s.waiting

@@ -22,7 +22,9 @@ use Rattle.blip_mux.specs.Sending.{Waiting, Sending, new_sending, has_more, firs
 use Rattle.blip_mux.specs.Cutting.{times_waiting}
 use Rattle.blip_mux.specs.Between.{Step, put, owe, hear, send, expect, waiting_of, sending_in, sent_to, events_in, put_in, messages_of, CanBeRead, HasItsTurn, AreAllowed}
 use Rattle.blip_mux.proofs.Cuts.{Found}
-use Rattle.blip_mux.proofs.Orders.{IsSound, sound_start, sound_came, sound_acknowledged, sound_expected, has_some, no_request, no_reply_kind}
+use Rattle.blip_mux.proofs.Orders.{IsSound, sound_start, sound_came, sound_acknowledged, sound_expected, has_some}
+use Rattle.blip_mux.proofs.Classes.{no_request}
+use Rattle.blip_mux.proofs.Classes as classes
 use Rattle.blip_mux.proofs.Shares.{times-append, times_split, times_after}
 use Rattle.blip_mux.proofs.Pending.{Pending, waits, further, got, IsGot, IsPending, class_of, ReadsAgain, may_come_next, answer_more, answer_last, pending_further, pending_beside, pending_expected, pending_acked}
 use Rattle.blip_mux.proofs.Choices.{map-append, is_fresh, fresh, fresh-append, Choice, choice, split_of, goes_back, back_is, counts-append, fresh_before, fresh_after}
@@ -323,7 +325,7 @@ held_sent_told requests ps before a none holds =
       order = subst (λ (r : ℕ). CountsFrom (r + 1) (fresh (map waits ps))) same holds.order;
       last = holds.last ∙ ap (λ (r : ℕ). r + length (fresh (map waits ps))) same;
       none_above = holds.none_above;
-      replies_wait = λ q alone. ap (λ (b : Bool). has_some (cond (b && eqb q a.number) [] (frames_of is_reply q before))) (no_reply_kind a.kind none) ∙ holds.replies_wait q alone;
+      replies_wait = λ q alone. ap (λ (b : Bool). has_some (cond (b && eqb q a.number) [] (frames_of is_reply q before))) (classes.no_reply a.kind none) ∙ holds.replies_wait q alone;
     }
 
 -- ---- a frame of a message is sent

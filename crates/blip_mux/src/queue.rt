@@ -15,19 +15,22 @@ use std::alloc::{AllocError, Global};
 use std::collections::VecDeque;
 use std::marker::Model;
 
-/// Messages that wait. Contracts see the list of them.
+/// Messages that wait, and how many of them are urgent. Contracts see the list of them.
 #[derive(Drop)]
 pub(crate) struct Queue {
     messages: VecDeque<WaitingMessage>,
+    urgent: usize,
 }
 
 impl Model for Queue {
-    ghost use Rattle.std.specs.Prelude.{List};
+    ghost use Rattle.std.specs.Prelude.{◌≡◌, List, count_by};
     ghost use Rattle.blip_mux.specs.Sending.{Waiting};
 
     ghost Value = { List Waiting };
 
     ghost view = { λ q. q.messages.items };
+
+    ghost invariant = { λ q. q.urgent ≡ count_by (λ w. w.urgent) q.messages.items };
 }
 
 impl Queue {
@@ -37,6 +40,7 @@ impl Queue {
     {
         Queue {
             messages: VecDeque::new(alloc),
+            urgent: 0,
         }
     }
 
@@ -45,7 +49,9 @@ impl Queue {
         ensures ok { OnOk result (self.new ≡ self.old ++ message ∷ []) }
         ensures err { OnErr result (self.new ≡ self.old) }
     {
+        let is_urgent = message.is_urgent();
         self.messages.push_back(message)?;
+        self.urgent += usize::from(is_urgent);
         Ok(())
     }
 
@@ -58,10 +64,13 @@ impl Queue {
             .any(|message| message.is_reply_to(number))
     }
 
-    /// The place of the first urgent message that may send.
+    /// The place of the first urgent message that may send. Looks at no message where none is urgent.
     fn urgent_place(&self) -> Option<usize>
         ensures { result ≡ position (λ w. w.urgent && may_send w) self.now }
     {
+        if self.urgent == 0 {
+            return None;
+        }
         self.messages
             .iter()
             .position(|message| message.is_urgent() && message.may_send())
@@ -120,6 +129,8 @@ impl Queue {
         if message.has_more() {
             message.go_on();
             self.messages.push_back_reserved(message);
+        } else {
+            self.urgent -= usize::from(message.is_urgent());
         }
     }
 

@@ -77,7 +77,7 @@ impl Mux {
     }
 
     /// Takes the bytes of a frame. An acknowledgement that it is, or that is owed for it, is noted.
-    pub(crate) fn take(&mut self, alloc: Global, bytes: &[u8]) -> Took
+    pub(crate) fn take(&mut self, bytes: &[u8]) -> Took
         ensures taken { IsTaken self.old bytes.now result self.new }
         ensures sent { self.new.sent ≡ self.old.sent }
     {
@@ -86,7 +86,7 @@ impl Mux {
             Ok(frame) => frame,
             Err(fault) => return Took::Bad(why_of_frame(fault)),
         };
-        match self.inbox.take(alloc, &frame) {
+        match self.inbox.take(&frame) {
             Ok(Taken::Whole(message)) => Took::Whole(message),
             Ok(Taken::Nothing) => Took::Part,
             Ok(
@@ -166,15 +166,16 @@ impl Mux {
         }
     }
 
-    /// Sends frame after frame until there is none that may be sent, or one is not sent.
+    /// Sends frame after frame, each in one buffer, until there is none that may be sent, or one is not sent.
     pub(crate) fn send_all<W: Wire>(&mut self, alloc: Global, wire: &mut W) -> Gave
         ensures sent { HaveGone self.old.outbox self.old.sent.value (W.told wire.old) (W.told wire.new) result self.new.outbox self.new.sent.value }
         ensures counted { Counts (W.faults wire.old) result (W.faults wire.new) }
         ensures inbox { self.new.inbox ≡ self.old.inbox }
         ensures received { self.new.received ≡ self.old.received }
     {
+        let mut frame = Bytes::new(alloc);
         loop {
-            let mut frame = Bytes::new(alloc);
+            frame.truncate(0);
             match self.outbox.next_frame(&mut self.sent, &mut frame) {
                 Ok(Next::Frame) => {}
                 Ok(Next::Idle) => return Gave::Done,

@@ -180,7 +180,7 @@ impl Session {
     {
         blip_mux::laws::replies();
         write_path::laws::looks();
-        match self.mux.take(alloc, bytes) {
+        match self.mux.take(bytes) {
             Took::Whole(message) => self.answer(alloc, ground, wire, message),
             Took::Part => self.go_on(alloc, wire),
             Took::Bad(why) => Some(self.bad_frame(why)),

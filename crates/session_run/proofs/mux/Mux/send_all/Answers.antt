@@ -31,7 +31,7 @@ pub loop-frame-smaller : goal.loop-frame-smaller
 loop-frame-smaller g c =
     subst (λ (s : Sending). all_left_of s < all_left_of c.loop-frame.self.outbox) (sym c.in-Ok-Frame.ensures.after)
     (goes_down c.loop-frame.self.outbox (some_picked c.loop-frame.self.outbox c.loop-frame.self.sent.value c.next_frame.new.crc.value c.next_frame.new.out
-    (frame_sends (picked c.loop-frame.self.outbox) c.in-Ok-Frame.field-0 c.loop-frame.self.sent.value c.next_frame.new.crc.value c.new-frame.result c.next_frame.new.out c.in-Ok-Frame.field-0-is c.new-frame.ensures c.in-Ok-Frame.ensures.frame)))
+    (frame_sends (picked c.loop-frame.self.outbox) c.in-Ok-Frame.field-0 c.loop-frame.self.sent.value c.next_frame.new.crc.value c.truncate.new.self c.next_frame.new.out c.in-Ok-Frame.field-0-is c.truncate.ensures c.in-Ok-Frame.ensures.frame)))
 
 pub loop-frame-preserved : goal.loop-frame-preserved
 loop-frame-preserved g c = record {
@@ -39,9 +39,9 @@ loop-frame-preserved g c = record {
       (going_on c.args.self.now.outbox c.args.self.now.sent.value (g.W.Wire.told c.args.wire.now)
       c.loop-frame.self.outbox c.loop-frame.self.sent.value (g.W.Wire.told c.loop-frame.wire) c.next_frame.new.crc.value c.as_slice.result.now (g.W.Wire.told c.send.new.self)
       (subst (λ b. Sends (picked c.loop-frame.self.outbox) nexts.Frame c.loop-frame.self.sent.value c.next_frame.new.crc.value [] b) (sym c.as_slice.ensures)
-      (frame_sends (picked c.loop-frame.self.outbox) c.in-Ok-Frame.field-0 c.loop-frame.self.sent.value c.next_frame.new.crc.value c.new-frame.result c.next_frame.new.out c.in-Ok-Frame.field-0-is c.new-frame.ensures c.in-Ok-Frame.ensures.frame))
+      (frame_sends (picked c.loop-frame.self.outbox) c.in-Ok-Frame.field-0 c.loop-frame.self.sent.value c.next_frame.new.crc.value c.truncate.new.self c.next_frame.new.out c.in-Ok-Frame.field-0-is c.truncate.ensures c.in-Ok-Frame.ensures.frame))
       (λ sent e. subst (λ b. SendsAfter sent (picked c.loop-frame.self.outbox) nexts.Frame c.next_frame.new.crc.value [] b) (sym c.as_slice.ensures)
-      (frame_sends_after (picked c.loop-frame.self.outbox) c.in-Ok-Frame.field-0 c.next_frame.new.crc.value c.new-frame.result c.next_frame.new.out sent c.in-Ok-Frame.field-0-is c.new-frame.ensures (c.in-Ok-Frame.ensures.sent sent e)))
+      (frame_sends_after (picked c.loop-frame.self.outbox) c.in-Ok-Frame.field-0 c.next_frame.new.crc.value c.truncate.new.self c.next_frame.new.out sent c.in-Ok-Frame.field-0-is c.truncate.ensures (c.in-Ok-Frame.ensures.sent sent e)))
       (tells_sent (g.W.Wire.told c.loop-frame.wire) (g.W.Wire.told c.send.new.self) c.as_slice.result.now
       (subst (λ r. SendsIfTold (g.W.Wire.told c.loop-frame.wire) c.as_slice.result.now r (g.W.Wire.told c.send.new.self)) c.in-Done.is c.send.ensures.told))
       c.loop-frame.invariant.going);
