@@ -1,5 +1,5 @@
-//! Writes frames of 16,384 bytes and reads them back, or goes over as many bytes in a plain loop, so
-//! that a clock outside can compare both.
+//! Writes frames of 16,384 bytes and reads them back, or copies and sums as many bytes in a plain loop,
+//! so that a clock outside can compare both.
 #![tactic(auto)]
 
 ghost use Rattle.std.specs.Prelude.{◌≡◌, ◌≤◌, [], length, OnOk, IfOk};
@@ -65,15 +65,16 @@ fn framed(alloc: Global, payload: &[u8], count: u32) -> Result<u32, AllocError>
     Ok(received.value)
 }
 
-/// The payload's bytes so many times, each taken into a turned sum.
-fn plain(payload: &[u8], count: u32) -> u32 {
-    let mut sum: u32 = 0;
+/// The checksum of the payload's bytes so many times, each time copied into a buffer and summed.
+fn plain(alloc: Global, payload: &[u8], count: u32) -> Result<u32, AllocError> {
+    let mut out = Bytes::new(alloc);
+    let mut sum = Crc::new();
     for _ in 0..count {
-        for byte in payload {
-            sum = sum.rotate_left(1) ^ u32::from(*byte);
-        }
+        out.truncate(0);
+        out.extend_from_slice(payload)?;
+        sum.add(out.as_slice());
     }
-    sum
+    Ok(sum.value)
 }
 
 fn main(rt: HostRuntime) -> io::Result<()> {
@@ -85,7 +86,7 @@ fn main(rt: HostRuntime) -> io::Result<()> {
         .map_or(1, |word| word.parse::<u32>().unwrap_or(1));
     let payload = payload(rt.alloc(), PAYLOAD)?;
     let found = if is_plain {
-        plain(payload.as_slice(), count)
+        plain(rt.alloc(), payload.as_slice(), count)?
     } else {
         framed(rt.alloc(), payload.as_slice(), count)?
     };

@@ -1,9 +1,10 @@
-//! Sends a large message beside eight others, joins their frames on the other side, and sends the
-//! large one once more, so that a clock outside can see how the time grows with its size.
+//! Sends a large message beside eight others and once more, or many small ones, and joins their frames
+//! on the other side, so that a clock outside can see how the time grows; or takes hostile messages,
+//! so that one can see how much memory they take.
 #![tactic(auto)]
 
-use blip_frame::{Crc, Kind, Payload, Props, read_frame};
-use blip_mux::{Inbox, Next, Outbox, Taken};
+use blip_frame::{Crc, Frame, FrameFault, Kind, Payload, Props, read_frame, write_varint};
+use blip_mux::{BadAck, Inbox, Next, Outbox, TakeFault, Taken};
 use sg_outside::{Bytes, Memory};
 use std::alloc::{AllocError, Global};
 use std::{env, io};
@@ -16,7 +17,6 @@ const SMALL: usize = 1 << 20;
 /// The two ends of a direction, and a buffer for the frame that goes.
 #[derive(Drop)]
 struct Direction {
-    alloc: Global,
     outbox: Outbox,
     inbox: Inbox,
     sent: Crc,
@@ -32,10 +32,24 @@ struct Came {
     largest: Option<Payload>,
 }
 
+/// Why frames do not go on.
+#[derive(Debug, Drop)]
+enum Stop {
+    Memory,
+    Frame(FrameFault),
+    Message(TakeFault),
+    Acknowledgement(BadAck),
+}
+
+impl From<AllocError> for Stop {
+    fn from(_refused: AllocError) -> Stop {
+        Stop::Memory
+    }
+}
+
 impl Direction {
     fn new(alloc: Global) -> Direction {
         Direction {
-            alloc,
             outbox: Outbox::new(alloc),
             inbox: Inbox::new(alloc),
             sent: Crc::new(),
@@ -52,24 +66,24 @@ impl Direction {
     }
 
     /// Sends the next frame, and answers what it gave where there was one.
-    fn carry(&mut self) -> Result<Option<Taken>, Memory> {
+    fn carry(&mut self) -> Result<Option<Taken>, Stop> {
         self.frame.truncate(0);
         if self.outbox.next_frame(&mut self.sent, &mut self.frame)? == Next::Idle {
             return Ok(None);
         }
-        let Ok(frame) = read_frame(&mut self.received, self.frame.as_slice()) else {
-            return Ok(None);
+        let frame = match read_frame(&mut self.received, self.frame.as_slice()) {
+            Ok(frame) => frame,
+            Err(fault) => return Err(Stop::Frame(fault)),
         };
-        Ok(self.inbox.take(self.alloc, &frame).ok())
+        match self.inbox.take(&frame) {
+            Ok(taken) => Ok(Some(taken)),
+            Err(fault) => Err(Stop::Message(fault)),
+        }
     }
 
     /// Sends all, and acknowledges what is owed at once.
-    fn carry_all(&mut self) -> Result<Came, Memory> {
-        let mut came = Came {
-            frames: 0,
-            messages: 0,
-            largest: None,
-        };
+    fn carry_all(&mut self) -> Result<Came, Stop> {
+        let mut came = Came::new();
         for _ in 0..u32::MAX {
             let Some(taken) = self.carry()? else {
                 return Ok(came);
@@ -81,21 +95,33 @@ impl Direction {
                     kind,
                     number,
                     bytes,
-                } => self.acknowledge(kind, number, bytes),
+                } => self.acknowledge(kind, number, bytes)?,
                 Taken::Nothing | Taken::Ack { .. } => {}
             }
         }
         Ok(came)
     }
 
-    fn acknowledge(&mut self, kind: Kind, number: u64, bytes: u64) {
-        if !kind.has_checksum() {
-            let _ = self.outbox.acked(kind, number, bytes);
+    fn acknowledge(&mut self, kind: Kind, number: u64, bytes: u64) -> Result<(), Stop> {
+        if kind.has_checksum() {
+            return Ok(());
+        }
+        match self.outbox.acked(kind, number, bytes) {
+            Ok(()) => Ok(()),
+            Err(bad) => Err(Stop::Acknowledgement(bad)),
         }
     }
 }
 
 impl Came {
+    fn new() -> Came {
+        Came {
+            frames: 0,
+            messages: 0,
+            largest: None,
+        }
+    }
+
     fn note(&mut self, payload: Payload) {
         self.messages = self.messages.saturating_add(1);
         let largest = self
@@ -115,34 +141,92 @@ fn zeros(alloc: Global, size: usize) -> Result<Payload, AllocError> {
     })
 }
 
-/// Sends one message of so many bytes beside the others.
-fn beside_others(alloc: Global, size: usize) -> Result<Came, Memory> {
+/// Sends one message of so many bytes beside the others, and then once more, alone.
+fn large(alloc: Global, size: usize) -> Result<Came, Stop> {
     let mut direction = Direction::new(alloc);
     direction.put(zeros(alloc, size)?)?;
     for _ in 0..BESIDE {
         direction.put(zeros(alloc, SMALL)?)?;
     }
-    direction.carry_all()
+    let mut came = direction.carry_all()?;
+    if let Some(payload) = came.largest.take() {
+        let again = alone(alloc, payload)?;
+        came.frames = came.frames.saturating_add(again.frames);
+        came.messages = came.messages.saturating_add(again.messages);
+    }
+    Ok(came)
 }
 
 /// Sends a message alone.
-fn alone(alloc: Global, payload: Payload) -> Result<Came, Memory> {
+fn alone(alloc: Global, payload: Payload) -> Result<Came, Stop> {
     let mut direction = Direction::new(alloc);
     direction.put(payload)?;
     direction.carry_all()
 }
 
+/// Sends so many messages of a hundred bytes, which all wait before the first goes.
+fn small(alloc: Global, count: usize) -> Result<Came, Stop> {
+    let mut direction = Direction::new(alloc);
+    for _ in 0..count {
+        direction.put(zeros(alloc, 99)?)?;
+    }
+    direction.carry_all()
+}
+
+/// A message whose property block is this text so many times.
+fn repeated(alloc: Global, text: &[u8], times: usize) -> Result<Bytes, AllocError> {
+    let mut bytes = Bytes::new(alloc);
+    let length = (text.len() as u64).saturating_mul(times as u64);
+    write_varint(length, &mut bytes)?;
+    for _ in 0..times {
+        bytes.extend_from_slice(text)?;
+    }
+    Ok(bytes)
+}
+
+/// Takes a frame with this payload.
+fn hostile(alloc: Global, kind: Kind, payload: &[u8]) -> Result<Came, Stop> {
+    let frame = Frame {
+        number: 1,
+        kind,
+        urgent: false,
+        no_reply: true,
+        more: false,
+        payload,
+    };
+    match Inbox::new(alloc).take(&frame) {
+        Ok(_) => Ok(Came::new()),
+        Err(fault) => Err(Stop::Message(fault)),
+    }
+}
+
+/// Does the job of this name.
+fn job(alloc: Global, name: &str, size: usize) -> Result<Came, Stop> {
+    match name {
+        "large" => large(alloc, size),
+        "small" => small(alloc, size),
+        "nuls" => hostile(alloc, Kind::Msg, repeated(alloc, b"\0", size)?.as_slice()),
+        "twice" => hostile(
+            alloc,
+            Kind::Msg,
+            repeated(alloc, b"key\0value\0", size)?.as_slice(),
+        ),
+        "nothing" => hostile(alloc, Kind::AckMsg, b""),
+        _ => Ok(Came::new()),
+    }
+}
+
 fn main(rt: HostRuntime) -> io::Result<()> {
     let mut words = env::args(&rt)?;
     let _program = words.next();
+    let Some(name) = words.next() else {
+        return Ok(());
+    };
     let size = words
         .next()
         .map_or(1, |word| word.parse::<u32>().unwrap_or(1));
-    let came = beside_others(rt.alloc(), size as usize)?;
-    println!(rt; "{} frames, {} messages", came.frames, came.messages)?;
-    let Some(largest) = came.largest else {
-        return Ok(());
-    };
-    let again = alone(rt.alloc(), largest)?;
-    println!(rt; "{} frames, {} messages", again.frames, again.messages)
+    match job(rt.alloc(), name.as_str(), size as usize) {
+        Ok(came) => println!(rt; "{} frames, {} messages", came.frames, came.messages),
+        Err(stop) => println!(rt; "{stop:?}"),
+    }
 }

@@ -1,10 +1,9 @@
 -- How many bytes of a message are sent and not acknowledged.
-use Rattle.std.proofs.Common.{◌≡◌, ℕ, ◌+◌, ◌-◌, ◌≤◌, Bool, true, false, ◌&&◌, cond, leb, List, [], ◌∷◌, ◌++◌, max, Some, None, refl, sym, subst, arith}
+use Rattle.std.proofs.Common.{◌≡◌, ℕ, ◌-◌, Bool, true, false, ◌&&◌, cond, List, [], ◌∷◌, ◌++◌, Some, None, refl, sym, subst, arith}
 use Rattle.std.specs.Prelude.{option_map}
 use Rattle.std.specs.Option.{option_or, option_map_or}
 use Rattle.std.specs.List.{AllByRecursion}
 use Rattle.std.proofs.lemmas.Bool.{leb-true, and_parts}
-use Rattle.blip_frame.specs.Frame.{largest_written}
 use Rattle.blip_frame.specs.declared.frame.Kind.{Kind}
 use Rattle.blip_mux.specs.Told.{Acknowledgement}
 use Rattle.blip_mux.specs.Sending.{Waiting, Sending, IsWithinLimit, may_send, pause_above, has_more, without_piece, back, taken_out, chosen, after_piece, picked_from, after_picked, is_of, heard, heard_in}
@@ -34,9 +33,9 @@ out_within passes may (w ∷ ws) all = go (passes w) (may w) (taken_out passes w
 chosen_within : (ws : List Waiting) → AreWithin ws → AreOut (chosen ws)
 chosen_within ws all =
     go (taken_out (λ w. w.urgent && may_send w) ws) (out_within (λ w. w.urgent && may_send w) (λ w e. (and_parts w.urgent (may_send w) e).1) ws all) where
-  go : (o : Found) → AreOut o → AreOut (option_or o (taken_out may_send ws))
-  go None none = out_within may_send (λ w e. e) ws all
-  go (Some found) some = some
+      go : (o : Found) → AreOut o → AreOut (option_or o (taken_out may_send ws))
+      go None none = out_within may_send (λ w e. e) ws all
+      go (Some found) some = some
 
 back_within : (w : Waiting) → may_send w ≡ true → AreWithin (back w)
 back_within w may = go (has_more w) where

@@ -67,9 +67,9 @@ module _ {X : Type 0} where
       map.get-remove nat_cmp_total (map.insert m k v) k q
       ∙ none_both (eq_by_cmp nat_cmp q k) (map.get (map.insert m k v) q) (map.get m q) (λ off. map.get-insert nat_cmp_total m k v q ∙ ap (λ (b : Bool). cond b (Some v) (map.get m q)) off)
       ∙ sym (map.get-remove nat_cmp_total m k q)) where
-    none_both : (b : Bool) (x y : Option X) → (b ≡ false → x ≡ y) → cond b None x ≡ cond b None y
-    none_both true x y e = refl
-    none_both false x y e = e refl
+        none_both : (b : Bool) (x y : Option X) → (b ≡ false → x ≡ y) → cond b None x ≡ cond b None y
+        none_both true x y e = refl
+        none_both false x y e = e refl
 
   pub put_removed : (old new : List (ℕ × X)) (m : map.FinMap nat_cmp X) (k : ℕ) (v : X) → map.from_entries old ≡ m
       → ((q : ℕ) → lookup (is_at (nat_cmp q)) new ≡ cond (eq_by_cmp nat_cmp k q) (Some v) (lookup (is_at (nat_cmp q)) old))

@@ -2,7 +2,7 @@
 use Rattle.std.proofs.Common.{◌≡◌, ℕ, ◌+◌, ◌≤◌, Bool, true, false, ◌&&◌, ◌||◌, cond, eqb, ltb, leb, List, [], ◌∷◌, ◌++◌, length, Result, Ok, Err, Some, None, refl, sym, ap, subst, ◌∙◌, arith, ◌⊎◌, inl, inr}
 use Rattle.std.specs.Prelude.{not, max, Option}
 use Rattle.std.proofs.lemmas.Bool.{eqb-true, eq-eqb, ltb-true, lt-ltb, le-ltb}
-use Rattle.blip_frame.specs.Frame.{FrameParts, kind_number, has_checksum}
+use Rattle.blip_frame.specs.Frame.{FrameParts, has_checksum}
 use Rattle.blip_frame.specs.Payload.{payload_at}
 use Rattle.blip_frame.specs.Props.{Pair}
 use Rattle.blip_frame.specs.Varint.{number_at}

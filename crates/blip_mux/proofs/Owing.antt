@@ -4,10 +4,9 @@ use Rattle.std.specs.Prelude.{Option}
 use Rattle.std.proofs.lemmas.List.{length-append}
 use Rattle.blip_frame.specs.Frame.{FrameParts}
 use Rattle.blip_frame.specs.declared.frame.Kind.{Kind}
-use Rattle.blip_mux.specs.declared.inbox.Taken.{Taken}
 use Rattle.blip_mux.specs.declared.inbox.Taken.TheVariants as takens
 use Rattle.blip_mux.specs.Begun.{Begun}
-use Rattle.blip_mux.specs.Joining.{begun_or, brought_by, acknowledges, acknowledge_after, once_owed, with_frame}
+use Rattle.blip_mux.specs.Joining.{begun_or, brought_by, acknowledges, acknowledge_after, once_owed}
 use Rattle.blip_mux.specs.Owing.{bytes_in, answer_after, owes, NoneOwed}
 
 -- how many bytes are not acknowledged of what came

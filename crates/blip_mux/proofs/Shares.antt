@@ -6,7 +6,6 @@ use Rattle.std.proofs.lemmas.Bool.{ltb-false, and_parts, not-true}
 use Rattle.std.proofs.lemmas.List.{append-nil, take_all, take-append-drop}
 use Rattle.blip_frame.specs.Frame.{FrameParts, largest_written, has_checksum}
 use Rattle.blip_frame.specs.declared.frame.Kind.{Kind}
-use Rattle.blip_frame.specs.declared.frame.Kind.TheVariants as kinds
 use Rattle.blip_mux.specs.Joining.{is_request, is_reply}
 use Rattle.blip_mux.specs.Told.{Acknowledgement, told_by}
 use Rattle.blip_mux.specs.Sending.{Waiting, Sending, has_more, first_piece, without_piece, back, chosen, picked_of, after_picked, picked_from}

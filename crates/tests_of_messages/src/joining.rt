@@ -1,7 +1,7 @@
 //! Examples from outside: checksums of zlib, frames of BLIP, and each fault once.
 
-use blip_mux::{BadAck, Inbox, Next, Outbox, TakeFault, Taken};
 use blip_frame::{Crc, Frame, Kind, Payload, PayloadFault, Props, read_frame};
+use blip_mux::{BadAck, Inbox, Next, Outbox, TakeFault, Taken};
 use sg_outside::Bytes;
 use std::alloc::{AllocError, Global};
 use std::test::Fail;
@@ -280,14 +280,7 @@ fn acknowledgements_owed(rt: HostRuntime) -> Result<(), Fail> {
         (Kind::Rpy, Gave::Owed(Kind::AckRpy, 1, 65_536)),
     ];
     for (kind, want) in table {
-        let gave = take(
-            &mut inbox,
-            1,
-            kind,
-            true,
-            true,
-            piece.as_slice(),
-        );
+        let gave = take(&mut inbox, 1, kind, true, true, piece.as_slice());
         assert_eq!(rt; gave, want);
     }
     Ok(())
@@ -332,14 +325,7 @@ fn joined_whatever_comes_between(rt: HostRuntime) -> Result<(), Fail> {
         ),
     ];
     for (number, kind, urgent, more, payload, want) in &table {
-        let gave = take(
-            &mut inbox,
-            *number,
-            *kind,
-            *urgent,
-            *more,
-            payload,
-        );
+        let gave = take(&mut inbox, *number, *kind, *urgent, *more, payload);
         assert_eq!(rt; gave, *want);
     }
     Ok(())
