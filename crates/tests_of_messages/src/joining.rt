@@ -1,6 +1,6 @@
 //! Examples from outside: checksums of zlib, frames of BLIP, and each fault once.
 
-use blip_frame::{Crc, Frame, Kind, Payload, PayloadFault, Props, read_frame};
+use blip_frame::{Crc, Frame, Kind, Payload, PayloadFault, Props};
 use blip_mux::{BadAck, Inbox, Next, Outbox, TakeFault, Taken};
 use sg_outside::Bytes;
 use std::alloc::{AllocError, Global};
@@ -237,14 +237,6 @@ fn frames_that_do_not_fit(rt: HostRuntime) -> Result<(), Fail> {
 }
 
 #[test]
-fn request_two_before_one(rt: HostRuntime) -> Result<(), Fail> {
-    let mut inbox = Inbox::new(rt.alloc());
-    let gave = take(&mut inbox, 2, Kind::Msg, true, false, b"\x00");
-    assert_eq!(rt; gave, Gave::Refused(TakeFault::OutOfOrder { number: 2 }));
-    Ok(())
-}
-
-#[test]
 fn payloads_of_acknowledgements(rt: HostRuntime) -> Result<(), Fail> {
     let bad = Gave::Refused(TakeFault::BadAckPayload);
     let table: [(&[u8], Gave); 6] = [
@@ -328,36 +320,5 @@ fn joined_whatever_comes_between(rt: HostRuntime) -> Result<(), Fail> {
         let gave = take(&mut inbox, *number, *kind, *urgent, *more, payload);
         assert_eq!(rt; gave, *want);
     }
-    Ok(())
-}
-
-/// What an inbox answers to the frames of an outbox.
-fn carried(alloc: Global, outbox: &mut Outbox) -> Result<Vec<Gave>, Fail> {
-    let mut inbox = Inbox::new(alloc);
-    let mut crc = Crc::new();
-    let mut given = Vec::new(alloc);
-    for bytes in &frames(alloc, outbox)? {
-        match read_frame(&mut crc, bytes.as_slice()) {
-            Ok(frame) => given.push(answer(&mut inbox, &frame))?,
-            Err(_) => return Err("no frame")?,
-        }
-    }
-    Ok(given)
-}
-
-#[test]
-fn two_requests_in_turn(rt: HostRuntime) -> Result<(), Fail> {
-    let mut outbox = with_request(rt.alloc(), 16_385)?;
-    if outbox.requests() < u64::MAX {
-        outbox.put_request(zeros(rt.alloc(), 16_384)?, true)?;
-    }
-    let given = carried(rt.alloc(), &mut outbox)?;
-    let want = [
-        Gave::Nothing,
-        Gave::Nothing,
-        Gave::Whole(Kind::Msg, 1, false, false, Some(0)),
-        Gave::Whole(Kind::Msg, 2, false, true, Some(0)),
-    ];
-    assert_eq!(rt; given.as_slice(), want.as_slice());
     Ok(())
 }
