@@ -1,0 +1,6 @@
+pub mod Places
+pub mod Blanks
+pub mod Words
+pub mod Signs
+pub mod Literals
+pub mod Scan

@@ -1,0 +1,15 @@
+-- Places in a text.
+use Rattle.std.specs.Prelude.{ℕ, ◌+◌, ◌-◌, ◌^◌, ◌==◌, min, if◌then◌else◌}
+use Rattle.sync_tokens.specs.declared.place.Place.{Place}
+
+-- the next number, as far as 32 bits go
+abbrev pub next : ℕ → ℕ
+next n = min (n + 1) (2 ^ 32 - 1)
+
+-- the place after a character: a line feed ends its line
+abbrev pub step : Place → ℕ → Place
+step p c = if c == 10 then record { line = next p.line; column = 1 } else record { line = p.line; column = next p.column }
+
+-- the place of a text's first character
+abbrev pub start : Place
+start = record { line = 1; column = 1 }
