@@ -1,0 +1,5 @@
+pub mod Reading
+pub mod Operators
+pub mod Expressions
+pub mod Nests
+pub mod Statements

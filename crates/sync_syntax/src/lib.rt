@@ -1,0 +1,18 @@
+//! The texts and trees of the sync language.
+#![tactic(auto)]
+
+mod cursor;
+mod expression;
+mod fault;
+mod operator;
+mod program;
+mod simple;
+mod statement;
+pub mod tree;
+
+pub use fault::{ParseFault, SyntaxFault};
+pub use program::parse;
+pub use sync_tokens::{Place, SyntaxWhy};
+
+/// Want of memory.
+pub type Memory = std::alloc::AllocError;

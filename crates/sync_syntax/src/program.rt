@@ -1,0 +1,129 @@
+ghost use Rattle.std.specs.Prelude.{◌≡◌, ◌∷◌};
+ghost use Rattle.sync_syntax.specs.Reading.{Reads};
+ghost use Rattle.sync_syntax.specs.Statements as spec;
+ghost use Rattle.sync_syntax.specs.Statements.{Gives};
+
+use crate::cursor::Tokens;
+use crate::fault::{ParseFault, SyntaxFault};
+use crate::simple::named;
+use crate::statement::{Statements, statement};
+use crate::tree::{Named, Program, Statement};
+use json_doc::DocText;
+use sqlite_items::Items;
+use std::alloc::Global;
+use sync_tokens::{Kind, Place, Sign, SyntaxWhy, Token, Word, tokens};
+
+/// How many bytes a text may have.
+const MAX_LEN: usize = 65536;
+
+/// How much more may be open in the body of a program.
+const BODY_ROOM: usize = 99;
+
+#[tactic(auto, unfolding(crate::specs::Statements::own_name))]
+fn own_name(alloc: Global, tokens: &mut Tokens<'_>) -> Result<Option<DocText>, ParseFault>
+    ensures { Reads (spec.own_name tokens.old) result tokens.new }
+{
+    match tokens.kind() {
+        Kind::Name(_) => Ok(Some(tokens.name(alloc)?)),
+        _ => Ok(None),
+    }
+}
+
+#[tactic(auto, unfolding(crate::specs::Statements::second_parameter))]
+fn second_parameter(alloc: Global, tokens: &mut Tokens<'_>) -> Result<Option<Named>, ParseFault>
+    ensures { Reads (spec.second_parameter tokens.old) result tokens.new }
+{
+    if !tokens.eat(Sign::Comma) {
+        return Ok(None);
+    }
+    Ok(Some(named(alloc, tokens)?))
+}
+
+/// What stands before the body.
+type Head = (Option<DocText>, Named, Option<Named>);
+
+#[tactic(auto, unfolding(crate::specs::Statements::head))]
+fn head(alloc: Global, tokens: &mut Tokens<'_>) -> Result<Head, ParseFault>
+    ensures { Reads (spec.head tokens.old) result tokens.new }
+{
+    tokens.expect_word(Word::Function)?;
+    let name = own_name(alloc, tokens)?;
+    tokens.expect(Sign::ParenOpen)?;
+    let first = named(alloc, tokens)?;
+    let second = second_parameter(alloc, tokens)?;
+    tokens.expect(Sign::ParenClose)?;
+    Ok((name, first, second))
+}
+
+/// The body, and the end of the text behind it.
+#[tactic(auto, unfolding(crate::specs::Statements::body))]
+fn body(alloc: Global, tokens: &mut Tokens<'_>) -> Result<Items<Statement>, ParseFault>
+    ensures { Reads (spec.body tokens.old) result tokens.new }
+{
+    tokens.expect(Sign::BraceOpen)?;
+    let found = Statements {
+        alloc,
+        room: BODY_ROOM,
+        inner: statement,
+    }
+    .block(tokens, false)?;
+    tokens.eat(Sign::Semicolon);
+    end(tokens)?;
+    Ok(found)
+}
+
+#[tactic(auto, unfolding(crate::specs::Statements::end))]
+fn end(tokens: &mut Tokens<'_>) -> Result<(), ParseFault>
+    ensures { Reads (spec.end tokens.old) result tokens.new }
+{
+    match tokens.kind() {
+        Kind::End => Ok(()),
+        _ => Err(tokens.refuse()),
+    }
+}
+
+#[tactic(auto, unfolding(crate::specs::Statements::program))]
+fn program(alloc: Global, tokens: &mut Tokens<'_>) -> Result<Program, ParseFault>
+    ensures { Reads (spec.program tokens.old) result tokens.new }
+{
+    let (name, first, second) = head(alloc, tokens)?;
+    let place = tokens.place();
+    let body = body(alloc, tokens)?;
+    Ok(Program {
+        name,
+        first,
+        second,
+        place,
+        body,
+    })
+}
+
+/// The program that all of these tokens are.
+
+fn whole(alloc: Global, all: &[Token]) -> Result<Program, ParseFault>
+    ensures { Gives (spec.only (spec.program all.now)) result }
+{
+    match Tokens::new(all) {
+        Some(mut tokens) => program(alloc, &mut tokens),
+        None => Err(ParseFault::Bad(SyntaxFault {
+            place: Place::START,
+            why: SyntaxWhy::Unexpected,
+        })),
+    }
+}
+
+/// Reads a program. The fault is the first in the order of the text, at its token. `Memory` may come
+/// in the place of any answer.
+#[tactic(auto, unfolding(crate::specs::Statements::parsed))]
+pub fn parse(alloc: Global, text: &str) -> Result<Program, ParseFault>
+    ensures { Gives (spec.parsed text.now) result }
+{
+    if text.len() > MAX_LEN {
+        return Err(ParseFault::Bad(SyntaxFault {
+            place: Place::START,
+            why: SyntaxWhy::TooLong,
+        }));
+    }
+    let all = tokens(alloc, text)?;
+    whole(alloc, all.as_slice())
+}
