@@ -1,5 +1,5 @@
 -- Integers and texts in quotes.
-use Rattle.std.specs.Prelude.{ℕ, ◌+◌, ◌-◌, ◌*◌, ◌%◌, ◌==◌, nat_le, nat_lt, min, Bool, true, false, ◌||◌, ◌&&◌, not, List, [], ◌∷◌, ◌++◌, fold, encode_utf8, Option, Some, None, if◌then◌else◌}
+use Rattle.std.specs.Prelude.{ℕ, ◌+◌, ◌-◌, ◌*◌, ◌%◌, ◌==◌, nat_le, nat_lt, min, Bool, false, ◌||◌, List, [], ◌∷◌, ◌++◌, fold, encode_utf8, Option, Some, None, if◌then◌else◌}
 use Rattle.std.specs.Char.{is_ascii_digit, digit_value}
 use lib.Utf8.{scalar}
 use Rattle.sync_tokens.specs.declared.place.SyntaxWhy.TheVariants.{Range}

@@ -1,5 +1,5 @@
 -- The tokens of a text, in order, each with the place of its first character.
-use Rattle.std.specs.Prelude.{◌≡◌, ℕ, zero, suc, ◌+◌, ◌-◌, ◌^◌, ◌==◌, min, ◌||◌, ⊤, List, [], ◌∷◌, ◌++◌, take, drop, length, chars, Option, Some, None, Result, Ok, Err, if◌then◌else◌}
+use Rattle.std.specs.Prelude.{◌≡◌, ℕ, zero, suc, ◌+◌, ◌-◌, ◌^◌, ◌==◌, min, ◌||◌, ⊤, List, [], ◌∷◌, ◌++◌, take, chars, Option, Some, None, Result, Ok, Err, if◌then◌else◌}
 use Rattle.std.specs.declared.alloc.AllocError.{AllocError}
 use Rattle.std.specs.Char.{is_ascii_digit}
 use Rattle.sync_tokens.specs.declared.place.Place.{Place}

@@ -1,0 +1,5 @@
+//! Tests of the sync language.
+#![tactic(auto)]
+
+#[cfg(test)]
+mod faults;
