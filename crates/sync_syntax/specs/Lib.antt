@@ -3,3 +3,4 @@ pub mod Operators
 pub mod Expressions
 pub mod Nests
 pub mod Statements
+pub mod Grammar

@@ -1,4 +1,6 @@
-ghost use Rattle.std.specs.Prelude.{◌≡◌, ◌∷◌};
+ghost use Rattle.std.specs.Prelude.{IfOk};
+ghost use Rattle.sync_tokens.specs.Scan.{tokens_of};
+ghost use Rattle.sync_syntax.specs.Grammar.{IsProgram};
 ghost use Rattle.sync_syntax.specs.Reading.{Reads};
 ghost use Rattle.sync_syntax.specs.Statements as spec;
 ghost use Rattle.sync_syntax.specs.Statements.{Gives};
@@ -112,11 +114,22 @@ fn whole(alloc: Global, all: &[Token]) -> Result<Program, ParseFault>
     }
 }
 
+/// The same, which is a program by the grammar.
+fn lawful(alloc: Global, all: &[Token]) -> Result<Program, ParseFault>
+    ensures exact { Gives (spec.only (spec.program all.now)) result }
+    ensures grammar { IfOk result (λ program. IsProgram all.now program) }
+{
+    whole(alloc, all)
+}
+
 /// Reads a program. The fault is the first in the order of the text, at its token. `Memory` may come
 /// in the place of any answer.
 #[tactic(auto, unfolding(crate::specs::Statements::parsed))]
 pub fn parse(alloc: Global, text: &str) -> Result<Program, ParseFault>
-    ensures { Gives (spec.parsed text.now) result }
+    // It is the program, or the first fault, that reading by the rules gives.
+    ensures exact { Gives (spec.parsed text.now) result }
+    // What is read is a program by the grammar.
+    ensures grammar { IfOk result (λ program. IsProgram (tokens_of text.now) program) }
 {
     if text.len() > MAX_LEN {
         return Err(ParseFault::Bad(SyntaxFault {
@@ -125,5 +138,5 @@ pub fn parse(alloc: Global, text: &str) -> Result<Program, ParseFault>
         }));
     }
     let all = tokens(alloc, text)?;
-    whole(alloc, all.as_slice())
+    lawful(alloc, all.as_slice())
 }
