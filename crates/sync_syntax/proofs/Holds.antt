@@ -9,7 +9,7 @@ use Rattle.sync_tokens.specs.declared.token.Word.{Word}
 use Rattle.sync_tokens.specs.contracts.token.Sign as the_signs
 use Rattle.sync_tokens.specs.contracts.token.Word as the_words
 use Rattle.sync_syntax.specs.declared.fault.ParseFault.{ParseFault}
-use Rattle.sync_syntax.specs.Reading.{Tokens, Outcome, Rule, and_then, ◌>>=◌, pure, kind, next, is_sign, is_word, same_sign, same_word, sees, sees_word, after, after_word, eat, eat_word, expect, expect_word, name_by, name, turns, separated_from, separated, refusal}
+use Rattle.sync_syntax.specs.Reading.{Tokens, Outcome, Rule, and_then, ◌>>=◌, pure, kind, next, is_sign, is_word, same_sign, same_word, sees, sees_word, after, after_word, eat, expect, expect_word, name_by, name, turns, separated_from, separated, refusal}
 use Rattle.sync_syntax.specs.Grammar.{Takes}
 
 abbrev pub Holds : {A : Type 0} → Outcome A → (A → Tokens → Type 0) → Type 0

@@ -1,6 +1,5 @@
 -- What the rules of expressions read is an expression by the grammar.
-use Rattle.std.proofs.Common.{◌≡◌, ℕ, zero, suc, ◌==◌, Bool, true, false, cond, if◌then◌else◌, List, [], ◌∷◌, ◌++◌, Option, Some, None, Ok, Err, refl, sym, subst, ap, ◌∙◌, append_assoc, append-nil}
-use Rattle.sync_tokens.specs.declared.place.Place.{Place}
+use Rattle.std.proofs.Common.{◌≡◌, ℕ, zero, suc, ◌==◌, Bool, true, false, if◌then◌else◌, List, [], ◌∷◌, ◌++◌, Option, Some, None, Ok, Err, refl, sym, subst, ◌∙◌, append_assoc, append-nil}
 use Rattle.sync_tokens.specs.declared.token.Kind.{Kind}
 use Rattle.sync_tokens.specs.declared.token.Kind.TheVariants as kinds
 use Rattle.sync_tokens.specs.declared.token.Sign.{Sign}
@@ -13,12 +12,12 @@ use Rattle.sync_syntax.specs.declared.tree.Expr.{Expr}
 use Rattle.sync_syntax.specs.declared.tree.Expr.TheVariants as e
 use Rattle.sync_syntax.specs.declared.tree.Suffix.{Suffix}
 use Rattle.sync_syntax.specs.declared.tree.Suffix.TheVariants as suffixes
-use Rattle.sync_syntax.specs.Reading.{Tokens, Outcome, Rule, and_then, ◌>>=◌, ◌>>◌, ◌<$>◌, pure, refuse, take, kind, next, place, sees, eat, expect, name, turns, separated, too_deep}
+use Rattle.sync_syntax.specs.Reading.{Tokens, Rule, ◌>>=◌, pure, take, kind, next, place, eat, expect, name, turns, too_deep}
 use Rattle.sync_syntax.specs.Operators.{operator_at, prefix}
-use Rattle.sync_syntax.specs.Expressions.{key_by, key, word_by, followed, chained, begins_suffix, list, member, members, bracketed, primary_by, primary, suffix, suffixes_from, all_suffixes, postfix, prefixed, unary_by, unary, tail_by, tails_from, tails, chain, choice, opened, nested, separated_in, some_members}
+use Rattle.sync_syntax.specs.Expressions.{key_by, key, word_by, followed, chained, begins_suffix, list, member, members, bracketed, primary_by, primary, suffix, suffixes_from, all_suffixes, postfix, unary_by, unary, tail_by, tails_from, tails, chain, choice, opened, nested, separated_in, some_members}
 use Rattle.sync_syntax.specs.Grammar as g
 use Rattle.sync_syntax.specs.Grammar.{Takes, IsKey, IsExpr, IsChain, AreTails, IsUnary, AreSuffixes, IsSuffix, AreListed, AreExprs, AreFields, AreMembers, IsMember, IsPrimary}
-use Rattle.sync_syntax.proofs.Holds.{Holds, holds_then, holds_map, holds_cond, holds_choice, holds_expect, holds_eat, name-holds, separated-holds, expect-holds}
+use Rattle.sync_syntax.proofs.Holds.{Holds, holds_then, holds_map, holds_cond, holds_choice, holds_expect, holds_eat, name-holds, separated-holds}
 
 key_by-holds : (k : Kind) (ts : Tokens) → kind ts ≡ k → Holds (key_by k ts) (λ n us. IsKey ts n us)
 key_by-holds (kinds.Name n) ts is = g.name_key (record { is = is; rest = refl })

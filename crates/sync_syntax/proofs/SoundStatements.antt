@@ -21,13 +21,12 @@ use Rattle.sync_syntax.specs.declared.tree.Start.TheVariants as starts
 use Rattle.sync_syntax.specs.declared.tree.Statement.{Statement}
 use Rattle.sync_syntax.specs.declared.tree.Statement.TheVariants as s
 use Rattle.sync_syntax.specs.declared.tree.Program.{Program}
-use Rattle.sync_syntax.specs.Reading.{Tokens, Outcome, Rule, and_then, ◌>>=◌, ◌>>◌, ◌<$>◌, pure, refuse, take, here, kind, next, second, place, sees, sees_word, eat, eat_word, expect, expect_word, name, turns, separated, too_deep, is_sign, same_sign, after}
+use Rattle.sync_syntax.specs.Reading.{Tokens, Outcome, Rule, ◌>>=◌, ◌>>◌, ◌<$>◌, pure, take, here, kind, next, second, place, sees, eat, eat_word, expect, name, turns, is_sign, same_sign, after}
 use Rattle.sync_syntax.specs.Operators.{declares_by, writing_by, is_name}
-use Rattle.sync_syntax.specs.Expressions.{nested}
 use Rattle.sync_syntax.specs.Statements.{named, ending, end_by, end, expr, given, declared, more_declared, declaration, written, write, value, write_or_value, simple, expr_unless, simple_unless, returned, return_at, throw, declare, only_simple, declare_or_simple, plain, jump, block_from, block, otherwise, choose, repeat, each, for_declared, for_simple, for_by, for_at, word_by, sign_by, statement_by, opened, statement, body_room, body, own_name_by, own_name, second_parameter, head, program, only, block_in, Gives}
 use Rattle.sync_syntax.specs.Grammar as g
 use Rattle.sync_syntax.specs.Grammar.{Takes, IsExpr, IsNamed, Ends, IsGiven, AreDeclared, IsDeclaration, IsSimple, IsExprOrNone, IsLast, IsStart, IsStatement, IsOtherwise, AreStatements, IsOwnName, IsSecond, IsHead, IsTail, IsProgram}
-use Rattle.sync_syntax.proofs.Holds.{Holds, holds_then, holds_map, holds_cond, holds_choice, holds_expect, holds_expect_word, holds_eat, holds_eatw, name-holds, separated-holds, expect-holds, sees-takes}
+use Rattle.sync_syntax.proofs.Holds.{Holds, holds_then, holds_map, holds_choice, holds_expect, holds_expect_word, holds_eat, holds_eatw, name-holds, separated-holds, expect-holds, sees-takes}
 use Rattle.sync_syntax.proofs.SoundExpressions.{expr-holds}
 
 abbrev One : Type 0

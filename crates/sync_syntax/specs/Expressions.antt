@@ -1,5 +1,5 @@
 -- Reading expressions: what stands at the front of the tokens, and which token is the first that no rule reads.
-use Rattle.std.specs.Prelude.{ℕ, zero, suc, ◌+◌, ◌-◌, ◌==◌, Bool, true, false, ◌||◌, if◌then◌else◌, List, [], ◌∷◌, ◌++◌, Option, Some, None, Ok, Err}
+use Rattle.std.specs.Prelude.{ℕ, zero, suc, ◌-◌, ◌==◌, Bool, true, false, ◌||◌, if◌then◌else◌, List, [], ◌∷◌, ◌++◌, Option, Some, None, Ok, Err}
 use Rattle.sync_tokens.specs.declared.place.Place.{Place}
 use Rattle.sync_tokens.specs.declared.token.Kind.{Kind}
 use Rattle.sync_tokens.specs.declared.token.Kind.TheVariants as kinds
@@ -13,7 +13,7 @@ use Rattle.sync_syntax.specs.declared.tree.Expr.{Expr}
 use Rattle.sync_syntax.specs.declared.tree.Expr.TheVariants as e
 use Rattle.sync_syntax.specs.declared.tree.Suffix.{Suffix}
 use Rattle.sync_syntax.specs.declared.tree.Suffix.TheVariants as suffixes
-use Rattle.sync_syntax.specs.Reading.{Rule, Tokens, ◌>>=◌, ◌>>◌, ◌<$>◌, pure, refuse, take, here, kind, place, sees, eat, expect, name, turns, separated, too_deep}
+use Rattle.sync_syntax.specs.Reading.{Rule, Tokens, ◌>>=◌, ◌>>◌, ◌<$>◌, pure, refuse, take, kind, place, sees, eat, expect, name, turns, separated, too_deep}
 use Rattle.sync_syntax.specs.Operators.{operator_at, prefix}
 
 -- the key of a member: a name or a text

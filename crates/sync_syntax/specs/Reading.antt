@@ -1,5 +1,5 @@
 -- What a rule reads from, and the steps that every rule is made of.
-use Rattle.std.specs.Prelude.{◌≡◌, ◌≢◌, ℕ, zero, suc, Bool, true, false, if◌then◌else◌, List, [], ◌∷◌, ◌++◌, length, Option, Some, None, Result, Ok, Err}
+use Rattle.std.specs.Prelude.{◌≡◌, ◌≢◌, ℕ, zero, suc, Bool, false, if◌then◌else◌, List, [], ◌∷◌, ◌++◌, length, Result, Ok, Err}
 use denote.Enum.Bare.{sameb}
 use Rattle.sync_tokens.specs.Places.{start}
 use Rattle.sync_tokens.specs.declared.place.Place.{Place}
@@ -13,7 +13,6 @@ use Rattle.sync_tokens.specs.declared.token.Sign.TheVariants as signs
 use Rattle.sync_tokens.specs.declared.token.Word.{Word}
 use Rattle.sync_tokens.specs.contracts.token.Sign as the_signs
 use Rattle.sync_tokens.specs.contracts.token.Word as the_words
-use Rattle.sync_syntax.specs.declared.fault.SyntaxFault.{SyntaxFault}
 use Rattle.sync_syntax.specs.declared.fault.ParseFault.{ParseFault}
 use Rattle.sync_syntax.specs.declared.fault.ParseFault.TheVariants.{Bad, Memory}
 

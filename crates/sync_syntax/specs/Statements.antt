@@ -1,6 +1,6 @@
 -- Reading statements and programs: what stands at the front of the tokens, and which token is the first that
 -- no rule reads.
-use Rattle.std.specs.Prelude.{◌≡◌, ◌≢◌, ℕ, zero, suc, ◌+◌, Bool, true, false, ◌||◌, if◌then◌else◌, List, [], ◌∷◌, ◌++◌, Option, Some, None, Result, Ok, Err, nat_lt, length}
+use Rattle.std.specs.Prelude.{◌≡◌, ◌≢◌, ℕ, zero, suc, Bool, true, false, if◌then◌else◌, List, [], ◌∷◌, ◌++◌, Option, Some, None, Result, Ok, Err, nat_lt, length}
 use Rattle.sync_tokens.specs.Places.{start}
 use Rattle.sync_tokens.specs.Scan.{tokens_of}
 use Rattle.sync_tokens.specs.declared.place.Place.{Place}
@@ -26,7 +26,7 @@ use Rattle.sync_syntax.specs.declared.tree.Start.TheVariants as starts
 use Rattle.sync_syntax.specs.declared.tree.Statement.{Statement}
 use Rattle.sync_syntax.specs.declared.tree.Statement.TheVariants as s
 use Rattle.sync_syntax.specs.declared.tree.Program.{Program}
-use Rattle.sync_syntax.specs.Reading.{Rule, Tokens, Outcome, ◌>>=◌, ◌>>◌, ◌<$>◌, pure, refuse, refusal, take, here, kind, second, place, sees, eat, eat_word, expect, expect_word, name, turns, separated, too_deep}
+use Rattle.sync_syntax.specs.Reading.{Rule, Outcome, ◌>>=◌, ◌>>◌, ◌<$>◌, pure, refuse, take, here, kind, second, place, sees, eat, eat_word, expect, expect_word, name, turns, separated, too_deep}
 use Rattle.sync_syntax.specs.Operators.{declares_by, writing_by, is_name}
 use Rattle.sync_syntax.specs.Expressions.{nested}
 

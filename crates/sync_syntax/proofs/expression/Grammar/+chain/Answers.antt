@@ -1,6 +1,6 @@
-use Rattle.std.proofs.Common.{◌≡◌, ℕ, ◌-◌, rules, arith, ap}
+use Rattle.std.proofs.Common.{◌≡◌, ◌-◌, rules, arith}
 use Rattle.std.proofs.lemmas.Grind.{common_steps}
-use Rattle.sync_syntax.specs.Expressions.{chain, chain_in, nested, tails, tails_in, tails_from}
+use Rattle.sync_syntax.specs.Expressions.{chain, chain_in, tails, tails_from}
 use Rattle.sync_syntax.proofs.Turns.{one_more, no_more, deeper}
 use Rattle.sync_syntax.proofs.expression.Grammar.+chain.Goals as goal
 

@@ -1,4 +1,4 @@
-use Rattle.std.proofs.Common.{◌≡◌, ◌+◌, ◌-◌, ◌*◌}
+use Rattle.std.proofs.Common.{◌≡◌, ◌-◌, ◌*◌}
 use Rattle.sync_syntax.specs.Expressions.{chain_in, tails_in, tails_from}
 use Rattle.sync_syntax.proofs.expression.Grammar.+chain.Given as goal
 

@@ -1,6 +1,6 @@
 use Rattle.std.proofs.Common.{◌≡◌, ◌-◌, false}
 use Rattle.sync_syntax.specs.Reading.{separated_from}
-use Rattle.sync_syntax.specs.Expressions.{nested, separated_in, member, some_members, suffixes_from, all_suffixes}
+use Rattle.sync_syntax.specs.Expressions.{nested, separated_in}
 use Rattle.sync_syntax.proofs.expression.Grammar.separated.Given as goal
 
 abbrev pub invariant-loop-turn : goal.invariant-loop-turn

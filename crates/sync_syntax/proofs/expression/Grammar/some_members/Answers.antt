@@ -1,7 +1,7 @@
-use Rattle.std.proofs.Common.{rules, arith, false}
+use Rattle.std.proofs.Common.{rules, arith}
 use Rattle.std.proofs.lemmas.Grind.{common_steps}
 use Rattle.sync_syntax.specs.Reading.{separated, separated_from}
-use Rattle.sync_syntax.specs.Expressions.{nested, member, suffixes_from, all_suffixes}
+use Rattle.sync_syntax.specs.Expressions.{nested, member}
 use Rattle.sync_syntax.proofs.Turns.{one_more, no_more}
 use Rattle.sync_syntax.proofs.expression.Grammar.some_members.Goals as goal
 

@@ -1,6 +1,6 @@
-use Rattle.std.proofs.Common.{◌≡◌, ◌-◌, false}
+use Rattle.std.proofs.Common.{◌≡◌, ◌-◌}
 use Rattle.sync_syntax.specs.Reading.{separated_from}
-use Rattle.sync_syntax.specs.Expressions.{nested, separated_in, member, some_members, suffixes_from, all_suffixes}
+use Rattle.sync_syntax.specs.Expressions.{nested, member, some_members}
 use Rattle.sync_syntax.proofs.expression.Grammar.some_members.Given as goal
 
 abbrev pub invariant-loop-turn : goal.invariant-loop-turn
