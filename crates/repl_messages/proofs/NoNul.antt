@@ -12,8 +12,9 @@ use Rattle.sg_names.specs.declared.rev_id.RevId.{RevId}
 use Rattle.sg_history.specs.Feed.{is_deleted}
 use Rattle.sg_history.specs.declared.row.Row.{Row}
 use Rattle.repl_messages.specs.declared.error.ErrorKind.{ErrorKind}
-use Rattle.repl_messages.specs.declared.error.ErrorKind.TheVariants.{Bad400, LowForm400, SincePast400, NoHandler404, FeedRuns409}
+use Rattle.repl_messages.specs.declared.error.ErrorKind.TheVariants.{Bad400, LowForm400, SincePast400, BadHistory400, UserGone401, Denied403, NoCheckpoint404, NoHandler404, Conflict409, Checkpoint409, FeedRuns409, UsePropose409, TooLarge413, PendingFull503, CheckpointsFull503, Memory507, LogFull509}
 use Rattle.repl_messages.specs.Rev.{rev_payload, norev_payload, deleted_pairs, history_pairs}
+use Rattle.repl_messages.specs.Checkpoints.{checkpoint_payload, checkpoint_rev}
 use Rattle.repl_messages.specs.Errors.{error_payload, error_domain, error_code}
 use Rattle.repl_messages.specs.ReadAgain.{IsReadAgain}
 
@@ -112,15 +113,39 @@ domain_plain : (error : ErrorKind) → is_plain (error_domain error) ≡ true
 domain_plain (Bad400 field) = refl
 domain_plain LowForm400 = refl
 domain_plain (SincePast400 front) = refl
+domain_plain BadHistory400 = refl
+domain_plain UserGone401 = refl
+domain_plain (Denied403 rule) = refl
+domain_plain NoCheckpoint404 = refl
 domain_plain NoHandler404 = refl
+domain_plain (Conflict409 leaf) = refl
+domain_plain (Checkpoint409 current) = refl
 domain_plain FeedRuns409 = refl
+domain_plain UsePropose409 = refl
+domain_plain TooLarge413 = refl
+domain_plain PendingFull503 = refl
+domain_plain CheckpointsFull503 = refl
+domain_plain Memory507 = refl
+domain_plain LogFull509 = refl
 
 pub code_fits : (error : ErrorKind) → error_code error < 2 ^ 64
 code_fits (Bad400 field) = lit< tt
 code_fits LowForm400 = lit< tt
 code_fits (SincePast400 front) = lit< tt
+code_fits BadHistory400 = lit< tt
+code_fits UserGone401 = lit< tt
+code_fits (Denied403 rule) = lit< tt
+code_fits NoCheckpoint404 = lit< tt
 code_fits NoHandler404 = lit< tt
+code_fits (Conflict409 leaf) = lit< tt
+code_fits (Checkpoint409 current) = lit< tt
 code_fits FeedRuns409 = lit< tt
+code_fits UsePropose409 = lit< tt
+code_fits TooLarge413 = lit< tt
+code_fits PendingFull503 = lit< tt
+code_fits CheckpointsFull503 = lit< tt
+code_fits Memory507 = lit< tt
+code_fits LogFull509 = lit< tt
 
 pub error_read : (error : ErrorKind) → is_plain (decimal (error_code error)) ≡ true → IsReadAgain (error_payload error)
 error_read error code =
@@ -135,3 +160,8 @@ one_closable = all_closable ((codes "Profile", codes "changes") ∷ []) (with_pa
 
 pub none_closable : All HasNoNul []
 none_closable = all_closable [] none
+
+pub checkpoint_read : (number : ℕ) (body : List ℕ) → is_plain (decimal number) ≡ true → IsReadAgain (checkpoint_payload number body)
+checkpoint_read number body h =
+    let closable : AreClosable ((codes "rev", checkpoint_rev number) ∷ []) = with_pair (codes "rev") (checkpoint_rev number) [] refl h none in
+    record { closable = all_closable (checkpoint_payload number body).props closable; once = refl }

@@ -1,7 +1,7 @@
 -- What stands between double quotes.
 use Rattle.std.proofs.Common.{◌≡◌, ◌≢◌, ℕ, List, [], ◌∷◌, ◌++◌, true, false, nat_eq, eqb, ◌⊎◌, Some, None, option_map, refl, ap, inl, inr}
 use Rattle.std.proofs.lemmas.Bool.Decides.{eqb_tells}
-use Rattle.repl_messages.specs.Requests.{before_quote, unquoted}
+use Rattle.repl_messages.specs.SubChanges.{before_quote, unquoted}
 
 before_quote-last : (front : List ℕ) → before_quote (front ++ 34 ∷ []) ≡ Some front
 before_quote-last [] = refl

@@ -7,7 +7,8 @@ use Rattle.serde_json.specs.Data.{Data}
 use Rattle.serde_json.specs.Read.{read}
 use Rattle.serde_json.specs.View.{items_view}
 use Rattle.serde_json.specs.declared.value.Value.{Value}
-use Rattle.repl_messages.specs.Wanted.{json_of, is_first_array, further, wanted_rows}
+use Rattle.repl_messages.specs.Json.{json_of}
+use Rattle.repl_messages.specs.Wanted.{is_first_array, further, wanted_rows}
 
 pub json-read : (bytes : List ℕ) (d : Data) → IsUtf8 bytes → read bytes ≡ Some d → Some d ≡ json_of bytes
 json-read bytes d h e = rw (is_utf8-from_IsUtf8 bytes h) (sym e)

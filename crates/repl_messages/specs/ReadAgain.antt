@@ -1,12 +1,15 @@
 -- Payloads that are read again as they were written.
-use Rattle.std.specs.Prelude.{◌≡◌, false, All, IsTrue}
+use Rattle.std.specs.Prelude.{◌≡◌, ℕ, false, List, All, IsTrue}
 use Rattle.blip_frame.specs.Payload.{HasNoNul}
 use Rattle.blip_frame.specs.Props.{keys_of, stands_twice}
 use Rattle.blip_frame.specs.declared.payload.Payload.{Payload}
 use Rattle.sg_names.specs.Grammar.{is_doc_id}
 use Rattle.sg_names.specs.Key.{is_key}
 use Rattle.sg_names.specs.RevId.{is_rev}
+use Rattle.sg_names.specs.declared.rev_id.RevId.{RevId}
+use Rattle.sg_history.specs.Feed.{is_deleted}
 use Rattle.sg_history.specs.declared.row.Row.{Row}
+use Rattle.repl_messages.specs.declared.revision.Revision.{Revision}
 
 -- no NUL in a key or a value, and no key twice
 pub record IsReadAgain (payload : Payload) : Type 0 where
@@ -18,3 +21,15 @@ pub record IsInGrammar (row : Row) : Type 0 where
   pub doc : IsTrue (is_doc_id row.doc)
   pub rev : IsTrue (is_rev row.rev)
   pub key : IsTrue (is_key row.key)
+
+-- the revision that a row is of, with its ancestors and its body
+abbrev pub revision_of_row : Row → List RevId → List ℕ → Revision
+revision_of_row row ancestors body =
+    record {
+      doc = row.doc;
+      rev = row.rev;
+      ancestors = ancestors;
+      deleted = is_deleted row.bits;
+      noconflicts = false;
+      body = body;
+    }

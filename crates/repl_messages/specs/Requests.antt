@@ -1,135 +1,73 @@
--- What a message of a device asks for, by its properties: a request, or the refusal that is due.
-use Rattle.std.specs.Prelude.{◌≡◌, ◌≤◌, ℕ, Bool, true, false, ◌&&◌, not, nat_eq, ◌==◌, List, [], ◌∷◌, Option, Some, None, option_map, unwrap_or, Result, Ok, Err, codes, if◌then◌else◌}
-use Rattle.std.specs.List.{list_all, slice_split}
+-- What a message of a device asks for: a request, or the refusal that is due. The messages of a device are told apart by
+-- their property `Profile`.
+use Rattle.std.specs.Prelude.{◌≡◌, ◌≤◌, ℕ, List, length, Option, Some, None, option_and_then, option_map, Result, Err, codes, if◌then◌else◌}
 use Rattle.std.specs.Str.{bytes_eq}
 use Rattle.blip_frame.specs.Props.{Pair, value_at}
-use Rattle.sg_names.specs.Grammar.{is_channel_name}
-use Rattle.sg_names.specs.Key.{ReadsKey, IsLowForm, IsBadKey}
-use Rattle.sg_names.specs.declared.key.Key.{Key}
-use Rattle.sg_names.specs.declared.key.KeyFault.{KeyFault}
-use Rattle.sg_names.specs.declared.key.KeyFault.TheVariants as key_faults
-use Rattle.sg_history.specs.declared.row.Options.{Options}
+use Rattle.blip_frame.specs.declared.payload.Payload.{Payload}
+use Rattle.repl_messages.specs.declared.offers.Offer.{Offer}
+use Rattle.repl_messages.specs.declared.profile.Profile.{Profile}
+use Rattle.repl_messages.specs.declared.profile.Profile.TheVariants as profile
 use Rattle.repl_messages.specs.declared.request.Version.{Version}
-use Rattle.repl_messages.specs.declared.request.Version.TheVariants.{Two, Three}
-use Rattle.repl_messages.specs.declared.request.Field.{Field}
 use Rattle.repl_messages.specs.declared.request.Field.TheVariants as fields
 use Rattle.repl_messages.specs.declared.request.Request.{Request}
-use Rattle.repl_messages.specs.declared.request.Request.TheVariants.{SubChanges}
+use Rattle.repl_messages.specs.declared.request.Request.TheVariants as request
 use Rattle.repl_messages.specs.declared.request.RequestFault.{RequestFault}
-use Rattle.repl_messages.specs.declared.request.RequestFault.TheVariants.{Bad400, LowForm400, Unknown404}
-use Rattle.repl_messages.specs.Numbers.{number_up_to}
-use Rattle.repl_messages.specs.Properties.{is_named, is_set}
+use Rattle.repl_messages.specs.declared.request.RequestFault.TheVariants.{Unknown404}
+use Rattle.repl_messages.specs.declared.rows.Form.TheVariants as form
+use Rattle.repl_messages.specs.Fields.{or_bad}
+use Rattle.repl_messages.specs.Checkpoints.{get_checkpoint, IsSetCheckpoint}
+use Rattle.repl_messages.specs.Offers.{AreOffered}
+use Rattle.repl_messages.specs.Revisions.{IsProposal}
+use Rattle.repl_messages.specs.SubChanges.{IsSubChanges}
 
-infixl 10 ◌>>=◌
-abbrev pub ◌>>=◌ : {A B : Type 0} → Result A RequestFault → (A → Result B RequestFault) → Result B RequestFault
-(Ok x) >>= f = f x
-(Err e) >>= f = Err e
+-- the message of a device that a name is of
+abbrev pub profile_named : List ℕ → Option Profile
+profile_named name =
+    if bytes_eq name (codes "getCheckpoint") then Some profile.GetCheckpoint
+    else if bytes_eq name (codes "setCheckpoint") then Some profile.SetCheckpoint
+    else if bytes_eq name (codes "subChanges") then Some profile.SubChanges
+    else if bytes_eq name (codes "changes") then Some profile.Changes
+    else if bytes_eq name (codes "proposeChanges") then Some profile.ProposeChanges
+    else if bytes_eq name (codes "rev") then Some profile.Rev
+    else None
 
--- the word by which a property is named
-abbrev pub field_text : Field → List ℕ
-field_text fields.Rev = codes "rev"
-field_text fields.Since = codes "since"
-field_text fields.Batch = codes "batch"
-field_text fields.Filter = codes "filter"
-field_text fields.Channels = codes "channels"
-field_text fields.History = codes "history"
-field_text fields.Body = codes "body"
+-- the message of a device that these properties are of
+abbrev pub profile_of : List Pair → Option Profile
+profile_of props = option_and_then profile_named (value_at props (codes "Profile"))
 
--- the value found, else that the property is bad
-abbrev pub or_bad : {A : Type 0} → Field → Option A → Result A RequestFault
-or_bad field (Some x) = Ok x
-or_bad field None = Err (Bad400 field)
+-- what a message that offers revisions is read as
+abbrev pub IsOffer : List ℕ → (List Offer → Request) → (List ℕ → Option (List Offer) → Type 0) → Result Request RequestFault → Type 0
+IsOffer body request Are answer =
+    (offers : Option (List Offer)) × Are body offers × (answer ≡ or_bad fields.Rows (option_map request offers))
 
--- ---- since
+-- what a changes with this body is read as, and a proposeChanges
+abbrev pub IsChanges : List ℕ → Result Request RequestFault → Type 0
+IsChanges body answer =
+    IsOffer body (λ offers. request.Changes offers) (λ bytes offers. AreOffered form.Change bytes offers) answer
 
--- what stands before a double quote that ends the bytes
-abbrev pub before_quote : List ℕ → Option (List ℕ)
-before_quote [] = None
-before_quote (b ∷ []) = if nat_eq b 34 then Some [] else None
-before_quote (b ∷ c ∷ bs) = option_map (λ front. b ∷ front) (before_quote (c ∷ bs))
+abbrev pub IsProposeChanges : List ℕ → Result Request RequestFault → Type 0
+IsProposeChanges body answer =
+    IsOffer body (λ offers. request.ProposeChanges offers) (λ bytes offers. AreOffered form.Proposal bytes offers) answer
 
--- what stands between two double quotes, or without them the text itself
-abbrev pub unquoted : List ℕ → List ℕ
-unquoted [] = []
-unquoted (b ∷ bs) = if nat_eq b 34 then unwrap_or (before_quote bs) (b ∷ bs) else b ∷ bs
+-- what a message of this kind is read as: the row of the table of requests; of no kind it is unknown
+abbrev pub IsAnswerTo : Option Profile → Payload → Version → Result Request RequestFault → Type 0
+IsAnswerTo None payload version answer = answer ≡ Err Unknown404
+IsAnswerTo (Some profile.GetCheckpoint) payload version answer = answer ≡ get_checkpoint payload.props
+IsAnswerTo (Some profile.SetCheckpoint) payload version answer = IsSetCheckpoint payload answer
+IsAnswerTo (Some profile.SubChanges) payload version answer = IsSubChanges payload.props version answer
+IsAnswerTo (Some profile.Changes) payload version answer = IsChanges payload.body answer
+IsAnswerTo (Some profile.ProposeChanges) payload version answer = IsProposeChanges payload.body answer
+IsAnswerTo (Some profile.Rev) payload version answer = IsProposal payload answer
 
--- what a text is read as: a key, a low form, or neither
-abbrev pub IsReading : List ℕ → Result Key KeyFault → Type 0
-IsReading text (Ok key) = ReadsKey text key
-IsReading text (Err key_faults.LowForm) = IsLowForm text
-IsReading text (Err key_faults.BadKey) = IsBadKey text
+-- what a message is read as, by its properties and its body: a request, or the one refusal that is due
+abbrev pub IsAnswer : Payload → Version → Result Request RequestFault → Type 0
+IsAnswer payload version answer = IsAnswerTo (profile_of payload.props) payload version answer
 
--- what the property `since` is read as; absent it is the start
-abbrev pub IsSince : Option (List ℕ) → Result Key KeyFault → Type 0
-IsSince None since = since ≡ Ok (record { by = 0; seq = 0 })
-IsSince (Some value) since = IsReading (unquoted value) since
-
--- the key, or the refusal of the property
-abbrev pub since_of : Result Key KeyFault → Result Key RequestFault
-since_of (Ok key) = Ok key
-since_of (Err key_faults.LowForm) = Err LowForm400
-since_of (Err key_faults.BadKey) = Err (Bad400 fields.Since)
-
--- ---- batch, filter and channels
-
--- a number from 1 to 10,000; absent it is 200
-abbrev pub batch_of : Option (List ℕ) → Result ℕ RequestFault
-batch_of None = Ok 200
-batch_of (Some value) = or_bad fields.Batch (number_up_to 10000 value)
-
--- channels' names with a comma between each two, in any order, of which one may stand twice
-abbrev pub listed : List ℕ → Option (List (List ℕ))
-listed text =
-    let names : List (List ℕ) = slice_split (λ b. b == 44) text in
-    if list_all (λ n. is_channel_name n) names then Some names else None
-
--- the filter by channels needs their list
-abbrev pub channels_of : Option (List ℕ) → Result (List (List ℕ)) RequestFault
-channels_of None = Err (Bad400 fields.Channels)
-channels_of (Some value) = or_bad fields.Channels (listed value)
-
--- no filter, in which case the channels are passed over, or the filter by channels
-abbrev pub filter_of : Option (List ℕ) → Option (List ℕ) → Result (Option (List (List ℕ))) RequestFault
-filter_of None channels = Ok None
-filter_of (Some name) channels =
-    if bytes_eq name (codes "sync_gateway/bychannel")
-    then (do
-      names ← channels_of channels
-      Ok (Some names))
-    else Err (Bad400 fields.Filter)
-
--- ---- the request
-
--- version two has no revocations
-abbrev pub revocations_of : Version → List Pair → Bool
-revocations_of Two props = false
-revocations_of Three props = is_set (codes "revocations") props
-
-abbrev pub options_of : Option (List (List ℕ)) → Version → List Pair → Options
-options_of filter version props =
-    record { filter = filter; active_only = is_set (codes "activeOnly") props; revocations = revocations_of version props }
-
--- a subChanges whose since is read so: the request, or the first bad property of since, batch, filter and channels
-abbrev pub sub_changes : Result Key KeyFault → Version → List Pair → Result Request RequestFault
-sub_changes since version props = do
-  key ← since_of since
-  batch ← batch_of (value_at props (codes "batch"))
-  filter ← filter_of (value_at props (codes "filter")) (value_at props (codes "channels"))
-  Ok (SubChanges key batch (options_of filter version props))
-
--- whether the message asks for changes up to now: a subChanges that is not continuous
-abbrev pub asks_for_changes : List Pair → Bool
-asks_for_changes props = is_named (codes "subChanges") props && not (is_set (codes "continuous") props)
-
-abbrev pub IsAnswerWhere : Bool → List Pair → Version → Result Request RequestFault → Type 0
-IsAnswerWhere false props version answer = answer ≡ Err Unknown404
-IsAnswerWhere true props version answer =
-    (since : Result Key KeyFault) × IsSince (value_at props (codes "since")) since × (answer ≡ sub_changes since version props)
-
--- what a message with these properties is read as: a request, or the one refusal that is due
-abbrev pub IsAnswer : List Pair → Version → Result Request RequestFault → Type 0
-IsAnswer props version answer = IsAnswerWhere (asks_for_changes props) props version answer
-
--- the batch of a request is from 1 to 10,000
+-- the batch of a request is from 1 to 10,000, and at most 10,000 revisions are offered
 abbrev pub IsBounded : Request → Type 0
-IsBounded (SubChanges since batch options) = (1 ≤ batch) × (batch ≤ 10000)
+IsBounded (request.GetCheckpoint client) = Unit {0}
+IsBounded (request.SetCheckpoint client rev body) = Unit {0}
+IsBounded (request.SubChanges since continuous batch options) = (1 ≤ batch) × (batch ≤ 10000)
+IsBounded (request.Changes offers) = length offers ≤ 10000
+IsBounded (request.ProposeChanges offers) = length offers ≤ 10000
+IsBounded (request.Rev revision) = Unit {0}

@@ -1,20 +1,11 @@
 -- The reply of a device to `changes`: which rows it wants.
-use Rattle.std.specs.Prelude.{ℕ, zero, suc, Bool, false, List, [], ◌∷◌, Option, None, is_some, option_and_then, unwrap_or, if◌then◌else◌}
-use Rattle.std.specs.Str.{is_utf8}
+use Rattle.std.specs.Prelude.{ℕ, zero, suc, Bool, false, List, [], ◌∷◌, Option, is_some, option_and_then, unwrap_or}
 use Rattle.blip_frame.specs.declared.frame.Kind.{Kind}
 use Rattle.blip_frame.specs.declared.frame.Kind.TheVariants as kinds
-use Rattle.serde_json.specs.Data.{Data, Items, no_items, item}
+use Rattle.serde_json.specs.Data.{Items, no_items, item}
 use Rattle.serde_json.specs.Find.{as_array}
-use Rattle.serde_json.specs.Read.{read}
+use Rattle.repl_messages.specs.Json.{items_in}
 use Rattle.repl_messages.specs.Numbers.{number_up_to}
-
--- what the bytes are read as, which are JSON in UTF-8
-abbrev pub json_of : List ℕ → Option Data
-json_of bytes = if is_utf8 bytes then read bytes else None
-
--- the items of a body that is a JSON array; of any other body none
-abbrev pub items_in : List ℕ → Items
-items_in body = unwrap_or (option_and_then as_array (json_of body)) no_items
 
 -- the items of a reply; an error has none
 abbrev pub reply_items : Kind → List ℕ → Items

@@ -1,29 +1,56 @@
 //! Replies: the empty one, and those that say why a request is refused.
 
 ghost use Rattle.std.specs.Prelude.{◌≡◌, ◌++◌, IfOk, OnOk, codes, decimal};
-ghost use Rattle.repl_messages.specs.Requests.{field_text};
+ghost use Rattle.sg_names.specs.RevId.{rev_text};
+ghost use Rattle.repl_messages.specs.Checkpoints.{checkpoint_rev};
+ghost use Rattle.repl_messages.specs.Fields.{field_text};
 ghost use Rattle.repl_messages.specs.Errors.{ok_payload, error_payload, error_domain, error_code, error_text};
 
 use crate::request::Field;
 use crate::texts::{push, push_text};
 use blip_frame::{Payload, Props};
-use sg_history::write_decimal;
+use json_doc::DocText;
+use sg_history::{RevId, write_decimal};
 use sg_outside::{Bytes, Memory};
 use std::alloc::Global;
 
 /// Why a request is answered by an error.
 #[derive(Drop)]
 pub enum ErrorKind {
-    /// A property is outside its grammar, or absent where it is needed.
+    /// A property, or the body, is outside its grammar, or absent where it is needed.
     Bad400 { field: Field },
     /// The since key is in a form that the gateway does not take.
     LowForm400,
     /// The since key is past the length of the history that was looked at.
     SincePast400 { front: u64 },
+    /// The generations of a revision and its ancestors do not fall, or there are too many ancestors.
+    BadHistory400,
+    /// The user does not exist.
+    UserGone401,
+    /// The sync function denies the revision, by this rule.
+    Denied403 { rule: DocText },
+    /// No checkpoint is stored.
+    NoCheckpoint404,
     /// The message is of no name that the gateway knows.
     NoHandler404,
+    /// The revision makes a conflict with this leaf.
+    Conflict409 { leaf: RevId },
+    /// Another checkpoint is stored.
+    Checkpoint409 { current: u64 },
     /// A feed runs already.
     FeedRuns409,
+    /// Without conflicts revisions are offered by proposeChanges.
+    UsePropose409,
+    /// A body is too large.
+    TooLarge413,
+    /// Too many entries wait for their places.
+    PendingFull503,
+    /// Too many checkpoints are stored.
+    CheckpointsFull503,
+    /// Want of memory.
+    Memory507,
+    /// The history has as many entries or bytes as it may have.
+    LogFull509,
 }
 
 impl ErrorKind {
@@ -32,10 +59,7 @@ impl ErrorKind {
     {
         match self {
             ErrorKind::NoHandler404 => "BLIP",
-            ErrorKind::Bad400 { .. }
-            | ErrorKind::LowForm400
-            | ErrorKind::SincePast400 { .. }
-            | ErrorKind::FeedRuns409 => "HTTP",
+            _ => "HTTP",
         }
     }
 
@@ -43,10 +67,21 @@ impl ErrorKind {
         ensures { result ≡ error_code self.now }
     {
         match self {
-            ErrorKind::Bad400 { .. } | ErrorKind::LowForm400 | ErrorKind::SincePast400 { .. } =>
-                400,
-            ErrorKind::NoHandler404 => 404,
-            ErrorKind::FeedRuns409 => 409,
+            ErrorKind::Bad400 { .. }
+            | ErrorKind::LowForm400
+            | ErrorKind::SincePast400 { .. }
+            | ErrorKind::BadHistory400 => 400,
+            ErrorKind::UserGone401 => 401,
+            ErrorKind::Denied403 { .. } => 403,
+            ErrorKind::NoCheckpoint404 | ErrorKind::NoHandler404 => 404,
+            ErrorKind::Conflict409 { .. }
+            | ErrorKind::Checkpoint409 { .. }
+            | ErrorKind::FeedRuns409
+            | ErrorKind::UsePropose409 => 409,
+            ErrorKind::TooLarge413 => 413,
+            ErrorKind::PendingFull503 | ErrorKind::CheckpointsFull503 => 503,
+            ErrorKind::Memory507 => 507,
+            ErrorKind::LogFull509 => 509,
         }
     }
 
@@ -58,8 +93,20 @@ impl ErrorKind {
             ErrorKind::Bad400 { field } => write_bad(*field, out),
             ErrorKind::LowForm400 => out.extend_from_slice(b"low form"),
             ErrorKind::SincePast400 { front } => write_past(*front, out),
+            ErrorKind::BadHistory400 => out.extend_from_slice(b"bad history"),
+            ErrorKind::UserGone401 => out.extend_from_slice(b"user is gone"),
+            ErrorKind::Denied403 { rule } => out.extend_from_slice(rule.as_str().as_bytes()),
+            ErrorKind::NoCheckpoint404 => out.extend_from_slice(b"no checkpoint"),
             ErrorKind::NoHandler404 => out.extend_from_slice(b"no handler"),
+            ErrorKind::Conflict409 { leaf } => write_conflict(leaf, out),
+            ErrorKind::Checkpoint409 { current } => write_checkpoint(*current, out),
             ErrorKind::FeedRuns409 => out.extend_from_slice(b"feed is running"),
+            ErrorKind::UsePropose409 => out.extend_from_slice(b"use proposeChanges"),
+            ErrorKind::TooLarge413 => out.extend_from_slice(b"too large"),
+            ErrorKind::PendingFull503 => out.extend_from_slice(b"pending is full"),
+            ErrorKind::CheckpointsFull503 => out.extend_from_slice(b"checkpoints are full"),
+            ErrorKind::Memory507 => out.extend_from_slice(b"no memory"),
+            ErrorKind::LogFull509 => out.extend_from_slice(b"log is full"),
         }
     }
 }
@@ -78,6 +125,22 @@ fn write_past(front: u64, out: &mut Bytes) -> Result<(), Memory>
 {
     out.extend_from_slice(b"since is past ")?;
     write_decimal(front, out)
+}
+
+/// Puts the words for a conflict with a leaf at the end.
+fn write_conflict(leaf: &RevId, out: &mut Bytes) -> Result<(), Memory>
+    ensures { OnOk result (out.new ≡ out.old ++ (codes "conflict " ++ rev_text leaf.now)) }
+{
+    out.extend_from_slice(b"conflict ")?;
+    leaf.write(out)
+}
+
+/// Puts the words for another checkpoint at the end.
+fn write_checkpoint(current: u64, out: &mut Bytes) -> Result<(), Memory>
+    ensures { OnOk result (out.new ≡ out.old ++ (codes "checkpoint is " ++ checkpoint_rev current)) }
+{
+    out.extend_from_slice(b"checkpoint is 0-")?;
+    write_decimal(current, out)
 }
 
 /// The empty reply. Takes no memory.

@@ -1,21 +1,22 @@
 //! Requests of a device.
 
-ghost use Rattle.std.specs.Prelude.{◌≡◌, ◌≢◌, Ok, Err, IfOk, IfErr, Result, map, true, false, ◌==◌, IsTrue};
-ghost use Rattle.std.specs.List.{list_all, slice_split};
-ghost use Rattle.std.specs.Option.{option_copied};
-ghost use Rattle.sg_names.specs.Grammar.{is_channel_name};
-ghost use Rattle.sg_names.specs.declared.key.Key.{Key};
-ghost use Rattle.sg_names.specs.declared.key.KeyFault.{KeyFault};
+ghost use Rattle.std.specs.Prelude.{◌≡◌, ◌≢◌, Ok, Err, IfOk, IfErr, Result};
 ghost use Rattle.repl_messages.specs.declared.request.Request.{Request};
 ghost use Rattle.repl_messages.specs.declared.request.RequestFault.{RequestFault};
-ghost use Rattle.repl_messages.specs.Requests as requests;
-ghost use Rattle.repl_messages.specs.Requests.{IsAnswer, IsBounded, IsReading, IsSince, field_text};
+ghost use Rattle.repl_messages.specs.Fields as spec;
+ghost use Rattle.repl_messages.specs.Requests.{IsAnswer, IsAnswerTo, IsBounded};
 
-use crate::properties::{is_named, is_set, number_up_to};
-use blip_frame::Props;
+use crate::checkpoint::{read_get_checkpoint, read_set_checkpoint};
+use crate::laws::one_answer;
+use crate::offers::Offers;
+use crate::profile::{Profile, profile_of};
+use crate::revision::{Revision, read_proposal};
+use crate::rows::{read_changes, read_propose_changes};
+use crate::sub_changes::read_sub_changes;
+use blip_frame::Payload;
 use blip_mux::Message;
-use sg_history::{ChannelName, Channels, Key, KeyFault, Options, TextFault};
-use sg_names::pieces::split_at_commas;
+use sg_history::{Client, Key, Options};
+use sg_outside::Bytes;
 use std::alloc::{AllocError, AllocFailed, Global};
 
 /// The version of the protocol that a device speaks.
@@ -28,22 +29,48 @@ pub enum Version {
 /// What a device asks for.
 #[derive(Drop)]
 pub enum Request {
-    /// The changes after `since`, in messages of at most `batch` rows.
+    /// The checkpoint that is stored for a client.
+    GetCheckpoint {
+        client: Client,
+    },
+    /// That a checkpoint is stored for a client in place of the one with the number `rev`; 0 says that none is. The body is
+    /// a JSON object.
+    SetCheckpoint {
+        client: Client,
+        rev: u64,
+        body: Bytes,
+    },
+    /// The changes after `since`, in messages of at most `batch` rows; where it is continuous those that come later, too.
     SubChanges {
         since: Key,
+        continuous: bool,
         batch: u64,
         options: Options,
     },
+    /// Which of these revisions are known, and else from which they may descend. No offer has a parent.
+    Changes {
+        offers: Offers,
+    },
+    /// Which of these revisions may be proposed.
+    ProposeChanges {
+        offers: Offers,
+    },
+    /// That a revision is stored.
+    Rev(Revision),
 }
 
-/// A property by which a request or a revision is refused.
+/// A property, or the body, by which a request or a revision is refused.
 #[derive(Clone, Copy, Debug, PartialEq, Eq)]
 pub enum Field {
+    Client,
     Rev,
     Since,
     Batch,
     Filter,
     Channels,
+    /// The message's body, where it is to have rows.
+    Rows,
+    Id,
     History,
     /// The message's body.
     Body,
@@ -52,14 +79,17 @@ pub enum Field {
 impl Field {
     /// The property's name.
     pub fn as_str(&self) -> &'static str
-        ensures { result.now ≡ field_text self.now }
+        ensures { result.now ≡ spec.field_text self.now }
     {
         match self {
+            Field::Client => "client",
             Field::Rev => "rev",
             Field::Since => "since",
             Field::Batch => "batch",
             Field::Filter => "filter",
             Field::Channels => "channels",
+            Field::Rows => "rows",
+            Field::Id => "id",
             Field::History => "history",
             Field::Body => "body",
         }
@@ -103,176 +133,60 @@ impl<T: Drop> From<AllocFailed<T>> for RequestFault {
     }
 }
 
-/// Reads a message of a device, by its properties alone: the request, or the refusal that is due. Of a
-/// key that stands twice the first value counts.
+/// The value, or else that the property is bad.
+pub(crate) fn or_bad<T: Drop>(field: Field, value: Option<T>) -> Result<T, RequestFault>
+    ensures { result ≡ spec.or_bad field value }
+{
+    match value {
+        Some(value) => Ok(value),
+        None => Err(RequestFault::Bad400 { field }),
+    }
+}
+
+/// Reads a message of a device by its properties and its body: the request, or the refusal that is due. Of a
+/// key that stands twice the first value counts. Takes room for what the request holds, and for the tree of a JSON body.
 pub fn read_request(
     alloc: Global,
     message: &Message,
     version: Version,
 ) -> Result<Request, RequestFault>
-    ensures ok { IfOk result (λ request. IsAnswer message.now.payload.props version (Ok request)) }
-    ensures refused { IfErr result (λ fault. fault ≢ RequestFault.Memory → IsAnswer message.now.payload.props version (Err fault)) }
+    ensures ok { IfOk result (λ request. IsAnswer message.now.payload version (Ok request)) }
+    ensures refused { IfErr result (λ fault. fault ≢ RequestFault.Memory
+        → IsAnswer message.now.payload version (Err fault)) }
 
     ensures bounded { IfOk result IsBounded }
 
     // Want of memory apart, a message has this one answer.
-    ensures only { (answer : Result Request RequestFault) → IsAnswer message.now.payload.props version answer
+    ensures only { (answer : Result Request RequestFault) → IsAnswer message.now.payload version answer
         → result ≢ Err RequestFault.Memory → result ≡ answer }
 {
-    let props = &message.payload.props;
-    if !asks_for_changes(props) {
-        return Err(RequestFault::Unknown404);
-    }
-    read_sub_changes(alloc, read_since(props.get("since")), version, props)
+    one_answer();
+    read_payload(
+        alloc,
+        profile_of(&message.payload.props),
+        &message.payload,
+        version,
+    )
 }
 
-/// Whether the message asks for changes up to now.
-fn asks_for_changes(props: &Props) -> bool
-    ensures { result ≡ requests.asks_for_changes props.now }
-{
-    is_named("subChanges", props) && !is_set("continuous", props)
-}
-
-/// What the property `since` is read as.
-fn read_since(value: Option<&str>) -> Result<Key, KeyFault>
-    ensures read { IsSince (option_copied value.entry) result }
-    ensures only { (since : Result Key KeyFault) → IsSince (option_copied value.entry) since → since ≡ result }
-{
-    match value {
-        Some(value) => Key::parse(unquoted(value)),
-        None => Ok(Key { by: 0, seq: 0 }),
-    }
-}
-
-/// What stands between two double quotes, or without them the text itself.
-fn unquoted(text: &str) -> &str
-    ensures { result.now ≡ requests.unquoted text.now }
-{
-    let Some(rest) = text.strip_prefix('"') else {
-        return text;
-    };
-    match rest.strip_suffix('"') {
-        Some(inner) => inner,
-        None => text,
-    }
-}
-
-/// Reads the properties of a subChanges whose since is read so.
-fn read_sub_changes(
+/// Reads a message of this name.
+fn read_payload(
     alloc: Global,
-    since: Result<Key, KeyFault>,
+    profile: Option<Profile>,
+    payload: &Payload,
     version: Version,
-    props: &Props,
 ) -> Result<Request, RequestFault>
-    ensures { result ≢ Err RequestFault.Memory → result ≡ requests.sub_changes since version props.now }
+    ensures ok { IfOk result (λ request. IsAnswerTo profile payload.now version (Ok request)) }
+    ensures refused { IfErr result (λ fault. fault ≢ RequestFault.Memory
+        → IsAnswerTo profile payload.now version (Err fault)) }
 {
-    let since = since_of(since)?;
-    let batch = batch_of(props.get("batch"))?;
-    let filter = filter_of(alloc, props.get("filter"), props.get("channels"))?;
-    Ok(Request::SubChanges {
-        since,
-        batch,
-        options: Options {
-            filter,
-            active_only: is_set("activeOnly", props),
-            revocations: revocations_of(version, props),
-        },
-    })
-}
-
-fn since_of(since: Result<Key, KeyFault>) -> Result<Key, RequestFault>
-    ensures { result ≡ requests.since_of since }
-{
-    match since {
-        Ok(key) => Ok(key),
-        Err(KeyFault::LowForm) => Err(RequestFault::LowForm400),
-        Err(KeyFault::BadKey) => Err(RequestFault::Bad400 {
-            field: Field::Since,
-        }),
-    }
-}
-
-fn batch_of(value: Option<&str>) -> Result<u64, RequestFault>
-    ensures { result ≡ requests.batch_of (option_copied value.entry) }
-{
-    match value {
-        Some(value) => match number_up_to(10_000, value) {
-            Some(batch) => Ok(batch),
-            None => Err(RequestFault::Bad400 {
-                field: Field::Batch,
-            }),
-        },
-        None => Ok(200),
-    }
-}
-
-fn revocations_of(version: Version, props: &Props) -> bool
-    ensures { result ≡ requests.revocations_of version props.now }
-{
-    match version {
-        Version::Two => false,
-        Version::Three => is_set("revocations", props),
-    }
-}
-
-fn filter_of(
-    alloc: Global,
-    name: Option<&str>,
-    channels: Option<&str>,
-) -> Result<Option<Channels>, RequestFault>
-    ensures { result ≢ Err RequestFault.Memory
-        → result ≡ requests.filter_of (option_copied name.entry) (option_copied channels.entry) }
-{
-    let Some(name) = name else {
-        return Ok(None);
-    };
-    if name != "sync_gateway/bychannel" {
-        return Err(RequestFault::Bad400 {
-            field: Field::Filter,
-        });
-    }
-    Ok(Some(channels_of(alloc, channels)?))
-}
-
-fn channels_of(alloc: Global, value: Option<&str>) -> Result<Channels, RequestFault>
-    ensures { result ≢ Err RequestFault.Memory → result ≡ requests.channels_of (option_copied value.entry) }
-{
-    match value {
-        Some(value) => {
-            let pieces = split_at_commas(alloc, value)?;
-            Ok(Channels::from_vec(read_names(alloc, pieces.as_slice())?))
-        }
-        None => Err(RequestFault::Bad400 {
-            field: Field::Channels,
-        }),
-    }
-}
-
-/// The names of channels that the pieces are.
-fn read_names(alloc: Global, pieces: &[&str]) -> Result<Vec<ChannelName>, RequestFault>
-    ensures ok { IfOk result (λ names. (names.items ≡ map (λ p. p.now) pieces.now)
-        × IsTrue (list_all (λ n. is_channel_name n) (map (λ p. p.now) pieces.now))) }
-    ensures err { IfErr result (λ fault. fault ≢ RequestFault.Memory → (fault ≡ RequestFault.Bad400 Field.Channels)
-        × (list_all (λ n. is_channel_name n) (map (λ p. p.now) pieces.now) ≡ false)) }
-{
-    let mut names = Vec::new(alloc);
-    for piece in pieces {
-        names.push(read_name(alloc, piece)?)?;
-    }
-    Ok(names)
-}
-
-/// The name of a channel that the piece is.
-fn read_name(alloc: Global, piece: &str) -> Result<ChannelName, RequestFault>
-    ensures ok { IfOk result (λ n. (n ≡ piece.now) × IsTrue (is_channel_name piece.now)) }
-    ensures err { IfErr result (λ fault. fault ≢ RequestFault.Memory
-        → (fault ≡ RequestFault.Bad400 Field.Channels) × (is_channel_name piece.now ≡ false)) }
-{
-    match ChannelName::parse(alloc, piece) {
-        Ok(name) => Ok(name),
-        Err(TextFault::Bad) => Err(RequestFault::Bad400 {
-            field: Field::Channels,
-        }),
-        Err(TextFault::Memory) => Err(RequestFault::Memory),
+    match profile {
+        None => Err(RequestFault::Unknown404),
+        Some(Profile::GetCheckpoint) => read_get_checkpoint(alloc, &payload.props),
+        Some(Profile::SetCheckpoint) => read_set_checkpoint(alloc, payload),
+        Some(Profile::SubChanges) => read_sub_changes(alloc, version, &payload.props),
+        Some(Profile::Changes) => read_changes(alloc, payload.body.as_slice()),
+        Some(Profile::ProposeChanges) => read_propose_changes(alloc, payload.body.as_slice()),
+        Some(Profile::Rev) => read_proposal(alloc, payload),
     }
 }

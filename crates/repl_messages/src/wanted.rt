@@ -1,19 +1,20 @@
 //! The reply of a device to `changes`.
 
-ghost use Rattle.std.specs.Prelude.{◌≡◌, drop, codes, option_map, IfOk};
+ghost use Rattle.std.specs.Prelude.{◌≡◌, drop, codes, IfOk};
 ghost use Rattle.std.specs.Option.{option_copied};
 ghost use Rattle.blip_frame.specs.Props.{value_at};
-ghost use Rattle.serde_json.specs.View.{view, items_view};
+ghost use Rattle.serde_json.specs.View.{items_view};
 ghost use Rattle.repl_messages.specs.Wanted as wanted;
 ghost use Rattle.repl_messages.specs.Wanted.{wanted_rows, max_history_of};
 
 use crate::flags::Flags;
+use crate::json_body::items_in;
 use crate::properties::number_up_to;
 use blip_frame::Kind;
 use blip_mux::Message;
 use serde_json::Value;
 use sg_outside::Memory;
-use std::alloc::{AllocError, Global};
+use std::alloc::Global;
 
 /// What a device wants of the rows that it was offered.
 #[derive(Drop)]
@@ -44,32 +45,6 @@ fn reply_items(alloc: Global, kind: Kind, body: &[u8]) -> Result<Vec<Value>, Mem
     match kind {
         Kind::Err => Ok(Vec::new(alloc)),
         Kind::Msg | Kind::Rpy | Kind::AckMsg | Kind::AckRpy => items_in(alloc, body),
-    }
-}
-
-/// The items of a body that is a JSON array; of any other body none.
-fn items_in(alloc: Global, body: &[u8]) -> Result<Vec<Value>, Memory>
-    ensures { IfOk result (λ items. items_view items.items ≡ wanted.items_in body.now) }
-{
-    match value_of(alloc, body)? {
-        Some(Value::Array(items)) => Ok(items),
-        _ => Ok(Vec::new(alloc)),
-    }
-}
-
-/// What the bytes are read as, where they are JSON.
-fn value_of(alloc: Global, bytes: &[u8]) -> Result<Option<Value>, Memory>
-    ensures { IfOk result (λ value. option_map view value ≡ wanted.json_of bytes.now) }
-{
-    match Value::from_slice(alloc, bytes) {
-        Ok(value) => Ok(Some(value)),
-        Err(error) => {
-            if error.is_memory() {
-                Err(AllocError)
-            } else {
-                Ok(None)
-            }
-        }
     }
 }
 

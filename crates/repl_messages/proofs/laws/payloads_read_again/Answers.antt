@@ -1,5 +1,5 @@
 use Rattle.std.proofs.Common.{refl}
-use Rattle.repl_messages.proofs.NoNul.{doc_plain, rev_read, norev_read, error_read, code_fits, one_closable, none_closable}
+use Rattle.repl_messages.proofs.NoNul.{doc_plain, rev_read, norev_read, error_read, checkpoint_read, code_fits, one_closable, none_closable}
 use Rattle.repl_messages.specs.Errors.{error_code}
 use Rattle.repl_messages.proofs.laws.payloads_read_again.Goals as goal
 
@@ -19,3 +19,9 @@ returns-clause-ok c = record { closable = none_closable; once = refl }
 
 pub returns-clause-error : goal.returns-clause-error
 returns-clause-error c = λ error. error_read error (c.plain_texts.ensures.decimals (error_code error) (code_fits error))
+
+pub returns-clause-answers : goal.returns-clause-answers
+returns-clause-answers c = λ answers proposed. record { closable = none_closable; once = refl }
+
+pub returns-clause-checkpoint : goal.returns-clause-checkpoint
+returns-clause-checkpoint c = λ number body low. checkpoint_read number body (c.plain_texts.ensures.decimals number low)

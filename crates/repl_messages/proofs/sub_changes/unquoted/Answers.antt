@@ -1,7 +1,7 @@
 use Rattle.std.proofs.Common.{lit<}
 use Rattle.std.proofs.lemmas.Str.Pattern.{strip_prefix_char, strip_suffix_char}
 use Rattle.repl_messages.proofs.Quotes.{unquoted-quoted, unquoted-bare, unquoted-open}
-use Rattle.repl_messages.proofs.request.unquoted.Goals as goal
+use Rattle.repl_messages.proofs.sub_changes.unquoted.Goals as goal
 
 pub returns-in_default : goal.returns-in_default
 returns-in_default c =

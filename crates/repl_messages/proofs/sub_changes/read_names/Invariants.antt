@@ -1,7 +1,7 @@
 use Rattle.std.proofs.Common.{◌≡◌, map, ◌++◌, drop}
 use Rattle.std.specs.List.{list_all}
 use Rattle.sg_names.specs.Grammar.{is_channel_name}
-use Rattle.repl_messages.proofs.request.read_names.Given as goal
+use Rattle.repl_messages.proofs.sub_changes.read_names.Given as goal
 
 abbrev pub invariant-loop-piece : goal.invariant-loop-piece
 invariant-loop-piece l = record {
