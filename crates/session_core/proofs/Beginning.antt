@@ -11,8 +11,8 @@ use Rattle.sg_history.specs.declared.row.Options.{Options}
 use Rattle.sg_history.specs.History.{past}
 use Rattle.sg_history.specs.Feed.{feed}
 use Rattle.repl_messages.specs.declared.request.Version.{Version}
-use Rattle.repl_messages.specs.declared.request.Request.{Request}
-use Rattle.repl_messages.specs.declared.request.Request.TheVariants.{SubChanges}
+use Rattle.session_core.specs.declared.served.Served.{Served}
+use Rattle.session_core.specs.declared.served.Served.TheVariants.{Feed}
 use Rattle.repl_messages.specs.declared.request.RequestFault.{RequestFault}
 use Rattle.repl_messages.specs.declared.error.ErrorKind.TheVariants as errors
 use Rattle.repl_messages.specs.declared.looks.Fed.{Fed}
@@ -21,7 +21,7 @@ use Rattle.repl_messages.specs.Changes.{changes_payload}
 use Rattle.repl_messages.specs.Errors.{ok_payload}
 use Rattle.repl_messages.specs.Looks as looks
 use Rattle.repl_messages.specs.Looks.{IsFed}
-use Rattle.repl_messages.specs.Requests.{IsAnswer}
+use Rattle.session_core.specs.Served.{IsRead}
 use Rattle.session_core.specs.declared.act.Act.{Act}
 use Rattle.session_core.specs.declared.act.Act.TheVariants as act
 use Rattle.session_core.specs.declared.look.Purpose.TheVariants as purposes
@@ -56,8 +56,8 @@ past_front front by h = elim (nat_lt front by) as (λ b. nat_lt front by ≡ b �
 feed_begins : (h : List Entry) (user : List ℕ) (version : Version) (n number : ℕ) (urgent no_reply : Bool) (payload : Payload)
     (since : Key) (batch : ℕ) (options : Options) (front : ℕ) (rows : List Row) (acts : List Act) (after : Machine)
     → let m : Message = record { number = number; kind = kinds.Msg; urgent = urgent; no_reply = no_reply; payload = payload } in
-    let read : Result Request RequestFault = Ok (SubChanges since batch options) in
-    IsAnswer payload.props version read
+    let read : Result Served RequestFault = Ok (Feed since batch options) in
+    IsRead payload version read
     → since.by ≤ front → rows ≡ feed (past h front) user since options
     → after ≡ at_rest user version (n + 1) (running_with rows batch options (n + 1))
     → acts ≡ acceptance_act (asker_of m) ++ offer_act rows batch version ∷ []
@@ -75,14 +75,14 @@ feed_begins h user version n number urgent no_reply payload since batch options 
 pub fed_done : (h : List Entry) (user : List ℕ) (version : Version) (n number : ℕ) (urgent no_reply : Bool) (payload : Payload)
     (since : Key) (batch : ℕ) (options : Options) (answer : Fed) (acts : List Act) (after : Machine)
     → let m : Message = record { number = number; kind = kinds.Msg; urgent = urgent; no_reply = no_reply; payload = payload } in
-    let read : Result Request RequestFault = Ok (SubChanges since batch options) in
+    let read : Result Served RequestFault = Ok (Feed since batch options) in
     let asked : Asked = record { asker = asker_of m; since = since; batch = batch; options = options } in
-    IsAnswer payload.props version read
+    IsRead payload version read
     → IsFed h user since options answer
     → ◌≡◌ {A = Stepped} (after, acts) (on_fed (record { user = user; version = version; requests = n; feed = None; pending = pending.Feed asked }) asked answer)
     → Done h user version None n (exchange m read (record { front = looks.front_of answer; purpose = purposes.Feed } ∷ []) acts n) after
 fed_done h user version n number urgent no_reply payload since batch options (fed.Rows front rows) acts after answer by e =
     feed_begins h user version n number urgent no_reply payload since batch options front rows acts after answer by.0 by.1 (ap (λ (s : Stepped). s.0) e) (ap (λ (s : Stepped). s.1) e)
 fed_done h user version n number urgent no_reply payload since batch options (fed.Future front) acts after answer by e =
-    refused_done h user version None n number urgent no_reply payload (Ok (SubChanges since batch options)) (record { front = front; purpose = purposes.Feed } ∷ []) (errors.SincePast400 front) acts after
+    refused_done h user version None n number urgent no_reply payload (Ok (Feed since batch options)) (record { front = front; purpose = purposes.Feed } ∷ []) (errors.SincePast400 front) acts after
     answer refl (rw (past_front front since.by by) refl) (λ k. rw (past_front front since.by by) refl) (ap (λ (s : Stepped). s.0) e) (ap (λ (s : Stepped). s.1) e)

@@ -7,14 +7,14 @@ use Rattle.blip_mux.specs.declared.message.Message.{Message}
 use Rattle.blip_mux.specs.Joining.{is_request}
 use Rattle.sg_history.specs.declared.entries.Entry.{Entry}
 use Rattle.repl_messages.specs.declared.request.Version.{Version}
-use Rattle.repl_messages.specs.declared.request.Request.{Request}
-use Rattle.repl_messages.specs.declared.request.Request.TheVariants.{SubChanges}
+use Rattle.session_core.specs.declared.served.Served.{Served}
+use Rattle.session_core.specs.declared.served.Served.TheVariants.{Feed}
 use Rattle.repl_messages.specs.declared.request.RequestFault.{RequestFault}
 use Rattle.repl_messages.specs.declared.request.RequestFault.TheVariants as faults
 use Rattle.repl_messages.specs.declared.error.ErrorKind.{ErrorKind}
 use Rattle.repl_messages.specs.declared.error.ErrorKind.TheVariants as errors
 use Rattle.repl_messages.specs.Errors.{error_payload}
-use Rattle.repl_messages.specs.Requests.{IsAnswer}
+use Rattle.session_core.specs.Served.{IsRead}
 use Rattle.session_core.specs.declared.act.Act.{Act}
 use Rattle.session_core.specs.declared.act.Act.TheVariants as act
 use Rattle.session_core.specs.declared.look.Look.{Look}
@@ -30,16 +30,16 @@ use Rattle.session_core.specs.Conduct.{messages_from, at_rest}
 -- what holds of an exchange before which this feed ran and so many requests were put, and of where it leads
 abbrev pub Done : List Entry → List ℕ → Version → Option Running → ℕ → Exchange → Machine → Type 0
 Done h user version r n x after =
-    (is_request x.message.kind ≡ true → IsAnswer x.message.payload.props version x.read)
+    (is_request x.message.kind ≡ true → IsRead x.message.payload version x.read)
     × (map (λ (look : Look). look.purpose) x.looks ≡ looks_for x.message x.read r)
     × (x.puts ≡ puts_for h user version x.message x.read r (front_of x.looks) (n + 1))
     × (after ≡ at_rest user version (requests_among x.puts + n) (running_after h user x (requests_among x.puts + n) r))
 
-abbrev pub exchange : Message → Result Request RequestFault → List Look → List Act → ℕ → Exchange
+abbrev pub exchange : Message → Result Served RequestFault → List Look → List Act → ℕ → Exchange
 exchange message read looks acts n = record { message = message; read = read; looks = looks; puts = messages_from (n + 1) acts }
 
 -- what stands in place of a request's reading where the message is no request
-abbrev pub unread : Result Request RequestFault
+abbrev pub unread : Result Served RequestFault
 unread = Err faults.Unknown404
 
 -- a look's answer is awaited
@@ -64,9 +64,9 @@ at_rest_only m after b busy e is rest = subst Busy (sym is ∙ ap (λ (x : Machi
 -- ---- a request that is refused
 
 pub refused_done : (h : List Entry) (user : List ℕ) (version : Version) (r : Option Running) (n : ℕ) (number : ℕ) (urgent no_reply : Bool) (payload : Payload)
-    (read : Result Request RequestFault) (looks : List Look) (error : ErrorKind) (acts : List Act) (after : Machine)
+    (read : Result Served RequestFault) (looks : List Look) (error : ErrorKind) (acts : List Act) (after : Machine)
     → let m : Message = record { number = number; kind = kinds.Msg; urgent = urgent; no_reply = no_reply; payload = payload } in
-    IsAnswer payload.props version read
+    IsRead payload version read
     → map (λ (look : Look). look.purpose) looks ≡ looks_for m read r
     → puts_for h user version m read r (front_of looks) (n + 1) ≡ refusal m error
     → ((k : ℕ) → running_after h user (exchange m read looks acts n) k r ≡ r)
@@ -89,9 +89,9 @@ no_answer r number urgent no_reply payload = refl
 
 -- a request, read so, that leaves the machine at rest
 pub request_done : (h : List Entry) (user : List ℕ) (version : Version) (r : Option Running) (n : ℕ) (number : ℕ) (urgent no_reply : Bool) (payload : Payload)
-    (read : Result Request RequestFault) (acts : List Act) (after : Machine)
+    (read : Result Served RequestFault) (acts : List Act) (after : Machine)
     → let m : Message = record { number = number; kind = kinds.Msg; urgent = urgent; no_reply = no_reply; payload = payload } in
-    IsAnswer payload.props version read
+    IsRead payload version read
     → ◌≡◌ {A = Stepped} (after, acts) (on_request (at_rest user version n r) m read)
     → after.pending ≡ pending.Nothing
     → Done h user version r n (exchange m read [] acts n) after
@@ -99,8 +99,8 @@ request_done h user version None n number urgent no_reply payload (Err fault) ac
     refused_done h user version None n number urgent no_reply payload (Err fault) [] (error_of fault) acts after answer refl refl (λ _. refl) (ap (λ (s : Stepped). s.0) e) (ap (λ (s : Stepped). s.1) e)
 request_done h user version (Some r) n number urgent no_reply payload (Err fault) acts after answer e rest =
     refused_done h user version (Some r) n number urgent no_reply payload (Err fault) [] (error_of fault) acts after answer refl refl (λ _. refl) (ap (λ (s : Stepped). s.0) e) (ap (λ (s : Stepped). s.1) e)
-request_done h user version None n number urgent no_reply payload (Ok (SubChanges since batch options)) acts after answer e rest =
+request_done h user version None n number urgent no_reply payload (Ok (Feed since batch options)) acts after answer e rest =
     absurd (at_rest_only _ after _ tt (ap (λ (s : Stepped). s.0) e) refl rest)
-request_done h user version (Some r) n number urgent no_reply payload (Ok (SubChanges since batch options)) acts after answer e rest =
-    refused_done h user version (Some r) n number urgent no_reply payload (Ok (SubChanges since batch options)) [] errors.FeedRuns409 acts after answer refl refl (λ _. refl)
+request_done h user version (Some r) n number urgent no_reply payload (Ok (Feed since batch options)) acts after answer e rest =
+    refused_done h user version (Some r) n number urgent no_reply payload (Ok (Feed since batch options)) [] errors.FeedRuns409 acts after answer refl refl (λ _. refl)
     (ap (λ (s : Stepped). s.0) e) (ap (λ (s : Stepped). s.1) e)

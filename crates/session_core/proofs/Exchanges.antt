@@ -10,12 +10,12 @@ use Rattle.sg_names.specs.declared.key.Key.{Key}
 use Rattle.sg_history.specs.declared.row.Row.{Row}
 use Rattle.sg_history.specs.declared.row.Options.{Options}
 use Rattle.repl_messages.specs.declared.request.Version.{Version}
-use Rattle.repl_messages.specs.declared.request.Request.{Request}
-use Rattle.repl_messages.specs.declared.request.Request.TheVariants.{SubChanges}
+use Rattle.session_core.specs.declared.served.Served.{Served}
+use Rattle.session_core.specs.declared.served.Served.TheVariants.{Feed}
 use Rattle.repl_messages.specs.declared.request.RequestFault.{RequestFault}
 use Rattle.repl_messages.specs.declared.looks.Fed.{Fed}
 use Rattle.repl_messages.specs.declared.looks.Bodies.{Bodies}
-use Rattle.repl_messages.specs.Requests.{IsAnswer}
+use Rattle.session_core.specs.Served.{IsRead}
 use Rattle.repl_messages.specs.Looks as looks
 use Rattle.repl_messages.specs.Looks.{IsFed, AreBodies}
 use Rattle.session_core.specs.declared.act.Act.{Act}
@@ -42,7 +42,7 @@ exchanged : (h : List Entry) (user : List ℕ) (version : Version) (earlier : Li
 exchanged h user version earlier x after d = (record { read = d.0; looks = d.1; puts = d.2 }, d.3)
 
 -- the same, where the machine's own count of requests is put in
-counted : (h : List Entry) (user : List ℕ) (version : Version) (earlier : List Exchange) (m : Machine) (message : Message) (read : Result Request RequestFault) (taken : List Look) (acts : List Act) (after : Machine)
+counted : (h : List Entry) (user : List ℕ) (version : Version) (earlier : List Exchange) (m : Machine) (message : Message) (read : Result Served RequestFault) (taken : List Look) (acts : List Act) (after : Machine)
     → m ≡ led_to h user version earlier
     → Done h user version (running h user earlier) (requests_put earlier) (exchange message read taken acts (requests_put earlier)) after
     → Exchanged h user version earlier (exchange message read taken acts m.requests) × (after ≡ led_to h user version (exchange message read taken acts m.requests ∷ earlier))
@@ -81,7 +81,7 @@ no_look_by_kind m number kinds.Msg urgent no_reply payload after acts s rest =
       refl,
       refl,
       λ h user version earlier is _.
-          let Reads : Version → Type 0 = λ v. IsAnswer payload.props v s.0 in
+          let Reads : Version → Type 0 = λ v. IsRead payload v s.0 in
           counted h user version earlier m message s.0 [] acts after is
           (request_done h user version (running h user earlier) (requests_put earlier) number urgent no_reply payload s.0 acts after
           (subst Reads (ap (λ (m : Machine). m.version) is) s.1) (s.2 ∙ ap (λ (m : Machine). on_request m message s.0) is) rest),
@@ -107,14 +107,14 @@ asked_in other (pending.Bodies rows) = other
 feed_asked : (m : Machine) (number : ℕ) (urgent no_reply : Bool) (payload : Payload) (since : Key) (batch : ℕ) (options : Options) (between : Machine) (asked : Asked) (answer : Fed) (after : Machine) (acts : List Act)
     → let message : Message = record { number = number; kind = kinds.Msg; urgent = urgent; no_reply = no_reply; payload = payload } in
     let own : Asked = record { asker = asker_of message; since = since; batch = batch; options = options } in
-    IsAnswer payload.props m.version (Ok (SubChanges since batch options))
+    IsRead payload m.version (Ok (Feed since batch options))
     → m.feed ≡ None → between ≡ record m { pending = pending.Feed own } → between.pending ≡ pending.Feed asked
     → ◌≡◌ {A = Stepped} (after, acts) (on_fed between asked answer)
     → Makes m message (record { front = looks.front_of answer; purpose = purposes.Feed } ∷ []) acts (λ h user. IsFed h user asked.since asked.options answer) after
 feed_asked m number urgent no_reply payload since batch options between asked answer after acts reads none between_is waits e =
     let message : Message = record { number = number; kind = kinds.Msg; urgent = urgent; no_reply = no_reply; payload = payload } in
     let own : Asked = record { asker = asker_of message; since = since; batch = batch; options = options } in
-    let read : Result Request RequestFault = Ok (SubChanges since batch options) in
+    let read : Result Served RequestFault = Ok (Feed since batch options) in
     let taken : List Look = record { front = looks.front_of answer; purpose = purposes.Feed } ∷ [] in
     let same : asked ≡ own = ap (asked_in own) (sym waits ∙ ap (λ (m : Machine). m.pending) between_is) in (
       exchange message read taken acts m.requests,
@@ -123,7 +123,7 @@ feed_asked m number urgent no_reply payload since batch options between asked an
       refl,
       λ h user version earlier is by.
           let idle : running h user earlier ≡ None = sym (ap (λ (m : Machine). m.feed) is) ∙ none in
-          let Reads : Version → Type 0 = λ v. IsAnswer payload.props v read in
+          let Reads : Version → Type 0 = λ v. IsRead payload v read in
           let Fits : Asked → Type 0 = λ a. IsFed h user a.since a.options answer in
           let Ends : Option Running → Type 0 = λ r. Done h user version r (requests_put earlier) (exchange message read taken acts (requests_put earlier)) after in
           let stands : between ≡ record { user = user; version = version; requests = requests_put earlier; feed = None; pending = pending.Feed own } =
@@ -140,20 +140,20 @@ feed_asked m number urgent no_reply payload since batch options between asked an
 rests : (m between : Machine) → m.pending ≡ pending.Nothing → between ≡ m → IsFeed between.pending → ⊥
 rests m between rest e feeds = subst IsFeed (ap (λ (m : Machine). m.pending) e ∙ rest) feeds
 
-feed_read : (m : Machine) (number : ℕ) (urgent no_reply : Bool) (payload : Payload) (read : Result Request RequestFault) (f : Option Running) (between : Machine) (asks : List Act) (asked : Asked) (answer : Fed) (after : Machine) (acts : List Act)
+feed_read : (m : Machine) (number : ℕ) (urgent no_reply : Bool) (payload : Payload) (read : Result Served RequestFault) (f : Option Running) (between : Machine) (asks : List Act) (asked : Asked) (answer : Fed) (after : Machine) (acts : List Act)
     → let message : Message = record { number = number; kind = kinds.Msg; urgent = urgent; no_reply = no_reply; payload = payload } in
-    m.pending ≡ pending.Nothing → IsAnswer payload.props m.version read → m.feed ≡ f
+    m.pending ≡ pending.Nothing → IsRead payload m.version read → m.feed ≡ f
     → ◌≡◌ {A = Stepped} (between, asks) (on_request m message read) → between.pending ≡ pending.Feed asked
     → ◌≡◌ {A = Stepped} (after, acts) (on_fed between asked answer)
     → Makes m message (record { front = looks.front_of answer; purpose = purposes.Feed } ∷ []) acts (λ h user. IsFed h user asked.since asked.options answer) after
 feed_read m number urgent no_reply payload (Err fault) f between asks asked answer after acts rest reads is step waits e =
     absurd (rests m between rest (ap (λ (s : Stepped). s.0) step) (subst IsFeed (sym waits) tt))
-feed_read m number urgent no_reply payload (Ok (SubChanges since batch options)) None between asks asked answer after acts rest reads is step waits e =
+feed_read m number urgent no_reply payload (Ok (Feed since batch options)) None between asks asked answer after acts rest reads is step waits e =
     let message : Message = record { number = number; kind = kinds.Msg; urgent = urgent; no_reply = no_reply; payload = payload } in
     let own : Asked = record { asker = asker_of message; since = since; batch = batch; options = options } in
     feed_asked m number urgent no_reply payload since batch options between asked answer after acts reads is
     (ap (λ (s : Stepped). s.0) (step ∙ ap (ask_for_feed m own) is)) waits e
-feed_read m number urgent no_reply payload (Ok (SubChanges since batch options)) (Some r) between asks asked answer after acts rest reads is step waits e =
+feed_read m number urgent no_reply payload (Ok (Feed since batch options)) (Some r) between asks asked answer after acts rest reads is step waits e =
     let message : Message = record { number = number; kind = kinds.Msg; urgent = urgent; no_reply = no_reply; payload = payload } in
     let own : Asked = record { asker = asker_of message; since = since; batch = batch; options = options } in
     absurd (rests m between rest (ap (λ (s : Stepped). s.0) (step ∙ ap (ask_for_feed m own) is)) (subst IsFeed (sym waits) tt))
@@ -286,9 +286,9 @@ ask_no_bodies : (m : Machine) (asked : Asked) (f : Option Running) → m.pending
 ask_no_bodies m asked None rest bodies = bodies
 ask_no_bodies m asked (Some r) rest bodies = subst IsBodies rest bodies
 
-request_no_bodies : (m : Machine) (message : Message) (read : Result Request RequestFault) → m.pending ≡ pending.Nothing → IsBodies (on_request m message read).0.pending → ⊥
+request_no_bodies : (m : Machine) (message : Message) (read : Result Served RequestFault) → m.pending ≡ pending.Nothing → IsBodies (on_request m message read).0.pending → ⊥
 request_no_bodies m message (Err fault) rest bodies = subst IsBodies rest bodies
-request_no_bodies m message (Ok (SubChanges since batch options)) rest bodies = ask_no_bodies m _ m.feed rest bodies
+request_no_bodies m message (Ok (Feed since batch options)) rest bodies = ask_no_bodies m _ m.feed rest bodies
 
 bodies_by : (m : Machine) (message : Message) (t : Bool) (rows : List Row) (between : Machine) (asks : List Act) (options : Options) (most : ℕ) (b : Bodies) (after : Machine) (acts : List Act)
     → m.pending ≡ pending.Nothing → is_request message.kind ≡ t → StepsByMessage t m message between asks

@@ -7,8 +7,8 @@ use Rattle.blip_frame.specs.declared.payload.Payload.{Payload}
 use Rattle.blip_mux.specs.declared.message.Message.{Message}
 use Rattle.blip_mux.specs.Joining.{is_request}
 use Rattle.sg_history.specs.declared.row.Row.{Row}
-use Rattle.repl_messages.specs.declared.request.Request.{Request}
-use Rattle.repl_messages.specs.declared.request.Request.TheVariants.{SubChanges}
+use Rattle.session_core.specs.declared.served.Served.{Served}
+use Rattle.session_core.specs.declared.served.Served.TheVariants.{Feed}
 use Rattle.repl_messages.specs.declared.request.RequestFault.{RequestFault}
 use Rattle.repl_messages.specs.declared.error.ErrorKind.TheVariants as errors
 use Rattle.repl_messages.specs.Changes.{changes_payload}
@@ -62,10 +62,10 @@ bodies_count n (row ∷ rows) (b ∷ answers) payload no_reply h = body_count n 
 none_counted : (n k : ℕ) → k ≡ 0 → n ≡ k + n
 none_counted n k none = sym (zero-add n) ∙ ap (λ k. k + n) (sym none)
 
-on_request_keeps : (m : Machine) (message : Message) (read : Result Request RequestFault) → KeptBy m (on_request m message read)
+on_request_keeps : (m : Machine) (message : Message) (read : Result Served RequestFault) → KeptBy m (on_request m message read)
 on_request_keeps m message (Err fault) =
     (refl, refl, none_counted m.requests (requests_among (messages_from (m.requests + 1) (refusal_act (asker_of message) (error_of fault)))) (refused_count (m.requests + 1) (asker_of message) kinds.Err (error_payload (error_of fault)) refl))
-on_request_keeps m message (Ok (SubChanges since batch options)) =
+on_request_keeps m message (Ok (Feed since batch options)) =
     elim m.feed as (λ feed. KeptBy m (ask_for_feed m (record { asker = asker_of message; since = since; batch = batch; options = options }) feed)) [
       | None ↦ (refl, refl, sym (zero-add m.requests))
       | Some r ↦ (refl, refl, none_counted m.requests (requests_among (messages_from (m.requests + 1) (refusal_act (asker_of message) errors.FeedRuns409))) (refused_count (m.requests + 1) (asker_of message) kinds.Err (error_payload errors.FeedRuns409) refl))

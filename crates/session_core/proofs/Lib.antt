@@ -7,3 +7,4 @@ pub mod Wanting
 pub mod Keeping
 pub mod Beginning
 pub mod Exchanges
+mod Serving

@@ -5,8 +5,8 @@ use Rattle.blip_mux.specs.Joining.{is_request, is_reply}
 use Rattle.sg_history.specs.declared.entries.Entry.{Entry}
 use Rattle.sg_history.specs.History.{past}
 use Rattle.sg_history.specs.Feed.{feed}
-use Rattle.repl_messages.specs.declared.request.Request.{Request}
-use Rattle.repl_messages.specs.declared.request.Request.TheVariants.{SubChanges}
+use Rattle.session_core.specs.declared.served.Served.{Served}
+use Rattle.session_core.specs.declared.served.Served.TheVariants.{Feed}
 use Rattle.repl_messages.specs.declared.request.RequestFault.{RequestFault}
 use Rattle.session_core.specs.declared.look.Look.{Look}
 use Rattle.session_core.specs.Running.{Running, running_with, answered}
@@ -14,7 +14,7 @@ use Rattle.session_core.specs.Running.{Running, running_with, answered}
 -- a message of the device, what it is read as where it is a request, the looks that were taken for it, and the messages that were put for it
 pub record Exchange : Type 0 where
   pub message : Message
-  pub read : Result Request RequestFault
+  pub read : Result Served RequestFault
   pub looks : List Look
   pub puts : List Message
 
@@ -33,10 +33,10 @@ abbrev pub answers : Running → Message → Bool
 answers r m = is_reply m.kind && m.number == r.number
 
 -- the feed that a request begins by its look, its first rows on offer in the request of this number; none where its since key is past the front, or no rows came
-abbrev pub begun : List Entry → List ℕ → Result Request RequestFault → List Look → ℕ → Option Running
+abbrev pub begun : List Entry → List ℕ → Result Served RequestFault → List Look → ℕ → Option Running
 begun h user (Err fault) looks number = None
-begun h user (Ok (SubChanges since batch options)) [] number = None
-begun h user (Ok (SubChanges since batch options)) (look ∷ looks) number =
+begun h user (Ok (Feed since batch options)) [] number = None
+begun h user (Ok (Feed since batch options)) (look ∷ looks) number =
     if nat_lt look.front since.by
     then None
     else running_with (feed (past h look.front) user since options) batch options number

@@ -1,7 +1,8 @@
-pub mod Running
 pub mod Batches
-pub mod Puts
-pub mod Exchange
-pub mod Session
-pub mod Machine
 pub mod Conduct
+pub mod Exchange
+pub mod Machine
+pub mod Puts
+pub mod Running
+pub mod Served
+pub mod Session

@@ -7,8 +7,8 @@ use Rattle.blip_mux.specs.declared.message.Message.{Message}
 use Rattle.blip_mux.specs.Joining.{is_request}
 use Rattle.sg_history.specs.declared.row.Row.{Row}
 use Rattle.repl_messages.specs.declared.request.Version.{Version}
-use Rattle.repl_messages.specs.declared.request.Request.{Request}
-use Rattle.repl_messages.specs.declared.request.Request.TheVariants.{SubChanges}
+use Rattle.session_core.specs.declared.served.Served.{Served}
+use Rattle.session_core.specs.declared.served.Served.TheVariants.{Feed}
 use Rattle.repl_messages.specs.declared.request.RequestFault.{RequestFault}
 use Rattle.repl_messages.specs.declared.error.ErrorKind.{ErrorKind}
 use Rattle.repl_messages.specs.declared.error.ErrorKind.TheVariants as errors
@@ -19,7 +19,7 @@ use Rattle.repl_messages.specs.declared.looks.Fed.TheVariants as fed
 use Rattle.repl_messages.specs.Changes.{changes_payload}
 use Rattle.repl_messages.specs.Rev.{rev_payload, norev_payload}
 use Rattle.repl_messages.specs.Errors.{ok_payload, error_payload}
-use Rattle.repl_messages.specs.Requests.{IsAnswer}
+use Rattle.session_core.specs.Served.{IsRead}
 use Rattle.session_core.specs.declared.act.Act.{Act}
 use Rattle.session_core.specs.declared.act.Act.TheVariants as act
 use Rattle.session_core.specs.declared.act.Want.TheVariants as want
@@ -87,9 +87,9 @@ abbrev pub asker_of : Message → Asker
 asker_of m = record { number = m.number; urgent = m.urgent; no_reply = m.no_reply }
 
 -- a request is refused, or its look is wanted
-abbrev pub on_request : Machine → Message → Result Request RequestFault → Stepped
+abbrev pub on_request : Machine → Message → Result Served RequestFault → Stepped
 on_request m message (Err fault) = (m, refusal_act (asker_of message) (error_of fault))
-on_request m message (Ok (SubChanges since batch options)) =
+on_request m message (Ok (Feed since batch options)) =
     ask_for_feed m (record { asker = asker_of message; since = since; batch = batch; options = options }) m.feed
 
 -- the rows on offer are answered, of which none is wanted or these are
@@ -118,7 +118,7 @@ on_bodies m wanted answers (Some r) =
 -- a step by a message, which is a request or is not
 abbrev pub StepsByMessage : Bool → Machine → Message → Machine → List Act → Type 0
 StepsByMessage true m message after acts =
-    (read : Result Request RequestFault) × IsAnswer message.payload.props m.version read × ((after, acts) ≡ on_request m message read)
+    (read : Result Served RequestFault) × IsRead message.payload m.version read × ((after, acts) ≡ on_request m message read)
 StepsByMessage false m message after acts = (after, acts) ≡ on_reply m message m.feed
 
 -- a step by an event, where this look's answer is awaited

@@ -7,11 +7,11 @@ use Rattle.sg_history.specs.declared.row.Row.{Row}
 use Rattle.sg_history.specs.History.{past}
 use Rattle.sg_history.specs.Feed.{feed}
 use Rattle.repl_messages.specs.declared.request.Version.{Version}
-use Rattle.repl_messages.specs.declared.request.Request.{Request}
-use Rattle.repl_messages.specs.declared.request.Request.TheVariants.{SubChanges}
+use Rattle.session_core.specs.declared.served.Served.{Served}
+use Rattle.session_core.specs.declared.served.Served.TheVariants.{Feed}
 use Rattle.repl_messages.specs.declared.request.RequestFault.{RequestFault}
 use Rattle.repl_messages.specs.declared.error.ErrorKind.TheVariants as errors
-use Rattle.repl_messages.specs.Requests.{IsAnswer}
+use Rattle.session_core.specs.Served.{IsRead}
 use Rattle.repl_messages.specs.Looks.{body_of}
 use Rattle.repl_messages.specs.Wanted.{wanted_rows, reply_items, max_history_of}
 use Rattle.blip_frame.specs.Props.{value_at}
@@ -37,10 +37,10 @@ most_ancestors m = max_history_of (value_at m.payload.props (codes "maxHistory")
 
 -- ---- which looks are taken
 
-abbrev pub looks_for_request : Result Request RequestFault → Option Running → List Purpose
+abbrev pub looks_for_request : Result Served RequestFault → Option Running → List Purpose
 looks_for_request (Err fault) r = []
-looks_for_request (Ok (SubChanges since batch options)) None = purposes.Feed ∷ []
-looks_for_request (Ok (SubChanges since batch options)) (Some r) = []
+looks_for_request (Ok (Feed since batch options)) None = purposes.Feed ∷ []
+looks_for_request (Ok (Feed since batch options)) (Some r) = []
 
 abbrev pub looks_for_wanted : List Row → List Purpose
 looks_for_wanted [] = []
@@ -51,20 +51,20 @@ looks_for_reply m None = []
 looks_for_reply m (Some r) = if answers r m then looks_for_wanted (wanted_of r m) else []
 
 -- the looks that a message takes: one for a feed where it begins one, one for bodies where it wants rows that are on offer
-abbrev pub looks_for : Message → Result Request RequestFault → Option Running → List Purpose
+abbrev pub looks_for : Message → Result Served RequestFault → Option Running → List Purpose
 looks_for m read r = if is_request m.kind then looks_for_request read r else looks_for_reply m r
 
 -- ---- what is put
 
 -- a feed begins: its first rows are offered; it is refused where its since key is past the front
-abbrev pub puts_for_feed : List Entry → List ℕ → Version → Message → Request → ℕ → ℕ → List Message
-puts_for_feed h user version m (SubChanges since batch options) front number =
+abbrev pub puts_for_feed : List Entry → List ℕ → Version → Message → Served → ℕ → ℕ → List Message
+puts_for_feed h user version m (Feed since batch options) front number =
     if nat_lt front since.by
     then refusal m (errors.SincePast400 front)
     else acceptance m ++ offer (feed (past h front) user since options) batch version number ∷ []
 
 -- a request that can't be read is refused, as is one for a feed where one runs
-abbrev pub puts_for_request : List Entry → List ℕ → Version → Message → Result Request RequestFault → Option Running → ℕ → ℕ → List Message
+abbrev pub puts_for_request : List Entry → List ℕ → Version → Message → Result Served RequestFault → Option Running → ℕ → ℕ → List Message
 puts_for_request h user version m (Err fault) r front number = refusal m (error_of fault)
 puts_for_request h user version m (Ok request) (Some r) front number = refusal m errors.FeedRuns409
 puts_for_request h user version m (Ok request) None front number = puts_for_feed h user version m request front number
@@ -82,7 +82,7 @@ puts_for_reply h user version m None front number = []
 puts_for_reply h user version m (Some r) front number = if answers r m then puts_for_answer h user version m r front number else []
 
 -- the messages that are put for a message, by the history at the front of the look that was taken, requests numbered from this one on
-abbrev pub puts_for : List Entry → List ℕ → Version → Message → Result Request RequestFault → Option Running → ℕ → ℕ → List Message
+abbrev pub puts_for : List Entry → List ℕ → Version → Message → Result Served RequestFault → Option Running → ℕ → ℕ → List Message
 puts_for h user version m read r front number =
     if is_request m.kind then puts_for_request h user version m read r front number else puts_for_reply h user version m r front number
 
@@ -90,7 +90,7 @@ puts_for h user version m read r front number =
 
 -- what is done for a message is what these exchanges before it and the history at the front of its look call for
 pub record Exchanged (h : List Entry) (user : List ℕ) (version : Version) (earlier : List Exchange) (x : Exchange) : Type 0 where
-  pub read : is_request x.message.kind ≡ true → IsAnswer x.message.payload.props version x.read
+  pub read : is_request x.message.kind ≡ true → IsRead x.message.payload version x.read
   pub looks : map (λ look. look.purpose) x.looks ≡ looks_for x.message x.read (running h user earlier)
   pub puts : x.puts ≡ puts_for h user version x.message x.read (running h user earlier) (front_of x.looks) (requests_put earlier + 1)
 

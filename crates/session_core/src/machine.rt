@@ -2,9 +2,9 @@
 
 ghost use Rattle.std.specs.Prelude.{◌≡◌, ◌≤◌, ◌<◌, ◌+◌, ◌∷◌, ◌++◌, ◌&&◌, ◌==◌, [], true, drop, Some, None, Result, IsSome, IsTrue, ◌↔◌, IfOk, OnOk, OnErr};
 ghost use Rattle.blip_mux.specs.Joining.{is_reply};
-ghost use Rattle.repl_messages.specs.declared.request.Request.{Request};
 ghost use Rattle.repl_messages.specs.declared.request.RequestFault.{RequestFault};
-ghost use Rattle.repl_messages.specs.Requests.{IsAnswer};
+ghost use Rattle.session_core.specs.declared.served.Served.{Served};
+ghost use Rattle.session_core.specs.Served.{IsRead};
 ghost use Rattle.session_core.specs.Running.{Running, answered};
 ghost use Rattle.session_core.specs.Machine as machine;
 ghost use Rattle.session_core.specs.Conduct.{Wants, Keeps, are_requests};
@@ -15,9 +15,10 @@ use crate::bodies::{bodies, choose, copy_rows};
 use crate::event::Event;
 use crate::feed::Feed;
 use crate::replies::{Asker, accept, error_of_fault, offer, refuse};
+use crate::served::{Served, read_served};
 use blip_frame::Kind;
 use blip_mux::Message;
-use repl_messages::{Bodies, ErrorKind, Fed, Request, Version, read_request, read_wanted};
+use repl_messages::{Bodies, ErrorKind, Fed, Version, read_wanted};
 use sg_history::{Key, Name, Options, Rows};
 use sg_outside::Memory;
 use std::alloc::Global;
@@ -138,7 +139,7 @@ impl Core {
 
     fn take_request(&mut self, alloc: Global, message: &Message) -> Result<Acts, Memory>
         requires awaited { self.old.pending ≡ Pending.Nothing }
-        ensures ok { IfOk result (λ acts. (read : Result Request RequestFault) × IsAnswer message.now.payload.props self.old.version read
+        ensures ok { IfOk result (λ acts. (read : Result Served RequestFault) × IsRead message.now.payload self.old.version read
             × ((self.new, acts) ≡ on_request self.old message.now read)) }
         ensures few { OnOk result (self.new.requests ≡ self.old.requests) }
         ensures err { OnErr result (self.new ≡ self.old) }
@@ -148,9 +149,9 @@ impl Core {
             urgent: message.urgent,
             no_reply: message.no_reply,
         };
-        match read_request(alloc, message, self.version) {
+        match read_served(alloc, message, self.version) {
             Ok(
-                Request::SubChanges {
+                Served::Feed {
                     since,
                     batch,
                     options,
