@@ -1,273 +1,495 @@
-//! Requests as a device writes them, each refusal once, and the texts of the gateway to the byte.
+//! The texts of the replication protocol: what messages of a device are read as, and what the gateway writes.
 
-use blip_frame::{Kind, Payload, Prop, Props, read_payload, write_payload};
+use blip_frame::{Kind, Payload, Prop, Props};
 use blip_mux::Message;
+use json_doc::DocText;
 use repl_messages::{
-    ErrorKind, Field, Flags, Request, RequestFault, Version, read_request, read_wanted,
-    write_changes, write_error, write_norev, write_ok, write_rev,
+    ErrorKind, Field, OfferAnswer, Offers, Request, RequestFault, Version, read_request,
+    read_wanted, write_answers, write_changes, write_checkpoint, write_error, write_norev,
+    write_ok, write_rev,
 };
-use sg_history::{DocId, Key, RevId, Revs, Row, Rows, TextFault};
+use rev_tree::Leaf;
+use sg_history::{DocId, Key, Options, RevId, Revs, Row, Rows, write_decimal};
 use sg_outside::Bytes;
-use std::alloc::{AllocError, Global};
-use std::process::Abort;
+use std::alloc::Global;
 use std::test::Fail;
 
-/// Puts properties at the end.
-fn push_pairs(
-    alloc: Global,
-    props: &mut Vec<Prop>,
-    pairs: &[(&str, &str)],
-) -> Result<(), AllocError> {
-    for (key, value) in pairs {
-        props.push(Prop {
-            key: String::from_str(alloc, key)?,
-            value: String::from_str(alloc, value)?,
-        })?;
+/// Properties that are given as `KEY=VALUE`, with `&` between each two.
+fn props_of(alloc: Global, text: &str) -> Result<Props, Fail> {
+    let mut props = Vec::new(alloc);
+    for pair in text.split('&') {
+        if let Some((key, value)) = pair.split_once('=') {
+            props.push(Prop {
+                key: String::from_str(alloc, key)?,
+                value: String::from_str(alloc, value)?,
+            })?;
+        }
     }
-    Ok(())
+    Ok(Props::from_vec(props))
 }
 
-fn message_of(
-    alloc: Global,
-    kind: Kind,
-    props: Vec<Prop>,
-    body: &[u8],
-) -> Result<Message, AllocError> {
+fn message_of(alloc: Global, kind: Kind, props: &str, body: &[u8]) -> Result<Message, Fail> {
     Ok(Message {
         number: 1,
         kind,
         urgent: false,
         no_reply: false,
         payload: Payload {
-            props: Props::from_vec(props),
+            props: props_of(alloc, props)?,
             body: Bytes::from_slice(alloc, body)?,
         },
     })
 }
 
-/// A message with these properties, in this order, and this body.
-fn message(
-    alloc: Global,
-    kind: Kind,
-    pairs: &[(&str, &str)],
-    body: &[u8],
-) -> Result<Message, AllocError> {
-    let mut props = Vec::new(alloc);
-    push_pairs(alloc, &mut props, pairs)?;
-    message_of(alloc, kind, props, body)
-}
-
-/// The refusal of a subChanges with these further properties, where it is refused.
-fn refusal(
-    alloc: Global,
-    version: Version,
-    pairs: &[(&str, &str)],
-) -> Result<Option<RequestFault>, AllocError> {
-    let mut props = Vec::new(alloc);
-    push_pairs(alloc, &mut props, &[("Profile", "subChanges")])?;
-    push_pairs(alloc, &mut props, pairs)?;
-    let message = message_of(alloc, Kind::Msg, props, b"")?;
-    Ok(read_request(alloc, &message, version).err())
-}
-
-#[test]
-fn one_bad_property(rt: HostRuntime) -> Result<(), Fail> {
-    let since = Some(RequestFault::Bad400 {
-        field: Field::Since,
-    });
-    let low = Some(RequestFault::LowForm400);
-    let batch = Some(RequestFault::Bad400 {
-        field: Field::Batch,
-    });
-    let table: [(&str, &str, Option<RequestFault>); 38] = [
-        ("since", "0", None),
-        ("since", "5", None),
-        ("since", "7:4", None),
-        ("since", "5:5", None),
-        ("since", "\"7:4\"", None),
-        ("since", "18446744073709551615", None),
-        ("since", "", since),
-        ("since", "\"", since),
-        ("since", "\"\"", since),
-        ("since", "\"5", since),
-        ("since", "5\"", since),
-        ("since", "\"\"5\"\"", since),
-        ("since", "05", since),
-        ("since", "+5", since),
-        ("since", "4:7", since),
-        ("since", "7:0", since),
-        ("since", "0:0", since),
-        ("since", "18446744073709551616", since),
-        ("since", "1:2:3:4", since),
-        ("since", "3::5", low),
-        ("since", "3:4:5", low),
-        ("since", "\"3:4:5\"", low),
-        ("since", "18446744073709551616::5", low),
-        ("batch", "1", None),
-        ("batch", "200", None),
-        ("batch", "10000", None),
-        ("batch", "10001", batch),
-        ("batch", "0", batch),
-        ("batch", "", batch),
-        ("batch", "07", batch),
-        ("batch", "-7", batch),
-        ("batch", "18446744073709551617", batch),
-        ("channels", "", None),
-        ("continuous", "0", None),
-        ("continuous", "false", None),
-        ("continuous", "true", Some(RequestFault::Unknown404)),
-        ("continuous", "", Some(RequestFault::Unknown404)),
-        ("unheard-of", "x", None),
-    ];
-    for (key, value, want) in table {
-        let found = refusal(rt.alloc(), Version::Three, &[(key, value)])?;
-        assert_eq!(rt; found, want, "{key} is {value}");
+fn write_mark(mark: bool, word: &[u8], text: &mut Bytes) -> Result<(), Fail> {
+    if mark {
+        text.extend_from_slice(word)?;
     }
     Ok(())
 }
 
-#[test]
-fn the_filter_by_channels(rt: HostRuntime) -> Result<(), Fail> {
-    let bad = |field| Some(RequestFault::Bad400 { field });
-    let name = "sync_gateway/bychannel";
-    let table: [(&str, Option<&str>, Option<RequestFault>); 11] = [
-        (name, Some("A"), None),
-        (name, Some("!,*"), None),
-        (name, Some("B,A,B"), None),
-        (name, Some("übrig"), None),
-        (name, None, bad(Field::Channels)),
-        (name, Some(""), bad(Field::Channels)),
-        (name, Some("-"), bad(Field::Channels)),
-        (name, Some("A,"), bad(Field::Channels)),
-        (name, Some("A,,B"), bad(Field::Channels)),
-        ("sync_gateway/byuser", Some("A"), bad(Field::Filter)),
-        ("", None, bad(Field::Filter)),
-    ];
-    for (name, channels, want) in table {
-        let found = match channels {
-            Some(channels) => refusal(
-                rt.alloc(),
-                Version::Two,
-                &[("channels", channels), ("filter", name)],
-            )?,
-            None => refusal(rt.alloc(), Version::Two, &[("filter", name)])?,
-        };
-        assert_eq!(rt; found, want, "filter {name}");
-    }
-    Ok(())
-}
-
-#[test]
-fn the_first_bad_property(rt: HostRuntime) -> Result<(), Fail> {
-    let bad = |field| RequestFault::Bad400 { field };
-    // From the first that is due to the last.
-    let bads: [(&str, &str, RequestFault); 4] = [
-        ("continuous", "1", RequestFault::Unknown404),
-        ("since", "x", bad(Field::Since)),
-        ("batch", "x", bad(Field::Batch)),
-        ("filter", "x", bad(Field::Filter)),
-    ];
-    for i in 0..bads.len() {
-        for j in 0..bads.len() {
-            let first = if i < j { i } else { j };
-            let pairs = [(bads[i].0, bads[i].1), (bads[j].0, bads[j].1)];
-            let found = refusal(rt.alloc(), Version::Three, &pairs)?;
-            assert_eq!(rt; found, Some(bads[first].2), "{i} and {j}");
+fn write_options(options: &Options, text: &mut Bytes) -> Result<(), Fail> {
+    write_mark(options.active_only, b" active", text)?;
+    write_mark(options.revocations, b" revocations", text)?;
+    if let Some(filter) = &options.filter {
+        for channel in filter.as_slice() {
+            text.push(b' ')?;
+            text.extend_from_slice(channel.as_bytes())?;
         }
     }
     Ok(())
 }
 
+fn write_offers(offers: &Offers, text: &mut Bytes) -> Result<(), Fail> {
+    for offer in offers.as_slice() {
+        text.push(b' ')?;
+        text.extend_from_slice(offer.doc.as_bytes())?;
+        text.push(b' ')?;
+        offer.rev.write(text)?;
+        if let Some(parent) = &offer.parent {
+            text.extend_from_slice(b" on ")?;
+            parent.write(text)?;
+        }
+        text.push(b';')?;
+    }
+    Ok(())
+}
+
+fn write_request(request: &Request, text: &mut Bytes) -> Result<(), Fail> {
+    match request {
+        Request::GetCheckpoint { client } => {
+            text.extend_from_slice(b"get ")?;
+            text.extend_from_slice(client.as_bytes())?;
+        }
+        Request::SetCheckpoint { client, rev, body } => {
+            text.extend_from_slice(b"set ")?;
+            text.extend_from_slice(client.as_bytes())?;
+            text.push(b' ')?;
+            write_decimal(*rev, text)?;
+            text.push(b' ')?;
+            text.extend_from_slice(body.as_slice())?;
+        }
+        Request::SubChanges {
+            since,
+            continuous,
+            batch,
+            options,
+        } => {
+            text.extend_from_slice(b"since ")?;
+            since.write(text)?;
+            write_mark(*continuous, b" continuous", text)?;
+            text.push(b' ')?;
+            write_decimal(*batch, text)?;
+            write_options(options, text)?;
+        }
+        Request::Changes { offers } => {
+            text.extend_from_slice(b"changes")?;
+            write_offers(offers, text)?;
+        }
+        Request::ProposeChanges { offers } => {
+            text.extend_from_slice(b"proposals")?;
+            write_offers(offers, text)?;
+        }
+        Request::Rev(revision) => {
+            text.extend_from_slice(b"rev ")?;
+            text.extend_from_slice(revision.doc.as_bytes())?;
+            text.push(b' ')?;
+            revision.rev.write(text)?;
+            text.push(b' ')?;
+            revision.ancestors.write(text)?;
+            write_mark(revision.deleted, b" deleted", text)?;
+            write_mark(revision.noconflicts, b" noconflicts", text)?;
+            text.push(b' ')?;
+            text.extend_from_slice(revision.body.as_slice())?;
+        }
+    }
+    Ok(())
+}
+
+/// What a message is read as, in words.
+fn answer_text(alloc: Global, props: &str, body: &[u8], version: Version) -> Result<Bytes, Fail> {
+    let message = message_of(alloc, Kind::Msg, props, body)?;
+    let mut text = Bytes::new(alloc);
+    match read_request(alloc, &message, version) {
+        Ok(request) => write_request(&request, &mut text)?,
+        Err(RequestFault::Bad400 { field }) => {
+            text.extend_from_slice(b"bad ")?;
+            text.extend_from_slice(field.as_str().as_bytes())?;
+        }
+        Err(RequestFault::LowForm400) => text.extend_from_slice(b"low form")?,
+        Err(RequestFault::Unknown404) => text.extend_from_slice(b"unknown")?,
+        Err(RequestFault::Memory) => text.extend_from_slice(b"memory")?,
+    }
+    Ok(text)
+}
+
+/// Messages of a device by their properties and body, and what each is read as.
+const REQUESTS: [(&str, &[u8], &str); 104] = [
+    ("", b"", "unknown"),
+    ("since=x", b"", "unknown"),
+    ("Profile=proveAttachment", b"", "unknown"),
+    ("profile=subChanges", b"", "unknown"),
+    ("Profile=getCheckpoint&client=c 1", b"\xff", "get c 1"),
+    ("Profile=getCheckpoint", b"", "bad client"),
+    ("Profile=getCheckpoint&client=", b"", "bad client"),
+    ("Profile=getCheckpoint&client=a\tb", b"", "bad client"),
+    ("Profile=setCheckpoint&client=c1", b"{}", "set c1 0 {}"),
+    (
+        "Profile=setCheckpoint&client=c1&rev=0-0",
+        b"{}",
+        "set c1 0 {}",
+    ),
+    (
+        "Profile=setCheckpoint&client=c1&rev=0-7",
+        b" {\"a\":[1]} ",
+        "set c1 7  {\"a\":[1]} ",
+    ),
+    (
+        "Profile=setCheckpoint&client=c1&rev=0-18446744073709551615",
+        b"{}",
+        "set c1 18446744073709551615 {}",
+    ),
+    (
+        "Profile=setCheckpoint&client=c1&rev=0-18446744073709551616",
+        b"{}",
+        "bad rev",
+    ),
+    ("Profile=setCheckpoint&client=c1&rev=", b"{}", "bad rev"),
+    ("Profile=setCheckpoint&client=c1&rev=7", b"{}", "bad rev"),
+    ("Profile=setCheckpoint&client=c1&rev=1-7", b"{}", "bad rev"),
+    ("Profile=setCheckpoint&client=c1&rev=0-07", b"{}", "bad rev"),
+    ("Profile=setCheckpoint&rev=x", b"", "bad client"),
+    ("Profile=setCheckpoint&client=c1&rev=x", b"", "bad rev"),
+    ("Profile=setCheckpoint&client=c1", b"", "bad body"),
+    ("Profile=setCheckpoint&client=c1", b"[]", "bad body"),
+    (
+        "Profile=setCheckpoint&client=c1",
+        b"{\"a\":\"\xff\"}",
+        "bad body",
+    ),
+    ("Profile=subChanges", b"\xff", "since 0 200"),
+    ("Profile=subChanges&since=5", b"", "since 5 200"),
+    ("Profile=subChanges&since=7:4", b"", "since 7:4 200"),
+    ("Profile=subChanges&since=5:5", b"", "since 5 200"),
+    ("Profile=subChanges&since=\"7:4\"", b"", "since 7:4 200"),
+    (
+        "Profile=subChanges&since=18446744073709551615",
+        b"",
+        "since 18446744073709551615 200",
+    ),
+    ("Profile=subChanges&since=5&since=x", b"", "since 5 200"),
+    ("Profile=subChanges&since=", b"", "bad since"),
+    ("Profile=subChanges&since=\"", b"", "bad since"),
+    ("Profile=subChanges&since=\"5", b"", "bad since"),
+    ("Profile=subChanges&since=\"\"5\"\"", b"", "bad since"),
+    ("Profile=subChanges&since=05", b"", "bad since"),
+    ("Profile=subChanges&since=+5", b"", "bad since"),
+    ("Profile=subChanges&since=4:7", b"", "bad since"),
+    ("Profile=subChanges&since=7:0", b"", "bad since"),
+    (
+        "Profile=subChanges&since=18446744073709551616",
+        b"",
+        "bad since",
+    ),
+    ("Profile=subChanges&since=1:2:3:4", b"", "bad since"),
+    ("Profile=subChanges&since=3::5", b"", "low form"),
+    ("Profile=subChanges&since=3:4:5", b"", "low form"),
+    ("Profile=subChanges&since=\"3:4:5\"", b"", "low form"),
+    (
+        "Profile=subChanges&since=18446744073709551616::5",
+        b"",
+        "low form",
+    ),
+    ("Profile=subChanges&batch=1", b"", "since 0 1"),
+    ("Profile=subChanges&batch=10000", b"", "since 0 10000"),
+    ("Profile=subChanges&batch=10001", b"", "bad batch"),
+    ("Profile=subChanges&batch=0", b"", "bad batch"),
+    ("Profile=subChanges&batch=", b"", "bad batch"),
+    ("Profile=subChanges&batch=07", b"", "bad batch"),
+    (
+        "Profile=subChanges&batch=18446744073709551617",
+        b"",
+        "bad batch",
+    ),
+    (
+        "Profile=subChanges&continuous=true",
+        b"",
+        "since 0 continuous 200",
+    ),
+    (
+        "Profile=subChanges&continuous=",
+        b"",
+        "since 0 continuous 200",
+    ),
+    ("Profile=subChanges&continuous=false", b"", "since 0 200"),
+    ("Profile=subChanges&continuous=0", b"", "since 0 200"),
+    (
+        "Profile=subChanges&activeOnly=yes",
+        b"",
+        "since 0 200 active",
+    ),
+    (
+        "Profile=subChanges&revocations=1",
+        b"",
+        "since 0 200 revocations",
+    ),
+    ("Profile=subChanges&channels=-", b"", "since 0 200"),
+    (
+        "Profile=subChanges&channels=B,A,B&filter=sync_gateway/bychannel",
+        b"",
+        "since 0 200 B A B",
+    ),
+    (
+        "Profile=subChanges&channels=!,*&filter=sync_gateway/bychannel",
+        b"",
+        "since 0 200 ! *",
+    ),
+    (
+        "Profile=subChanges&filter=sync_gateway/bychannel",
+        b"",
+        "bad channels",
+    ),
+    (
+        "Profile=subChanges&filter=sync_gateway/bychannel&channels=",
+        b"",
+        "bad channels",
+    ),
+    (
+        "Profile=subChanges&filter=sync_gateway/bychannel&channels=-",
+        b"",
+        "bad channels",
+    ),
+    (
+        "Profile=subChanges&filter=sync_gateway/bychannel&channels=A,",
+        b"",
+        "bad channels",
+    ),
+    (
+        "Profile=subChanges&filter=sync_gateway/byuser&channels=A",
+        b"",
+        "bad filter",
+    ),
+    ("Profile=subChanges&filter=", b"", "bad filter"),
+    (
+        "Profile=subChanges&filter=x&batch=x&since=x",
+        b"",
+        "bad since",
+    ),
+    ("Profile=subChanges&filter=x&batch=x", b"", "bad batch"),
+    ("Profile=changes", b"[]", "changes"),
+    (
+        "Profile=changes",
+        b"[[1,\"d1\",\"1-a\"]]",
+        "changes d1 1-a;",
+    ),
+    (
+        "Profile=changes",
+        b" [ [\"7:4\",\"d1\",\"2-b\",0,null], [1.5,\"-\",\"1-a\"] ] ",
+        "changes d1 2-b; - 1-a;",
+    ),
+    ("Profile=changes", b"", "bad rows"),
+    ("Profile=changes", b"{}", "bad rows"),
+    ("Profile=changes", b"[[1,\"d1\",\"1-a\"]", "bad rows"),
+    ("Profile=changes", b"[1]", "bad rows"),
+    ("Profile=changes", b"[[]]", "bad rows"),
+    ("Profile=changes", b"[[1,\"d1\"]]", "bad rows"),
+    ("Profile=changes", b"[[null,\"d1\",\"1-a\"]]", "bad rows"),
+    ("Profile=changes", b"[[1,\"_d\",\"1-a\"]]", "bad rows"),
+    ("Profile=changes", b"[[1,\"\",\"1-a\"]]", "bad rows"),
+    ("Profile=changes", b"[[1,\"d1\",\"0-a\"]]", "bad rows"),
+    ("Profile=changes", b"[[1,\"d1\",\"a\"]]", "bad rows"),
+    ("Profile=changes", b"[[1,\"d1\",1]]", "bad rows"),
+    (
+        "Profile=changes",
+        b"[[1,\"d1\",\"1-a\"],[1,\"d1\",\"x\"]]",
+        "bad rows",
+    ),
+    ("Profile=proposeChanges", b"[]", "proposals"),
+    (
+        "Profile=proposeChanges",
+        b"[[\"d1\",\"1-a\"]]",
+        "proposals d1 1-a;",
+    ),
+    (
+        "Profile=proposeChanges",
+        b"[[\"d1\",\"1-a\",\"\"]]",
+        "proposals d1 1-a;",
+    ),
+    (
+        "Profile=proposeChanges",
+        b"[[\"d1\",\"2-b\",\"1-a\",7],[\"d2\",\"1-c\"]]",
+        "proposals d1 2-b on 1-a; d2 1-c;",
+    ),
+    (
+        "Profile=proposeChanges",
+        b"[[\"d1\",\"2-b\",null]]",
+        "bad rows",
+    ),
+    (
+        "Profile=proposeChanges",
+        b"[[\"d1\",\"2-b\",\"x\"]]",
+        "bad rows",
+    ),
+    (
+        "Profile=proposeChanges",
+        b"[[1,\"d1\",\"1-a\"]]",
+        "bad rows",
+    ),
+    ("Profile=proposeChanges", b"[[\"d1\"]]", "bad rows"),
+    (
+        "Profile=rev&id=d1&rev=1-a",
+        b"no JSON",
+        "rev d1 1-a - no JSON",
+    ),
+    (
+        "Profile=rev&id=d1&rev=1-a&history=&sequence=x",
+        b"",
+        "rev d1 1-a - ",
+    ),
+    (
+        "Profile=rev&id=d1&rev=3-c&history=2-b,1-a&deleted=1&noconflicts=true",
+        b"{}",
+        "rev d1 3-c 2-b,1-a deleted noconflicts {}",
+    ),
+    (
+        "Profile=rev&id=d1&rev=3-c&deleted=0&noconflicts=false",
+        b"{}",
+        "rev d1 3-c - {}",
+    ),
+    ("Profile=rev&rev=x&history=x", b"", "bad id"),
+    ("Profile=rev&id=_d&rev=1-a", b"", "bad id"),
+    ("Profile=rev&id=d1&history=x", b"", "bad rev"),
+    ("Profile=rev&id=d1&rev=4294967296-a", b"", "bad rev"),
+    ("Profile=rev&id=d1&rev=1-", b"", "bad rev"),
+    ("Profile=rev&id=d1&rev=1-a&history=-", b"", "bad history"),
+    ("Profile=rev&id=d1&rev=1-a&history=2-b,", b"", "bad history"),
+    (
+        "Profile=rev&id=d1&rev=1-a&history=2-b,,1-a",
+        b"",
+        "bad history",
+    ),
+    ("Profile=rev&id=d1&rev=1-a&history=x", b"", "bad history"),
+];
+
 #[test]
-fn names_of_messages(rt: HostRuntime) -> Result<(), Fail> {
+fn requests(rt: HostRuntime) -> Result<(), Fail> {
     let alloc = rt.alloc();
-    let table: [(&[(&str, &str)], Option<RequestFault>); 6] = [
-        (&[], Some(RequestFault::Unknown404)),
-        (&[("since", "x")], Some(RequestFault::Unknown404)),
-        (&[("Profile", "rev")], Some(RequestFault::Unknown404)),
-        (&[("profile", "subChanges")], Some(RequestFault::Unknown404)),
-        (&[("Profile", "subChanges")], None),
+    for (props, body, want) in REQUESTS {
+        let text = answer_text(alloc, props, body, Version::Three)?;
+        assert!(rt; text.as_slice() == want.as_bytes(), "{props} {body:?}");
+    }
+    let text = answer_text(alloc, "Profile=subChanges&revocations=1", b"", Version::Two)?;
+    assert!(rt; text.as_slice() == b"since 0 200".as_slice());
+    Ok(())
+}
+
+/// So many rows of the shortest names.
+fn rows_of(alloc: Global, count: usize) -> Result<Bytes, Fail> {
+    let mut body = Bytes::from_slice(alloc, b"[")?;
+    for i in 0..count {
+        if i > 0 {
+            body.push(b',')?;
+        }
+        body.extend_from_slice(b"[1,\"a\",\"1-a\"]")?;
+    }
+    body.push(b']')?;
+    Ok(body)
+}
+
+#[test]
+fn at_most_ten_thousand_rows(rt: HostRuntime) -> Result<(), Fail> {
+    let alloc = rt.alloc();
+    let most = rows_of(alloc, 10_000)?;
+    let text = answer_text(alloc, "Profile=changes", most.as_slice(), Version::Three)?;
+    assert!(rt; text.as_slice().starts_with(b"changes a 1-a;"));
+    let more = rows_of(alloc, 10_001)?;
+    let text = answer_text(alloc, "Profile=changes", more.as_slice(), Version::Three)?;
+    assert!(rt; text.as_slice() == b"bad rows".as_slice());
+    Ok(())
+}
+
+/// The properties of a payload as `KEY=VALUE`, with `&` after each, and its body.
+fn payload_text(alloc: Global, payload: &Payload) -> Result<Bytes, Fail> {
+    let mut text = Bytes::new(alloc);
+    for prop in payload.props.as_slice() {
+        text.extend_from_slice(prop.key.as_bytes())?;
+        text.push(b'=')?;
+        text.extend_from_slice(prop.value.as_bytes())?;
+        text.push(b'&')?;
+    }
+    text.extend_from_slice(payload.body.as_slice())?;
+    Ok(text)
+}
+
+fn error_text(alloc: Global, error: &ErrorKind) -> Result<Bytes, Fail> {
+    payload_text(alloc, &write_error(alloc, error)?)
+}
+
+#[test]
+fn errors(rt: HostRuntime) -> Result<(), Fail> {
+    let alloc = rt.alloc();
+    let rule = DocText::from_str(alloc, "access at 3:5")?;
+    let leaf = RevId::parse(alloc, "3-c")?;
+    let table = vec![in alloc;
+        (ErrorKind::Bad400 { field: Field::Rows }, "400&bad rows"),
+        (ErrorKind::LowForm400, "400&low form"),
+        (ErrorKind::SincePast400 { front: 7 }, "400&since is past 7"),
+        (ErrorKind::BadHistory400, "400&bad history"),
+        (ErrorKind::UserGone401, "401&user is gone"),
+        (ErrorKind::Denied403 { rule }, "403&access at 3:5"),
+        (ErrorKind::NoCheckpoint404, "404&no checkpoint"),
+        (ErrorKind::Conflict409 { leaf }, "409&conflict 3-c"),
         (
-            &[("Profile", "subChanges"), ("since", "5"), ("since", "x")],
-            None,
+            ErrorKind::Checkpoint409 { current: 1 },
+            "409&checkpoint is 0-1"
         ),
-    ];
-    for (pairs, want) in table {
-        // Neither kind nor body counts.
-        let message = message(alloc, Kind::Err, pairs, b"\xff")?;
-        let found = read_request(alloc, &message, Version::Three).err();
-        assert_eq!(rt; found, want);
+        (ErrorKind::FeedRuns409, "409&feed is running"),
+        (ErrorKind::UsePropose409, "409&use proposeChanges"),
+        (ErrorKind::TooLarge413, "413&too large"),
+        (ErrorKind::PendingFull503, "503&pending is full"),
+        (ErrorKind::CheckpointsFull503, "503&checkpoints are full"),
+        (ErrorKind::Memory507, "507&no memory"),
+        (ErrorKind::LogFull509, "509&log is full"),
+    ]?;
+    for (error, want) in table.iter() {
+        let text = error_text(alloc, error)?;
+        let Some(rest) = text
+            .as_slice()
+            .strip_prefix(b"Error-Domain=HTTP&Error-Code=")
+        else {
+            return Err(Fail::from("another domain"));
+        };
+        assert!(rt; rest == want.as_bytes(), "{want}");
     }
-    Ok(())
-}
-
-#[test]
-fn all_properties(rt: HostRuntime) -> Result<(), Fail> {
-    let alloc = rt.alloc();
-    let pairs = [
-        ("Profile", "subChanges"),
-        ("channels", "B,A,B"),
-        ("filter", "sync_gateway/bychannel"),
-        ("revocations", "true"),
-        ("activeOnly", "yes"),
-        ("continuous", "false"),
-        ("batch", "17"),
-        ("since", "\"7:4\""),
-    ];
-    for (version, revoked) in [(Version::Two, false), (Version::Three, true)] {
-        let message = message(alloc, Kind::Msg, &pairs, b"")?;
-        match read_request(alloc, &message, version) {
-            Ok(
-                Request::SubChanges {
-                    since,
-                    batch,
-                    options,
-                },
-            ) => {
-                assert_eq!(rt; since, Key { by: 7, seq: 4 });
-                assert_eq!(rt; batch, 17);
-                assert!(rt; options.active_only);
-                assert_eq!(rt; options.revocations, revoked);
-                let filter = options.filter.expect(&rt, "the filter is there");
-                let names = filter.as_slice();
-                assert_eq!(rt; names.len(), 3);
-                assert_eq!(rt; names[0].as_str(), "B");
-                assert_eq!(rt; names[1].as_str(), "A");
-                assert_eq!(rt; names[2].as_str(), "B");
-            }
-            Err(_) => assert!(rt; false, "it is refused"),
-        }
-    }
-    Ok(())
-}
-
-#[test]
-fn no_properties(rt: HostRuntime) -> Result<(), Fail> {
-    let alloc = rt.alloc();
-    let message = message(alloc, Kind::Msg, &[("Profile", "subChanges")], b"")?;
-    match read_request(alloc, &message, Version::Three) {
-        Ok(
-            Request::SubChanges {
-                since,
-                batch,
-                options,
-            },
-        ) => {
-            assert_eq!(rt; since, Key { by: 0, seq: 0 });
-            assert_eq!(rt; batch, 200);
-            assert!(rt; options.filter.is_none());
-            assert!(rt; !options.active_only);
-            assert!(rt; !options.revocations);
-        }
-        Err(_) => assert!(rt; false, "it is refused"),
-    }
+    let text = error_text(alloc, &ErrorKind::NoHandler404)?;
+    assert!(rt; text.as_slice() == b"Error-Domain=BLIP&Error-Code=404&no handler".as_slice());
     Ok(())
 }
 
 /// A row as its key, document, revision and bits.
 type Written<'a> = ((u64, u64), &'a str, &'a str, u8);
 
-fn row(alloc: Global, written: &Written<'_>) -> Result<Row, TextFault> {
+fn row_of(alloc: Global, written: &Written<'_>) -> Result<Row, Fail> {
     let (key, doc, rev, bits) = *written;
     Ok(Row {
         key: Key {
@@ -280,200 +502,136 @@ fn row(alloc: Global, written: &Written<'_>) -> Result<Row, TextFault> {
     })
 }
 
-fn rows(alloc: Global, written: &[Written<'_>]) -> Result<Rows, TextFault> {
+const ROWS: [Written<'static>; 5] = [
+    ((2, 2), "d1", "1-a", 0),
+    ((5, 2), "a\"b\\ü/", "7-x\"y", 1),
+    ((7, 7), "d", "1-a", 2),
+    ((8, 8), "d", "1-a", 4),
+    ((18446744073709551615, 9), "d", "4294967295-a", 5),
+];
+
+#[test]
+fn changes(rt: HostRuntime) -> Result<(), Fail> {
+    let alloc = rt.alloc();
     let mut rows = Rows::new(alloc);
-    for item in written {
-        rows.push(row(alloc, item)?)?;
+    for written in ROWS.iter() {
+        rows.push(row_of(alloc, written)?)?;
     }
-    Ok(rows)
-}
-
-/// Asserts that a payload has these properties and this body, and that what is written of it is read
-/// again.
-fn expect(
-    rt: &impl Abort,
-    alloc: Global,
-    payload: &Payload,
-    pairs: &[(&str, &str)],
-    body: &[u8],
-) -> Result<(), AllocError> {
-    let props = payload.props.as_slice();
-    assert_eq!(rt; props.len(), pairs.len());
-    for (prop, (key, value)) in props.iter().zip(pairs) {
-        assert_eq!(rt; prop.key.as_str(), *key);
-        assert_eq!(rt; prop.value.as_str(), *value);
+    for (version, want) in [
+        (
+            Version::Three,
+            r#"Profile=changes&[[2,"d1","1-a"],["5:2","a\"b\\ü/","7-x\"y",1],[7,"d","1-a",2],[8,"d","1-a",4],["18446744073709551615:9","d","4294967295-a",5]]"#,
+        ),
+        (
+            Version::Two,
+            r#"Profile=changes&[[2,"d1","1-a"],["5:2","a\"b\\ü/","7-x\"y",true],[7,"d","1-a"],[8,"d","1-a"],["18446744073709551615:9","d","4294967295-a",true]]"#,
+        ),
+    ] {
+        let payload = write_changes(alloc, rows.as_slice(), version)?;
+        assert!(rt;
+            payload_text(alloc, &payload)?.as_slice() == want.as_bytes(),
+            "{version:?}"
+        );
     }
-    assert_eq!(rt; payload.body.as_slice(), body);
-    let mut out = Bytes::new(alloc);
-    write_payload(payload, &mut out)?;
-    match read_payload(alloc, out.as_slice()) {
-        Ok(again) => {
-            assert_eq!(rt; again.props.len(), pairs.len());
-            assert_eq!(rt; again.body.as_slice(), body);
-        }
-        Err(_) => assert!(rt; false, "it is not read again"),
+    let none = write_changes(alloc, &[], Version::Three)?;
+    assert!(rt; payload_text(alloc, &none)?.as_slice() == b"Profile=changes&[]".as_slice());
+    Ok(())
+}
+
+#[test]
+fn revisions(rt: HostRuntime) -> Result<(), Fail> {
+    let alloc = rt.alloc();
+    for (written, ancestors, want) in [
+        (
+            ((2, 2), "d1", "3-c", 0),
+            "2-b,1-a",
+            "Profile=rev&id=d1&rev=3-c&sequence=2&history=2-b,1-a&{}",
+        ),
+        (
+            ((5, 4), "d2", "2-b", 5),
+            "1-z",
+            "Profile=rev&id=d2&rev=2-b&deleted=1&sequence=5:4&history=1-z&{}",
+        ),
+        (
+            ((6, 6), "d2", "2-b", 4),
+            "-",
+            "Profile=rev&id=d2&rev=2-b&sequence=6&{}",
+        ),
+    ] {
+        let row = row_of(alloc, &written)?;
+        let ancestors = Revs::parse(alloc, ancestors)?;
+        let payload = write_rev(alloc, &row, ancestors.as_slice(), b"{}")?;
+        assert!(rt;
+            payload_text(alloc, &payload)?.as_slice() == want.as_bytes(),
+            "{want}"
+        );
     }
+    let row = row_of(alloc, &((5, 4), "d2", "2-b", 5))?;
+    let text = payload_text(alloc, &write_norev(alloc, &row)?)?;
+    let want =
+        b"Profile=norev&id=d2&rev=2-b&sequence=5:4&error=404&reason=not available&".as_slice();
+    assert!(rt; text.as_slice() == want);
     Ok(())
 }
 
-fn expect_changes(
-    rt: &impl Abort,
+#[test]
+fn plain_replies(rt: HostRuntime) -> Result<(), Fail> {
+    let alloc = rt.alloc();
+    assert!(rt; payload_text(alloc, &write_ok(alloc)?)?.is_empty());
+    let text = payload_text(alloc, &write_checkpoint(alloc, 1, b"{\"a\":1}")?)?;
+    assert!(rt; text.as_slice() == b"rev=0-1&{\"a\":1}".as_slice());
+    Ok(())
+}
+
+/// The answer to an offer: whether it is known, the document's winner, and whether it has a parent that is the winner.
+fn answer_of(
     alloc: Global,
-    version: Version,
-    written: &[Written<'_>],
-    want: &str,
-) -> Result<(), TextFault> {
-    let rows = rows(alloc, written)?;
-    let payload = write_changes(alloc, rows.as_slice(), version)?;
-    expect(
-        rt,
-        alloc,
-        &payload,
-        &[("Profile", "changes")],
-        want.as_bytes(),
-    )?;
-    Ok(())
+    known: bool,
+    winner: &str,
+    deleted: bool,
+    parent: bool,
+    wins: bool,
+) -> Result<OfferAnswer, Fail> {
+    let winner = if winner.is_empty() {
+        None
+    } else {
+        Some(Leaf {
+            rev: RevId::parse(alloc, winner)?,
+            deleted,
+        })
+    };
+    Ok(OfferAnswer {
+        known,
+        winner,
+        parent,
+        parent_wins: wins,
+        ancestors: Revs::parse(alloc, if known { "-" } else { "2-b,1-a" })?,
+    })
 }
 
 #[test]
-fn plain_rows(rt: HostRuntime) -> Result<(), Fail> {
+fn answers(rt: HostRuntime) -> Result<(), Fail> {
     let alloc = rt.alloc();
-    let rows: [Written; 2] = [((2, 2), "d1", "1-a", 0), ((4, 4), "d3", "1-c", 0)];
-    let want = r#"[[2,"d1","1-a"],[4,"d3","1-c"]]"#;
-    expect_changes(&rt, alloc, Version::Three, &rows, want)?;
-    expect_changes(&rt, alloc, Version::Two, &rows, want)?;
-    expect_changes(&rt, alloc, Version::Three, &[], "[]")?;
-    Ok(())
-}
-
-#[test]
-fn escaped_rows(rt: HostRuntime) -> Result<(), Fail> {
-    let alloc = rt.alloc();
-    let rows: [Written; 1] = [((5, 2), "a\"b\\ü/", "7-x\"y", 0)];
-    let want = r#"[["5:2","a\"b\\ü/","7-x\"y"]]"#;
-    expect_changes(&rt, alloc, Version::Three, &rows, want)?;
-    Ok(())
-}
-
-#[test]
-fn marked_rows(rt: HostRuntime) -> Result<(), Fail> {
-    let alloc = rt.alloc();
-    let rows: [Written; 4] = [
-        ((6, 6), "d", "1-a", 1),
-        ((7, 7), "d", "1-a", 2),
-        ((8, 8), "d", "1-a", 4),
-        ((18446744073709551615, 9), "d", "4294967295-a", 5),
-    ];
-    let three =
-        r#"[[6,"d","1-a",1],[7,"d","1-a",2],[8,"d","1-a",4],["18446744073709551615:9","d","4294967295-a",5]]"#;
-    expect_changes(&rt, alloc, Version::Three, &rows, three)?;
-    let two =
-        r#"[[6,"d","1-a",true],[7,"d","1-a"],[8,"d","1-a"],["18446744073709551615:9","d","4294967295-a",true]]"#;
-    expect_changes(&rt, alloc, Version::Two, &rows, two)?;
-    Ok(())
-}
-
-fn expect_rev(
-    rt: &impl Abort,
-    alloc: Global,
-    written: &Written<'_>,
-    ancestors: &str,
-    pairs: &[(&str, &str)],
-) -> Result<(), TextFault> {
-    let row = row(alloc, written)?;
-    let ancestors = Revs::parse(alloc, ancestors)?;
-    let rev = write_rev(alloc, &row, ancestors.as_slice(), b"\x00{}")?;
-    expect(rt, alloc, &rev, pairs, b"\x00{}")?;
-    Ok(())
-}
-
-#[test]
-fn a_revision(rt: HostRuntime) -> Result<(), Fail> {
-    let pairs = [
-        ("Profile", "rev"),
-        ("id", "d1"),
-        ("rev", "3-c"),
-        ("sequence", "2"),
-        ("history", "2-b,1-a"),
-    ];
-    expect_rev(
-        &rt,
-        rt.alloc(),
-        &((2, 2), "d1", "3-c", 0),
-        "2-b,1-a",
-        &pairs,
-    )?;
-    Ok(())
-}
-
-#[test]
-fn a_deleted_revision(rt: HostRuntime) -> Result<(), Fail> {
-    let pairs = [
-        ("Profile", "rev"),
-        ("id", "d2"),
-        ("rev", "2-b"),
-        ("deleted", "1"),
-        ("sequence", "5:4"),
-        ("history", "1-z"),
-    ];
-    expect_rev(&rt, rt.alloc(), &((5, 4), "d2", "2-b", 1), "1-z", &pairs)?;
-    expect_rev(&rt, rt.alloc(), &((5, 4), "d2", "2-b", 5), "1-z", &pairs)?;
-    Ok(())
-}
-
-#[test]
-fn a_revision_with_no_history(rt: HostRuntime) -> Result<(), Fail> {
-    let pairs = [
-        ("Profile", "rev"),
-        ("id", "d2"),
-        ("rev", "2-b"),
-        ("sequence", "6"),
-    ];
-    expect_rev(&rt, rt.alloc(), &((6, 6), "d2", "2-b", 4), "-", &pairs)?;
-    Ok(())
-}
-
-#[test]
-fn a_revision_that_is_not_there(rt: HostRuntime) -> Result<(), Fail> {
-    let alloc = rt.alloc();
-    let row = row(alloc, &((5, 4), "d2", "2-b", 5))?;
-    let norev = write_norev(alloc, &row)?;
-    let pairs = [
-        ("Profile", "norev"),
-        ("id", "d2"),
-        ("rev", "2-b"),
-        ("sequence", "5:4"),
-        ("error", "404"),
-        ("reason", "not available"),
-    ];
-    expect(&rt, alloc, &norev, &pairs, b"")?;
-    Ok(())
-}
-
-#[test]
-fn replies(rt: HostRuntime) -> Result<(), Fail> {
-    let alloc = rt.alloc();
-    expect(&rt, alloc, &write_ok(alloc)?, &[], b"")?;
-    let bad = |field| ErrorKind::Bad400 { field };
-    let past = |front| ErrorKind::SincePast400 { front };
-    let table: [(ErrorKind, &str, &str, &str); 12] = [
-        (bad(Field::Rev), "HTTP", "400", "bad rev"),
-        (bad(Field::Since), "HTTP", "400", "bad since"),
-        (bad(Field::Batch), "HTTP", "400", "bad batch"),
-        (bad(Field::Filter), "HTTP", "400", "bad filter"),
-        (bad(Field::Channels), "HTTP", "400", "bad channels"),
-        (bad(Field::History), "HTTP", "400", "bad history"),
-        (bad(Field::Body), "HTTP", "400", "bad body"),
-        (ErrorKind::LowForm400, "HTTP", "400", "low form"),
-        (past(7), "HTTP", "400", "since is past 7"),
-        (past(0), "HTTP", "400", "since is past 0"),
-        (ErrorKind::NoHandler404, "BLIP", "404", "no handler"),
-        (ErrorKind::FeedRuns409, "HTTP", "409", "feed is running"),
-    ];
-    for (error, domain, code, text) in table {
-        let payload = write_error(alloc, &error)?;
-        let pairs = [("Error-Domain", domain), ("Error-Code", code)];
-        expect(&rt, alloc, &payload, &pairs, text.as_bytes())?;
+    let answers = vec![in alloc;
+        answer_of(alloc, true, "1-a", false, false, false)?,
+        answer_of(alloc, false, "", false, false, false)?,
+        answer_of(alloc, false, "1-a", true, false, false)?,
+        answer_of(alloc, false, "1-a", false, true, true)?,
+        answer_of(alloc, false, "1-a", false, false, false)?,
+        answer_of(alloc, false, "1-a", true, true, false)?,
+    ]?;
+    for (proposed, want) in [
+        (true, "[304,0,0,0,409,409]"),
+        (
+            false,
+            r#"[0,["2-b","1-a"],["2-b","1-a"],["2-b","1-a"],["2-b","1-a"],["2-b","1-a"]]"#,
+        ),
+    ] {
+        let payload = write_answers(alloc, answers.as_slice(), proposed)?;
+        assert!(rt;
+            payload_text(alloc, &payload)?.as_slice() == want.as_bytes(),
+            "{want}"
+        );
     }
     Ok(())
 }
@@ -498,59 +656,21 @@ fn wanted_rows(rt: HostRuntime) -> Result<(), Fail> {
         (Kind::Err, b"[[],[]]", &[false, false]),
     ];
     for (kind, body, want) in table {
-        let message = message(alloc, kind, &[], body)?;
+        let message = message_of(alloc, kind, "", body)?;
         let wanted = read_wanted(alloc, &message, want.len() as u64)?;
-        assert_eq!(rt; wanted.rows.as_slice(), want);
-        assert_eq!(rt; wanted.max_history, 100);
+        assert!(rt; wanted.rows.as_slice() == want, "{body:?}");
     }
-    Ok(())
-}
-
-#[test]
-fn the_deepest_reply(rt: HostRuntime) -> Result<(), Fail> {
-    let alloc = rt.alloc();
-    for (depth, want) in [(127, true), (128, false)] {
-        let mut body = Bytes::new(alloc);
-        for _ in 0..depth {
-            body.push(b'[')?;
-        }
-        for _ in 0..depth {
-            body.push(b']')?;
-        }
-        let message = message(alloc, Kind::Rpy, &[], body.as_slice())?;
-        let wanted = read_wanted(alloc, &message, 1)?;
-        assert_eq!(rt; wanted.rows.as_slice(), [want].as_slice(), "{depth} deep");
-    }
-    Ok(())
-}
-
-#[test]
-fn most_ancestors(rt: HostRuntime) -> Result<(), Fail> {
-    let alloc = rt.alloc();
-    let table: [(&str, u64); 8] = [
-        ("0", 100),
-        ("1", 1),
-        ("20", 20),
-        ("1000", 1000),
-        ("1001", 100),
-        ("07", 100),
+    for (props, want) in [
         ("", 100),
-        ("-1", 100),
-    ];
-    for (value, want) in table {
-        let message = message(alloc, Kind::Rpy, &[("maxHistory", value)], b"[]")?;
+        ("maxHistory=0", 100),
+        ("maxHistory=1", 1),
+        ("maxHistory=1000", 1000),
+        ("maxHistory=1001", 100),
+        ("maxHistory=07", 100),
+    ] {
+        let message = message_of(alloc, Kind::Rpy, props, b"[]")?;
         let wanted = read_wanted(alloc, &message, 0)?;
-        assert_eq!(rt; wanted.max_history, want, "at {value}");
+        assert_eq!(rt; wanted.max_history, want, "at {props}");
     }
-    Ok(())
-}
-
-#[test]
-fn flags_of_a_vector(rt: HostRuntime) -> Result<(), Fail> {
-    let mut flags = Flags::new(rt.alloc());
-    flags.push(true)?;
-    flags.push(false)?;
-    let again = Flags::from_vec(flags.into_vec());
-    assert_eq!(rt; again.as_slice(), [true, false].as_slice());
     Ok(())
 }
