@@ -31,6 +31,7 @@ sequence_of (Some last) = last.seq
 abbrev pub last_in : Book → ℕ → List ℕ → ℕ
 last_in book number doc = sequence_of (last_write_up_to book number doc)
 
+-- the write in a book, at numbers up to this one, of a revision where there is one
 abbrev pub rev_written_in : Book → ℕ → List ℕ → Option RevId → Option Write
 rev_written_in book number doc None = None
 rev_written_in book number doc (Some rev) = write_alone (write_of_rev_up_to book number doc rev)
@@ -40,6 +41,7 @@ rev_written_in book number doc (Some rev) = write_alone (write_of_rev_up_to book
 abbrev pub base_in : Book → ℕ → List ℕ → List RevId → Option Write
 base_in book number doc ancestors = rev_written_in book number doc (first_of ancestors)
 
+-- a write as a tree records it before older ones, where there is one
 abbrev pub recorded_before : Option Write → List Recorded → List Recorded
 recorded_before None older = older
 recorded_before (Some w) older = recorded w ∷ older
@@ -57,6 +59,7 @@ tree_at es doc = tree_of (writes_of es doc)
 abbrev pub last_at : List Entry → List ℕ → ℕ
 last_at es doc = sequence_of (last_write es doc)
 
+-- the write of a revision where there is one, among these entries
 abbrev pub written_by_rev : List Entry → List ℕ → Option RevId → Option Write
 written_by_rev es doc None = None
 written_by_rev es doc (Some rev) = write_alone (write_of_rev es doc rev)

@@ -11,6 +11,7 @@ pub record SideValue : Type 0 where
   pub number : ℕ
   pub bytes : List ℕ
 
+-- a text of a side map, with what it has under it
 pub record SideEntry : Type 0 where
   pub text : List ℕ
   pub value : SideValue

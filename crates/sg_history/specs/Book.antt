@@ -27,6 +27,7 @@ abbrev pub waiting_at : List Numbered → Book
 waiting_at [] number = None
 waiting_at (first ∷ others) number = if nat_eq first.number number then Some first.entry else waiting_at others number
 
+-- the first entry where there is one, else the other
 abbrev pub entry_or : Option Entry → Option Entry → Option Entry
 entry_or (Some e) other = Some e
 entry_or None other = other
@@ -35,6 +36,7 @@ entry_or None other = other
 abbrev pub book_with : List Entry → List Numbered → Book
 book_with log waiting number = entry_or (book_of log number) (waiting_at waiting number)
 
+-- the write of a document that an entry is, where there is an entry and it is one
 abbrev pub written_in : Option Entry → List ℕ → Option Write
 written_in None doc = None
 written_in (Some e) doc = write_to e doc

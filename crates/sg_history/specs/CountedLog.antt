@@ -2,6 +2,7 @@
 use Rattle.std.specs.Prelude.{ℕ, List}
 use Rattle.sg_history.specs.declared.entries.Entry.{Entry}
 
+-- a log with how often it was read
 pub record CountedLog : Type 0 where
   pub entries : List Entry
   pub reads : ℕ

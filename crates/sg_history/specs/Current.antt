@@ -13,6 +13,7 @@ pub record Sequenced : Type 0 where
   pub seq : ℕ
   pub write : Write
 
+-- a write with its sequence before older ones, where there is one
 abbrev pub sequenced_before : Option Write → ℕ → List Sequenced → List Sequenced
 sequenced_before None seq older = older
 sequenced_before (Some w) seq older = record { seq = seq; write = w } ∷ older
@@ -86,9 +87,11 @@ winning_of es doc last = write_or (write_of_rev es doc last.write.winner) last
 abbrev pub current_of : ℕ → Write → Effects → Current
 current_of seq w effects = record { seq = seq; rev = w.rev; deleted = w.deleted; effects = effects }
 
+-- the current state by the last write's sequence and the winning write
 abbrev pub current_by : List Entry → ℕ → Sequenced → Current
 current_by es seq winning = current_of seq winning.write (effects_of es winning)
 
+-- the current state where there is a last write
 abbrev pub current_after : List Entry → List ℕ → Option Sequenced → Option Current
 current_after es doc None = None
 current_after es doc (Some last) = Some (current_by es last.seq (winning_of es doc last))

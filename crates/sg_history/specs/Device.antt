@@ -28,6 +28,7 @@ abbrev pub apply_all : (List ℕ → Option Held) → List Row → List ℕ → 
 apply_all copy [] = copy
 apply_all copy (row ∷ rows) = apply_all (apply copy row) rows
 
+-- a document as a device that took what is shown has it
 abbrev pub held_of : Option Shown → Option Held
 held_of None = None
 held_of (Some shown) = Some (record { rev = shown.rev; deleted = shown.deleted })

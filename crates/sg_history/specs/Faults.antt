@@ -101,6 +101,7 @@ IsFaultAmong grammars texts (reason.Field n) = (length texts ≡ length grammars
 IsFaultAmong grammars texts (reason.Rule n) = ⊥
 IsFaultAmong grammars texts reason.Long = ⊥
 
+-- what is wrong with texts under a kind, which may be none
 abbrev pub IsFaultUnder : Option (List Grammar) → List (List ℕ) → Why → Type 0
 IsFaultUnder None texts why = why ≡ reason.Kind
 IsFaultUnder (Some grammars) texts why = IsFaultAmong grammars texts why
@@ -110,6 +111,7 @@ abbrev pub IsFault : List (List ℕ) → Why → Type 0
 IsFault [] why = why ≡ reason.Kind
 IsFault (kind ∷ texts) why = IsFaultUnder (grammars_of kind) texts why
 
+-- the texts that follow a kind, which must be one
 abbrev pub AreTextsUnder : Option (List Grammar) → List (List ℕ) → Type 0
 AreTextsUnder None texts = ⊥
 AreTextsUnder (Some grammars) texts = AreTexts grammars texts

@@ -31,6 +31,7 @@ bits_of (Some shown) wrote deleted = if deleted then 1 else 0
 bits_of None true deleted = if deleted then 5 else 4
 bits_of None false deleted = 2
 
+-- a row by the change's sequence, where the document has a current state
 abbrev pub row_with : ℕ → Bool → Option Shown → List ℕ → Option Current → Option Row
 row_with by wrote shown doc None = None
 row_with by wrote shown doc (Some c) =
@@ -65,6 +66,7 @@ keeps options since row =
     && (not (is_start since) || (not (is_gone row.bits) && not (options.active_only && is_deleted row.bits)))
     && (options.revocations || not (nat_eq row.bits 2))
 
+-- a row before the others, in place of none where one of its key is there, or after the first
 abbrev pub place_row : Ordering → Row → Row → List Row → List Row → List Row
 place_row Less row first others after = row ∷ first ∷ others
 place_row Equal row first others after = first ∷ others

@@ -18,6 +18,7 @@ pub record Standing : Type 0 where
   pub channels : List (List ℕ)
   pub roles : List (List ℕ)
 
+-- whether both are the same user, or the same role
 abbrev pub same_grantee : Grantee → Grantee → Bool
 same_grantee (User a) (User b) = bytes_eq a b
 same_grantee (User a) (Role b) = false
@@ -87,6 +88,7 @@ role_named (User name) standing = []
 role_named (Role name) None = []
 role_named (Role name) (Some standing) = name ∷ []
 
+-- the role that a put is of, if it is one of a role
 abbrev pub role_put : Option Put → List (List ℕ)
 role_put None = []
 role_put (Some put) = role_named put.of put.standing
@@ -100,6 +102,7 @@ abbrev pub roles_put : List Entry → List (List ℕ)
 roles_put [] = []
 roles_put (e ∷ older) = role_put_by e ++ roles_put older
 
+-- whether a put stands
 abbrev pub exists : Option Standing → Bool
 exists None = false
 exists (Some standing) = true

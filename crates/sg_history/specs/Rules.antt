@@ -17,6 +17,7 @@ broken_rule older w fits =
     else if not (same_rev w.winner w.rev || has_rev older w.doc w.winner) then Some 9
     else None
 
+-- a broken rule as the reason of a refusal, where one is
 abbrev pub as_fault : Option ℕ → Option Why
 as_fault None = None
 as_fault (Some rule) = Some (Rule rule)

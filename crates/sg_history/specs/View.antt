@@ -29,6 +29,7 @@ abbrev pub is_shown : List Entry → List ℕ → Option (List (List ℕ)) → C
 is_shown es user filter c =
     list_any (λ channel. has_channel es user channel) (every ∷ c.effects.channels) && passes filter (every ∷ c.effects.channels)
 
+-- what is shown of a document by its current state, where it has one
 abbrev pub view_of : List Entry → List ℕ → Option (List (List ℕ)) → Option Current → Option Shown
 view_of es user filter None = None
 view_of es user filter (Some c) =

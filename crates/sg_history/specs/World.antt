@@ -6,6 +6,7 @@ use Rattle.sg_history.specs.declared.entries.Write.{Write}
 use Rattle.sg_history.specs.History.{write_to}
 use Rattle.sg_history.specs.Book.{Book, Numbered, book_with, write_at}
 
+-- how many sequences were drawn, which are held, the entries that wait, and the log
 pub record World : Type 0 where
   pub count : ℕ
   pub held : List ℕ
@@ -58,6 +59,7 @@ abbrev pub without_number : ℕ → List ℕ → List ℕ
 without_number number [] = []
 without_number number (first ∷ others) = if nat_eq first number then others else first ∷ without_number number others
 
+-- the world with these held numbers, and with what was released
 abbrev pub with_released : World → List ℕ → Released → World
 with_released world held now = record { count = world.count; held = held; pending = now.pending; log = now.log }
 
