@@ -9,8 +9,6 @@ use Rattle.blip_mux.specs.Joining.{is_request, is_reply}
 use Rattle.sg_history.specs.declared.entries.Entry.{Entry}
 use Rattle.sg_history.specs.declared.row.Options.{Options}
 use Rattle.sg_history.specs.declared.row.Row.{Row}
-use Rattle.repl_messages.specs.declared.request.Request.{Request}
-use Rattle.repl_messages.specs.declared.request.Request.TheVariants.{SubChanges}
 use Rattle.repl_messages.specs.declared.request.RequestFault.{RequestFault}
 use Rattle.repl_messages.specs.declared.error.ErrorKind.TheVariants as errors
 use Rattle.repl_messages.specs.declared.looks.Body.{Body}
@@ -22,6 +20,8 @@ use Rattle.repl_messages.specs.Changes.{changes_payload}
 use Rattle.repl_messages.specs.Looks.{AreBodies}
 use Rattle.write_path.specs.Looks.{IsLaterThanAll}
 use Rattle.repl_messages.specs.Errors.{ok_payload, error_payload}
+use Rattle.session_core.specs.declared.served.Served.{Served}
+use Rattle.session_core.specs.declared.served.Served.TheVariants.{Feed}
 use Rattle.session_core.specs.declared.act.Act.{Act}
 use Rattle.session_core.specs.declared.act.Act.TheVariants as act
 use Rattle.session_core.specs.declared.event.Event.TheVariants as event
@@ -69,9 +69,9 @@ feed_answered : (m : Machine) (message : Message) (asked : Asked) (feed : Option
 feed_answered m message asked None is number rest = absurd (false≢true (ap is_nothing rest))
 feed_answered m message asked (Some r) is number rest = refusal_answers message asked.asker kinds.Err (error_payload errors.FeedRuns409) is number refl
 
-request_answered : (m : Machine) (message : Message) (read : Result Request RequestFault) → is_request message.kind ≡ true → Answered message (on_request m message read)
+request_answered : (m : Machine) (message : Message) (read : Result Served RequestFault) → is_request message.kind ≡ true → Answered message (on_request m message read)
 request_answered m message (Err fault) is rest = refusal_answers message (asker_of message) kinds.Err (error_payload (error_of fault)) is refl refl
-request_answered m message (Ok (SubChanges since batch options)) is rest =
+request_answered m message (Ok (Feed since batch options)) is rest =
     feed_answered m message (record { asker = asker_of message; since = since; batch = batch; options = options }) m.feed is refl rest
 
 wanted_answered : (m : Machine) (message : Message) (r : Running) (rows : List Row) → Answered message (on_wanted m message r rows)
@@ -110,9 +110,9 @@ feed_asked : (m : Machine) (message : Message) (asked : Asked) (feed : Option Ru
 feed_asked m message asked None is number before = (is, number)
 feed_asked m message asked (Some r) is number before = before
 
-request_asked : (m : Machine) (message : Message) (read : Result Request RequestFault) → is_request message.kind ≡ true → AskedBy message m.pending → AskedBy message (on_request m message read).0.pending
+request_asked : (m : Machine) (message : Message) (read : Result Served RequestFault) → is_request message.kind ≡ true → AskedBy message m.pending → AskedBy message (on_request m message read).0.pending
 request_asked m message (Err fault) is before = before
-request_asked m message (Ok (SubChanges since batch options)) is before =
+request_asked m message (Ok (Feed since batch options)) is before =
     feed_asked m message (record { asker = asker_of message; since = since; batch = batch; options = options }) m.feed is refl before
 
 wanted_asked : (m : Machine) (message : Message) (r : Running) (rows : List Row) → AskedBy message (on_wanted m message r rows).0.pending

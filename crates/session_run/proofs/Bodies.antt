@@ -15,8 +15,6 @@ use Rattle.sg_history.specs.History.{past}
 use Rattle.sg_history.specs.View.{view}
 use Rattle.sg_history.specs.Feed.{feed, changed}
 use Rattle.repl_messages.specs.declared.request.Version.{Version}
-use Rattle.repl_messages.specs.declared.request.Request.{Request}
-use Rattle.repl_messages.specs.declared.request.Request.TheVariants.{SubChanges}
 use Rattle.repl_messages.specs.declared.request.RequestFault.{RequestFault}
 use Rattle.repl_messages.specs.declared.error.ErrorKind.{ErrorKind}
 use Rattle.repl_messages.specs.declared.error.ErrorKind.TheVariants as errors
@@ -25,6 +23,8 @@ use Rattle.repl_messages.specs.declared.looks.Body.TheVariants as body
 use Rattle.repl_messages.specs.Rev.{rev_payload}
 use Rattle.repl_messages.specs.Errors.{ok_payload, error_payload}
 use Rattle.repl_messages.specs.Looks.{winning_write, said_by, left_by_write, body_of}
+use Rattle.session_core.specs.declared.served.Served.{Served}
+use Rattle.session_core.specs.declared.served.Served.TheVariants.{Feed}
 use Rattle.session_core.specs.Exchange.{Exchange, requests_put, running, answers}
 use Rattle.session_core.specs.Running.{Running}
 use Rattle.session_core.specs.Puts.{request_message, reply_message, error_of, refusal, acceptance, offer, body_message, body_messages}
@@ -122,15 +122,15 @@ bodies_own shows wins removes es user filter most number (row ∷ rows) =
 
 -- ---- all that is put for a message
 
-feed_own : (h es : List Entry) (user : List ℕ) (version : Version) (m : Message) (request : Request) (front number : ℕ) → AreOwn es user (puts_for_feed h user version m request front number)
-feed_own h es user version m (SubChanges since batch options) front number =
+feed_own : (h es : List Entry) (user : List ℕ) (version : Version) (m : Message) (request : Served) (front number : ℕ) → AreOwn es user (puts_for_feed h user version m request front number)
+feed_own h es user version m (Feed since batch options) front number =
     elim (nat_lt front since.by) as (λ b. AreOwn es user (if b then refusal m (errors.SincePast400 front) else acceptance m ++ offer (feed (past h front) user since options) batch version number ∷ [])) [
       | true ↦ refused_own es user m (errors.SincePast400 front)
       | false ↦ both_own es user (acceptance m) (offer (feed (past h front) user since options) batch version number ∷ [])
           (reply_own es user m.number kinds.Rpy m.urgent ok_payload m.no_reply refl) (offer_own es user (feed (past h front) user since options) batch version number)
     ]
 
-request_own : (h es : List Entry) (user : List ℕ) (version : Version) (m : Message) (read : Result Request RequestFault) (r : Option Running) (front number : ℕ) → AreOwn es user (puts_for_request h user version m read r front number)
+request_own : (h es : List Entry) (user : List ℕ) (version : Version) (m : Message) (read : Result Served RequestFault) (r : Option Running) (front number : ℕ) → AreOwn es user (puts_for_request h user version m read r front number)
 request_own h es user version m (Err fault) r front number = refused_own es user m (error_of fault)
 request_own h es user version m (Ok request) (Some r) front number = refused_own es user m errors.FeedRuns409
 request_own h es user version m (Ok request) None front number = feed_own h es user version m request front number
@@ -144,7 +144,7 @@ reply_puts_own shows wins removes h user version m (Some r) front number =
       | false ↦ tt
     ]
 
-puts_own : Shows → Wins → Removes → (h : List Entry) (user : List ℕ) (version : Version) (m : Message) (read : Result Request RequestFault) (r : Option Running) (front number : ℕ) → AreOwn (past h front) user (puts_for h user version m read r front number)
+puts_own : Shows → Wins → Removes → (h : List Entry) (user : List ℕ) (version : Version) (m : Message) (read : Result Served RequestFault) (r : Option Running) (front number : ℕ) → AreOwn (past h front) user (puts_for h user version m read r front number)
 puts_own shows wins removes h user version m read r front number =
     elim (is_request m.kind) as (λ b. AreOwn (past h front) user (if b then puts_for_request h user version m read r front number else puts_for_reply h user version m r front number))
     [ true ↦ request_own h (past h front) user version m read r front number | false ↦ reply_puts_own shows wins removes h user version m r front number ]
