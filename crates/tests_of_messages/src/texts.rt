@@ -143,260 +143,142 @@ fn answer_text(alloc: Global, props: &str, body: &[u8], version: Version) -> Res
     Ok(text)
 }
 
-/// Messages of a device by their properties and body, and what each is read as.
-const REQUESTS: [(&str, &[u8], &str); 104] = [
-    ("", b"", "unknown"),
-    ("since=x", b"", "unknown"),
-    ("Profile=proveAttachment", b"", "unknown"),
-    ("profile=subChanges", b"", "unknown"),
-    ("Profile=getCheckpoint&client=c 1", b"\xff", "get c 1"),
-    ("Profile=getCheckpoint", b"", "bad client"),
-    ("Profile=getCheckpoint&client=", b"", "bad client"),
-    ("Profile=getCheckpoint&client=a\tb", b"", "bad client"),
-    ("Profile=setCheckpoint&client=c1", b"{}", "set c1 0 {}"),
-    (
-        "Profile=setCheckpoint&client=c1&rev=0-0",
-        b"{}",
-        "set c1 0 {}",
-    ),
-    (
-        "Profile=setCheckpoint&client=c1&rev=0-7",
-        b" {\"a\":[1]} ",
-        "set c1 7  {\"a\":[1]} ",
-    ),
-    (
-        "Profile=setCheckpoint&client=c1&rev=0-18446744073709551615",
-        b"{}",
-        "set c1 18446744073709551615 {}",
-    ),
-    (
-        "Profile=setCheckpoint&client=c1&rev=0-18446744073709551616",
-        b"{}",
-        "bad rev",
-    ),
-    ("Profile=setCheckpoint&client=c1&rev=", b"{}", "bad rev"),
-    ("Profile=setCheckpoint&client=c1&rev=7", b"{}", "bad rev"),
-    ("Profile=setCheckpoint&client=c1&rev=1-7", b"{}", "bad rev"),
-    ("Profile=setCheckpoint&client=c1&rev=0-07", b"{}", "bad rev"),
-    ("Profile=setCheckpoint&rev=x", b"", "bad client"),
-    ("Profile=setCheckpoint&client=c1&rev=x", b"", "bad rev"),
-    ("Profile=setCheckpoint&client=c1", b"", "bad body"),
-    ("Profile=setCheckpoint&client=c1", b"[]", "bad body"),
-    (
-        "Profile=setCheckpoint&client=c1",
-        b"{\"a\":\"\xff\"}",
-        "bad body",
-    ),
-    ("Profile=subChanges", b"\xff", "since 0 200"),
-    ("Profile=subChanges&since=5", b"", "since 5 200"),
-    ("Profile=subChanges&since=7:4", b"", "since 7:4 200"),
-    ("Profile=subChanges&since=5:5", b"", "since 5 200"),
-    ("Profile=subChanges&since=\"7:4\"", b"", "since 7:4 200"),
-    (
-        "Profile=subChanges&since=18446744073709551615",
-        b"",
-        "since 18446744073709551615 200",
-    ),
-    ("Profile=subChanges&since=5&since=x", b"", "since 5 200"),
-    ("Profile=subChanges&since=", b"", "bad since"),
-    ("Profile=subChanges&since=\"", b"", "bad since"),
-    ("Profile=subChanges&since=\"5", b"", "bad since"),
-    ("Profile=subChanges&since=\"\"5\"\"", b"", "bad since"),
-    ("Profile=subChanges&since=05", b"", "bad since"),
-    ("Profile=subChanges&since=+5", b"", "bad since"),
-    ("Profile=subChanges&since=4:7", b"", "bad since"),
-    ("Profile=subChanges&since=7:0", b"", "bad since"),
-    (
-        "Profile=subChanges&since=18446744073709551616",
-        b"",
-        "bad since",
-    ),
-    ("Profile=subChanges&since=1:2:3:4", b"", "bad since"),
-    ("Profile=subChanges&since=3::5", b"", "low form"),
-    ("Profile=subChanges&since=3:4:5", b"", "low form"),
-    ("Profile=subChanges&since=\"3:4:5\"", b"", "low form"),
-    (
-        "Profile=subChanges&since=18446744073709551616::5",
-        b"",
-        "low form",
-    ),
-    ("Profile=subChanges&batch=1", b"", "since 0 1"),
-    ("Profile=subChanges&batch=10000", b"", "since 0 10000"),
-    ("Profile=subChanges&batch=10001", b"", "bad batch"),
-    ("Profile=subChanges&batch=0", b"", "bad batch"),
-    ("Profile=subChanges&batch=", b"", "bad batch"),
-    ("Profile=subChanges&batch=07", b"", "bad batch"),
-    (
-        "Profile=subChanges&batch=18446744073709551617",
-        b"",
-        "bad batch",
-    ),
-    (
-        "Profile=subChanges&continuous=true",
-        b"",
-        "since 0 continuous 200",
-    ),
-    (
-        "Profile=subChanges&continuous=",
-        b"",
-        "since 0 continuous 200",
-    ),
-    ("Profile=subChanges&continuous=false", b"", "since 0 200"),
-    ("Profile=subChanges&continuous=0", b"", "since 0 200"),
-    (
-        "Profile=subChanges&activeOnly=yes",
-        b"",
-        "since 0 200 active",
-    ),
-    (
-        "Profile=subChanges&revocations=1",
-        b"",
-        "since 0 200 revocations",
-    ),
-    ("Profile=subChanges&channels=-", b"", "since 0 200"),
-    (
-        "Profile=subChanges&channels=B,A,B&filter=sync_gateway/bychannel",
-        b"",
-        "since 0 200 B A B",
-    ),
-    (
-        "Profile=subChanges&channels=!,*&filter=sync_gateway/bychannel",
-        b"",
-        "since 0 200 ! *",
-    ),
-    (
-        "Profile=subChanges&filter=sync_gateway/bychannel",
-        b"",
-        "bad channels",
-    ),
-    (
-        "Profile=subChanges&filter=sync_gateway/bychannel&channels=",
-        b"",
-        "bad channels",
-    ),
-    (
-        "Profile=subChanges&filter=sync_gateway/bychannel&channels=-",
-        b"",
-        "bad channels",
-    ),
-    (
-        "Profile=subChanges&filter=sync_gateway/bychannel&channels=A,",
-        b"",
-        "bad channels",
-    ),
-    (
-        "Profile=subChanges&filter=sync_gateway/byuser&channels=A",
-        b"",
-        "bad filter",
-    ),
-    ("Profile=subChanges&filter=", b"", "bad filter"),
-    (
-        "Profile=subChanges&filter=x&batch=x&since=x",
-        b"",
-        "bad since",
-    ),
-    ("Profile=subChanges&filter=x&batch=x", b"", "bad batch"),
-    ("Profile=changes", b"[]", "changes"),
-    (
-        "Profile=changes",
-        b"[[1,\"d1\",\"1-a\"]]",
-        "changes d1 1-a;",
-    ),
-    (
-        "Profile=changes",
-        b" [ [\"7:4\",\"d1\",\"2-b\",0,null], [1.5,\"-\",\"1-a\"] ] ",
-        "changes d1 2-b; - 1-a;",
-    ),
-    ("Profile=changes", b"", "bad rows"),
-    ("Profile=changes", b"{}", "bad rows"),
-    ("Profile=changes", b"[[1,\"d1\",\"1-a\"]", "bad rows"),
-    ("Profile=changes", b"[1]", "bad rows"),
-    ("Profile=changes", b"[[]]", "bad rows"),
-    ("Profile=changes", b"[[1,\"d1\"]]", "bad rows"),
-    ("Profile=changes", b"[[null,\"d1\",\"1-a\"]]", "bad rows"),
-    ("Profile=changes", b"[[1,\"_d\",\"1-a\"]]", "bad rows"),
-    ("Profile=changes", b"[[1,\"\",\"1-a\"]]", "bad rows"),
-    ("Profile=changes", b"[[1,\"d1\",\"0-a\"]]", "bad rows"),
-    ("Profile=changes", b"[[1,\"d1\",\"a\"]]", "bad rows"),
-    ("Profile=changes", b"[[1,\"d1\",1]]", "bad rows"),
-    (
-        "Profile=changes",
-        b"[[1,\"d1\",\"1-a\"],[1,\"d1\",\"x\"]]",
-        "bad rows",
-    ),
-    ("Profile=proposeChanges", b"[]", "proposals"),
-    (
-        "Profile=proposeChanges",
-        b"[[\"d1\",\"1-a\"]]",
-        "proposals d1 1-a;",
-    ),
-    (
-        "Profile=proposeChanges",
-        b"[[\"d1\",\"1-a\",\"\"]]",
-        "proposals d1 1-a;",
-    ),
-    (
-        "Profile=proposeChanges",
-        b"[[\"d1\",\"2-b\",\"1-a\",7],[\"d2\",\"1-c\"]]",
-        "proposals d1 2-b on 1-a; d2 1-c;",
-    ),
-    (
-        "Profile=proposeChanges",
-        b"[[\"d1\",\"2-b\",null]]",
-        "bad rows",
-    ),
-    (
-        "Profile=proposeChanges",
-        b"[[\"d1\",\"2-b\",\"x\"]]",
-        "bad rows",
-    ),
-    (
-        "Profile=proposeChanges",
-        b"[[1,\"d1\",\"1-a\"]]",
-        "bad rows",
-    ),
-    ("Profile=proposeChanges", b"[[\"d1\"]]", "bad rows"),
-    (
-        "Profile=rev&id=d1&rev=1-a",
-        b"no JSON",
-        "rev d1 1-a - no JSON",
-    ),
-    (
-        "Profile=rev&id=d1&rev=1-a&history=&sequence=x",
-        b"",
-        "rev d1 1-a - ",
-    ),
-    (
-        "Profile=rev&id=d1&rev=3-c&history=2-b,1-a&deleted=1&noconflicts=true",
-        b"{}",
-        "rev d1 3-c 2-b,1-a deleted noconflicts {}",
-    ),
-    (
-        "Profile=rev&id=d1&rev=3-c&deleted=0&noconflicts=false",
-        b"{}",
-        "rev d1 3-c - {}",
-    ),
-    ("Profile=rev&rev=x&history=x", b"", "bad id"),
-    ("Profile=rev&id=_d&rev=1-a", b"", "bad id"),
-    ("Profile=rev&id=d1&history=x", b"", "bad rev"),
-    ("Profile=rev&id=d1&rev=4294967296-a", b"", "bad rev"),
-    ("Profile=rev&id=d1&rev=1-", b"", "bad rev"),
-    ("Profile=rev&id=d1&rev=1-a&history=-", b"", "bad history"),
-    ("Profile=rev&id=d1&rev=1-a&history=2-b,", b"", "bad history"),
-    (
-        "Profile=rev&id=d1&rev=1-a&history=2-b,,1-a",
-        b"",
-        "bad history",
-    ),
-    ("Profile=rev&id=d1&rev=1-a&history=x", b"", "bad history"),
-];
+/// Messages of a device, one a line: properties, body, and what it is read as, with `|` between each two and `~` for a byte that is
+/// in no text.
+const REQUESTS: &str = "\
+||unknown\n\
+since=x||unknown\n\
+Profile=proveAttachment||unknown\n\
+profile=subChanges||unknown\n\
+Profile=getCheckpoint&client=c 1|~|get c 1\n\
+Profile=getCheckpoint||bad client\n\
+Profile=getCheckpoint&client=||bad client\n\
+Profile=getCheckpoint&client=a\tb||bad client\n\
+Profile=setCheckpoint&client=c1|{}|set c1 0 {}\n\
+Profile=setCheckpoint&client=c1&rev=0-0|{}|set c1 0 {}\n\
+Profile=setCheckpoint&client=c1&rev=0-7| {\"a\":[1]} |set c1 7  {\"a\":[1]} \n\
+Profile=setCheckpoint&client=c1&rev=0-18446744073709551615|{}|set c1 18446744073709551615 {}\n\
+Profile=setCheckpoint&client=c1&rev=0-18446744073709551616|{}|bad rev\n\
+Profile=setCheckpoint&client=c1&rev=|{}|bad rev\n\
+Profile=setCheckpoint&client=c1&rev=7|{}|bad rev\n\
+Profile=setCheckpoint&client=c1&rev=1-7|{}|bad rev\n\
+Profile=setCheckpoint&client=c1&rev=0-07|{}|bad rev\n\
+Profile=setCheckpoint&rev=x||bad client\n\
+Profile=setCheckpoint&client=c1&rev=x||bad rev\n\
+Profile=setCheckpoint&client=c1||bad body\n\
+Profile=setCheckpoint&client=c1|[]|bad body\n\
+Profile=setCheckpoint&client=c1|{\"a\":\"~\"}|bad body\n\
+Profile=subChanges|~|since 0 200\n\
+Profile=subChanges&since=5||since 5 200\n\
+Profile=subChanges&since=7:4||since 7:4 200\n\
+Profile=subChanges&since=5:5||since 5 200\n\
+Profile=subChanges&since=\"7:4\"||since 7:4 200\n\
+Profile=subChanges&since=18446744073709551615||since 18446744073709551615 200\n\
+Profile=subChanges&since=5&since=x||since 5 200\n\
+Profile=subChanges&since=||bad since\n\
+Profile=subChanges&since=\"||bad since\n\
+Profile=subChanges&since=\"5||bad since\n\
+Profile=subChanges&since=\"\"5\"\"||bad since\n\
+Profile=subChanges&since=05||bad since\n\
+Profile=subChanges&since=+5||bad since\n\
+Profile=subChanges&since=4:7||bad since\n\
+Profile=subChanges&since=7:0||bad since\n\
+Profile=subChanges&since=18446744073709551616||bad since\n\
+Profile=subChanges&since=1:2:3:4||bad since\n\
+Profile=subChanges&since=3::5||low form\n\
+Profile=subChanges&since=3:4:5||low form\n\
+Profile=subChanges&since=\"3:4:5\"||low form\n\
+Profile=subChanges&since=18446744073709551616::5||low form\n\
+Profile=subChanges&batch=1||since 0 1\n\
+Profile=subChanges&batch=10000||since 0 10000\n\
+Profile=subChanges&batch=10001||bad batch\n\
+Profile=subChanges&batch=0||bad batch\n\
+Profile=subChanges&batch=||bad batch\n\
+Profile=subChanges&batch=07||bad batch\n\
+Profile=subChanges&batch=18446744073709551617||bad batch\n\
+Profile=subChanges&continuous=true||since 0 continuous 200\n\
+Profile=subChanges&continuous=||since 0 continuous 200\n\
+Profile=subChanges&continuous=false||since 0 200\n\
+Profile=subChanges&continuous=0||since 0 200\n\
+Profile=subChanges&activeOnly=yes||since 0 200 active\n\
+Profile=subChanges&revocations=1||since 0 200 revocations\n\
+Profile=subChanges&channels=-||since 0 200\n\
+Profile=subChanges&channels=B,A,B&filter=sync_gateway/bychannel||since 0 200 B A B\n\
+Profile=subChanges&channels=!,*&filter=sync_gateway/bychannel||since 0 200 ! *\n\
+Profile=subChanges&filter=sync_gateway/bychannel||bad channels\n\
+Profile=subChanges&filter=sync_gateway/bychannel&channels=||bad channels\n\
+Profile=subChanges&filter=sync_gateway/bychannel&channels=-||bad channels\n\
+Profile=subChanges&filter=sync_gateway/bychannel&channels=A,||bad channels\n\
+Profile=subChanges&filter=sync_gateway/byuser&channels=A||bad filter\n\
+Profile=subChanges&filter=||bad filter\n\
+Profile=subChanges&filter=x&batch=x&since=x||bad since\n\
+Profile=subChanges&filter=x&batch=x||bad batch\n\
+Profile=changes|[]|changes\n\
+Profile=changes|[[1,\"d1\",\"1-a\"]]|changes d1 1-a;\n\
+Profile=changes| [ [\"7:4\",\"d1\",\"2-b\",0,null], [1.5,\"-\",\"1-a\"] ] |changes d1 2-b; - 1-a;\n\
+Profile=changes||bad rows\n\
+Profile=changes|{}|bad rows\n\
+Profile=changes|[[1,\"d1\",\"1-a\"]|bad rows\n\
+Profile=changes|[1]|bad rows\n\
+Profile=changes|[[]]|bad rows\n\
+Profile=changes|[[1,\"d1\"]]|bad rows\n\
+Profile=changes|[[null,\"d1\",\"1-a\"]]|bad rows\n\
+Profile=changes|[[1,\"_d\",\"1-a\"]]|bad rows\n\
+Profile=changes|[[1,\"\",\"1-a\"]]|bad rows\n\
+Profile=changes|[[1,\"d1\",\"0-a\"]]|bad rows\n\
+Profile=changes|[[1,\"d1\",\"a\"]]|bad rows\n\
+Profile=changes|[[1,\"d1\",1]]|bad rows\n\
+Profile=changes|[[1,\"d1\",\"1-a\"],[1,\"d1\",\"x\"]]|bad rows\n\
+Profile=proposeChanges|[]|proposals\n\
+Profile=proposeChanges|[[\"d1\",\"1-a\"]]|proposals d1 1-a;\n\
+Profile=proposeChanges|[[\"d1\",\"1-a\",\"\"]]|proposals d1 1-a;\n\
+Profile=proposeChanges|[[\"d1\",\"2-b\",\"1-a\",7],[\"d2\",\"1-c\"]]|proposals d1 2-b on 1-a; d2 1-c;\n\
+Profile=proposeChanges|[[\"d1\",\"2-b\",null]]|bad rows\n\
+Profile=proposeChanges|[[\"d1\",\"2-b\",\"x\"]]|bad rows\n\
+Profile=proposeChanges|[[1,\"d1\",\"1-a\"]]|bad rows\n\
+Profile=proposeChanges|[[\"d1\"]]|bad rows\n\
+Profile=rev&id=d1&rev=1-a|no JSON|rev d1 1-a - no JSON\n\
+Profile=rev&id=d1&rev=1-a&history=&sequence=x||rev d1 1-a - \n\
+Profile=rev&id=d1&rev=3-c&history=2-b,1-a&deleted=1&noconflicts=true|{}|rev d1 3-c 2-b,1-a deleted noconflicts {}\n\
+Profile=rev&id=d1&rev=3-c&deleted=0&noconflicts=false|{}|rev d1 3-c - {}\n\
+Profile=rev&rev=x&history=x||bad id\n\
+Profile=rev&id=_d&rev=1-a||bad id\n\
+Profile=rev&id=d1&history=x||bad rev\n\
+Profile=rev&id=d1&rev=4294967296-a||bad rev\n\
+Profile=rev&id=d1&rev=1-||bad rev\n\
+Profile=rev&id=d1&rev=1-a&history=-||bad history\n\
+Profile=rev&id=d1&rev=1-a&history=2-b,||bad history\n\
+Profile=rev&id=d1&rev=1-a&history=2-b,,1-a||bad history\n\
+Profile=rev&id=d1&rev=1-a&history=x||bad history";
+
+/// The bytes of a text in which `~` stands for the byte FF.
+fn bytes_of(alloc: Global, text: &str) -> Result<Bytes, Fail> {
+    let mut bytes = Bytes::new(alloc);
+    for byte in text.as_bytes() {
+        bytes.push(if *byte == b'~' { 0xff } else { *byte })?;
+    }
+    Ok(bytes)
+}
+
+/// Whether a line of the table is right.
+fn is_read_so(alloc: Global, line: &str) -> Result<bool, Fail> {
+    let mut parts = line.split('|');
+    let Some(props) = parts.next() else {
+        return Ok(false);
+    };
+    let Some(body) = parts.next() else {
+        return Ok(false);
+    };
+    let body = bytes_of(alloc, body)?;
+    let text = answer_text(alloc, props, body.as_slice(), Version::Three)?;
+    Ok(parts.next().map(|want| want.as_bytes()) == Some(text.as_slice()))
+}
 
 #[test]
 fn requests(rt: HostRuntime) -> Result<(), Fail> {
     let alloc = rt.alloc();
-    for (props, body, want) in REQUESTS {
-        let text = answer_text(alloc, props, body, Version::Three)?;
-        assert!(rt; text.as_slice() == want.as_bytes(), "{props} {body:?}");
+    for line in REQUESTS.split('\n') {
+        assert!(rt; is_read_so(alloc, line)?, "{line}");
     }
     let text = answer_text(alloc, "Profile=subChanges&revocations=1", b"", Version::Two)?;
     assert!(rt; text.as_slice() == b"since 0 200".as_slice());
