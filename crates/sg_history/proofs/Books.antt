@@ -5,11 +5,12 @@ use Rattle.std.proofs.Math.Seq.{take-suc}
 use Rattle.std.proofs.lemmas.List.{reverse-append, length-reverse, length-take-le, take_all}
 use Rattle.std.proofs.lemmas.Option.{none-some, slice_get_within, get_or_from_slice_get}
 use Rattle.sg_names.specs.declared.rev_id.RevId.{RevId}
+use Rattle.sg_history.specs.declared.book.Waiting.{Waiting}
 use Rattle.sg_history.specs.declared.entries.Entry.{Entry}
 use Rattle.sg_history.specs.declared.entries.Write.{Write}
 use Rattle.sg_history.specs.History.{past, Extends, write_to}
 use Rattle.sg_history.specs.Current.{Sequenced, sequenced_before, writes_to, last_write, sequenced_or, write_of_rev, with_rev_or}
-use Rattle.sg_history.specs.Book.{Book, book_of, Numbered, waiting_at, entry_or, book_with, write_at, written_in, Keeps, Later, IsLastWrite, writes_up_to, first_write, first_of_rev, last_write_up_to, write_of_rev_up_to}
+use Rattle.sg_history.specs.Book.{Book, book_of, waiting_at, entry_or, book_with, write_at, written_in, Keeps, Later, IsLastWrite, writes_up_to, first_write, first_of_rev, last_write_up_to, write_of_rev_up_to}
 
 -- what is kept is written as it was
 write_kept : (earlier later : Book) (doc : List ℕ) (number : ℕ) (w : Write) → Keeps earlier later → write_at earlier doc number ≡ Some w → write_at later doc number ≡ Some w
@@ -98,10 +99,10 @@ extends_kept (e ∷ log) (f ∷ h) keeps =
     (more.0, λ i. same i ∷ more.1 i)
 
 -- a log is in its book with what waits
-pub log_kept : (log : List Entry) (waiting : List Numbered) → Keeps (book_of log) (book_with log waiting)
+pub log_kept : (log : List Entry) (waiting : List Waiting) → Keeps (book_of log) (book_with log waiting)
 log_kept log waiting number e h = ap (λ (o : Option Entry). entry_or o (waiting_at waiting number)) h
 
-pub extends_log : (log : List Entry) (waiting : List Numbered) (h : List Entry) → Later (book_with log waiting) (book_of h) → Extends log h
+pub extends_log : (log : List Entry) (waiting : List Waiting) (h : List Entry) → Later (book_with log waiting) (book_of h) → Extends log h
 extends_log log waiting h later = extends_kept log h (λ number e is. later.kept number e (log_kept log waiting number e is))
 
 take_front : {X : Type 0} (xs ys : List X) (k : ℕ) → k ≤ length xs → take k (xs ++ ys) ≡ take k xs

@@ -1,10 +1,11 @@
 -- A board as plain data: a log, entries that wait for their places, the rooms that are outstanding, and what it counts.
 use Rattle.std.specs.Prelude.{◌≡◌, ◌≤◌, ◌+◌, ◌-◌, ◌*◌, ℕ, List, [], ◌∷◌, length, Option, Some, None, if◌then◌else◌}
 use Rattle.std.specs.Str.{bytes_eq}
+use Rattle.sg_history.specs.declared.book.Waiting.{Waiting}
 use Rattle.sg_history.specs.declared.entries.Entry.{Entry}
 use Rattle.sg_history.specs.declared.room.RoomFor.{RoomFor}
 use Rattle.sg_history.specs.History.{Extends}
-use Rattle.sg_history.specs.Book.{Book, Numbered, book_with, Later}
+use Rattle.sg_history.specs.Book.{Book, book_with, Later}
 
 -- what the side map has under a text: a number and bytes
 pub record SideValue : Type 0 where
@@ -20,7 +21,7 @@ pub record SideEntry : Type 0 where
 -- each stands; the bytes stored and asked for; the side map; and how many faults it met
 pub record BoardState : Type 0 where
   pub log : List Entry
-  pub pending : List Numbered
+  pub pending : List Waiting
   pub rooms : List RoomFor
   pub bytes : ℕ
   pub side : List SideEntry

@@ -3,6 +3,7 @@
 use Rattle.std.specs.Prelude.{◌≡◌, ◌<◌, ◌≤◌, ℕ, zero, suc, List, [], ◌∷◌, slice_get, nat_eq, Option, Some, None, if◌then◌else◌}
 use Rattle.sg_names.specs.declared.rev_id.RevId.{RevId}
 use Rattle.sg_names.specs.RevId.{same_rev}
+use Rattle.sg_history.specs.declared.book.Waiting.{Waiting}
 use Rattle.sg_history.specs.declared.entries.Entry.{Entry}
 use Rattle.sg_history.specs.declared.entries.Write.{Write}
 use Rattle.sg_history.specs.History.{write_to}
@@ -17,13 +18,8 @@ abbrev pub book_of : List Entry → Book
 book_of entries zero = None
 book_of entries (suc place) = slice_get entries place
 
--- an entry, with its number
-pub record Numbered : Type 0 where
-  pub number : ℕ
-  pub entry : Entry
-
 -- the entry that waits under a number, if one does
-abbrev pub waiting_at : List Numbered → Book
+abbrev pub waiting_at : List Waiting → Book
 waiting_at [] number = None
 waiting_at (first ∷ others) number = if nat_eq first.number number then Some first.entry else waiting_at others number
 
@@ -33,7 +29,7 @@ entry_or (Some e) other = Some e
 entry_or None other = other
 
 -- the book of a log and of entries that wait: the log at its places, and those at their numbers
-abbrev pub book_with : List Entry → List Numbered → Book
+abbrev pub book_with : List Entry → List Waiting → Book
 book_with log waiting number = entry_or (book_of log number) (waiting_at waiting number)
 
 -- the write of a document that an entry is, where there is an entry and it is one

@@ -1,16 +1,17 @@
 -- The world of sequences: how many were drawn, which of them are held, which entries wait for their places, and the log.
 use Rattle.std.specs.Prelude.{◌≡◌, ◌≢◌, ◌<◌, ◌+◌, ℕ, Bool, ◌&&◌, true, nat_eq, nat_le, nat_lt, List, [], ◌∷◌, ◌++◌, length, count_by, Some, IsTrue, if◌then◌else◌}
+use Rattle.sg_history.specs.declared.book.Waiting.{Waiting}
 use Rattle.sg_history.specs.declared.entries.Entry.{Entry}
 use Rattle.sg_history.specs.declared.entries.Entry.TheVariants.{Unused}
 use Rattle.sg_history.specs.declared.entries.Write.{Write}
 use Rattle.sg_history.specs.History.{write_to}
-use Rattle.sg_history.specs.Book.{Book, Numbered, book_with, write_at}
+use Rattle.sg_history.specs.Book.{Book, book_with, write_at}
 
 -- how many sequences were drawn, which are held, the entries that wait, and the log
 pub record World : Type 0 where
   pub count : ℕ
   pub held : List ℕ
-  pub pending : List Numbered
+  pub pending : List Waiting
   pub log : List Entry
 
 -- the book of a world
@@ -27,7 +28,7 @@ times_taken world number =
     once_among number (length world.log) + count_by (λ p. nat_eq p.number number) world.pending + count_by (λ held. nat_eq held number) world.held
 
 -- numbers of waiting entries rise
-abbrev pub rises_from : ℕ → List Numbered → Bool
+abbrev pub rises_from : ℕ → List Waiting → Bool
 rises_from before [] = true
 rises_from before (first ∷ others) = nat_lt before first.number && rises_from first.number others
 
@@ -40,17 +41,17 @@ pub record IsSound (world : World) : Type 0 where
 -- what a log and the waiting entries come to once those that come next were moved to the log
 pub record Released : Type 0 where
   pub log : List Entry
-  pub pending : List Numbered
+  pub pending : List Waiting
 
 -- the waiting entries that come next are moved to the log's end, as long as there is one
-abbrev pub release : List Entry → List Numbered → Released
+abbrev pub release : List Entry → List Waiting → Released
 release log [] = record { log = log; pending = [] }
 release log (first ∷ others) =
     if nat_eq first.number (length log + 1) then release (log ++ first.entry ∷ []) others
     else record { log = log; pending = first ∷ others }
 
 -- an entry put among waiting ones by its number
-abbrev pub put_waiting : Numbered → List Numbered → List Numbered
+abbrev pub put_waiting : Waiting → List Waiting → List Waiting
 put_waiting put [] = put ∷ []
 put_waiting put (first ∷ others) = if nat_lt put.number first.number then put ∷ first ∷ others else first ∷ put_waiting put others
 

@@ -2,9 +2,10 @@
 
 ghost use Rattle.std.specs.Prelude.{◌≡◌, ◌≤◌, List, ℕ, length, Some};
 ghost use Rattle.sg_names.specs.declared.rev_id.RevId.{RevId};
+ghost use Rattle.sg_history.specs.declared.book.Waiting.{Waiting};
 ghost use Rattle.sg_history.specs.declared.entries.Entry.{Entry};
 ghost use Rattle.sg_history.specs.Board.{BoardState, After};
-ghost use Rattle.sg_history.specs.Book.{Book, Numbered, book_of, book_with, Later, IsLastWrite, writes_up_to, last_write_up_to, write_of_rev_up_to};
+ghost use Rattle.sg_history.specs.Book.{Book, book_of, book_with, Later, IsLastWrite, writes_up_to, last_write_up_to, write_of_rev_up_to};
 ghost use Rattle.sg_history.specs.Current.{Sequenced, writes_to, last_write, write_of_rev};
 ghost use Rattle.sg_history.specs.History.{History, Extends, past};
 ghost use Rattle.sg_history.specs.Journal.{IsEntry, line_of, Spells};
@@ -26,7 +27,7 @@ pub fn later()
     ensures itself { (book : Book) → Later book book }
     ensures again { (a b c : Book) → Later a b → Later b c → Later a c }
     ensures extended { (g h : List Entry) → Extends g h → Later (book_of g) (book_of h) }
-    ensures log { (log : List Entry) (waiting : List Numbered) (h : List Entry)
+    ensures log { (log : List Entry) (waiting : List Waiting) (h : List Entry)
         → Later (book_with log waiting) (book_of h) → Extends log h }
     ensures fronts { (log h : List Entry) (front : ℕ) → Extends log h → front ≤ length log
         → past h front ≡ past log front }

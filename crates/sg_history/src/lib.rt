@@ -2,6 +2,7 @@
 //! users, documents and feeds.
 #![tactic(auto)]
 
+pub mod book;
 pub mod entries;
 pub mod fault;
 mod field;
@@ -18,6 +19,7 @@ mod rules;
 mod write_line;
 mod written;
 
+pub use book::{Waiting, entry_at};
 pub use entries::{Entries, Entry, Log, Write};
 pub use fault::{BadLine, ReadLog, Why};
 pub use journal::read_journal;

@@ -10,7 +10,7 @@ pub struct Number {
 }
 
 impl Number {
-    /// A number of this value, for what hands out sequences: nothing else makes one.
+    /// A number of this value, for what hands out sequences: who else makes one has drawn nothing.
     pub fn new(value: u64) -> Number
         ensures { result.value ≡ value }
     {
