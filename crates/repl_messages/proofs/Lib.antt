@@ -1,5 +1,6 @@
 pub mod Appended
 pub mod Batches
+pub mod ChangesRead
 pub mod Histories
 pub mod History
 pub mod NoFloats

@@ -1,10 +1,12 @@
 //! The message `changes`, which offers rows to a device.
 
-ghost use Rattle.std.specs.Prelude.{◌≡◌, IfOk, OnOk, ◌++◌, map};
+ghost use Rattle.std.specs.Prelude.{◌≡◌, Some, IfOk, OnOk, ◌++◌, map};
 ghost use Rattle.serde_json.specs.View.{view};
 ghost use Rattle.serde_json.specs.Written.{compact_text};
 ghost use Rattle.repl_messages.specs.Changes as changes;
 ghost use Rattle.repl_messages.specs.Changes.{changes_payload};
+ghost use Rattle.repl_messages.specs.Json.{json_of};
+ghost use Rattle.repl_messages.specs.ReadAgain.{IsReadAsOffers};
 
 use crate::request::Version;
 use crate::texts::{key_string, push_text, rev_string};
@@ -18,7 +20,8 @@ use std::alloc::Global;
 /// revision. A plain key is written as a number, another as a text. In version three the bits follow
 /// where one is set, in version two `true` where the winner is deleted.
 pub fn write_changes(alloc: Global, rows: &[Row], version: Version) -> Result<Payload, Memory>
-    ensures { IfOk result (λ payload. payload ≡ changes_payload rows.now version) }
+    ensures text { IfOk result (λ payload. payload ≡ changes_payload rows.now version) }
+    ensures read { IfOk result (λ payload. IsReadAsOffers payload rows.now version) }
 {
     let mut props = Vec::new(alloc);
     push_text(alloc, &mut props, "Profile", "changes")?;
@@ -29,7 +32,8 @@ pub fn write_changes(alloc: Global, rows: &[Row], version: Version) -> Result<Pa
 }
 
 fn changes_body(alloc: Global, rows: &[Row], version: Version) -> Result<Bytes, Memory>
-    ensures { IfOk result (λ body. body ≡ compact_text (changes.changes_data version rows.now)) }
+    ensures text { IfOk result (λ body. body ≡ compact_text (changes.changes_data version rows.now)) }
+    ensures read { IfOk result (λ body. json_of body ≡ Some (changes.changes_data version rows.now)) }
 {
     let value = changes_value(alloc, rows, version)?;
     let text = value.to_vec(alloc)?;
