@@ -1,0 +1,3 @@
+pub mod RevisionKeys
+pub mod Firsts
+pub mod Pushes

@@ -1,0 +1,58 @@
+-- Where documents, revisions, users and roles stand in a history, given its entries, the newest first.
+use Rattle.std.specs.Prelude.{ℕ, ◌+◌, zero, suc, List, [], ◌∷◌, length, Option, Some, None, option_map, if◌then◌else◌}
+use Rattle.sg_names.specs.declared.grants.Grantee.{Grantee}
+use Rattle.sg_names.specs.declared.rev_id.RevId.{RevId}
+use Rattle.sg_history.specs.declared.entries.Entry.{Entry}
+use Rattle.sg_history.specs.declared.entries.Write.{Write}
+use Rattle.sg_history.specs.History.{write_to}
+use Rattle.sg_history.specs.Current.{Sequenced, last_write, write_of_rev, winning_of}
+use Rattle.sg_history.specs.Principals.{as_put, same_grantee}
+use Rattle.log_index.specs.declared.documents.Document.{Document}
+
+-- the earlier sequence where there is one, else that of the write, if there is one
+abbrev pub earlier_or : Option Write → ℕ → ℕ → ℕ
+earlier_or None seq earlier = earlier
+earlier_or (Some w) seq zero = seq
+earlier_or (Some w) seq (suc earlier) = suc earlier
+
+-- the sequence of a document's first write, 0 where it was never written
+abbrev pub first_seq : List Entry → List ℕ → ℕ
+first_seq [] doc = 0
+first_seq (e ∷ older) doc = earlier_or (write_to e doc) (length older + 1) (first_seq older doc)
+
+-- the sequence of a write, where there is one
+abbrev pub seq_alone : Option Sequenced → Option ℕ
+seq_alone written = option_map (λ w. w.seq) written
+
+-- the sequence of the write of a document that has this revision
+abbrev pub revision_seq : List Entry → List ℕ → RevId → Option ℕ
+revision_seq es doc rev = seq_alone (write_of_rev es doc rev)
+
+-- where a document stands whose last write is given, if it has one
+abbrev pub document_by : List Entry → List ℕ → Option Sequenced → Option Document
+document_by es doc None = None
+document_by es doc (Some last) =
+    Some (record { first = first_seq es doc; last = last.seq; winning = (winning_of es doc last).seq })
+
+-- where a document stands: its first write, its last one and the write of its winner; none where it was never written
+abbrev pub document_at : List Entry → List ℕ → Option Document
+document_at es doc = document_by es doc (last_write es doc)
+
+-- the first write of a document, this sequence where it stands nowhere
+abbrev pub first_or : Option Document → ℕ → ℕ
+first_or None seq = seq
+first_or (Some document) seq = document.first
+
+-- the user or role that an entry puts or drops, if it does
+abbrev pub put_by : Entry → Option Grantee
+put_by e = option_map (λ put. put.of) (as_put e)
+
+-- the sequence of a put or drop where it is of this user or role, else the one before
+abbrev pub put_or : Option Grantee → Grantee → ℕ → Option ℕ → Option ℕ
+put_or None whom seq before = before
+put_or (Some of) whom seq before = if same_grantee of whom then Some seq else before
+
+-- the sequence of the last put or drop of a user or role
+abbrev pub last_put : List Entry → Grantee → Option ℕ
+last_put [] whom = None
+last_put (e ∷ older) whom = put_or (put_by e) whom (length older + 1) (last_put older whom)

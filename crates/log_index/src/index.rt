@@ -1,0 +1,152 @@
+//! The index.
+
+ghost use Rattle.std.specs.Prelude.{◌≡◌, ◌<◌, ◌+◌, List, [], ◌∷◌, length, Some, None, option_map, OnOk, OnErr, IfOk};
+ghost use Rattle.sg_history.specs.declared.entries.Entry.{Entry};
+ghost use Rattle.sg_history.specs.History.{as_write};
+ghost use Rattle.sg_names.specs.declared.grants.Grantee.TheVariants as grantee;
+ghost use Rattle.log_index.specs.Index.{Indexes, grantee_of, winning_seq};
+ghost use Rattle.log_index.specs.Places as places;
+ghost use Rattle.log_index.specs.Places.{document_at, revision_seq, last_put};
+
+use crate::documents::{Document, Documents, document_of, first_or, put_back, put_document};
+use crate::principals::{Principal, Puts, keep_put, put_by, put_of};
+use crate::revisions::{Revisions, put_revision, seq_of};
+use sg_history::{DocId, Entry, Name, RevId, Write};
+use std::alloc::{AllocError, Global};
+use std::collections::BTreeMap;
+
+/// An index of a history. For each entry it keeps at most a name, a digest and some numbers.
+#[derive(Drop)]
+pub struct LogIndex {
+    alloc: Global,
+    count: u64,
+    documents: Documents,
+    revisions: Revisions,
+    users: Puts,
+    roles: Puts,
+}
+
+impl LogIndex {
+    /// The index of no entries. Allocates nothing.
+    pub fn new(alloc: Global) -> LogIndex
+        ensures { Indexes result [] }
+    {
+        LogIndex {
+            alloc,
+            count: 0,
+            documents: BTreeMap::new(alloc),
+            revisions: BTreeMap::new(alloc),
+            users: BTreeMap::new(alloc),
+            roles: BTreeMap::new(alloc),
+        }
+    }
+
+    /// How many entries it has.
+    pub fn count(&self) -> u64
+        ensures { result ≡ self.now.count }
+    {
+        self.count
+    }
+
+    /// Where a document stands, if it was written. Allocates nothing.
+    pub fn document(&self, doc: &DocId) -> Option<Document>
+        ensures { (es : List Entry) → Indexes self.now es → result ≡ document_at es doc.now }
+    {
+        document_of(&self.documents, doc)
+    }
+
+    /// The sequence of the write of a document's revision, if it was written.
+    pub fn revision(&self, doc: &DocId, rev: &RevId) -> Result<Option<u64>, AllocError>
+        ensures { IfOk result (λ found. (es : List Entry) → Indexes self.now es → found ≡ revision_seq es doc.now rev.now) }
+    {
+        match document_of(&self.documents, doc) {
+            None => Ok(None),
+            Some(document) => seq_of(self.alloc, &self.revisions, document.first, rev),
+        }
+    }
+
+    /// The sequence of a user's last put or drop, if it had one. Allocates nothing.
+    pub fn user(&self, name: &Name) -> Option<u64>
+        ensures { (es : List Entry) → Indexes self.now es → result ≡ last_put es (grantee.User name.now) }
+    {
+        put_of(&self.users, name)
+    }
+
+    /// The sequence of a role's last put or drop, if it had one. Allocates nothing.
+    pub fn role(&self, name: &Name) -> Option<u64>
+        ensures { (es : List Entry) → Indexes self.now es → result ≡ last_put es (grantee.Role name.now) }
+    {
+        put_of(&self.roles, name)
+    }
+
+    /// Takes the next entry. Out of memory leaves what the index says as it was.
+    pub fn push(&mut self, entry: &Entry) -> Result<(), AllocError>
+        requires { self.old.count < 18446744073709551615 }
+        ensures ok { OnOk result ((es : List Entry) → Indexes self.old es → Indexes self.new (entry.now ∷ es)) }
+        ensures err { OnErr result ((es : List Entry) → Indexes self.old es → Indexes self.new es) }
+    {
+        let seq = self.count + 1;
+        self.keep(entry, seq)?;
+        self.count = seq;
+        Ok(())
+    }
+
+    /// Keeps what an entry of this sequence says.
+    fn keep(&mut self, entry: &Entry, seq: u64) -> Result<(), AllocError>
+        ensures ok { OnOk result ((es : List Entry) → seq ≡ length es + 1 → Indexes self.old es → Indexes (record self.new { count = seq }) (entry.now ∷ es)) }
+        ensures err { OnErr result ((es : List Entry) → Indexes self.old es → Indexes self.new es) }
+        ensures count { self.new.count ≡ self.old.count }
+    {
+        match entry.as_write() {
+            Some(write) => self.keep_write(write, seq),
+            None => self.keep_principal(put_by(entry), seq),
+        }
+    }
+
+    fn keep_principal(
+        &mut self,
+        principal: Option<Principal<'_>>,
+        seq: u64,
+    ) -> Result<(), AllocError>
+        ensures ok { OnOk result ((es : List Entry) (e : Entry) → as_write e ≡ None → places.put_by e ≡ option_map grantee_of principal.entry → seq ≡ length es + 1 → Indexes self.old es → Indexes (record self.new { count = seq }) (e ∷ es)) }
+        ensures err { OnErr result ((es : List Entry) → Indexes self.old es → Indexes self.new es) }
+        ensures count { self.new.count ≡ self.old.count }
+    {
+        match principal {
+            None => Ok(()),
+            Some(Principal::User(name)) => keep_put(self.alloc, &mut self.users, name, seq),
+            Some(Principal::Role(name)) => keep_put(self.alloc, &mut self.roles, name, seq),
+        }
+    }
+
+    /// The sequence of the winner's write after a write of this sequence.
+    fn winning(&self, write: &Write, first: u64, seq: u64) -> Result<u64, AllocError>
+        ensures { IfOk result (λ winning. winning ≡ winning_seq self.now write.now first seq) }
+    {
+        if write.rev.equals(&write.winner) {
+            return Ok(seq);
+        }
+        let found = seq_of(self.alloc, &self.revisions, first, &write.winner)?;
+        Ok(found.unwrap_or(seq))
+    }
+
+    fn keep_write(&mut self, write: &Write, seq: u64) -> Result<(), AllocError>
+        ensures ok { OnOk result ((es : List Entry) (e : Entry) → as_write e ≡ Some write.now → seq ≡ length es + 1 → Indexes self.old es → Indexes (record self.new { count = seq }) (e ∷ es)) }
+        ensures err { OnErr result ((es : List Entry) → Indexes self.old es → Indexes self.new es) }
+        ensures count { self.new.count ≡ self.old.count }
+    {
+        let before = document_of(&self.documents, &write.doc);
+        let first = first_or(before, seq);
+        let document = Document {
+            first,
+            last: seq,
+            winning: self.winning(write, first, seq)?,
+        };
+        put_document(self.alloc, &mut self.documents, &write.doc, document)?;
+        let kept = put_revision(self.alloc, &mut self.revisions, first, &write.rev, seq);
+        if kept.is_err() {
+            put_back(&mut self.documents, &write.doc, before);
+        }
+        kept
+    }
+}
