@@ -1,6 +1,7 @@
 //! Documents and what they are read as.
 
 use json_doc::{Doc, DocFault, DocText, Members, Node, Nodes, read_doc};
+use sg_outside::Bytes;
 use std::alloc::Global;
 use std::collections::BTreeMap;
 use std::test::Fail;
@@ -109,22 +110,39 @@ fn a_number_is_an_integer_or_opaque(rt: HostRuntime) -> Result<(), Fail> {
     Ok(())
 }
 
+/// Texts of JSON, one a line, each with its characters after `|`; in these `/` stands for a line feed and `0` for a NUL.
+const TEXTS: &str = r#"""|
+"plain _id"|plain _id
+"\u00e9\n"|é/
+"\ud83d\ude00"|😀
+"a\u0000b"|a0b"#;
+
+/// The bytes of characters as `TEXTS` has them.
+fn meant(alloc: Global, text: &str) -> Result<Bytes, Fail> {
+    let mut bytes = Bytes::new(alloc);
+    for byte in text.as_bytes() {
+        bytes.push(match *byte {
+            b'/' => b'\n',
+            b'0' => 0,
+            byte => byte,
+        })?;
+    }
+    Ok(bytes)
+}
+
 #[test]
 fn a_text_is_its_characters(rt: HostRuntime) -> Result<(), Fail> {
-    let cases = [
-        ("\"\"", ""),
-        ("\"plain _id\"", "plain _id"),
-        ("\"\\u00e9\\/\\n\"", "\u{e9}/\n"),
-        ("\"\\ud83d\\ude00\"", "\u{1f600}"),
-        ("\"a\\u0000b\"", "a\0b"),
-    ];
-    for (text, want) in cases {
-        let doc = with_member(rt.alloc(), text)?;
+    let alloc = rt.alloc();
+    for line in TEXTS.split('\n') {
+        let (text, want) = line.split_once('|').ok_or("no line of the table")?;
+        let doc = with_member(alloc, text)?;
         let Some(Node::Text(found)) = doc.get("a") else {
-            assert!(rt; false, "no text at {text}");
-            return Ok(());
+            return Err(Fail::from("no text"));
         };
-        assert_eq!(rt; found.as_str(), want);
+        assert!(rt;
+            found.as_str().as_bytes() == meant(alloc, want)?.as_slice(),
+            "{line}"
+        );
     }
     Ok(())
 }
@@ -153,12 +171,11 @@ fn items_text(alloc: Global, list: Option<&Node>) -> Result<String, Fail> {
     Ok(text)
 }
 
-const ORDERED: &[u8] =
-    b"{\"b\":1, \"a\":[null,true,{\"_x\":[]},\"t\",2.5], \"\":3, \"b\":2, \"B\":false}";
+const ORDERED: &str = r#"{"b":1, "a":[null,true,{"_x":[]},"t",2.5], "":3, "b":2, "B":false}"#;
 
 #[test]
 fn members_and_items_stand_in_order(rt: HostRuntime) -> Result<(), Fail> {
-    let read = read_doc(rt.alloc(), ORDERED)?;
+    let read = read_doc(rt.alloc(), ORDERED.as_bytes())?;
     let doc = read.copy(rt.alloc())?;
     let members = members_text(rt.alloc(), doc.members())?;
     assert_eq!(rt; members.as_str(), ":int B:bool a:list b:int ");
@@ -169,7 +186,7 @@ fn members_and_items_stand_in_order(rt: HostRuntime) -> Result<(), Fail> {
 
 #[test]
 fn the_last_of_equal_members_wins(rt: HostRuntime) -> Result<(), Fail> {
-    let doc = read_doc(rt.alloc(), ORDERED)?;
+    let doc = read_doc(rt.alloc(), ORDERED.as_bytes())?;
     assert_eq!(rt; int_of(doc.get("b")), Some(2));
     assert_eq!(rt; int_of(doc.as_node().get("")), Some(3));
     assert_eq!(rt; kind(doc.get("c")), "none");

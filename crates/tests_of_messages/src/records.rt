@@ -5,15 +5,15 @@ use repl_messages::Version;
 use sg_history::{BadLine, ReadLog, Why};
 use sg_outside::{Bytes, Got, Memory, Wire};
 use std::alloc::Global;
-use std::process::Abort;
 use std::test::Fail;
 
-/// The bytes of a text in which `|` stands for a TAB and `~` for the byte FF.
+/// The bytes of a text in which `|` stands for a TAB, `/` for a line feed and `~` for the byte FF.
 fn tabbed(alloc: Global, text: &str) -> Result<Bytes, Memory> {
     let mut bytes = Bytes::new(alloc);
     for byte in text.as_bytes() {
         bytes.push(match *byte {
             b'|' => b'\t',
+            b'/' => b'\n',
             b'~' => 0xff,
             byte => byte,
         })?;
@@ -80,58 +80,67 @@ fn items_are_made_of_a_vector_and_give_it_back(rt: HostRuntime) -> Result<(), Fa
     Ok(())
 }
 
-/// Asserts that a text is refused at its first bad line.
-fn expect_bad(
-    rt: &impl Abort,
-    alloc: Global,
-    text: &str,
-    place: u64,
-    why: Why,
-) -> Result<(), Fail> {
+/// Texts that are no recorded session, one a line, with `/` for a line feed: before each the first bad line and what is bad there.
+const BAD: &str = "\
+1 head;\n\
+1 head;/\n\
+1 head;sgsession 2/\n\
+1 head;sgsession 2\n\
+1 ending;sgsession 1\n\
+2 ending;sgsession 1/\n\
+2 ending;sgsession 1/user|ann|2\n\
+2 ending;sgsession 1/other\n\
+2 kind;sgsession 1//\n\
+2 kind;sgsession 1/other|ann|2/\n\
+2 kind;sgsession 1/other/\n\
+2 fields;sgsession 1/user/\n\
+2 fields;sgsession 1/user|ann/\n\
+2 fields;sgsession 1/user|ann|2|/\n\
+2 field 2;sgsession 1/user||9/\n\
+2 field 2;sgsession 1/user|~|2/\n\
+2 field 2;sgsession 1/user|a:b|2/\n\
+2 field 3;sgsession 1/user|ann|4/\n\
+2 field 3;sgsession 1/user|ann|/\n\
+3 ending;sgsession 1/user|ann|2/idle\n\
+3 ending;sgsession 1/user|ann|2/|\n\
+3 fields;sgsession 1/user|ann|2/idle|/\n\
+3 field 1;sgsession 1/user|ann|2//\n\
+3 field 1;sgsession 1/user|ann|2/Idle/\n\
+4 field 1;sgsession 1/user|ann|2/idle/0/\n\
+5 field 1;sgsession 1/user|ann|2/idle/00/0A/|/\n\
+5 fields;sgsession 1/user|ann|2/idle/00/00|/x";
+
+/// What is bad, in words.
+fn why_text(alloc: Global, why: Why) -> Result<String, Fail> {
+    let text = match why {
+        Why::Head => "head",
+        Why::Ending => "ending",
+        Why::Kind => "kind",
+        Why::Fields => "fields",
+        Why::Field(place) => return Ok(format!(in alloc; "field {place}")?),
+        _ => "other",
+    };
+    Ok(String::from_str(alloc, text)?)
+}
+
+/// The first bad line of a text and what is bad there.
+fn fault_text(alloc: Global, text: &str) -> Result<String, Fail> {
     let bytes = tabbed(alloc, text)?;
     match read_record(alloc, bytes.as_slice()) {
-        Ok(_) => assert!(rt; false, "{text} is read"),
-        Err(fault) => assert_eq!(rt; fault, ReadLog::Bad(BadLine { place, why }), "{text}"),
+        Err(ReadLog::Bad(BadLine { place, why })) => {
+            let why = why_text(alloc, why)?;
+            Ok(format!(in alloc; "{place} {why}")?)
+        }
+        _ => Ok(String::from_str(alloc, "none")?),
     }
-    Ok(())
 }
 
 #[test]
 fn the_first_fault_is_told(rt: HostRuntime) -> Result<(), Fail> {
-    for (text, place, why) in [
-        ("", 1, Why::Head),
-        ("\n", 1, Why::Head),
-        ("sgsession 2\n", 1, Why::Head),
-        ("sgsession 2", 1, Why::Head),
-        ("sgsession 1", 1, Why::Ending),
-        ("sgsession 1\n", 2, Why::Ending),
-        ("sgsession 1\nuser|ann|2", 2, Why::Ending),
-        ("sgsession 1\nother", 2, Why::Ending),
-        ("sgsession 1\n\n", 2, Why::Kind),
-        ("sgsession 1\nother|ann|2\n", 2, Why::Kind),
-        ("sgsession 1\nother\n", 2, Why::Kind),
-        ("sgsession 1\nuser\n", 2, Why::Fields),
-        ("sgsession 1\nuser|ann\n", 2, Why::Fields),
-        ("sgsession 1\nuser|ann|2|\n", 2, Why::Fields),
-        ("sgsession 1\nuser||9\n", 2, Why::Field(2)),
-        ("sgsession 1\nuser|~|2\n", 2, Why::Field(2)),
-        ("sgsession 1\nuser|a:b|2\n", 2, Why::Field(2)),
-        ("sgsession 1\nuser|ann|4\n", 2, Why::Field(3)),
-        ("sgsession 1\nuser|ann|\n", 2, Why::Field(3)),
-        ("sgsession 1\nuser|ann|2\nidle", 3, Why::Ending),
-        ("sgsession 1\nuser|ann|2\n|", 3, Why::Ending),
-        ("sgsession 1\nuser|ann|2\nidle|\n", 3, Why::Fields),
-        ("sgsession 1\nuser|ann|2\n\n", 3, Why::Field(1)),
-        ("sgsession 1\nuser|ann|2\nIdle\n", 3, Why::Field(1)),
-        ("sgsession 1\nuser|ann|2\nidle\n0\n", 4, Why::Field(1)),
-        (
-            "sgsession 1\nuser|ann|2\nidle\n00\n0A\n|\n",
-            5,
-            Why::Field(1),
-        ),
-        ("sgsession 1\nuser|ann|2\nidle\n00\n00|\nx", 5, Why::Fields),
-    ] {
-        expect_bad(&rt, rt.alloc(), text, place, why)?;
+    let alloc = rt.alloc();
+    for line in BAD.split('\n') {
+        let (want, text) = line.split_once(';').ok_or("no line of the table")?;
+        assert!(rt; fault_text(alloc, text)?.as_str() == want, "{line}");
     }
     Ok(())
 }

@@ -368,91 +368,75 @@ fn errors(rt: HostRuntime) -> Result<(), Fail> {
     Ok(())
 }
 
-/// A row as its key, document, revision and bits.
-type Written<'a> = ((u64, u64), &'a str, &'a str, u8);
-
-fn row_of(alloc: Global, written: &Written<'_>) -> Result<Row, Fail> {
-    let (key, doc, rev, bits) = *written;
+/// A row as its key, document, revision and bits, with a space between each two.
+fn row_of(alloc: Global, line: &str) -> Result<Row, Fail> {
+    let mut parts = line.split(' ');
     Ok(Row {
-        key: Key {
-            by: key.0,
-            seq: key.1,
-        },
-        doc: DocId::parse(alloc, doc)?,
-        rev: RevId::parse(alloc, rev)?,
-        bits,
+        key: Key::parse(parts.next().unwrap_or(""))?,
+        doc: DocId::parse(alloc, parts.next().unwrap_or(""))?,
+        rev: RevId::parse(alloc, parts.next().unwrap_or(""))?,
+        bits: parts.next().unwrap_or("").parse()?,
     })
 }
 
-const ROWS: [Written<'static>; 5] = [
-    ((2, 2), "d1", "1-a", 0),
-    ((5, 2), "a\"b\\ü/", "7-x\"y", 1),
-    ((7, 7), "d", "1-a", 2),
-    ((8, 8), "d", "1-a", 4),
-    ((18446744073709551615, 9), "d", "4294967295-a", 5),
-];
+const ROWS: &str = "\
+2 d1 1-a 0\n\
+5:2 a\"b\\ü/ 7-x\"y 1\n\
+7 d 1-a 2\n\
+8 d 1-a 4\n\
+18446744073709551615:9 d 4294967295-a 5";
+
+const CHANGES: &str =
+    r#"Profile=changes&[[2,"d1","1-a"],["5:2","a\"b\\ü/","7-x\"y",1],[7,"d","1-a",2],[8,"d","1-a",4],["18446744073709551615:9","d","4294967295-a",5]]"#;
+
+const CHANGES_IN_VERSION_TWO: &str =
+    r#"Profile=changes&[[2,"d1","1-a"],["5:2","a\"b\\ü/","7-x\"y",true],[7,"d","1-a"],[8,"d","1-a"],["18446744073709551615:9","d","4294967295-a",true]]"#;
+
+fn changes_text(alloc: Global, rows: &[Row], version: Version) -> Result<Bytes, Fail> {
+    payload_text(alloc, &write_changes(alloc, rows, version)?)
+}
 
 #[test]
 fn changes(rt: HostRuntime) -> Result<(), Fail> {
     let alloc = rt.alloc();
     let mut rows = Rows::new(alloc);
-    for written in ROWS.iter() {
-        rows.push(row_of(alloc, written)?)?;
+    let none = changes_text(alloc, rows.as_slice(), Version::Three)?;
+    assert!(rt; none.as_slice() == "Profile=changes&[]".as_bytes());
+    for line in ROWS.split('\n') {
+        rows.push(row_of(alloc, line)?)?;
     }
-    for (version, want) in [
-        (
-            Version::Three,
-            r#"Profile=changes&[[2,"d1","1-a"],["5:2","a\"b\\ü/","7-x\"y",1],[7,"d","1-a",2],[8,"d","1-a",4],["18446744073709551615:9","d","4294967295-a",5]]"#,
-        ),
-        (
-            Version::Two,
-            r#"Profile=changes&[[2,"d1","1-a"],["5:2","a\"b\\ü/","7-x\"y",true],[7,"d","1-a"],[8,"d","1-a"],["18446744073709551615:9","d","4294967295-a",true]]"#,
-        ),
-    ] {
-        let payload = write_changes(alloc, rows.as_slice(), version)?;
-        assert!(rt;
-            payload_text(alloc, &payload)?.as_slice() == want.as_bytes(),
-            "{version:?}"
-        );
-    }
-    let none = write_changes(alloc, &[], Version::Three)?;
-    assert!(rt; payload_text(alloc, &none)?.as_slice() == b"Profile=changes&[]".as_slice());
+    let text = changes_text(alloc, rows.as_slice(), Version::Three)?;
+    assert!(rt; text.as_slice() == CHANGES.as_bytes());
+    let text = changes_text(alloc, rows.as_slice(), Version::Two)?;
+    assert!(rt; text.as_slice() == CHANGES_IN_VERSION_TWO.as_bytes());
     Ok(())
+}
+
+/// Rows with their ancestors, one a line, each with the message that carries the revision.
+const REVISIONS: &str = "\
+2 d1 3-c 0|2-b,1-a|Profile=rev&id=d1&rev=3-c&sequence=2&history=2-b,1-a&{}\n\
+5:4 d2 2-b 5|1-z|Profile=rev&id=d2&rev=2-b&deleted=1&sequence=5:4&history=1-z&{}\n\
+6 d2 2-b 4|-|Profile=rev&id=d2&rev=2-b&sequence=6&{}";
+
+/// The message that carries a row's revision, by the row and its ancestors.
+fn revision_text(alloc: Global, row: &str, ancestors: &str) -> Result<Bytes, Fail> {
+    let row = row_of(alloc, row)?;
+    let ancestors = Revs::parse(alloc, ancestors)?;
+    payload_text(alloc, &write_rev(alloc, &row, ancestors.as_slice(), b"{}")?)
 }
 
 #[test]
 fn revisions(rt: HostRuntime) -> Result<(), Fail> {
     let alloc = rt.alloc();
-    for (written, ancestors, want) in [
-        (
-            ((2, 2), "d1", "3-c", 0),
-            "2-b,1-a",
-            "Profile=rev&id=d1&rev=3-c&sequence=2&history=2-b,1-a&{}",
-        ),
-        (
-            ((5, 4), "d2", "2-b", 5),
-            "1-z",
-            "Profile=rev&id=d2&rev=2-b&deleted=1&sequence=5:4&history=1-z&{}",
-        ),
-        (
-            ((6, 6), "d2", "2-b", 4),
-            "-",
-            "Profile=rev&id=d2&rev=2-b&sequence=6&{}",
-        ),
-    ] {
-        let row = row_of(alloc, &written)?;
-        let ancestors = Revs::parse(alloc, ancestors)?;
-        let payload = write_rev(alloc, &row, ancestors.as_slice(), b"{}")?;
-        assert!(rt;
-            payload_text(alloc, &payload)?.as_slice() == want.as_bytes(),
-            "{want}"
-        );
+    for line in REVISIONS.split('\n') {
+        let (row, rest) = line.split_once('|').ok_or("no line of the table")?;
+        let (ancestors, want) = rest.split_once('|').ok_or("no line of the table")?;
+        let text = revision_text(alloc, row, ancestors)?;
+        assert!(rt; text.as_slice() == want.as_bytes(), "{line}");
     }
-    let row = row_of(alloc, &((5, 4), "d2", "2-b", 5))?;
-    let text = payload_text(alloc, &write_norev(alloc, &row)?)?;
-    let want =
-        b"Profile=norev&id=d2&rev=2-b&sequence=5:4&error=404&reason=not available&".as_slice();
-    assert!(rt; text.as_slice() == want);
+    let text = payload_text(alloc, &write_norev(alloc, &row_of(alloc, "5:4 d2 2-b 5")?)?)?;
+    let want = "Profile=norev&id=d2&rev=2-b&sequence=5:4&error=404&reason=not available&";
+    assert!(rt; text.as_slice() == want.as_bytes());
     Ok(())
 }
 

@@ -6,55 +6,6 @@ use std::alloc::{AllocError, Global};
 use std::process::Abort;
 use std::test::Fail;
 
-/// An extension, what it answers, and the winner after it.
-#[derive(Clone, Copy)]
-struct Step {
-    rev: &'static str,
-    ancestors: &'static str,
-    deleted: bool,
-    strict: bool,
-    answer: &'static str,
-    winner: &'static str,
-}
-
-const fn plain(
-    rev: &'static str,
-    ancestors: &'static str,
-    answer: &'static str,
-    winner: &'static str,
-) -> Step {
-    Step {
-        rev,
-        ancestors,
-        deleted: false,
-        strict: false,
-        answer,
-        winner,
-    }
-}
-
-const fn strict(step: Step) -> Step {
-    Step {
-        rev: step.rev,
-        ancestors: step.ancestors,
-        deleted: step.deleted,
-        strict: true,
-        answer: step.answer,
-        winner: step.winner,
-    }
-}
-
-const fn deleting(step: Step) -> Step {
-    Step {
-        rev: step.rev,
-        ancestors: step.ancestors,
-        deleted: true,
-        strict: step.strict,
-        answer: step.answer,
-        winner: step.winner,
-    }
-}
-
 fn rev_text(alloc: Global, rev: &RevId) -> Result<String, AllocError> {
     format!(in alloc; "{}-{}", rev.generation, rev.digest.as_str())
 }
@@ -122,143 +73,151 @@ fn tree_after(tree: Tree, answer: Extended) -> Tree {
     }
 }
 
-/// The tree after the steps, each of which is compared.
-fn grown(rt: &impl Abort, alloc: Global, steps: &[Step]) -> Result<Tree, Fail> {
+/// An extension: a revision, its ancestors, and marks: `d` where it is deleted, `s` where no conflict is allowed.
+fn extended(alloc: Global, tree: &Tree, step: &str) -> Result<Extended, Fail> {
+    let mut parts = step.split(' ');
+    let rev = RevId::parse(alloc, parts.next().unwrap_or(""))?;
+    let ancestors = Revs::parse(alloc, parts.next().unwrap_or(""))?;
+    let marks = parts.next().unwrap_or("");
+    let deleted = marks.contains('d');
+    Ok(tree.extend(&rev, deleted, ancestors.as_slice(), marks.contains('s')))
+}
+
+/// What an extension answers and the winner after it, with `|` between.
+fn step_text(alloc: Global, answer: &str, winner: Option<&Leaf>) -> Result<String, Fail> {
+    let winner = leaf_text(alloc, winner)?;
+    Ok(format!(in alloc; "{answer}|{winner}")?)
+}
+
+/// The tree after the steps, one a line, each of which is compared.
+fn grown(rt: &impl Abort, alloc: Global, steps: &str) -> Result<Tree, Fail> {
     let mut tree = Tree::new(alloc);
-    for step in steps {
-        let rev = RevId::parse(alloc, step.rev)?;
-        let ancestors = Revs::parse(alloc, step.ancestors)?;
-        let answer = tree.extend(&rev, step.deleted, ancestors.as_slice(), step.strict);
-        assert_eq!(rt;
-            answer_text(alloc, &answer)?.as_str(),
-            step.answer,
-            "at {}",
-            step.rev
-        );
+    for line in steps.split('\n') {
+        let (step, want) = line.split_once('|').ok_or("no line of the table")?;
+        let answer = extended(alloc, &tree, step)?;
+        let told = answer_text(alloc, &answer)?;
         tree = tree_after(tree, answer);
-        let winner = leaf_text(alloc, tree.winner())?;
-        assert_eq!(rt; winner.as_str(), step.winner, "after {}", step.rev);
+        let text = step_text(alloc, told.as_str(), tree.winner())?;
+        assert!(rt; text.as_str() == want, "{line}");
     }
     Ok(tree)
+}
+
+/// The tree after the steps, whose leaves are compared.
+fn grown_to(rt: &impl Abort, alloc: Global, steps: &str, leaves: &str) -> Result<Tree, Fail> {
+    let tree = grown(rt, alloc, steps)?;
+    let text = leaves_text(alloc, tree.leaves()?.as_slice())?;
+    assert_eq!(rt; text.as_str(), leaves);
+    Ok(tree)
+}
+
+const CONFLICT: &str = "\
+1-a - |kept 0|1-a\n\
+3-c 2-b,1-a |kept 2|3-c\n\
+2-b - |known|3-c\n\
+2-z 1-a s|conflict with 3-c|3-c\n\
+2-z 1-a |kept 1|3-c\n\
+4-d 4-x |bad history|3-c";
+
+/// Revisions of that tree, one a line, with the most ancestors that are asked for and those that are answered.
+const ANCESTORS: &str = "\
+3-c 10|2-b,1-a\n\
+3-c 1|2-b\n\
+3-c 0|\n\
+2-z 10|1-a\n\
+1-a 10|\n\
+4-d 10|\n\
+3-c 18446744073709551615|2-b,1-a";
+
+/// The ancestors that a tree answers of a revision, at most so many.
+fn ancestors_text(alloc: Global, tree: &Tree, asked: &str) -> Result<String, Fail> {
+    let (rev, most) = asked.split_once(' ').ok_or("no line of the table")?;
+    let found = tree.ancestors_of(&RevId::parse(alloc, rev)?, most.parse()?)?;
+    Ok(revs_text(alloc, found.as_slice())?)
 }
 
 #[test]
 fn a_document_with_a_conflict(rt: HostRuntime) -> Result<(), Fail> {
     let alloc = rt.alloc();
-    let steps = [
-        plain("1-a", "-", "kept 0", "1-a"),
-        plain("3-c", "2-b,1-a", "kept 2", "3-c"),
-        plain("2-b", "-", "known", "3-c"),
-        strict(plain("2-z", "1-a", "conflict with 3-c", "3-c")),
-        plain("2-z", "1-a", "kept 1", "3-c"),
-        plain("4-d", "4-x", "bad history", "3-c"),
-    ];
-    let tree = grown(&rt, alloc, &steps)?;
-    assert_eq!(rt;
-        leaves_text(alloc, tree.leaves()?.as_slice())?.as_str(),
-        "3-c,2-z"
-    );
-    let cases: [(&str, u64, &str); 7] = [
-        ("3-c", 10, "2-b,1-a"),
-        ("3-c", 1, "2-b"),
-        ("3-c", 0, ""),
-        ("2-z", 10, "1-a"),
-        ("1-a", 10, ""),
-        ("4-d", 10, ""),
-        ("3-c", u64::MAX, "2-b,1-a"),
-    ];
-    for (rev, most, want) in cases {
-        let found = tree.ancestors_of(&RevId::parse(alloc, rev)?, most)?;
-        assert_eq!(rt;
-            revs_text(alloc, found.as_slice())?.as_str(),
-            want,
-            "of {rev}"
+    let tree = grown_to(&rt, alloc, CONFLICT, "3-c,2-z")?;
+    for line in ANCESTORS.split('\n') {
+        let (asked, want) = line.split_once('|').ok_or("no line of the table")?;
+        assert!(rt;
+            ancestors_text(alloc, &tree, asked)?.as_str() == want,
+            "{line}"
         );
     }
-    let known = [
-        ("1-a", true),
-        ("2-b", true),
-        ("2-z", true),
-        ("4-d", false),
-        ("2-a", false),
-    ];
-    for (rev, want) in known {
-        assert_eq!(rt; tree.knows(&RevId::parse(alloc, rev)?), want, "of {rev}");
+    for rev in "1-a 2-b 2-z".split(' ') {
+        assert!(rt; tree.knows(&RevId::parse(alloc, rev)?), "{rev}");
+    }
+    for rev in "4-d 2-a".split(' ') {
+        assert!(rt; !tree.knows(&RevId::parse(alloc, rev)?), "{rev}");
     }
     Ok(())
 }
 
+/// A bad history is seen before a conflict, and a known revision before a bad history; what stands after the first known
+/// ancestor is dropped.
+const ORDER: &str = "\
+2-b 2-b s|bad history|none\n\
+2-b 3-c |bad history|none\n\
+3-c 2-b,2-a |bad history|none\n\
+4294967295-z 4294967294-y,1-x s|kept 2|4294967295-z\n\
+1-x 1-x,1-x s|known|4294967295-z\n\
+2-b 2-c s|bad history|4294967295-z\n\
+9-q 8-p,1-x,1-w |bad history|4294967295-z\n\
+9-q 8-p,4-o,1-x |kept 3|4294967295-z\n\
+8-r 4-o,3-m,2-l |kept 1|4294967295-z\n\
+3-m - |kept 0|4294967295-z";
+
+const WINNERS: &str = "\
+9-z - d|kept 0|9-z deleted\n\
+9-zz - d|kept 0|9-zz deleted\n\
+2-b 1-a |kept 1|2-b\n\
+2-ab 1-a |kept 1|2-b\n\
+2-B 1-a |kept 1|2-b\n\
+3-a 2-B |kept 1|3-a\n\
+4-a 3-a d|kept 1|2-b\n\
+3-b 2-b d|kept 1|2-ab\n\
+3-c 2-ab d|kept 1|9-zz deleted";
+
+const WITHOUT_CONFLICTS: &str = "\
+2-b 1-a s|kept 1|2-b\n\
+2-c - s|conflict with 2-b|2-b\n\
+2-c 1-a s|conflict with 2-b|2-b\n\
+4-d 3-c,2-b s|kept 2|4-d\n\
+4-e 3-c s|conflict with 4-d|4-d\n\
+5-f 4-d sd|kept 1|5-f deleted\n\
+5-g 4-d s|conflict with 5-f|5-f deleted\n\
+1-h - s|kept 0|1-h\n\
+6-i 5-f s|conflict with 1-h|1-h\n\
+2-j 1-h s|kept 1|2-j";
+
 #[test]
-fn each_answer_in_its_order(rt: HostRuntime) -> Result<(), Fail> {
+fn each_answer_in_its_order_and_which_leaf_wins(rt: HostRuntime) -> Result<(), Fail> {
     let alloc = rt.alloc();
-    let steps = [
-        // a bad history is seen before a conflict, and a known revision before a bad history
-        strict(plain("2-b", "2-b", "bad history", "none")),
-        plain("2-b", "3-c", "bad history", "none"),
-        plain("3-c", "2-b,2-a", "bad history", "none"),
-        strict(plain("4294967295-z", "4294967294-y,1-x", "kept 2", "4294967295-z")),
-        strict(plain("1-x", "1-x,1-x", "known", "4294967295-z")),
-        strict(plain("2-b", "2-c", "bad history", "4294967295-z")),
-        // what stands after the first known ancestor is dropped
-        plain("9-q", "8-p,1-x,1-w", "bad history", "4294967295-z"),
-        plain("9-q", "8-p,4-o,1-x", "kept 3", "4294967295-z"),
-        plain("8-r", "4-o,3-m,2-l", "kept 1", "4294967295-z"),
-        plain("3-m", "-", "kept 0", "4294967295-z"),
-    ];
-    let tree = grown(&rt, alloc, &steps)?;
-    let leaves = leaves_text(alloc, tree.leaves()?.as_slice())?;
-    assert_eq!(rt; leaves.as_str(), "4294967295-z,9-q,8-r,3-m");
+    grown_to(&rt, alloc, ORDER, "4294967295-z,9-q,8-r,3-m")?;
+    grown_to(
+        &rt,
+        alloc,
+        WINNERS,
+        "9-zz deleted,9-z deleted,4-a deleted,3-c deleted,3-b deleted",
+    )?;
+    grown_to(&rt, alloc, WITHOUT_CONFLICTS, "5-f deleted,2-j")?;
+    Ok(())
+}
+
+#[test]
+fn leaves_are_made_of_a_vector_and_give_it_back(rt: HostRuntime) -> Result<(), Fail> {
+    let alloc = rt.alloc();
+    let tree = grown(&rt, alloc, CONFLICT)?;
     let copies = Leaves::from_vec(tree.leaves()?.into_vec());
-    assert_eq!(rt; copies.as_slice().len(), 4);
-    assert_eq!(rt;
-        leaf_text(alloc, Some(&copies.as_slice()[3].copy(alloc)?))?.as_str(),
-        "3-m"
-    );
+    let Some(last) = copies.as_slice().last() else {
+        return Err(Fail::from("no leaf"));
+    };
+    let text = leaf_text(alloc, Some(&last.copy(alloc)?))?;
+    assert!(rt; text.as_str() == "2-z");
     assert!(rt; Leaves::new(alloc).as_slice().is_empty());
-    let found = tree.ancestors_of(&RevId::parse(alloc, "9-q")?, 10)?;
-    assert_eq!(rt; revs_text(alloc, found.as_slice())?.as_str(), "8-p,4-o,1-x");
-    Ok(())
-}
-
-#[test]
-fn which_leaf_wins(rt: HostRuntime) -> Result<(), Fail> {
-    let alloc = rt.alloc();
-    let steps = [
-        deleting(plain("9-z", "-", "kept 0", "9-z deleted")),
-        deleting(plain("9-zz", "-", "kept 0", "9-zz deleted")),
-        plain("2-b", "1-a", "kept 1", "2-b"),
-        plain("2-ab", "1-a", "kept 1", "2-b"),
-        plain("2-B", "1-a", "kept 1", "2-b"),
-        plain("3-a", "2-B", "kept 1", "3-a"),
-        deleting(plain("4-a", "3-a", "kept 1", "2-b")),
-        deleting(plain("3-b", "2-b", "kept 1", "2-ab")),
-        deleting(plain("3-c", "2-ab", "kept 1", "9-zz deleted")),
-    ];
-    let tree = grown(&rt, alloc, &steps)?;
-    let leaves = leaves_text(alloc, tree.leaves()?.as_slice())?;
-    assert_eq!(rt;
-        leaves.as_str(),
-        "9-zz deleted,9-z deleted,4-a deleted,3-c deleted,3-b deleted"
-    );
-    Ok(())
-}
-
-#[test]
-fn where_conflicts_are_not_allowed(rt: HostRuntime) -> Result<(), Fail> {
-    let alloc = rt.alloc();
-    let steps = [
-        strict(plain("2-b", "1-a", "kept 1", "2-b")),
-        strict(plain("2-c", "-", "conflict with 2-b", "2-b")),
-        strict(plain("2-c", "1-a", "conflict with 2-b", "2-b")),
-        strict(plain("4-d", "3-c,2-b", "kept 2", "4-d")),
-        strict(plain("4-e", "3-c", "conflict with 4-d", "4-d")),
-        strict(deleting(plain("5-f", "4-d", "kept 1", "5-f deleted"))),
-        strict(plain("5-g", "4-d", "conflict with 5-f", "5-f deleted")),
-        strict(plain("1-h", "-", "kept 0", "1-h")),
-        strict(plain("6-i", "5-f", "conflict with 1-h", "1-h")),
-        strict(plain("2-j", "1-h", "kept 1", "2-j")),
-    ];
-    grown(&rt, alloc, &steps)?;
     Ok(())
 }
 
@@ -290,34 +249,37 @@ fn a_history_of_at_most_a_thousand_ancestors(rt: HostRuntime) -> Result<(), Fail
     Ok(())
 }
 
+/// Revisions that the gateway makes, one a line: the parent, `d` where it is a deletion, the body, and the revision.
+const OWN: &str = "\
+||{}|1-6030deef46325e08700f40e1f4aee277\n\
+|d||1-84be4447b9861035328595ad3c0b33b8\n\
+1-a||{\"a\":1}|2-4ca6423b6009d7757681cfed709b9c6b\n\
+4294967294-x~y|d|{}|4294967295-86d2896827fd5a48b84d9ab465dd1c56";
+
+/// The revision that the gateway makes on this parent, unless its generation is the last.
+fn own_text(alloc: Global, parent: &str, deleted: bool, body: &str) -> Result<String, Fail> {
+    let parent = if parent.is_empty() {
+        None
+    } else {
+        Some(RevId::parse(alloc, parent)?)
+    };
+    if parent.as_ref().map_or(0, |p| p.generation) == u32::MAX {
+        return Err(Fail::from("the last generation"));
+    }
+    let rev = own_rev(alloc, parent.as_ref(), deleted, body.as_bytes())?;
+    Ok(rev_text(alloc, &rev)?)
+}
+
 #[test]
 fn revisions_of_the_gateway(rt: HostRuntime) -> Result<(), Fail> {
     let alloc = rt.alloc();
-    let cases: [(Option<&str>, bool, &[u8], &str); 4] = [
-        (None, false, b"{}", "1-6030deef46325e08700f40e1f4aee277"),
-        (None, true, b"", "1-84be4447b9861035328595ad3c0b33b8"),
-        (
-            Some("1-a"),
-            false,
-            b"{\"a\":1}",
-            "2-4ca6423b6009d7757681cfed709b9c6b",
-        ),
-        (
-            Some("4294967294-x~y"),
-            true,
-            b"{}",
-            "4294967295-86d2896827fd5a48b84d9ab465dd1c56",
-        ),
-    ];
-    for (parent, deleted, body, want) in cases {
-        let parent = match parent {
-            None => None,
-            Some(text) => Some(RevId::parse(alloc, text)?),
-        };
-        let generation = parent.as_ref().map_or(0, |p| p.generation);
-        assert!(rt; generation < u32::MAX);
-        let rev = own_rev(alloc, parent.as_ref(), deleted, body)?;
-        assert_eq!(rt; rev_text(alloc, &rev)?.as_str(), want);
+    for line in OWN.split('\n') {
+        let mut parts = line.split('|');
+        let parent = parts.next().unwrap_or("");
+        let deleted = parts.next() == Some("d");
+        let body = parts.next().unwrap_or("");
+        let text = own_text(alloc, parent, deleted, body)?;
+        assert!(rt; Some(text.as_str()) == parts.next(), "{line}");
     }
     Ok(())
 }

@@ -4,12 +4,27 @@ use gateway_app::{Status, run};
 use sg_history::Why;
 use sg_outside::{Bytes, MemFile, MemFiles, MemSink, ScriptedFiles, ScriptedSink};
 use std::alloc::Global;
+use std::process::Abort;
 use std::test::Fail;
 
-const FIRST: &[u8] =
-    b"sgjournal 1\nU\tann\tA\t-\nW\td1\t1-a\t-\t0\t7b7d\t-\t1\t1-a\tA\t-\t-\nW\td2\t1-b\t-\t0\t7b7d\t-\t2\t1-b\tB\t-\t-\nW\td3\t1-c\t-\t0\t7b7d\t-\t3\t1-c\t!\t-\t-\n";
+/// A journal of three documents, with `|` for a TAB and `/` for a line feed, as all texts here have them.
+const FIRST: &str =
+    "sgjournal 1/U|ann|A|-/W|d1|1-a|-|0|7b7d|-|1|1-a|A|-|-/W|d2|1-b|-|0|7b7d|-|2|1-b|B|-|-/W|d3|1-c|-|0|7b7d|-|3|1-c|!|-|-/";
 
-const ROWS: &[u8] = b"2\td1\t1-a\t0\n4\td3\t1-c\t0\n";
+const ROWS: &str = "2|d1|1-a|0/4|d3|1-c|0/";
+
+/// The bytes that are meant.
+fn tabbed(alloc: Global, text: &str) -> Result<Bytes, Fail> {
+    let mut bytes = Bytes::new(alloc);
+    for byte in text.as_bytes() {
+        bytes.push(match *byte {
+            b'|' => b'\t',
+            b'/' => b'\n',
+            byte => byte,
+        })?;
+    }
+    Ok(bytes)
+}
 
 /// Words, given with a blank between.
 fn words_of(alloc: Global, words: &str) -> Result<Vec<String>, Fail> {
@@ -20,16 +35,16 @@ fn words_of(alloc: Global, words: &str) -> Result<Vec<String>, Fail> {
     Ok(list)
 }
 
-fn files_of(alloc: Global, journal: &[u8]) -> Result<Vec<MemFile>, Fail> {
+fn files_of(alloc: Global, journal: &str) -> Result<Vec<MemFile>, Fail> {
     let mut files = Vec::new(alloc);
     files.push(MemFile {
         name: String::from_str(alloc, "j")?,
-        bytes: Bytes::from_slice(alloc, journal)?,
+        bytes: tabbed(alloc, journal)?,
     })?;
     Ok(files)
 }
 
-fn run_on(alloc: Global, journal: &[u8], words: &str) -> Result<(Status, Bytes), Fail> {
+fn run_on(alloc: Global, journal: &str, words: &str) -> Result<(Status, Bytes), Fail> {
     let words = words_of(alloc, words)?;
     let mut files = MemFiles::new(alloc);
     files.files = files_of(alloc, journal)?;
@@ -38,77 +53,87 @@ fn run_on(alloc: Global, journal: &[u8], words: &str) -> Result<(Status, Bytes),
     Ok((status, out.bytes))
 }
 
-#[test]
-fn prints_the_rows_of_a_journal(rt: HostRuntime) -> Result<(), Fail> {
-    let (status, text) = run_on(rt.alloc(), FIRST, "feed j ann 0")?;
-    assert_eq!(rt; status, Status::Ok);
-    assert!(rt; text.as_slice() == ROWS);
-    let (status, text) = run_on(rt.alloc(), b"sgjournal 1\n", "feed j ann 0")?;
-    assert_eq!(rt; status, Status::Ok);
-    assert!(rt; text.is_empty());
+/// Asserts that a run prints these rows.
+fn expect_rows(
+    rt: &impl Abort,
+    alloc: Global,
+    journal: &str,
+    words: &str,
+    rows: &str,
+) -> Result<(), Fail> {
+    let (status, text) = run_on(alloc, journal, words)?;
+    assert_eq!(rt; status, Status::Ok, "{words}");
+    assert!(rt;
+        text.as_slice() == tabbed(alloc, rows)?.as_slice(),
+        "{rows}"
+    );
     Ok(())
 }
 
-/// The journal of a user who has every channel, and is dropped at the end.
-const DROPPED: &[u8] =
-    b"sgjournal 1\nU\tbob\t*\t-\nW\td1\t1-a\t-\t0\t7b7d\t-\t1\t1-a\tA\t-\t-\nW\td2\t1-b\t-\t0\t7b7d\t-\t2\t1-b\t-\t-\t-\nDU\tbob\n";
+/// The journal of a user who has every channel.
+const EVERYTHING: &str =
+    "sgjournal 1/U|bob|*|-/W|d1|1-a|-|0|7b7d|-|1|1-a|A|-|-/W|d2|1-b|-|0|7b7d|-|2|1-b|-|-|-/";
+
+/// The same, with the user dropped at the end.
+const DROPPED: &str =
+    "sgjournal 1/U|bob|*|-/W|d1|1-a|-|0|7b7d|-|1|1-a|A|-|-/W|d2|1-b|-|0|7b7d|-|2|1-b|-|-|-/DU|bob/";
 
 #[test]
-fn a_dropped_user_loses_all(rt: HostRuntime) -> Result<(), Fail> {
-    let (status, text) = run_on(rt.alloc(), DROPPED, "feed j bob 3")?;
-    assert_eq!(rt; status, Status::Ok);
-    assert!(rt; text.as_slice() == b"4:2\td1\t1-a\t2\n4:3\td2\t1-b\t2\n".as_slice());
-    let before = match DROPPED.strip_suffix(b"DU\tbob\n".as_slice()) {
-        Some(before) => before,
-        None => b"",
-    };
-    let (status, text) = run_on(rt.alloc(), before, "feed j bob 0")?;
-    assert_eq!(rt; status, Status::Ok);
-    assert!(rt; text.as_slice() == b"2\td1\t1-a\t0\n3\td2\t1-b\t0\n".as_slice());
+fn prints_the_rows_of_a_journal(rt: HostRuntime) -> Result<(), Fail> {
+    let alloc = rt.alloc();
+    expect_rows(&rt, alloc, FIRST, "feed j ann 0", ROWS)?;
+    expect_rows(&rt, alloc, "sgjournal 1/", "feed j ann 0", "")?;
+    expect_rows(
+        &rt,
+        alloc,
+        EVERYTHING,
+        "feed j bob 0",
+        "2|d1|1-a|0/3|d2|1-b|0/",
+    )?;
+    expect_rows(
+        &rt,
+        alloc,
+        DROPPED,
+        "feed j bob 3",
+        "4:2|d1|1-a|2/4:3|d2|1-b|2/",
+    )?;
     Ok(())
 }
 
 #[test]
 fn bad_words(rt: HostRuntime) -> Result<(), Fail> {
-    for words in [
-        "",
-        "feed j ann",
-        "feed j ann 0 0",
-        "rows j ann 0",
-        "feed j a=n 0",
-        "feed j ann 3::5",
-    ] {
+    let lines = "|feed j ann|feed j ann 0 0|rows j ann 0|feed j a=n 0|feed j ann 3::5";
+    for words in lines.split('|') {
         let (status, text) = run_on(rt.alloc(), FIRST, words)?;
-        assert_eq!(rt; status, Status::BadWords);
+        assert_eq!(rt; status, Status::BadWords, "{words}");
         assert!(rt; text.is_empty());
     }
     Ok(())
 }
 
+/// Asserts that a run prints nothing and refuses the journal at its first bad line.
+fn expect_bad(
+    rt: &impl Abort,
+    alloc: Global,
+    journal: &str,
+    place: u64,
+    why: Why,
+) -> Result<(), Fail> {
+    let (status, text) = run_on(alloc, journal, "feed j ann 0")?;
+    let file = 1;
+    assert_eq!(rt; status, Status::BadInput { file, place, why }, "{journal}");
+    assert!(rt; text.is_empty());
+    Ok(())
+}
+
 #[test]
 fn bad_journals(rt: HostRuntime) -> Result<(), Fail> {
-    for (journal, place, why) in [
-        (b"sgjournal 3\n".as_slice(), 1, Why::Head),
-        (b"sgjournal 1\nQ\tx\n".as_slice(), 2, Why::Kind),
-        (
-            b"sgjournal 1\nU\tann\tA\t-\nW\td1\t1-a\t-\t0\t7b7d\t-\t2\t1-a\tA\t-\t-\n".as_slice(),
-            3,
-            Why::Rule(8),
-        ),
-        (b"sgjournal 1\nU\tann\tA\t-".as_slice(), 2, Why::Ending),
-    ] {
-        let (status, text) = run_on(rt.alloc(), journal, "feed j ann 0")?;
-        assert_eq!(rt;
-            status,
-            Status::BadInput {
-                file: 1,
-                place,
-                why
-            }
-        );
-        assert!(rt; text.is_empty());
-    }
-    Ok(())
+    let alloc = rt.alloc();
+    expect_bad(&rt, alloc, "sgjournal 3/", 1, Why::Head)?;
+    expect_bad(&rt, alloc, "sgjournal 1/Q|x/", 2, Why::Kind)?;
+    let later = "sgjournal 1/U|ann|A|-/W|d1|1-a|-|0|7b7d|-|2|1-a|A|-|-/";
+    expect_bad(&rt, alloc, later, 3, Why::Rule(8))?;
+    expect_bad(&rt, alloc, "sgjournal 1/U|ann|A|-", 2, Why::Ending)
 }
 
 /// The status, and what the sink took, where there is no journal, the load fails, or the writing fails after
@@ -135,6 +160,7 @@ fn run_failing(
 
 #[test]
 fn each_call_failing_in_turn(rt: HostRuntime) -> Result<(), Fail> {
+    let rows = tabbed(rt.alloc(), ROWS)?;
     for (absent, fails, fault, want, taken) in [
         (false, false, None, Status::Ok, 22),
         (true, false, None, Status::ReadFault, 0),
@@ -145,7 +171,7 @@ fn each_call_failing_in_turn(rt: HostRuntime) -> Result<(), Fail> {
         let (status, text) = run_failing(rt.alloc(), absent, fails, fault)?;
         assert_eq!(rt; status, want);
         assert_eq!(rt; text.len(), taken);
-        assert!(rt; ROWS.starts_with(text.as_slice()));
+        assert!(rt; rows.as_slice().starts_with(text.as_slice()));
     }
     Ok(())
 }

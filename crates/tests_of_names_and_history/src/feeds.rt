@@ -2,7 +2,8 @@
 
 use feed_rows::{channels_of, rows};
 use sg_history::{
-    Channels, Entry, Key, Log, Name, Names, Options, Rows, read_journal, write_decimal,
+    Channels, Entry, Key, Log, Name, Names, Options, Rows, read_decimal, read_journal,
+    write_decimal,
 };
 use sg_outside::Bytes;
 use std::alloc::Global;
@@ -68,108 +69,99 @@ fn spelled(alloc: Global, found: &Rows) -> Result<Bytes, Fail> {
     Ok(text)
 }
 
-const FIRST: &str =
-    "U|ann|A|-;W|d1|1-a|-|0|7b7d|-|1|1-a|A|-|-;W|d2|1-b|-|0|7b7d|-|2|1-b|B|-|-;W|d3|1-c|-|0|7b7d|-|3|1-c|!|-|-;";
+/// Worked journals, one a line, each after its name.
+const JOURNALS: &str = "\
+none=\n\
+first=U|ann|A|-;W|d1|1-a|-|0|7b7d|-|1|1-a|A|-|-;W|d2|1-b|-|0|7b7d|-|2|1-b|B|-|-;W|d3|1-c|-|0|7b7d|-|3|1-c|!|-|-;\n\
+backfill=U|ann|A|-;W|d1|1-a|-|0|7b7d|-|1|1-a|B|-|-;W|d2|1-b|-|0|7b7d|-|2|1-b|B|-|-;W|d3|1-c|-|0|7b7d|-|3|1-c|A|-|-;U|ann|A,B|-;\n\
+revocation=U|ann|A|-;W|d1|1-a|-|0|7b7d|-|1|1-a|B|-|-;U|ann|A,B|-;U|ann|A|-;\n\
+removal=U|ann|A|-;W|d1|1-a|-|0|7b7d|-|1|1-a|A|-|-;W|d2|1-b|-|0|7b7d|-|2|1-b|A|-|-;W|d1|2-a|1-a|0|7b7d|-|3|2-a|B|-|-;W|d2|2-b|1-b|1|7b7d|-|4|2-b|-|-|-;\n\
+deleted=U|ann|A|-;W|d1|1-a|-|0|7b7d|-|1|1-a|A|-|-;W|d2|1-b|-|0|7b7d|-|2|1-b|A|-|-;W|d1|2-a|1-a|0|7b7d|-|3|2-a|B|-|-;W|d2|2-b|1-b|1|7b7d|-|4|2-b|-|-|-;W|d3|1-c|-|1|7b7d|-|5|1-c|A|-|-;\n\
+document_grant=U|ann|A|-;W|d1|1-a|-|0|7b7d|-|1|1-a|B|-|-;W|g|1-g|-|0|7b7d|-|2|1-g|A|ann=B|-;W|g|2-g|1-g|1|7b7d|-|3|2-g|A|-|-;\n\
+earlier_conflict=U|ann|A|-;W|d1|1-a|-|0|7b7d|-|1|1-a|A|-|-;W|d1|1-b|-|0|7b7d|-|2|1-b|B|-|-;\n\
+conflict=U|ann|A|-;W|d1|1-a|-|0|7b7d|-|1|1-a|A|-|-;W|d1|1-b|-|0|7b7d|-|2|1-b|B|-|-;W|d1|2-c|1-b|1|7b7d|-|3|1-a|-|-|-;\n\
+everything=U|bob|*|-;W|d1|1-a|-|0|7b7d|-|1|1-a|A|-|-;W|d2|1-b|-|0|7b7d|-|2|1-b|-|-|-;\n\
+leaves_and_returns=U|ann|A|-;W|d1|1-a|-|0|7b7d|-|1|1-a|A|-|-;W|d1|2-a|1-a|0|7b7d|-|2|2-a|B|-|-;W|d1|3-a|2-a|0|7b7d|-|3|3-a|A|-|-;\n\
+grants_itself=U|ann|-|-;W|d1|1-a|-|0|7b7d|-|1|1-a|C|ann=C|-;";
 
-const BACKFILL: &str =
-    "U|ann|A|-;W|d1|1-a|-|0|7b7d|-|1|1-a|B|-|-;W|d2|1-b|-|0|7b7d|-|2|1-b|B|-|-;W|d3|1-c|-|0|7b7d|-|3|1-c|A|-|-;U|ann|A,B|-;";
+/// The log of a worked journal.
+fn worked(alloc: Global, name: &str) -> Result<Log, Fail> {
+    for line in JOURNALS.split('\n') {
+        if let Some((named, lines)) = line.split_once('=') {
+            if named == name {
+                return log_of(alloc, lines);
+            }
+        }
+    }
+    Err(Fail::from("no journal of this name"))
+}
 
-const REVOCATION: &str = "U|ann|A|-;W|d1|1-a|-|0|7b7d|-|1|1-a|B|-|-;U|ann|A,B|-;U|ann|A|-;";
+/// Feeds of the worked journals, one a line: the journal, the user, the key after which the feed begins, and its rows.
+const FEEDS: &str = "\
+none ann 0>\n\
+first ann 0>2 d1 1-a 0;4 d3 1-c 0;\n\
+backfill ann 4>5:2 d1 1-a 0;5:3 d2 1-b 0;\n\
+backfill ann 5:2>5:3 d2 1-b 0;\n\
+backfill ann 0>4 d3 1-c 0;5:2 d1 1-a 0;5:3 d2 1-b 0;\n\
+backfill ann 9>\n\
+revocation ann 2>4:2 d1 1-a 2;\n\
+revocation ann 0>\n\
+removal ann 3>4 d1 2-a 4;5 d2 2-b 5;\n\
+removal ann 0>\n\
+deleted ann 0>6 d3 1-c 1;\n\
+document_grant ann 3>4:2 d1 1-a 2;4 g 2-g 1;\n\
+everything bob 0>2 d1 1-a 0;3 d2 1-b 0;\n\
+earlier_conflict ann 2>3 d1 1-b 4;\n\
+conflict ann 2>4 d1 1-a 0;\n\
+leaves_and_returns ann 2>4 d1 3-a 0;\n\
+grants_itself ann 0>2 d1 1-a 0;\n\
+first zed 0>";
 
-const REMOVAL: &str =
-    "U|ann|A|-;W|d1|1-a|-|0|7b7d|-|1|1-a|A|-|-;W|d2|1-b|-|0|7b7d|-|2|1-b|A|-|-;W|d1|2-a|1-a|0|7b7d|-|3|2-a|B|-|-;W|d2|2-b|1-b|1|7b7d|-|4|2-b|-|-|-;";
-
-const DELETED: &str =
-    "U|ann|A|-;W|d1|1-a|-|0|7b7d|-|1|1-a|A|-|-;W|d2|1-b|-|0|7b7d|-|2|1-b|A|-|-;W|d1|2-a|1-a|0|7b7d|-|3|2-a|B|-|-;W|d2|2-b|1-b|1|7b7d|-|4|2-b|-|-|-;W|d3|1-c|-|1|7b7d|-|5|1-c|A|-|-;";
-
-const DOCUMENT_GRANT: &str =
-    "U|ann|A|-;W|d1|1-a|-|0|7b7d|-|1|1-a|B|-|-;W|g|1-g|-|0|7b7d|-|2|1-g|A|ann=B|-;W|g|2-g|1-g|1|7b7d|-|3|2-g|A|-|-;";
-
-const EARLIER_CONFLICT: &str =
-    "U|ann|A|-;W|d1|1-a|-|0|7b7d|-|1|1-a|A|-|-;W|d1|1-b|-|0|7b7d|-|2|1-b|B|-|-;";
-
-const CONFLICT: &str =
-    "U|ann|A|-;W|d1|1-a|-|0|7b7d|-|1|1-a|A|-|-;W|d1|1-b|-|0|7b7d|-|2|1-b|B|-|-;W|d1|2-c|1-b|1|7b7d|-|3|1-a|-|-|-;";
-
-const EVERYTHING: &str =
-    "U|bob|*|-;W|d1|1-a|-|0|7b7d|-|1|1-a|A|-|-;W|d2|1-b|-|0|7b7d|-|2|1-b|-|-|-;";
-
-const LEAVES_AND_RETURNS: &str =
-    "U|ann|A|-;W|d1|1-a|-|0|7b7d|-|1|1-a|A|-|-;W|d1|2-a|1-a|0|7b7d|-|2|2-a|B|-|-;W|d1|3-a|2-a|0|7b7d|-|3|3-a|A|-|-;";
-
-const GRANTS_ITSELF: &str = "U|ann|-|-;W|d1|1-a|-|0|7b7d|-|1|1-a|C|ann=C|-;";
+/// The rows that the words before `>` ask for.
+fn feed_text(alloc: Global, asked: &str, options: &Options) -> Result<Bytes, Fail> {
+    let mut words = asked.split(' ');
+    let log = worked(alloc, words.next().unwrap_or(""))?;
+    let user = words.next().unwrap_or("");
+    text_of(alloc, &log, user, words.next().unwrap_or(""), options)
+}
 
 #[test]
 fn worked_journals(rt: HostRuntime) -> Result<(), Fail> {
     let alloc = rt.alloc();
     let everything = options_of(alloc, "", false, true)?;
-    for (lines, user, since, want) in [
-        ("", "ann", "0", ""),
-        (FIRST, "ann", "0", "2 d1 1-a 0;4 d3 1-c 0;"),
-        (BACKFILL, "ann", "4", "5:2 d1 1-a 0;5:3 d2 1-b 0;"),
-        (BACKFILL, "ann", "5:2", "5:3 d2 1-b 0;"),
-        (
-            BACKFILL,
-            "ann",
-            "0",
-            "4 d3 1-c 0;5:2 d1 1-a 0;5:3 d2 1-b 0;",
-        ),
-        (BACKFILL, "ann", "9", ""),
-        (REVOCATION, "ann", "2", "4:2 d1 1-a 2;"),
-        (REVOCATION, "ann", "0", ""),
-        (REMOVAL, "ann", "3", "4 d1 2-a 4;5 d2 2-b 5;"),
-        (REMOVAL, "ann", "0", ""),
-        (DELETED, "ann", "0", "6 d3 1-c 1;"),
-        (DOCUMENT_GRANT, "ann", "3", "4:2 d1 1-a 2;4 g 2-g 1;"),
-        (EVERYTHING, "bob", "0", "2 d1 1-a 0;3 d2 1-b 0;"),
-        (EARLIER_CONFLICT, "ann", "2", "3 d1 1-b 4;"),
-        (CONFLICT, "ann", "2", "4 d1 1-a 0;"),
-        (LEAVES_AND_RETURNS, "ann", "2", "4 d1 3-a 0;"),
-        (GRANTS_ITSELF, "ann", "0", "2 d1 1-a 0;"),
-        (FIRST, "zed", "0", ""),
-    ] {
-        let log = log_of(alloc, lines)?;
-        let text = text_of(alloc, &log, user, since, &everything)?;
-        assert!(rt;
-            text.as_slice() == want.as_bytes(),
-            "{user} {since} {lines}"
-        );
+    for line in FEEDS.split('\n') {
+        let (asked, want) = line.split_once('>').ok_or("no line of the table")?;
+        let text = feed_text(alloc, asked, &everything)?;
+        assert!(rt; text.as_slice() == want.as_bytes(), "{line}");
     }
     Ok(())
 }
 
+/// The same with options: `active` where deleted documents are left out, `revocations` where ended grants are told, and the
+/// channels of a filter.
+const OPTIONS: &str = "\
+deleted ann 0>active revocations>>\n\
+deleted ann 3>active revocations>>4 d1 2-a 4;5 d2 2-b 5;6 d3 1-c 1;\n\
+revocation ann 2>>>\n\
+backfill ann 0>revocations>B>5:2 d1 1-a 0;5:3 d2 1-b 0;\n\
+first ann 0>revocations>*>2 d1 1-a 0;4 d3 1-c 0;\n\
+first ann 0>revocations>!>4 d3 1-c 0;\n\
+first ann 0>revocations>B>";
+
 #[test]
 fn options_and_filters(rt: HostRuntime) -> Result<(), Fail> {
     let alloc = rt.alloc();
-    for (lines, since, filter, active_only, revocations, want) in [
-        (DELETED, "0", "", true, true, ""),
-        (
-            DELETED,
-            "3",
-            "",
-            true,
-            true,
-            "4 d1 2-a 4;5 d2 2-b 5;6 d3 1-c 1;",
-        ),
-        (REVOCATION, "2", "", false, false, ""),
-        (
-            BACKFILL,
-            "0",
-            "B",
-            false,
-            true,
-            "5:2 d1 1-a 0;5:3 d2 1-b 0;",
-        ),
-        (FIRST, "0", "*", false, true, "2 d1 1-a 0;4 d3 1-c 0;"),
-        (FIRST, "0", "!", false, true, "4 d3 1-c 0;"),
-        (FIRST, "0", "B", false, true, ""),
-    ] {
-        let log = log_of(alloc, lines)?;
-        let options = options_of(alloc, filter, active_only, revocations)?;
-        let text = text_of(alloc, &log, "ann", since, &options)?;
+    for line in OPTIONS.split('\n') {
+        let mut parts = line.split('>');
+        let asked = parts.next().unwrap_or("");
+        let words = parts.next().unwrap_or("");
+        let filter = parts.next().unwrap_or("");
+        let active = words.contains("active");
+        let options = options_of(alloc, filter, active, words.contains("revocations"))?;
+        let text = feed_text(alloc, asked, &options)?;
         assert!(rt;
-            text.as_slice() == want.as_bytes(),
-            "{since} {filter} {lines}"
+            Some(text.as_slice()) == parts.next().map(|want| want.as_bytes()),
+            "{line}"
         );
     }
     Ok(())
@@ -179,7 +171,7 @@ fn options_and_filters(rt: HostRuntime) -> Result<(), Fail> {
 fn dropped_and_put_again(rt: HostRuntime) -> Result<(), Fail> {
     let alloc = rt.alloc();
     let options = options_of(alloc, "", false, true)?;
-    let mut log = log_of(alloc, EVERYTHING)?;
+    let mut log = worked(alloc, "everything")?;
     log.entries
         .push(Entry::DropUser(Name::parse(alloc, "bob")?))?;
     let dropped = text_of(alloc, &log, "bob", "3", &options)?;
@@ -208,20 +200,25 @@ fn channels_text(alloc: Global, log: &Log, front: u64, user: &str) -> Result<Str
     Ok(text)
 }
 
+/// Channels of users in the worked journals, one a line: the journal, the front, the user, and the channels.
+const CHANNELS: &str = "\
+backfill 0 ann>none\n\
+backfill 4 ann> ! A\n\
+backfill 5 ann> ! A B\n\
+backfill 5 bob>none\n\
+document_grant 3 ann> ! A B\n\
+document_grant 4 ann> ! A";
+
 #[test]
 fn channels_of_users(rt: HostRuntime) -> Result<(), Fail> {
     let alloc = rt.alloc();
-    for (lines, front, user, want) in [
-        (BACKFILL, 0, "ann", "none"),
-        (BACKFILL, 4, "ann", " ! A"),
-        (BACKFILL, 5, "ann", " ! A B"),
-        (BACKFILL, 5, "bob", "none"),
-        (DOCUMENT_GRANT, 3, "ann", " ! A B"),
-        (DOCUMENT_GRANT, 4, "ann", " ! A"),
-    ] {
-        let log = log_of(alloc, lines)?;
-        let text = channels_text(alloc, &log, front, user)?;
-        assert!(rt; text.as_bytes() == want.as_bytes(), "{front} {user} {text}");
+    for line in CHANNELS.split('\n') {
+        let (asked, want) = line.split_once('>').ok_or("no line of the table")?;
+        let mut words = asked.split(' ');
+        let log = worked(alloc, words.next().unwrap_or(""))?;
+        let front = read_decimal(words.next().unwrap_or("")).unwrap_or(0);
+        let text = channels_text(alloc, &log, front, words.next().unwrap_or(""))?;
+        assert!(rt; text.as_str() == want, "{line}");
     }
     Ok(())
 }

@@ -6,39 +6,52 @@ use std::alloc::{AllocError, Global};
 use std::process::Abort;
 use std::test::Fail;
 
-/// The bytes of a text in which `|` stands for a TAB.
+/// The bytes of a text in which `|` stands for a TAB, `/` for a line feed and `~` for the byte FF.
 fn tabbed(alloc: Global, text: &str) -> Result<Bytes, AllocError> {
     let mut bytes = Bytes::new(alloc);
     for byte in text.as_bytes() {
-        bytes.push(if *byte == b'|' { b'\t' } else { *byte })?;
+        bytes.push(match *byte {
+            b'|' => b'\t',
+            b'/' => b'\n',
+            b'~' => 0xff,
+            byte => byte,
+        })?;
     }
     Ok(bytes)
 }
 
-/// Asserts that a journal is refused at its first bad line.
-fn expect_bad(
-    rt: &impl Abort,
-    alloc: Global,
-    text: &str,
-    place: u64,
-    why: Why,
-) -> Result<(), Fail> {
-    let bytes = tabbed(alloc, text)?;
-    match read_journal(alloc, bytes.as_slice()) {
-        Ok(_) => assert!(rt; false, "{text} is read"),
-        Err(fault) => assert_eq!(rt; fault, ReadLog::Bad(BadLine { place, why }), "{text}"),
+/// What is bad, in words.
+fn why_text(alloc: Global, why: Why) -> Result<String, AllocError> {
+    match why {
+        Why::Head => String::from_str(alloc, "head"),
+        Why::Ending => String::from_str(alloc, "ending"),
+        Why::Kind => String::from_str(alloc, "kind"),
+        Why::Fields => String::from_str(alloc, "fields"),
+        Why::Field(place) => format!(in alloc; "field {place}"),
+        Why::Rule(place) => format!(in alloc; "rule {place}"),
+        _ => String::from_str(alloc, "other"),
     }
-    Ok(())
+}
+
+/// The first bad line of a journal and what is bad there.
+fn fault_text(alloc: Global, journal: &[u8]) -> Result<String, AllocError> {
+    match read_journal(alloc, journal) {
+        Err(ReadLog::Bad(BadLine { place, why })) => {
+            let why = why_text(alloc, why)?;
+            format!(in alloc; "{place} {why}")
+        }
+        _ => String::from_str(alloc, "none"),
+    }
 }
 
 /// A journal of each kind of entry.
 const EACH_KIND: &str =
-    "sgjournal 1\nU|ann|A|r\nR|r|!,*\nW|d,é|3-c|2-b,1-a|1|00ff|ann|0|3-c|A,B|ann=B,role:r=C|ann=r\nX\nDR|r\nDU|ann\nW|d,é|4-d|3-c|0|7b7d|-|6|3-c|-|-|-\n";
+    "sgjournal 1/U|ann|A|r/R|r|!,*/W|d,é|3-c|2-b,1-a|1|00ff|ann|0|3-c|A,B|ann=B,role:r=C|ann=r/X/DR|r/DU|ann/W|d,é|4-d|3-c|0|7b7d|-|6|3-c|-|-|-/";
 
 #[test]
 fn journals_are_read_and_written_again(rt: HostRuntime) -> Result<(), Fail> {
     let alloc = rt.alloc();
-    for (text, entries) in [("sgjournal 1\n", 0), (EACH_KIND, 7)] {
+    for (text, entries) in [("sgjournal 1/", 0), (EACH_KIND, 7)] {
         let bytes = tabbed(alloc, text)?;
         let log = read_journal(alloc, bytes.as_slice())?;
         assert_eq!(rt; log.entries.len(), entries);
@@ -88,110 +101,96 @@ fn entries_are_read_and_counted(rt: HostRuntime) -> Result<(), Fail> {
     Ok(())
 }
 
+/// Texts that are no journal, one a line, with `/` for a line feed and `~` for the byte FF: before each the first bad line and
+/// what is bad there.
+const BAD: &str = "\
+1 head;\n\
+1 head;sgjournal 3/\n\
+1 head;sgjournal 3\n\
+1 head;sgjournal 1 /Q/\n\
+1 ending;sgjournal 1\n\
+2 kind;sgjournal 1/Q|x/\n\
+2 ending;sgjournal 1/Q|x\n\
+3 rule 8;sgjournal 1/U|ann|A|-/W|d1|1-a|-|0|7b7d|-|2|1-a|A|-|-/W|d2|1-b|-|0|7b7d|-|2|1-b|B|-|-/W|d3|1-c|-|0|7b7d|-|3|1-c|!|-|-/\n\
+5 ending;sgjournal 1/U|ann|A|-/W|d1|1-a|-|0|7b7d|-|1|1-a|A|-|-/W|d2|1-b|-|0|7b7d|-|2|1-b|B|-|-/W|d3|1-c|-|0|7b7d|-|3|1-c|!|-|-\n\
+3 kind;sgjournal 1/U|ann|A|-//Q|x/\n\
+2 field 2;sgjournal 1/U|~|A|-/\n\
+2 field 3;sgjournal 1/U|ann|A,~|-/\n\
+2 field 4;sgjournal 1/U|ann|-|~/";
+
 #[test]
 fn the_first_bad_line_is_told(rt: HostRuntime) -> Result<(), Fail> {
-    for (text, place, why) in [
-        ("", 1, Why::Head),
-        ("sgjournal 3\n", 1, Why::Head),
-        ("sgjournal 3", 1, Why::Head),
-        ("sgjournal 1 \nQ\n", 1, Why::Head),
-        ("sgjournal 1", 1, Why::Ending),
-        ("sgjournal 1\nQ|x\n", 2, Why::Kind),
-        ("sgjournal 1\nQ|x", 2, Why::Ending),
-        (
-            "sgjournal 1\nU|ann|A|-\nW|d1|1-a|-|0|7b7d|-|2|1-a|A|-|-\nW|d2|1-b|-|0|7b7d|-|2|1-b|B|-|-\nW|d3|1-c|-|0|7b7d|-|3|1-c|!|-|-\n",
-            3,
-            Why::Rule(8),
-        ),
-        (
-            "sgjournal 1\nU|ann|A|-\nW|d1|1-a|-|0|7b7d|-|1|1-a|A|-|-\nW|d2|1-b|-|0|7b7d|-|2|1-b|B|-|-\nW|d3|1-c|-|0|7b7d|-|3|1-c|!|-|-",
-            5,
-            Why::Ending,
-        ),
-        ("sgjournal 1\nU|ann|A|-\n\nQ|x\n", 3, Why::Kind),
-    ] {
-        expect_bad(&rt, rt.alloc(), text, place, why)?;
+    let alloc = rt.alloc();
+    for line in BAD.split('\n') {
+        let (want, text) = line.split_once(';').ok_or("no line of the table")?;
+        let journal = tabbed(alloc, text)?;
+        assert!(rt;
+            fault_text(alloc, journal.as_slice())?.as_str() == want,
+            "{line}"
+        );
     }
     Ok(())
 }
+
+/// Lines that can't follow the write `W|d|1-a|-|0|7b7d|-|0|1-a|-|-|-`: before each what is bad.
+const BAD_LINES: &str = "\
+3 kind;\n\
+3 kind;w\n\
+3 kind;Q|1|2|3|4|5|6|7|8|9|10|11|12\n\
+3 fields;W\n\
+3 fields;R|x\n\
+3 fields;DU|x|-\n\
+3 fields;DR\n\
+3 fields;X|\n\
+3 field 2;R|a:b|A\n\
+3 field 3;R|a|B,A\n\
+3 field 2;DU|\n\
+3 field 2;DR|a,b\n\
+3 fields;U|_|A\n\
+3 fields;U|_|A|-|-\n\
+3 fields;U|1|2|3|4|5|6|7|8|9|10|11|12\n\
+3 fields;W|_|1-a|-|0|7b7d|-|0|1-a|-|-\n\
+3 fields;W|_|1-a|-|0|7b7d|-|0|1-a|-|-|-|\n\
+3 field 2;W|_|0-a|-|0|7b7d|-|0|1-a|-|-|-\n\
+3 field 2;W||1-a|-|0|7b7d|-|0|1-a|-|-|-\n\
+3 field 3;W|d|0-a|1|0|7b7d|-|0|1-a|-|-|-\n\
+3 field 4;W|d|1-a|1|2|7b7d|-|0|1-a|-|-|-\n\
+3 field 5;W|d|1-a|-|2||-|0|1-a|-|-|-\n\
+3 field 6;W|d|1-a|-|0||a:b|0|1-a|-|-|-\n\
+3 field 6;W|d|1-a|-|0|7B7D|-|0|1-a|-|-|-\n\
+3 field 6;W|d|1-a|-|0|7b7|-|0|1-a|-|-|-\n\
+3 field 7;W|d|1-a|-|0|7b7d|a:b|01|1-a|-|-|-\n\
+3 field 7;W|d|1-a|-|0|7b7d||0|1-a|-|-|-\n\
+3 field 8;W|d|1-a|-|0|7b7d|-|00|1|-|-|-\n\
+3 field 8;W|d|1-a|-|0|7b7d|-|+0|1-a|-|-|-\n\
+3 field 9;W|d|1-a|-|0|7b7d|-|0|-|B,A|-|-\n\
+3 field 10;W|d|1-a|-|0|7b7d|-|0|1-a|B,A|ann|-\n\
+3 field 11;W|d|1-a|-|0|7b7d|-|0|1-a|-|ann|ann\n\
+3 field 12;W|d|1-a|-|0|7b7d|-|9|1-b|-|-|ann=\n\
+3 field 12;W|d|1-a|-|0|7b7d|-|18446744073709551616|1-b|-|-|\n\
+3 field 2;U|-||b,a\n\
+3 field 3;U|ann||b,a\n\
+3 field 4;U|ann|-|b,a\n\
+3 rule 4;W|e|1-a|1-b|0|7b7d|-|2|1-c|-|-|-\n\
+3 rule 4;W|e|3-a|2-b,2-c|0|7b7d|-|1|3-a|-|-|-\n\
+3 rule 3;W|d|1-a|1-b|0|7b7d|-|2|1-c|-|-|-\n\
+3 rule 8;W|e|1-a|-|0|7b7d|-|2|1-c|-|-|-\n\
+3 rule 8;W|e|1-a|-|0|7b7d|-|18446744073709551615|1-c|-|-|-\n\
+3 rule 8;W|e|1-a|-|0|7b7d|-|18446744073709551616|1-c|-|-|-\n\
+3 rule 9;W|d|1-b|-|0|7b7d|-|1|1-c|-|-|-\n\
+3 rule 9;W|e|1-b|-|0|7b7d|-|1|1-a|-|-|-";
 
 #[test]
 fn a_line_is_refused(rt: HostRuntime) -> Result<(), Fail> {
-    for (line, why) in [
-        ("", Why::Kind),
-        ("w", Why::Kind),
-        ("Q|1|2|3|4|5|6|7|8|9|10|11|12", Why::Kind),
-        ("W", Why::Fields),
-        ("R|x", Why::Fields),
-        ("DU|x|-", Why::Fields),
-        ("DR", Why::Fields),
-        ("X|", Why::Fields),
-        ("R|a:b|A", Why::Field(2)),
-        ("R|a|B,A", Why::Field(3)),
-        ("DU|", Why::Field(2)),
-        ("DR|a,b", Why::Field(2)),
-        ("U|_|A", Why::Fields),
-        ("U|_|A|-|-", Why::Fields),
-        ("U|1|2|3|4|5|6|7|8|9|10|11|12", Why::Fields),
-        ("W|_|1-a|-|0|7b7d|-|0|1-a|-|-", Why::Fields),
-        ("W|_|1-a|-|0|7b7d|-|0|1-a|-|-|-|", Why::Fields),
-        ("W|_|0-a|-|0|7b7d|-|0|1-a|-|-|-", Why::Field(2)),
-        ("W||1-a|-|0|7b7d|-|0|1-a|-|-|-", Why::Field(2)),
-        ("W|d|0-a|1|0|7b7d|-|0|1-a|-|-|-", Why::Field(3)),
-        ("W|d|1-a|1|2|7b7d|-|0|1-a|-|-|-", Why::Field(4)),
-        ("W|d|1-a|-|2||-|0|1-a|-|-|-", Why::Field(5)),
-        ("W|d|1-a|-|0||a:b|0|1-a|-|-|-", Why::Field(6)),
-        ("W|d|1-a|-|0|7B7D|-|0|1-a|-|-|-", Why::Field(6)),
-        ("W|d|1-a|-|0|7b7|-|0|1-a|-|-|-", Why::Field(6)),
-        ("W|d|1-a|-|0|7b7d|a:b|01|1-a|-|-|-", Why::Field(7)),
-        ("W|d|1-a|-|0|7b7d||0|1-a|-|-|-", Why::Field(7)),
-        ("W|d|1-a|-|0|7b7d|-|00|1|-|-|-", Why::Field(8)),
-        ("W|d|1-a|-|0|7b7d|-|+0|1-a|-|-|-", Why::Field(8)),
-        ("W|d|1-a|-|0|7b7d|-|0|-|B,A|-|-", Why::Field(9)),
-        ("W|d|1-a|-|0|7b7d|-|0|1-a|B,A|ann|-", Why::Field(10)),
-        ("W|d|1-a|-|0|7b7d|-|0|1-a|-|ann|ann", Why::Field(11)),
-        ("W|d|1-a|-|0|7b7d|-|9|1-b|-|-|ann=", Why::Field(12)),
-        (
-            "W|d|1-a|-|0|7b7d|-|18446744073709551616|1-b|-|-|",
-            Why::Field(12),
-        ),
-        ("U|-||b,a", Why::Field(2)),
-        ("U|ann||b,a", Why::Field(3)),
-        ("U|ann|-|b,a", Why::Field(4)),
-        ("W|e|1-a|1-b|0|7b7d|-|2|1-c|-|-|-", Why::Rule(4)),
-        ("W|e|3-a|2-b,2-c|0|7b7d|-|1|3-a|-|-|-", Why::Rule(4)),
-        ("W|d|1-a|1-b|0|7b7d|-|2|1-c|-|-|-", Why::Rule(3)),
-        ("W|e|1-a|-|0|7b7d|-|2|1-c|-|-|-", Why::Rule(8)),
-        (
-            "W|e|1-a|-|0|7b7d|-|18446744073709551615|1-c|-|-|-",
-            Why::Rule(8),
-        ),
-        (
-            "W|e|1-a|-|0|7b7d|-|18446744073709551616|1-c|-|-|-",
-            Why::Rule(8),
-        ),
-        ("W|d|1-b|-|0|7b7d|-|1|1-c|-|-|-", Why::Rule(9)),
-        ("W|e|1-b|-|0|7b7d|-|1|1-a|-|-|-", Why::Rule(9)),
-    ] {
-        let text = format!(in rt.alloc(); "sgjournal 1\nW|d|1-a|-|0|7b7d|-|0|1-a|-|-|-\n{line}\n")?;
-        expect_bad(&rt, rt.alloc(), text.as_str(), 3, why)?;
+    let alloc = rt.alloc();
+    for line in BAD_LINES.split('\n') {
+        let (want, bad) = line.split_once(';').ok_or("no line of the table")?;
+        let text = format!(in alloc; "sgjournal 1/W|d|1-a|-|0|7b7d|-|0|1-a|-|-|-/{bad}/")?;
+        let journal = tabbed(alloc, text.as_str())?;
+        assert!(rt;
+            fault_text(alloc, journal.as_slice())?.as_str() == want,
+            "{line}"
+        );
     }
     Ok(())
-}
-
-#[test]
-fn a_field_is_utf8(rt: HostRuntime) {
-    for (bytes, why) in [
-        (b"sgjournal 1\nU\t\xff\tA\t-\n".as_slice(), Why::Field(2)),
-        (
-            b"sgjournal 1\nU\tann\tA,\xc3\t-\n".as_slice(),
-            Why::Field(3),
-        ),
-        (b"sgjournal 1\nU\tann\t-\t\xa9\n".as_slice(), Why::Field(4)),
-    ] {
-        match read_journal(rt.alloc(), bytes) {
-            Ok(_) => assert!(rt; false),
-            Err(fault) => assert_eq!(rt; fault, ReadLog::Bad(BadLine { place: 2, why })),
-        }
-    }
 }

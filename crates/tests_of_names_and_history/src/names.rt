@@ -2,53 +2,59 @@
 
 use sg_names::*;
 use sg_outside::Bytes;
-use std::alloc::Global;
+use std::alloc::{AllocError, Global};
 use std::cmp::Ordering;
 use std::test::Fail;
 
-#[test]
-fn keys_are_read(rt: HostRuntime) {
-    let last = u64::MAX;
-    let key = |by: u64, seq: u64| Ok(Key { by, seq });
-    for (text, want) in [
-        ("3::5", Err(KeyFault::LowForm)),
-        ("5:9", Err(KeyFault::BadKey)),
-        ("07", Err(KeyFault::BadKey)),
-        ("5:2", key(5, 2)),
-        ("0", key(0, 0)),
-        ("5", key(5, 5)),
-        ("5:5", key(5, 5)),
-        ("5:0", Err(KeyFault::BadKey)),
-        ("0:0", Err(KeyFault::BadKey)),
-        ("", Err(KeyFault::BadKey)),
-        ("1:2:3", Err(KeyFault::LowForm)),
-        ("18446744073709551615", key(last, last)),
-        ("18446744073709551616", Err(KeyFault::BadKey)),
-        ("18446744073709551616:1", Err(KeyFault::BadKey)),
-        ("18446744073709551616::1", Err(KeyFault::LowForm)),
-        ("1:2:3:4", Err(KeyFault::BadKey)),
-        ("03::5", Err(KeyFault::BadKey)),
-        ("::", Err(KeyFault::BadKey)),
-        (":5", Err(KeyFault::BadKey)),
-        ("5:", Err(KeyFault::BadKey)),
-        ("+5", Err(KeyFault::BadKey)),
-        ("5 ", Err(KeyFault::BadKey)),
-    ] {
-        assert_eq!(rt; Key::parse(text), want, "{text}");
+/// Texts, one a line, with the key that each is, or why it is none.
+const KEYS: &str = "\
+3::5|low form\n\
+5:9|bad\n\
+07|bad\n\
+5:2|5 2\n\
+0|0 0\n\
+5|5 5\n\
+5:5|5 5\n\
+5:0|bad\n\
+0:0|bad\n\
+|bad\n\
+1:2:3|low form\n\
+18446744073709551615|18446744073709551615 18446744073709551615\n\
+18446744073709551616|bad\n\
+18446744073709551616:1|bad\n\
+18446744073709551616::1|low form\n\
+1:2:3:4|bad\n\
+03::5|bad\n\
+::|bad\n\
+:5|bad\n\
+5:|bad\n\
++5|bad\n\
+5 |bad";
+
+fn key_text(alloc: Global, text: &str) -> Result<String, AllocError> {
+    match Key::parse(text) {
+        Ok(key) => format!(in alloc; "{} {}", key.by, key.seq),
+        Err(KeyFault::LowForm) => String::from_str(alloc, "low form"),
+        Err(KeyFault::BadKey) => String::from_str(alloc, "bad"),
     }
 }
 
 #[test]
+fn keys_are_read(rt: HostRuntime) -> Result<(), Fail> {
+    let alloc = rt.alloc();
+    for line in KEYS.split('\n') {
+        let (text, want) = line.split_once('|').ok_or("no line of the table")?;
+        assert!(rt; key_text(alloc, text)?.as_str() == want, "{line}");
+    }
+    Ok(())
+}
+
+#[test]
 fn keys_are_written(rt: HostRuntime) -> Result<(), Fail> {
-    for (by, seq, want) in [
-        (0, 0, "0"),
-        (5, 5, "5"),
-        (5, 2, "5:2"),
-        (u64::MAX, 1, "18446744073709551615:1"),
-    ] {
+    for text in "0 5 5:2 18446744073709551615:1".split(' ') {
         let mut out = Bytes::new(rt.alloc());
-        Key { by, seq }.write(&mut out)?;
-        assert_eq!(rt; out.as_slice(), want.as_bytes());
+        Key::parse(text)?.write(&mut out)?;
+        assert!(rt; out.as_slice() == text.as_bytes(), "{text}");
     }
     let key = Key { by: 5, seq: 2 };
     assert_eq!(rt; key.order(&Key { by: 5, seq: 3 }), Ordering::Less);
@@ -56,25 +62,41 @@ fn keys_are_written(rt: HostRuntime) -> Result<(), Fail> {
     Ok(())
 }
 
+/// Texts, one a line, with the number that each is, and whether it is a decimal.
+const DECIMALS: &str = "\
+0|0|decimal\n\
+10|10|decimal\n\
+18446744073709551615|18446744073709551615|decimal\n\
+18446744073709551616||decimal\n\
+00||\n\
+01||\n\
+||\n\
++1||\n\
+1a||";
+
+/// What `DECIMALS` says of a text.
+fn decimal_text(alloc: Global, text: &str) -> Result<Bytes, AllocError> {
+    let mut out = Bytes::new(alloc);
+    if let Some(number) = read_decimal(text) {
+        write_decimal(number, &mut out)?;
+    }
+    out.push(b'|')?;
+    if is_decimal(text.as_bytes()) {
+        out.extend_from_slice(b"decimal")?;
+    }
+    Ok(out)
+}
+
 #[test]
 fn decimals(rt: HostRuntime) -> Result<(), Fail> {
-    for (text, want, is) in [
-        ("0", Some(0), true),
-        ("10", Some(10), true),
-        ("18446744073709551615", Some(u64::MAX), true),
-        ("18446744073709551616", None, true),
-        ("00", None, false),
-        ("01", None, false),
-        ("", None, false),
-        ("+1", None, false),
-        ("1a", None, false),
-    ] {
-        assert_eq!(rt; read_decimal(text), want, "{text}");
-        assert_eq!(rt; is_decimal(text.as_bytes()), is, "{text}");
+    let alloc = rt.alloc();
+    for line in DECIMALS.split('\n') {
+        let (text, want) = line.split_once('|').ok_or("no line of the table")?;
+        assert!(rt;
+            decimal_text(alloc, text)?.as_slice() == want.as_bytes(),
+            "{line}"
+        );
     }
-    let mut out = Bytes::new(rt.alloc());
-    write_decimal(4294967295, &mut out)?;
-    assert_eq!(rt; out.as_slice(), b"4294967295".as_slice());
     Ok(())
 }
 
@@ -99,85 +121,111 @@ fn again(alloc: Global, kind: &str, text: &str) -> Result<Bytes, TextFault> {
     Ok(out)
 }
 
+/// Texts of these kinds, one a line, that are read and written again.
+const READ: &str = "\
+channels;-\n\
+channels;!,*,a,ab,b,é\n\
+channels;a:b,a=b\n\
+names;a,b\n\
+revs;1-a,2-b,2-b\n\
+rev;1--\n\
+rev;4294967295-~!\n\
+grants;a=b=c,ro=x,role:a=x,s=y\n\
+grants;a=y,a!=x\n\
+roles;a=b,a=c,b=a\n\
+hex;0123456789abcdef";
+
+/// Texts that are not of these kinds, one a line.
+const REFUSED: &str = "\
+channels;\n\
+channels;b,a\n\
+channels;a,a\n\
+channels;a,\n\
+channels;,a\n\
+channels;-,a\n\
+names;a,b,b\n\
+names;a:b\n\
+revs;1-a,0-b\n\
+rev;0-a\n\
+rev;01-a\n\
+rev;4294967296-a\n\
+rev;1-\n\
+rev;1\n\
+grants;a=d,a=c\n\
+grants;role:a=x,b=y\n\
+grants;a=-\n\
+grants;other:a=x\n\
+roles;a=c,a=b\n\
+roles;a=b=c\n\
+roles;a\n\
+hex;\n\
+hex;abc\n\
+hex;AB\n\
+hex;0g";
+
 #[test]
-fn texts_are_read_and_written_again(rt: HostRuntime) {
-    for (kind, text, fine) in [
-        ("channels", "-", true),
-        ("channels", "!,*,a,ab,b,é", true),
-        ("channels", "a:b,a=b", true),
-        ("channels", "", false),
-        ("channels", "b,a", false),
-        ("channels", "a,a", false),
-        ("channels", "a,", false),
-        ("channels", ",a", false),
-        ("channels", "-,a", false),
-        ("names", "a,b", true),
-        ("names", "a,b,b", false),
-        ("names", "a:b", false),
-        ("revs", "1-a,2-b,2-b", true),
-        ("revs", "1-a,0-b", false),
-        ("rev", "1--", true),
-        ("rev", "4294967295-~!", true),
-        ("rev", "0-a", false),
-        ("rev", "01-a", false),
-        ("rev", "4294967296-a", false),
-        ("rev", "1-", false),
-        ("rev", "1", false),
-        ("grants", "a=b=c,ro=x,role:a=x,s=y", true),
-        ("grants", "a=y,a!=x", true),
-        ("grants", "a=d,a=c", false),
-        ("grants", "role:a=x,b=y", false),
-        ("grants", "a=-", false),
-        ("grants", "other:a=x", false),
-        ("roles", "a=b,a=c,b=a", true),
-        ("roles", "a=c,a=b", false),
-        ("roles", "a=b=c", false),
-        ("roles", "a", false),
-        ("hex", "0123456789abcdef", true),
-        ("hex", "", false),
-        ("hex", "abc", false),
-        ("hex", "AB", false),
-        ("hex", "0g", false),
-    ] {
-        match again(rt.alloc(), kind, text) {
-            Ok(out) => {
-                assert!(rt; fine, "{text} is read");
-                assert!(rt; out.as_slice() == text.as_bytes());
-            }
-            Err(fault) => {
-                assert!(rt; !fine, "{text} is refused");
-                assert_eq!(rt; fault, TextFault::Bad);
-            }
-        }
+fn texts_are_read_and_written_again(rt: HostRuntime) -> Result<(), Fail> {
+    let alloc = rt.alloc();
+    for line in READ.split('\n') {
+        let (kind, text) = line.split_once(';').ok_or("no line of the table")?;
+        assert!(rt;
+            again(alloc, kind, text)?.as_slice() == text.as_bytes(),
+            "{line}"
+        );
     }
+    for line in REFUSED.split('\n') {
+        let (kind, text) = line.split_once(';').ok_or("no line of the table")?;
+        assert!(rt;
+            matches!(again(alloc, kind, text), Err(TextFault::Bad)),
+            "{line}"
+        );
+    }
+    Ok(())
+}
+
+/// Texts, one a line, with the kinds of names that each is: of a document, a client, a channel, a user or a digest.
+const NAMES: &str = "\
+a;document client channel user digest \n\
+-;document client digest \n\
+a,b;document client \n\
+a:b;document client channel digest \n\
+a=b;document client channel digest \n\
+_a;client channel user digest \n\
+a b;document client channel user \n\
+é;document client channel user \n\
+;\n\
+a\tb;\n\
+a\u{7f};\n\
+0123456789012345678901234567890123456789012345678901234567890123;document client channel user digest ";
+
+fn write_if(is: bool, word: &str, out: &mut String) -> Result<(), AllocError> {
+    if is {
+        out.push_str(word)?;
+    }
+    Ok(())
+}
+
+/// The kinds of names that a text is.
+fn kinds_text(alloc: Global, text: &str) -> Result<String, AllocError> {
+    let mut out = String::new(alloc);
+    write_if(DocId::parse(alloc, text).is_ok(), "document ", &mut out)?;
+    write_if(Client::parse(alloc, text).is_ok(), "client ", &mut out)?;
+    write_if(
+        ChannelName::parse(alloc, text).is_ok(),
+        "channel ",
+        &mut out,
+    )?;
+    write_if(Name::parse(alloc, text).is_ok(), "user ", &mut out)?;
+    write_if(Digest::parse(alloc, text).is_ok(), "digest ", &mut out)?;
+    Ok(out)
 }
 
 #[test]
 fn names_of_each_kind(rt: HostRuntime) -> Result<(), Fail> {
     let alloc = rt.alloc();
-    let long = String::from_str(
-        alloc,
-        "0123456789012345678901234567890123456789012345678901234567890123",
-    )?;
-    for (text, doc_id, client, channel, name, digest) in [
-        ("a", true, true, true, true, true),
-        ("-", true, true, false, false, true),
-        ("a,b", true, true, false, false, false),
-        ("a:b", true, true, true, false, true),
-        ("a=b", true, true, true, false, true),
-        ("_a", false, true, true, true, true),
-        ("a b", true, true, true, true, false),
-        ("é", true, true, true, true, false),
-        ("", false, false, false, false, false),
-        ("a\tb", false, false, false, false, false),
-        ("a\u{7f}", false, false, false, false, false),
-        (long.as_str(), true, true, true, true, true),
-    ] {
-        assert_eq!(rt; DocId::parse(alloc, text).is_ok(), doc_id, "{text}");
-        assert_eq!(rt; Client::parse(alloc, text).is_ok(), client, "{text}");
-        assert_eq!(rt; ChannelName::parse(alloc, text).is_ok(), channel, "{text}");
-        assert_eq!(rt; Name::parse(alloc, text).is_ok(), name, "{text}");
-        assert_eq!(rt; Digest::parse(alloc, text).is_ok(), digest, "{text}");
+    for line in NAMES.split('\n') {
+        let (text, want) = line.split_once(';').ok_or("no line of the table")?;
+        assert!(rt; kinds_text(alloc, text)?.as_str() == want, "{line}");
     }
     Ok(())
 }

@@ -2,7 +2,7 @@
 
 use crate::journals::log_of;
 use repl_messages::{Body, Fed};
-use sg_history::{Channels, Key, Name, Options, Rows, write_decimal};
+use sg_history::{Channels, Key, Name, Options, Rows, read_decimal, write_decimal};
 use sg_outside::Bytes;
 use std::alloc::Global;
 use std::test::Fail;
@@ -57,29 +57,47 @@ fn feed_text<G: Ground>(
     Ok(text)
 }
 
-const FIRST: &str =
-    "U|ann|A|-;W|d1|1-a|-|0|7b7d|-|1|1-a|A|-|-;W|d2|1-b|-|0|7b7d|-|2|1-b|B|-|-;W|d3|1-c|-|0|7b7d|-|3|1-c|!|-|-;";
+/// Worked journals, one a line, each after its name. In that of the conflict the bodies are `{"a":1}`, `{"b":1}` and `{}`.
+const JOURNALS: &str = "\
+none=\n\
+first=U|ann|A|-;W|d1|1-a|-|0|7b7d|-|1|1-a|A|-|-;W|d2|1-b|-|0|7b7d|-|2|1-b|B|-|-;W|d3|1-c|-|0|7b7d|-|3|1-c|!|-|-;\n\
+revocation=U|ann|A|-;W|d1|1-a|-|0|7b7d|-|1|1-a|B|-|-;U|ann|A,B|-;U|ann|A|-;\n\
+removal=U|ann|A|-;W|d1|1-a|-|0|7b7d|-|1|1-a|A|-|-;W|d2|1-b|-|0|7b7d|-|2|1-b|A|-|-;W|d1|2-a|1-a|0|7b7d|-|3|2-a|B|-|-;W|d2|2-b|1-b|1|7b7d|-|4|2-b|-|-|-;\n\
+before_removal=U|ann|A|-;W|d1|1-a|-|0|7b7d|-|1|1-a|A|-|-;W|d2|1-b|-|0|7b7d|-|2|1-b|A|-|-;\n\
+return=U|ann|A|-;W|d1|1-a|-|0|7b7d|-|1|1-a|A|-|-;W|d2|1-b|-|0|7b7d|-|2|1-b|A|-|-;W|d1|2-a|1-a|0|7b7d|-|3|2-a|B|-|-;W|d2|2-b|1-b|1|7b7d|-|4|2-b|-|-|-;W|d1|3-a|2-a|0|7b7d|-|5|3-a|A|-|-;\n\
+conflict=U|ann|A|-;W|d1|1-a|-|0|7b2261223a317d|-|1|1-a|A|-|-;W|d1|1-b|-|0|7b2262223a317d|-|2|1-b|B|-|-;W|d1|2-c|1-b|1|7b7d|-|3|1-a|-|-|-;\n\
+long_history=U|ann|A|-;W|d1|4-d|3-c,2-b,1-a|0|7b7d|-|1|4-d|A|-|-;";
 
-const REVOCATION: &str = "U|ann|A|-;W|d1|1-a|-|0|7b7d|-|1|1-a|B|-|-;U|ann|A,B|-;U|ann|A|-;";
+/// A ground over a worked journal.
+fn worked(alloc: Global, name: &str) -> Result<SoloGround, Fail> {
+    for line in JOURNALS.split('\n') {
+        if let Some((named, lines)) = line.split_once('=') {
+            if named == name {
+                return ground_of(alloc, lines);
+            }
+        }
+    }
+    Err(Fail::from("no journal of this name"))
+}
 
-const REMOVAL: &str =
-    "U|ann|A|-;W|d1|1-a|-|0|7b7d|-|1|1-a|A|-|-;W|d2|1-b|-|0|7b7d|-|2|1-b|A|-|-;W|d1|2-a|1-a|0|7b7d|-|3|2-a|B|-|-;W|d2|2-b|1-b|1|7b7d|-|4|2-b|-|-|-;";
+/// Ann's feeds, one a line: the journal, the key after which the feed begins, and what a look answers.
+const FEEDS: &str = "\
+none 0>0:\n\
+first 0>4:2 d1 1-a 0;4 d3 1-c 0;\n\
+first 4>4:\n\
+first 5>future 4\n\
+first 9>future 4\n\
+revocation 2>4:4:2 d1 1-a 2;\n\
+removal 3>5:4 d1 2-a 4;5 d2 2-b 5;";
 
 #[test]
 fn feeds_of_worked_journals(rt: HostRuntime) -> Result<(), Fail> {
     let alloc = rt.alloc();
-    for (lines, since, want) in [
-        ("", "0", "0:"),
-        (FIRST, "0", "4:2 d1 1-a 0;4 d3 1-c 0;"),
-        (FIRST, "4", "4:"),
-        (FIRST, "5", "future 4"),
-        (FIRST, "9", "future 4"),
-        (REVOCATION, "2", "4:4:2 d1 1-a 2;"),
-        (REMOVAL, "3", "5:4 d1 2-a 4;5 d2 2-b 5;"),
-    ] {
-        let mut ground = ground_of(alloc, lines)?;
-        let text = feed_text(alloc, &mut ground, "ann", since)?;
-        assert!(rt; text.as_slice() == want.as_bytes(), "{since} {lines}");
+    for line in FEEDS.split('\n') {
+        let (asked, want) = line.split_once('>').ok_or("no line of the table")?;
+        let (name, since) = asked.split_once(' ').ok_or("no line of the table")?;
+        let text = feed_text(alloc, &mut worked(alloc, name)?, "ann", since)?;
+        assert!(rt; text.as_slice() == want.as_bytes(), "{line}");
     }
     Ok(())
 }
@@ -87,7 +105,7 @@ fn feeds_of_worked_journals(rt: HostRuntime) -> Result<(), Fail> {
 #[test]
 fn a_ground_gives_its_log_back(rt: HostRuntime) -> Result<(), Fail> {
     let alloc = rt.alloc();
-    let mut ground = ground_of(alloc, FIRST)?;
+    let mut ground = worked(alloc, "first")?;
     assert!(rt; ground.front() == 4);
     let again = feed_text(alloc, &mut ground, "ann", "2")?;
     assert!(rt; again.as_slice() == b"4:4 d3 1-c 0;".as_slice());
@@ -96,8 +114,8 @@ fn a_ground_gives_its_log_back(rt: HostRuntime) -> Result<(), Fail> {
 }
 
 /// The rows of ann's feed after a since key.
-fn rows_of(alloc: Global, lines: &str, since: &str) -> Result<Rows, Fail> {
-    let mut ground = ground_of(alloc, lines)?;
+fn rows_of(alloc: Global, name: &str, since: &str) -> Result<Rows, Fail> {
+    let mut ground = worked(alloc, name)?;
     let user = Name::parse(alloc, "ann")?;
     match ground.feed(alloc, &user, &Key::parse(since)?, &EVERYTHING)? {
         Fed::Rows { front: _, rows } => Ok(rows),
@@ -134,41 +152,30 @@ fn bodies_text<G: Ground>(
     Ok(text)
 }
 
-/// The rows that the removal leaves behind.
-const BEFORE_REMOVAL: &str =
-    "U|ann|A|-;W|d1|1-a|-|0|7b7d|-|1|1-a|A|-|-;W|d2|1-b|-|0|7b7d|-|2|1-b|A|-|-;";
-
-/// A removal, and then a document that comes back.
-const RETURN: &str =
-    "U|ann|A|-;W|d1|1-a|-|0|7b7d|-|1|1-a|A|-|-;W|d2|1-b|-|0|7b7d|-|2|1-b|A|-|-;W|d1|2-a|1-a|0|7b7d|-|3|2-a|B|-|-;W|d2|2-b|1-b|1|7b7d|-|4|2-b|-|-|-;W|d1|3-a|2-a|0|7b7d|-|5|3-a|A|-|-;";
-
-/// After a tombstone on one branch the other branch wins; the bodies are `{"a":1}`, `{"b":1}` and `{}`.
-const CONFLICT: &str =
-    "U|ann|A|-;W|d1|1-a|-|0|7b2261223a317d|-|1|1-a|A|-|-;W|d1|1-b|-|0|7b2262223a317d|-|2|1-b|B|-|-;W|d1|2-c|1-b|1|7b7d|-|3|1-a|-|-|-;";
-
-const LONG_HISTORY: &str = "U|ann|A|-;W|d1|4-d|3-c,2-b,1-a|0|7b7d|-|1|4-d|A|-|-;";
+/// Bodies of ann's rows, one a line: the journal that the rows are of, the key after which they begin, the journal that is looked
+/// at, and what the look answers.
+const BODIES: &str = "\
+first 0 first>4:rev - {};rev - {};\n\
+first 0 none>0:norev;norev;\n\
+removal 3 removal>5:removed;removed;\n\
+removal 3 return>6:norev;removed;\n\
+revocation 2 revocation>4:norev;\n\
+before_removal 0 before_removal>3:rev - {};rev - {};\n\
+before_removal 0 removal>5:norev;norev;\n\
+return 5 return>6:rev 2-a {};\n\
+conflict 2 conflict>4:rev - {\"a\":1};";
 
 #[test]
 fn bodies_of_worked_journals(rt: HostRuntime) -> Result<(), Fail> {
     let alloc = rt.alloc();
-    for (asked, since, lines, want) in [
-        (FIRST, "0", FIRST, "4:rev - {};rev - {};"),
-        (FIRST, "0", "", "0:norev;norev;"),
-        (REMOVAL, "3", REMOVAL, "5:removed;removed;"),
-        (REMOVAL, "3", RETURN, "6:norev;removed;"),
-        (REVOCATION, "2", REVOCATION, "4:norev;"),
-        (BEFORE_REMOVAL, "0", BEFORE_REMOVAL, "3:rev - {};rev - {};"),
-        (BEFORE_REMOVAL, "0", REMOVAL, "5:norev;norev;"),
-        (RETURN, "5", RETURN, "6:rev 2-a {};"),
-        (CONFLICT, "2", CONFLICT, "4:rev - {\"a\":1};"),
-    ] {
-        let rows = rows_of(alloc, asked, since)?;
-        let mut ground = ground_of(alloc, lines)?;
+    for line in BODIES.split('\n') {
+        let (asked, want) = line.split_once('>').ok_or("no line of the table")?;
+        let mut words = asked.split(' ');
+        let named = words.next().unwrap_or("");
+        let rows = rows_of(alloc, named, words.next().unwrap_or(""))?;
+        let mut ground = worked(alloc, words.next().unwrap_or(""))?;
         let text = bodies_text(alloc, &mut ground, &EVERYTHING, &rows, 100)?;
-        assert!(rt;
-            text.as_slice() == want.as_bytes(),
-            "{since} {asked} {lines}"
-        );
+        assert!(rt; text.as_slice() == want.as_bytes(), "{line}");
     }
     Ok(())
 }
@@ -176,38 +183,39 @@ fn bodies_of_worked_journals(rt: HostRuntime) -> Result<(), Fail> {
 #[test]
 fn bodies_under_a_filter(rt: HostRuntime) -> Result<(), Fail> {
     let alloc = rt.alloc();
-    let rows = rows_of(alloc, FIRST, "0")?;
-    for (filter, want) in [
-        ("A", "4:rev - {};norev;"),
-        ("!", "4:norev;rev - {};"),
-        ("*", "4:rev - {};rev - {};"),
-        ("B", "4:norev;norev;"),
-    ] {
+    let rows = rows_of(alloc, "first", "0")?;
+    let table = "A>4:rev - {};norev;|!>4:norev;rev - {};|*>4:rev - {};rev - {};|B>4:norev;norev;";
+    for line in table.split('|') {
+        let (filter, want) = line.split_once('>').ok_or("no line of the table")?;
         let options = Options {
             filter: Some(Channels::parse(alloc, filter)?),
             active_only: false,
             revocations: true,
         };
-        let mut ground = ground_of(alloc, FIRST)?;
+        let mut ground = worked(alloc, "first")?;
         let text = bodies_text(alloc, &mut ground, &options, &rows, 100)?;
-        assert!(rt; text.as_slice() == want.as_bytes(), "{filter}");
+        assert!(rt; text.as_slice() == want.as_bytes(), "{line}");
     }
     Ok(())
 }
 
+/// The most ancestors that are asked for, one a line, and what a look for bodies answers.
+const NEAREST: &str = "\
+0>2:rev - {};\n\
+2>2:rev 3-c,2-b {};\n\
+3>2:rev 3-c,2-b,1-a {};\n\
+18446744073709551615>2:rev 3-c,2-b,1-a {};";
+
 #[test]
 fn the_nearest_ancestors(rt: HostRuntime) -> Result<(), Fail> {
     let alloc = rt.alloc();
-    let rows = rows_of(alloc, LONG_HISTORY, "0")?;
-    for (most, want) in [
-        (0, "2:rev - {};"),
-        (2, "2:rev 3-c,2-b {};"),
-        (3, "2:rev 3-c,2-b,1-a {};"),
-        (u64::MAX, "2:rev 3-c,2-b,1-a {};"),
-    ] {
-        let mut ground = ground_of(alloc, LONG_HISTORY)?;
+    let rows = rows_of(alloc, "long_history", "0")?;
+    for line in NEAREST.split('\n') {
+        let (most, want) = line.split_once('>').ok_or("no line of the table")?;
+        let most = read_decimal(most).ok_or("no number")?;
+        let mut ground = worked(alloc, "long_history")?;
         let text = bodies_text(alloc, &mut ground, &EVERYTHING, &rows, most)?;
-        assert!(rt; text.as_slice() == want.as_bytes(), "{most}");
+        assert!(rt; text.as_slice() == want.as_bytes(), "{line}");
     }
     Ok(())
 }
