@@ -5,7 +5,7 @@ pub mod Classes
 pub mod Orders
 pub mod Pieces
 pub mod Payloads
-pub mod Places
+pub mod Paused
 pub mod Cuts
 pub mod Shares
 pub mod Pending
@@ -16,3 +16,10 @@ pub mod AckKinds
 pub mod Owing
 pub mod Limits
 pub mod Arrivals
+pub mod Lowest
+pub mod Listed
+pub mod Keeping
+pub mod Kept
+pub mod Moved
+pub mod Acked
+pub mod ToCome

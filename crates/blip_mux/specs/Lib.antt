@@ -10,3 +10,8 @@ pub mod Cutting
 pub mod Between
 pub mod Apart
 pub mod Arriving
+pub mod Stamps
+pub mod Class
+pub mod Ready
+pub mod Entries
+pub mod Stamped

@@ -2,7 +2,9 @@
 #![tactic(auto)]
 
 mod acknowledgement;
+mod class;
 pub mod inbox;
+mod index;
 pub mod laws;
 pub mod message;
 mod numbers;
@@ -10,6 +12,9 @@ pub mod outbox;
 mod part;
 mod parts;
 mod queue;
+mod ready;
+mod stamped;
+mod stamps;
 mod waiting;
 
 pub use inbox::{Inbox, TakeFault, Taken};

@@ -9,8 +9,9 @@ ghost use Rattle.blip_mux.specs.Joining.{is_reply};
 ghost use Rattle.blip_mux.specs.Sending.{new_sending, unsent, picked, after_picked, is_reply_to, is_paused, last_put, sent_of, is_bad_ack, heard_in, Sends, SendsAfter};
 
 use crate::acknowledgement::Acknowledgement;
+use crate::class::{Class, class_of};
 use crate::queue::Queue;
-use crate::waiting::{WaitingMessage, is_told_by};
+use crate::waiting::WaitingMessage;
 use blip_frame::{Crc, Kind, Payload, write_payload};
 use sg_outside::{Bytes, Memory};
 use std::alloc::{AllocError, Global};
@@ -48,11 +49,17 @@ pub struct Outbox {
 }
 
 impl Model for Outbox {
-    ghost use Rattle.blip_mux.specs.Sending.{Sending};
+    ghost use Rattle.std.specs.Prelude.{◌≡◌, ◌<◌, false, ℕ};
+    ghost use Rattle.std.specs.List.{list_any};
+    ghost use Rattle.blip_frame.specs.declared.frame.Kind.TheVariants as kinds;
+    ghost use Rattle.blip_mux.specs.Sending.{Sending, is_of};
 
     ghost Value = { Sending };
 
     ghost view = { λ o. record { requests = o.requests; replies = o.replies; acknowledgements = o.acknowledgements.items; waiting = o.waiting } };
+
+    // No request waits whose number is still to come.
+    ghost invariant = { λ o. (n : ℕ) → o.requests < n → list_any (is_of kinds.Msg n) o.waiting ≡ false };
 }
 
 impl Outbox {
@@ -173,10 +180,9 @@ impl Outbox {
         ensures ok { OnOk result (self.new ≡ record self.old { waiting = heard_in kind number bytes self.old.waiting }) }
         ensures unchanged { OnErr result (self.new ≡ self.old) }
     {
-        let last = if is_told_by(kind, Kind::Msg) {
-            self.requests
-        } else {
-            self.replies
+        let last = match class_of(kind) {
+            Class::Request => self.requests,
+            Class::Reply => self.replies,
         };
         let sent = self.waiting.sent_of(kind, number);
         let passes = sent.is_some_and(|sent| bytes > sent);
@@ -195,7 +201,6 @@ impl Outbox {
 /// The bytes of a payload.
 fn written(alloc: Global, payload: &Payload) -> Result<Bytes, AllocError>
     ensures value { IfOk result (λ bytes. bytes ≡ payload_text payload.now.props payload.now.body) }
-    ensures some { IfOk result (λ bytes. 0 < length bytes) }
 {
     let mut bytes = Bytes::new(alloc);
     write_payload(payload, &mut bytes)?;

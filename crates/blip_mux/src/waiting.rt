@@ -1,9 +1,11 @@
 //! A message that waits to be sent.
 
-ghost use Rattle.std.specs.Prelude.{◌≡◌, ◌<◌, ◌≤◌, length, take, true};
+ghost use Rattle.std.specs.Prelude.{◌≡◌, ◌≤◌, ◌&&◌, not, length, take, true};
 ghost use Rattle.blip_frame.specs.Frame.{parts_of, has_checksum, largest_written};
-ghost use Rattle.blip_mux.specs.Sending.{is_reply_to, is_of, is_told_by, has_more, first_piece, without_piece, may_send, unsent, heard};
+ghost use Rattle.blip_mux.specs.Sending.{has_more, first_piece, without_piece, may_send, unsent, heard};
+ghost use Rattle.blip_mux.specs.Class.{class_of};
 
+use crate::class::{Class, class_of};
 use blip_frame::{Frame, Kind};
 use sg_outside::Bytes;
 use std::marker::Model;
@@ -27,7 +29,7 @@ pub(crate) struct WaitingMessage {
 }
 
 impl Model for WaitingMessage {
-    ghost use Rattle.std.specs.Prelude.{◌≡◌, ◌<◌, ◌≤◌, length, drop, true};
+    ghost use Rattle.std.specs.Prelude.{◌≡◌, ◌≤◌, length, drop, true};
     ghost use Rattle.blip_frame.specs.Frame.{has_checksum};
     ghost use Rattle.blip_mux.specs.Sending.{Waiting};
 
@@ -35,7 +37,7 @@ impl Model for WaitingMessage {
 
     ghost view = { λ w. record { number = w.number; kind = w.kind; urgent = w.urgent; no_reply = w.no_reply; sent = w.sent; acknowledged = w.acknowledged; rest = drop w.sent w.bytes } };
 
-    ghost invariant = { λ w. (w.sent < length w.bytes) × (has_checksum w.kind ≡ true) × (w.acknowledged ≤ w.sent) };
+    ghost invariant = { λ w. (w.sent ≤ length w.bytes) × (has_checksum w.kind ≡ true) × (w.acknowledged ≤ w.sent) };
 }
 
 impl WaitingMessage {
@@ -47,8 +49,7 @@ impl WaitingMessage {
         no_reply: bool,
         bytes: Bytes,
     ) -> WaitingMessage
-        requires some { 0 < length bytes }
-        requires kind { has_checksum kind ≡ true }
+        requires { has_checksum kind ≡ true }
         ensures { result ≡ unsent number kind urgent no_reply bytes }
     {
         WaitingMessage {
@@ -60,6 +61,19 @@ impl WaitingMessage {
             sent: 0,
             acknowledged: 0,
         }
+    }
+
+    pub(crate) fn class(&self) -> Class
+        ensures class { result ≡ class_of self.now.kind }
+        ensures kind { has_checksum self.now.kind ≡ true }
+    {
+        class_of(self.kind)
+    }
+
+    pub(crate) fn number(&self) -> u64
+        ensures { result ≡ self.now.number }
+    {
+        self.number
     }
 
     pub(crate) fn is_urgent(&self) -> bool
@@ -82,26 +96,16 @@ impl WaitingMessage {
         self.sent as u64 - self.acknowledged <= PAUSE_ABOVE
     }
 
-    /// Whether it is a reply to the request of this number.
-    pub(crate) fn is_reply_to(&self, number: u64) -> bool
-        ensures { result ≡ is_reply_to number self.now }
-    {
-        matches!(self.kind, Kind::Rpy | Kind::Err) && self.number == number
-    }
-
-    /// Whether an acknowledgement of this kind and this number is of it.
-    pub(crate) fn is_of(&self, kind: Kind, number: u64) -> bool
-        ensures { result ≡ is_of kind number self.now }
-    {
-        is_told_by(kind, self.kind) && self.number == number
-    }
-
-    /// Notes that so many of its bytes have come, of those that were sent.
-    pub(crate) fn heard(&mut self, bytes: u64)
+    /// Notes that so many of its bytes have come, of those that were sent. Answers whether it paused
+    /// and now may send.
+    pub(crate) fn heard(&mut self, bytes: u64) -> bool
         requires { bytes ≤ self.old.sent }
-        ensures { self.new ≡ heard bytes self.old }
+        ensures after { self.new ≡ heard bytes self.old }
+        ensures released { result ≡ (not (may_send self.old) && may_send self.new) }
     {
+        let paused = !self.may_send();
         self.acknowledged = bytes.max(self.acknowledged);
+        paused && self.may_send()
     }
 
     /// Whether more bytes are left than one frame carries.
@@ -137,16 +141,6 @@ impl WaitingMessage {
         let left = self.bytes.len() - self.sent;
         prove!(left > LARGEST_PIECE);
         self.sent += LARGEST_PIECE;
-    }
-}
-
-/// Whether acknowledgements of the one kind are of messages of the other.
-pub(crate) fn is_told_by(kind: Kind, of: Kind) -> bool
-    ensures { result ≡ is_told_by kind of }
-{
-    match kind {
-        Kind::Msg | Kind::AckMsg => of == Kind::Msg,
-        Kind::Rpy | Kind::Err | Kind::AckRpy => matches!(of, Kind::Rpy | Kind::Err),
     }
 }
 

@@ -1,7 +1,9 @@
 use Rattle.std.proofs.Common.{deque_len, inl, inr, ◌≡◌, [], IfOk, sym, ap, subst, ◌∙◌, arith}
 use Rattle.std.proofs.lemmas.Bool.{cases_lt}
 use Rattle.blip_mux.specs.Sending.{Sending, Sends, next_piece}
-use Rattle.blip_mux.proofs.Places.{paused_none, none_paused, idle_none, no_first}
+use Rattle.blip_mux.proofs.Paused.{paused_none, none_paused, idle_none, no_first}
+use Rattle.blip_frame.specs.declared.frame.Kind.TheVariants as kinds
+use Rattle.blip_mux.proofs.ToCome.{still_none}
 use Rattle.blip_mux.proofs.outbox.Outbox.next_frame.Goals as goal
 
 pub returns-clause-idle : goal.returns-clause-idle
@@ -18,3 +20,7 @@ returns-clause-only c = λ e.
       | inr at_most ↦ no_first c.self.inside.acknowledgements.items (omega (arith, at_most, length_is))
     ] in
     (sym (ap (λ (s : Sending). s.acknowledgements) c.self.view_is) ∙ empty, none_paused c.args.self.now.waiting (sym (ap (λ (s : Sending). next_piece s.waiting) c.self.view_is) ∙ none))
+
+pub invariant_of-self-2 : goal.invariant_of-self-2
+invariant_of-self-2 c = λ n above.
+    still_none kinds.Msg n c.write_next.result c.self.inside.waiting c.write_next.new.self c.write_next.ensures.after c.write_next.ensures.err (λ h. h.0) (c.self.invariant n above)

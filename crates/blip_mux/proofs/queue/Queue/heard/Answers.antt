@@ -1,14 +1,20 @@
-use Rattle.std.proofs.Common.{◌≤◌, sym, ◌∙◌}
-use Rattle.blip_mux.proofs.Places.{heard_at, heard_nowhere, found_at}
+use Rattle.std.proofs.Common.{◌≤◌, List, ap, sym, subst, refl, ◌∙◌}
+use Rattle.std.specs.Prelude.{IfSome}
+use Rattle.blip_mux.specs.Sending.{Waiting, heard_of, heard_in}
+use Rattle.blip_mux.specs.Class.{class_of, stamp_at}
+use Rattle.blip_mux.proofs.Acked.{heard_is, within_sent}
 use Rattle.blip_mux.proofs.queue.Queue.heard.Goals as goal
 
-pub returns-in-Some : goal.returns-in-Some
-returns-in-Some c =
-    c.heard_at.ensures ∙ sym (heard_at c.args.kind c.args.number c.args.bytes c.args.self.now c.in-Some.place (sym c.in-Some.ensures))
+pub heard-requires-clause-sent : goal.heard-requires-clause-sent
+heard-requires-clause-sent c = λ q stands.
+    let s = c.self.inside.messages in
+    within_sent s.messages.entries s.next (λ d n. stamp_at d n s.index.requests s.index.replies) s.ready c.self.invariant c.args.kind c.args.number c.args.bytes q
+    (ap (λ d. stamp_at d c.args.number s.index.requests s.index.replies) (sym c.class_of.ensures) ∙ stands)
+    (subst (λ (ws : List Waiting). IfSome (heard_of c.args.kind c.args.number ws) (λ w. c.args.bytes ≤ w.sent)) (sym c.self.view_is) c.requires)
 
-pub returns-in_default : goal.returns-in_default
-returns-in_default c = sym (heard_nowhere c.args.kind c.args.number c.args.bytes c.args.self.now (sym c.in_default.ensures))
-
-pub heard_at-requires : goal.heard_at-requires
-heard_at-requires c =
-    found_at c.args.kind c.args.number c.args.self.now c.in-Some.place (λ w. c.args.bytes ≤ w.sent) (sym c.in-Some.ensures) c.requires
+pub returns : goal.returns
+returns c =
+    let s = c.self.inside.messages in
+    heard_is s.messages.entries s.next (λ d n. stamp_at d n s.index.requests s.index.replies) s.ready c.self.invariant c.args.kind c.args.number c.args.bytes c.heard.new.self.messages.entries
+    (stamp_at (class_of c.args.kind) c.args.number s.index.requests s.index.replies) refl (rw c.class_of.ensures at c.heard.ensures.none) (rw c.class_of.ensures at c.heard.ensures.some)
+    ∙ ap (heard_in c.args.kind c.args.number c.args.bytes) c.self.view_is

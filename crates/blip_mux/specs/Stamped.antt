@@ -1,0 +1,51 @@
+-- The messages that wait, by their stamps.
+use Rattle.std.specs.Prelude.{◌≡◌, ℕ, ◌≤◌, Bool, true, ◌&&◌, cond, length, Option, Some, None, ◌==◌}
+use Rattle.std.specs.Option.{option_map_or}
+use Rattle.std.specs.List.{sum_by}
+use Rattle.std.specs.List.Sorted.{IsStrictlySortedBy}
+use Rattle.std.specs.Map.{keys_of, values_of, remove_entry}
+use Rattle.std.specs.BTreeMap.{is_at}
+use Rattle.std.specs.Ordering.{nat_cmp}
+use Rattle.blip_mux.specs.Sending.{Waiting, may_send, chosen}
+use Rattle.blip_mux.specs.Entries.{Entries, look}
+use Rattle.blip_mux.specs.declared.class.Class.{Class}
+use Rattle.blip_mux.specs.Class.{is_in, stamp_at}
+use Rattle.blip_mux.specs.Stamps.{times, IsLowest, same_flag}
+use Rattle.blip_mux.specs.Ready.{stamps_in, count_in, room_in}
+use Rattle.blip_mux.specs.declared.ready.Ready.{Ready}
+use Rattle.blip_mux.specs.declared.ready.Turn.{Turn}
+use Rattle.blip_mux.specs.declared.stamped.Stamped.{Stamped}
+
+-- the others
+abbrev pub without : ℕ → Entries → Entries
+without stamp es = remove_entry (is_at (nat_cmp stamp)) es
+
+-- whether a message has this class and this number
+abbrev pub is_message : Class → ℕ → Waiting → Bool
+is_message class number w = is_in class w.kind && w.number == number
+
+-- how many turns a message has among the urgent ones, or among the others: one where it may send
+abbrev pub turns : Bool → Waiting → ℕ
+turns urgent w = cond (same_flag w.urgent urgent && may_send w) 1 0
+
+-- The stamps ascend up to the next one; a stamp stands at a class and a number just where its message has them; and each message that may send has its turn, with room for those of all messages.
+pub record IsKept (es : Entries) (next : ℕ) (at : Class → ℕ → Option ℕ) (turns_of : Ready) : Type 0 where
+  pub sorted : IsStrictlySortedBy nat_cmp (keys_of es)
+  pub below : (q : ℕ) → next ≤ q → look es q ≡ None
+  pub found : (c : Class) (n q : ℕ) → at c n ≡ Some q → (w : Waiting) × (look es q ≡ Some w) × (is_message c n w ≡ true)
+  pub known : (c : Class) (n q : ℕ) (w : Waiting) → look es q ≡ Some w → is_message c n w ≡ true → at c n ≡ Some q
+  pub ready : (u : Bool) (q : ℕ) → times q (stamps_in u turns_of) ≡ option_map_or (turns u) (look es q) 0
+  pub counted : (u : Bool) → count_in u turns_of ≡ sum_by (turns u) (values_of es)
+  pub room : (u : Bool) → length es ≤ room_in u turns_of
+
+abbrev pub Keeps : Stamped → Type 0
+Keeps s = IsKept s.messages.entries s.next (λ c n. stamp_at c n s.index.requests s.index.replies) s.ready
+
+-- the message that sends next has this turn
+pub record IsNext (turn : Turn) (s : Stamped) : Type 0 where
+  pub message : Waiting
+  pub there : look s.messages.entries turn.stamp ≡ Some message
+  pub mark : message.urgent ≡ turn.urgent
+  pub lowest : IsLowest turn.stamp (stamps_in turn.urgent s.ready)
+  pub may : may_send message ≡ true
+  pub first : chosen (values_of s.messages.entries) ≡ Some (message, values_of (without turn.stamp s.messages.entries))
