@@ -1,6 +1,6 @@
 //! The fields of a journal's lines, each read by its grammar.
 
-ghost use Rattle.std.specs.Prelude.{◌≡◌, ◌≢◌, ◌^◌, ◌<◌, ℕ, decimal, IsTrue, IsUtf8, IfOk, IfErr, MatchOption};
+ghost use Rattle.std.specs.Prelude.{◌≡◌, ◌^◌, ◌<◌, ℕ, List, decimal, IsTrue, IsUtf8, IfOk, IfErr, MatchOption};
 ghost use Rattle.sg_names.specs.Grammar.{is_name, is_doc_id};
 ghost use Rattle.sg_names.specs.RevId.{rev_text, is_rev};
 ghost use Rattle.sg_names.specs.Revs.{revs_text, is_revs};
@@ -11,7 +11,6 @@ ghost use Rattle.sg_names.specs.RoleGrants.{role_grants_text, is_role_grants};
 ghost use Rattle.sg_names.specs.Hex.{hex_text, is_hex};
 ghost use Rattle.sg_history.specs.Journal.{mark_text, by_text, is_by};
 ghost use Rattle.sg_history.specs.Line.{IsLargeFront};
-ghost use Rattle.sg_history.specs.Refusal.{IsField};
 ghost use Rattle.sg_history.specs.Faults as faults;
 ghost use Rattle.sg_history.specs.Faults.{IsText, IsBadField};
 
@@ -23,179 +22,187 @@ use sg_names::{
 use sg_outside::Bytes;
 use std::alloc::Global;
 
+/// What a field spells.
+pub trait Field: Drop {
+    ghost grammar: { faults.Grammar };
+
+    ghost reads: { List ℕ → Self → Type 0 };
+
+    /// Reads the value that the bytes spell: `Bad` where they are outside the grammar.
+    fn read_field(alloc: Global, field: &[u8]) -> Result<Self, TextFault>
+    where
+        Self: Sized,
+        ensures ok { IfOk result (λ v. reads field.now v) }
+        ensures text { IfOk result (λ _. IsText grammar field.now) }
+        ensures bad { result ≡ Err TextFault.Bad → ¬ (IsText grammar field.now) };
+}
+
+/// Reads the field of this number, counted from 1 with the kind as the first.
+pub fn read<T: Field>(alloc: Global, field: &[u8], number: u64) -> Result<T, LineFault>
+    ensures ok { IfOk result (λ v. T.reads field.now v) }
+    ensures text { IfOk result (λ _. IsText T.grammar field.now) }
+    ensures fault { IfErr result (IsBadField number T.grammar field.now) }
+{
+    match T::read_field(alloc, field) {
+        Ok(value) => Ok(value),
+        Err(TextFault::Bad) => Err(LineFault::Bad(Why::Field(number))),
+        Err(TextFault::Memory) => Err(LineFault::Memory),
+    }
+}
+
 /// The text of a field.
-fn text_of(field: &[u8], number: u64) -> Result<&str, LineFault>
+fn text_of(field: &[u8]) -> Result<&str, TextFault>
     ensures ok { IfOk result (λ s. (s.now ≡ field.now) × IsUtf8 field.now) }
-    ensures bad { IfErr result (λ _. ¬ IsUtf8 field.now) }
-    ensures place { IfErr result (IsField number) }
+    ensures bad { IfErr result (λ e. (e ≡ TextFault.Bad) × (¬ IsUtf8 field.now)) }
 {
     match std::str::from_utf8(field) {
         Ok(text) => Ok(text),
-        Err(_) => Err(LineFault::Bad(Why::Field(number))),
+        Err(_) => Err(TextFault::Bad),
     }
 }
 
-/// A name.
-pub fn name(alloc: Global, field: &[u8], number: u64) -> Result<Name, LineFault>
-    ensures ok { IfOk result (λ v. (v ≡ field.now) × IsTrue (is_name v) × IsUtf8 field.now) }
-    ensures text { IfOk result (λ _. IsText faults.name field.now) }
-    ensures fault { IfErr result (IsBadField number faults.name field.now) }
-{
-    let text = text_of(field, number)?;
-    match Name::parse(alloc, text) {
-        Ok(value) => Ok(value),
-        Err(TextFault::Bad) => Err(LineFault::Bad(Why::Field(number))),
-        Err(TextFault::Memory) => Err(LineFault::Memory),
+impl Field for Name {
+    ghost grammar = { faults.name };
+
+    ghost reads = { λ text v. (v ≡ text) × IsTrue (is_name v) × IsUtf8 text };
+
+    fn read_field(alloc: Global, field: &[u8]) -> Result<Name, TextFault> {
+        let text = text_of(field)?;
+        Name::parse(alloc, text)
     }
 }
 
-/// A document's name.
-pub fn doc_id(alloc: Global, field: &[u8], number: u64) -> Result<DocId, LineFault>
-    ensures ok { IfOk result (λ v. (v ≡ field.now) × IsTrue (is_doc_id v) × IsUtf8 field.now) }
-    ensures text { IfOk result (λ _. IsText faults.document field.now) }
-    ensures fault { IfErr result (IsBadField number faults.document field.now) }
-{
-    let text = text_of(field, number)?;
-    match DocId::parse(alloc, text) {
-        Ok(value) => Ok(value),
-        Err(TextFault::Bad) => Err(LineFault::Bad(Why::Field(number))),
-        Err(TextFault::Memory) => Err(LineFault::Memory),
+impl Field for DocId {
+    ghost grammar = { faults.document };
+
+    ghost reads = { λ text v. (v ≡ text) × IsTrue (is_doc_id v) × IsUtf8 text };
+
+    fn read_field(alloc: Global, field: &[u8]) -> Result<DocId, TextFault> {
+        let text = text_of(field)?;
+        DocId::parse(alloc, text)
     }
 }
 
-/// A revision.
-pub fn rev_id(alloc: Global, field: &[u8], number: u64) -> Result<RevId, LineFault>
-    ensures ok { IfOk result (λ v. (field.now ≡ rev_text v) × IsTrue (is_rev v) × IsUtf8 field.now) }
-    ensures text { IfOk result (λ _. IsText faults.revision field.now) }
-    ensures fault { IfErr result (IsBadField number faults.revision field.now) }
-{
-    let text = text_of(field, number)?;
-    match RevId::parse(alloc, text) {
-        Ok(value) => Ok(value),
-        Err(TextFault::Bad) => Err(LineFault::Bad(Why::Field(number))),
-        Err(TextFault::Memory) => Err(LineFault::Memory),
+impl Field for RevId {
+    ghost grammar = { faults.revision };
+
+    ghost reads = { λ text v. (text ≡ rev_text v) × IsTrue (is_rev v) × IsUtf8 text };
+
+    fn read_field(alloc: Global, field: &[u8]) -> Result<RevId, TextFault> {
+        let text = text_of(field)?;
+        RevId::parse(alloc, text)
+    }
+}
+
+impl Field for Revs {
+    ghost grammar = { faults.revisions };
+
+    ghost reads = { λ text v. (text ≡ revs_text v) × IsTrue (is_revs v) × IsUtf8 text };
+
+    fn read_field(alloc: Global, field: &[u8]) -> Result<Revs, TextFault> {
+        let text = text_of(field)?;
+        Revs::parse(alloc, text)
+    }
+}
+
+impl Field for Channels {
+    ghost grammar = { faults.channels };
+
+    ghost reads = { λ text v. (text ≡ channels_text v) × IsTrue (is_channels v) × IsUtf8 text };
+
+    fn read_field(alloc: Global, field: &[u8]) -> Result<Channels, TextFault> {
+        let text = text_of(field)?;
+        Channels::parse(alloc, text)
+    }
+}
+
+impl Field for Names {
+    ghost grammar = { faults.names };
+
+    ghost reads = { λ text v. (text ≡ names_text v) × IsTrue (is_names v) × IsUtf8 text };
+
+    fn read_field(alloc: Global, field: &[u8]) -> Result<Names, TextFault> {
+        let text = text_of(field)?;
+        Names::parse(alloc, text)
+    }
+}
+
+impl Field for Grants {
+    ghost grammar = { faults.grants };
+
+    ghost reads = { λ text v. (text ≡ grants_text v) × IsTrue (is_grants v) × IsUtf8 text };
+
+    fn read_field(alloc: Global, field: &[u8]) -> Result<Grants, TextFault> {
+        let text = text_of(field)?;
+        Grants::parse(alloc, text)
+    }
+}
+
+impl Field for RoleGrants {
+    ghost grammar = { faults.role_grants };
+
+    ghost reads = { λ text v. (text ≡ role_grants_text v) × IsTrue (is_role_grants v) × IsUtf8 text };
+
+    fn read_field(alloc: Global, field: &[u8]) -> Result<RoleGrants, TextFault> {
+        let text = text_of(field)?;
+        RoleGrants::parse(alloc, text)
     }
 }
 
 /// A mark: `0` or `1`.
-pub fn mark(field: &[u8], number: u64) -> Result<bool, LineFault>
-    ensures ok { IfOk result (λ v. field.now ≡ mark_text v) }
-    ensures text { IfOk result (λ _. IsText faults.mark field.now) }
-    ensures fault { IfErr result (IsBadField number faults.mark field.now) }
-{
-    match field {
-        b"0" => Ok(false),
-        b"1" => Ok(true),
-        _ => Err(LineFault::Bad(Why::Field(number))),
+impl Field for bool {
+    ghost grammar = { faults.mark };
+
+    ghost reads = { λ text v. text ≡ mark_text v };
+
+    fn read_field(_alloc: Global, field: &[u8]) -> Result<bool, TextFault> {
+        match field {
+            b"0" => Ok(false),
+            b"1" => Ok(true),
+            _ => Err(TextFault::Bad),
+        }
     }
 }
 
 /// A body: at least one byte, in lower-case hexadecimal.
-pub fn body(alloc: Global, field: &[u8], number: u64) -> Result<Bytes, LineFault>
-    ensures ok { IfOk result (λ v. (field.now ≡ hex_text v) × IsTrue (is_hex field.now)) }
-    ensures text { IfOk result (λ _. IsText faults.body field.now) }
-    ensures fault { IfErr result (IsBadField number faults.body field.now) }
-{
-    let mut bytes = Bytes::new(alloc);
-    match from_hex(field, &mut bytes) {
-        Ok(()) => Ok(bytes),
-        Err(TextFault::Bad) => Err(LineFault::Bad(Why::Field(number))),
-        Err(TextFault::Memory) => Err(LineFault::Memory),
+impl Field for Bytes {
+    ghost grammar = { faults.body };
+
+    ghost reads = { λ text v. (text ≡ hex_text v) × IsTrue (is_hex text) };
+
+    fn read_field(alloc: Global, field: &[u8]) -> Result<Bytes, TextFault> {
+        let mut bytes = Bytes::new(alloc);
+        from_hex(field, &mut bytes)?;
+        Ok(bytes)
     }
 }
 
 /// A writer: a name, or `-` for the administrator.
-pub fn writer(alloc: Global, field: &[u8], number: u64) -> Result<Option<Name>, LineFault>
-    ensures ok { IfOk result (λ v. (field.now ≡ by_text v) × IsTrue (is_by v) × IsUtf8 field.now) }
-    ensures text { IfOk result (λ _. IsText faults.writer field.now) }
-    ensures fault { IfErr result (IsBadField number faults.writer field.now) }
-{
-    let text = text_of(field, number)?;
-    if text == "-" {
-        return Ok(None);
+impl Field for Option<Name> {
+    ghost grammar = { faults.writer };
+
+    ghost reads = { λ text v. (text ≡ by_text v) × IsTrue (is_by v) × IsUtf8 text };
+
+    fn read_field(alloc: Global, field: &[u8]) -> Result<Option<Name>, TextFault> {
+        let text = text_of(field)?;
+        if text == "-" {
+            return Ok(None);
+        }
+        Ok(Some(Name::parse(alloc, text)?))
     }
-    Ok(Some(name(alloc, field, number)?))
 }
 
 /// A decimal; none where it is too large for the type.
-pub fn number_of(field: &[u8], number: u64) -> Result<Option<u64>, LineFault>
-    ensures ok { IfOk result (λ v. MatchOption v (IsLargeFront field.now) (λ n. field.now ≡ decimal n)) }
-    ensures text { IfOk result (λ _. IsText faults.number field.now) }
-    ensures fault { IfErr result (IsBadField number faults.number field.now) }
-{
-    let text = text_of(field, number)?;
-    if !is_decimal(text.as_bytes()) {
-        return Err(LineFault::Bad(Why::Field(number)));
-    }
-    Ok(read_decimal(text))
-}
+impl Field for Option<u64> {
+    ghost grammar = { faults.number };
 
-/// A list of revisions.
-pub fn revs(alloc: Global, field: &[u8], number: u64) -> Result<Revs, LineFault>
-    ensures ok { IfOk result (λ v. (field.now ≡ revs_text v) × IsTrue (is_revs v) × IsUtf8 field.now) }
-    ensures text { IfOk result (λ _. IsText faults.revisions field.now) }
-    ensures fault { IfErr result (IsBadField number faults.revisions field.now) }
-{
-    let text = text_of(field, number)?;
-    match Revs::parse(alloc, text) {
-        Ok(value) => Ok(value),
-        Err(TextFault::Bad) => Err(LineFault::Bad(Why::Field(number))),
-        Err(TextFault::Memory) => Err(LineFault::Memory),
-    }
-}
+    ghost reads = { λ text v. MatchOption v (IsLargeFront text) (λ n. (n < 2 ^ 64) × (text ≡ decimal n)) };
 
-/// A list of channels.
-pub fn channels(alloc: Global, field: &[u8], number: u64) -> Result<Channels, LineFault>
-    ensures ok { IfOk result (λ v. (field.now ≡ channels_text v) × IsTrue (is_channels v) × IsUtf8 field.now) }
-    ensures text { IfOk result (λ _. IsText faults.channels field.now) }
-    ensures fault { IfErr result (IsBadField number faults.channels field.now) }
-{
-    let text = text_of(field, number)?;
-    match Channels::parse(alloc, text) {
-        Ok(value) => Ok(value),
-        Err(TextFault::Bad) => Err(LineFault::Bad(Why::Field(number))),
-        Err(TextFault::Memory) => Err(LineFault::Memory),
-    }
-}
-
-/// A list of names.
-pub fn names(alloc: Global, field: &[u8], number: u64) -> Result<Names, LineFault>
-    ensures ok { IfOk result (λ v. (field.now ≡ names_text v) × IsTrue (is_names v) × IsUtf8 field.now) }
-    ensures text { IfOk result (λ _. IsText faults.names field.now) }
-    ensures fault { IfErr result (IsBadField number faults.names field.now) }
-{
-    let text = text_of(field, number)?;
-    match Names::parse(alloc, text) {
-        Ok(value) => Ok(value),
-        Err(TextFault::Bad) => Err(LineFault::Bad(Why::Field(number))),
-        Err(TextFault::Memory) => Err(LineFault::Memory),
-    }
-}
-
-/// A list of grants.
-pub fn grants(alloc: Global, field: &[u8], number: u64) -> Result<Grants, LineFault>
-    ensures ok { IfOk result (λ v. (field.now ≡ grants_text v) × IsTrue (is_grants v) × IsUtf8 field.now) }
-    ensures text { IfOk result (λ _. IsText faults.grants field.now) }
-    ensures fault { IfErr result (IsBadField number faults.grants field.now) }
-{
-    let text = text_of(field, number)?;
-    match Grants::parse(alloc, text) {
-        Ok(value) => Ok(value),
-        Err(TextFault::Bad) => Err(LineFault::Bad(Why::Field(number))),
-        Err(TextFault::Memory) => Err(LineFault::Memory),
-    }
-}
-
-/// A list of role grants.
-pub fn role_grants(alloc: Global, field: &[u8], number: u64) -> Result<RoleGrants, LineFault>
-    ensures ok { IfOk result (λ v. (field.now ≡ role_grants_text v) × IsTrue (is_role_grants v) × IsUtf8 field.now) }
-    ensures text { IfOk result (λ _. IsText faults.role_grants field.now) }
-    ensures fault { IfErr result (IsBadField number faults.role_grants field.now) }
-{
-    let text = text_of(field, number)?;
-    match RoleGrants::parse(alloc, text) {
-        Ok(value) => Ok(value),
-        Err(TextFault::Bad) => Err(LineFault::Bad(Why::Field(number))),
-        Err(TextFault::Memory) => Err(LineFault::Memory),
+    fn read_field(_alloc: Global, field: &[u8]) -> Result<Option<u64>, TextFault> {
+        let text = text_of(field)?;
+        if !is_decimal(field) {
+            return Err(TextFault::Bad);
+        }
+        Ok(read_decimal(text))
     }
 }

@@ -13,88 +13,18 @@ ghost use Rattle.sg_history.specs.Journal.{by_text, journal_text, line_of, lines
 ghost use Rattle.sg_history.specs.declared.entries.Entry.TheVariants as entry;
 
 use crate::entries::{Entry, Log, Write};
-use sg_names::{Channels, Grants, Name, Names, RevId, Revs, RoleGrants, write_decimal, write_hex};
+use sg_names::{Channels, Name, Names, write_decimal, write_hex};
 use sg_outside::{Bytes, Memory};
 use std::alloc::Global;
 
-fn put_bytes(text: &[u8], out: &mut Bytes) -> Result<(), Memory>
-    ensures { OnOk result (out.new ≡ out.old ++ 9 ∷ text.now) }
-{
-    out.push(b'\t')?;
-    out.extend_from_slice(text)
-}
-
-fn put_rev(rev: &RevId, out: &mut Bytes) -> Result<(), Memory>
-    ensures { OnOk result (out.new ≡ out.old ++ 9 ∷ rev_text rev.now) }
-{
-    out.push(b'\t')?;
-    rev.write(out)
-}
-
-fn put_revs(revs: &Revs, out: &mut Bytes) -> Result<(), Memory>
-    ensures { OnOk result (out.new ≡ out.old ++ 9 ∷ revs_text revs.now) }
-{
-    out.push(b'\t')?;
-    revs.write(out)
-}
-
-fn put_mark(mark: bool, out: &mut Bytes) -> Result<(), Memory>
-    ensures { OnOk result (out.new ≡ out.old ++ 9 ∷ mark_text mark) }
-{
-    out.push(b'\t')?;
-    out.push(if mark { b'1' } else { b'0' })
-}
-
-fn put_hex(bytes: &[u8], out: &mut Bytes) -> Result<(), Memory>
-    ensures { OnOk result (out.new ≡ out.old ++ 9 ∷ hex_text bytes.now) }
-{
-    out.push(b'\t')?;
-    write_hex(bytes, out)
-}
-
+/// Puts the text of a writer at the end.
 fn put_writer(by: &Option<Name>, out: &mut Bytes) -> Result<(), Memory>
-    ensures { OnOk result (out.new ≡ out.old ++ 9 ∷ by_text by.now) }
+    ensures { OnOk result (out.new ≡ out.old ++ by_text by.now) }
 {
-    out.push(b'\t')?;
     match by {
         Some(name) => out.extend_from_slice(name.as_bytes()),
         None => out.push(b'-'),
     }
-}
-
-fn put_decimal(n: u64, out: &mut Bytes) -> Result<(), Memory>
-    ensures { OnOk result (out.new ≡ out.old ++ 9 ∷ decimal n) }
-{
-    out.push(b'\t')?;
-    write_decimal(n, out)
-}
-
-fn put_channels(channels: &Channels, out: &mut Bytes) -> Result<(), Memory>
-    ensures { OnOk result (out.new ≡ out.old ++ 9 ∷ channels_text channels.now) }
-{
-    out.push(b'\t')?;
-    channels.write(out)
-}
-
-fn put_names(names: &Names, out: &mut Bytes) -> Result<(), Memory>
-    ensures { OnOk result (out.new ≡ out.old ++ 9 ∷ names_text names.now) }
-{
-    out.push(b'\t')?;
-    names.write(out)
-}
-
-fn put_grants(grants: &Grants, out: &mut Bytes) -> Result<(), Memory>
-    ensures { OnOk result (out.new ≡ out.old ++ 9 ∷ grants_text grants.now) }
-{
-    out.push(b'\t')?;
-    grants.write(out)
-}
-
-fn put_role_grants(grants: &RoleGrants, out: &mut Bytes) -> Result<(), Memory>
-    ensures { OnOk result (out.new ≡ out.old ++ 9 ∷ role_grants_text grants.now) }
-{
-    out.push(b'\t')?;
-    grants.write(out)
 }
 
 /// Puts the kind of a write at the end, and the fields that say which revision it is.
@@ -102,31 +32,36 @@ fn put_revision(write: &Write, out: &mut Bytes) -> Result<(), Memory>
     ensures { OnOk result (out.new ≡ out.old ++ (87 ∷ 9 ∷ write.now.doc ++ 9 ∷ rev_text write.now.rev
         ++ 9 ∷ revs_text write.now.ancestors)) }
 {
-    out.push(b'W')?;
-    put_bytes(write.doc.as_bytes(), out)?;
-    put_rev(&write.rev, out)?;
-    put_revs(&write.ancestors, out)?;
-    Ok(())
+    out.extend_from_slice(b"W\t")?;
+    out.extend_from_slice(write.doc.as_bytes())?;
+    out.push(b'\t')?;
+    write.rev.write(out)?;
+    out.push(b'\t')?;
+    write.ancestors.write(out)
 }
 
 /// Puts the fields that say what was written, and by whom.
 fn put_body(write: &Write, out: &mut Bytes) -> Result<(), Memory>
-    ensures { OnOk result (out.new ≡ out.old ++ (9 ∷ mark_text write.now.deleted ++ 9 ∷ hex_text write.now.body
-        ++ 9 ∷ by_text write.now.by)) }
+    ensures { OnOk result (out.new ≡ out.old ++ (9 ∷ mark_text write.now.deleted
+        ++ 9 ∷ hex_text write.now.body ++ 9 ∷ by_text write.now.by)) }
 {
-    put_mark(write.deleted, out)?;
-    put_hex(write.body.as_slice(), out)?;
-    put_writer(&write.by, out)?;
-    Ok(())
+    out.push(b'\t')?;
+    out.push(if write.deleted { b'1' } else { b'0' })?;
+    out.push(b'\t')?;
+    write_hex(write.body.as_slice(), out)?;
+    out.push(b'\t')?;
+    put_writer(&write.by, out)
 }
 
 /// Puts the front and the winner.
 fn put_judged(write: &Write, out: &mut Bytes) -> Result<(), Memory>
-    ensures { OnOk result (out.new ≡ out.old ++ (9 ∷ decimal write.now.at ++ 9 ∷ rev_text write.now.winner)) }
+    ensures { OnOk result (out.new ≡ out.old ++ (9 ∷ decimal write.now.at
+        ++ 9 ∷ rev_text write.now.winner)) }
 {
-    put_decimal(write.at, out)?;
-    put_rev(&write.winner, out)?;
-    Ok(())
+    out.push(b'\t')?;
+    write_decimal(write.at, out)?;
+    out.push(b'\t')?;
+    write.winner.write(out)
 }
 
 /// Puts the effects of the revision.
@@ -134,10 +69,12 @@ fn put_effects(write: &Write, out: &mut Bytes) -> Result<(), Memory>
     ensures { OnOk result (out.new ≡ out.old ++ (9 ∷ channels_text write.now.channels
         ++ 9 ∷ grants_text write.now.grants ++ 9 ∷ role_grants_text write.now.roles)) }
 {
-    put_channels(&write.channels, out)?;
-    put_grants(&write.grants, out)?;
-    put_role_grants(&write.roles, out)?;
-    Ok(())
+    out.push(b'\t')?;
+    write.channels.write(out)?;
+    out.push(b'\t')?;
+    write.grants.write(out)?;
+    out.push(b'\t')?;
+    write.roles.write(out)
 }
 
 /// Puts the line of a write at the end, without its line feed.
@@ -147,29 +84,28 @@ fn put_write(write: &Write, out: &mut Bytes) -> Result<(), Memory>
     put_revision(write, out)?;
     put_body(write, out)?;
     put_judged(write, out)?;
-    put_effects(write, out)?;
-    Ok(())
+    put_effects(write, out)
 }
 
 /// Puts the line of a put of a user at the end, without its line feed.
 fn put_user(name: &Name, channels: &Channels, roles: &Names, out: &mut Bytes) -> Result<(), Memory>
-    ensures { OnOk result (out.new ≡ out.old ++ line_of (entry.PutUser name.now channels.now roles.now)) }
+    ensures { OnOk result (out.new ≡ out.old
+        ++ line_of (entry.PutUser name.now channels.now roles.now)) }
 {
-    out.push(b'U')?;
-    put_bytes(name.as_bytes(), out)?;
-    put_channels(channels, out)?;
-    put_names(roles, out)?;
-    Ok(())
+    put_named(b"U", name, out)?;
+    out.push(b'\t')?;
+    channels.write(out)?;
+    out.push(b'\t')?;
+    roles.write(out)
 }
 
 /// Puts the line of a put of a role at the end, without its line feed.
 fn put_role(name: &Name, channels: &Channels, out: &mut Bytes) -> Result<(), Memory>
     ensures { OnOk result (out.new ≡ out.old ++ line_of (entry.PutRole name.now channels.now)) }
 {
-    out.push(b'R')?;
-    put_bytes(name.as_bytes(), out)?;
-    put_channels(channels, out)?;
-    Ok(())
+    put_named(b"R", name, out)?;
+    out.push(b'\t')?;
+    channels.write(out)
 }
 
 /// Puts a kind and a name at the end.
@@ -177,8 +113,8 @@ fn put_named(kind: &[u8], name: &Name, out: &mut Bytes) -> Result<(), Memory>
     ensures { OnOk result (out.new ≡ out.old ++ kind.now ++ 9 ∷ name.now) }
 {
     out.extend_from_slice(kind)?;
-    put_bytes(name.as_bytes(), out)?;
-    Ok(())
+    out.push(b'\t')?;
+    out.extend_from_slice(name.as_bytes())
 }
 
 /// Puts the line of an entry at the end, without its line feed.

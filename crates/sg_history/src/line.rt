@@ -89,9 +89,9 @@ fn read_put_user<'a>(alloc: Global, fields: &[&'a [u8]]) -> Result<ReadEntry<'a>
     let [name, channels, roles] = fields else {
         return Err(LineFault::Bad(Why::Fields));
     };
-    let name = field::name(alloc, name, 2)?;
-    let channels = field::channels(alloc, channels, 3)?;
-    let roles = field::names(alloc, roles, 4)?;
+    let name = field::read(alloc, name, 2)?;
+    let channels = field::read(alloc, channels, 3)?;
+    let roles = field::read(alloc, roles, 4)?;
     Ok(ReadEntry {
         entry: Entry::PutUser(name, channels, roles),
         at_fits: true,
@@ -110,8 +110,8 @@ fn read_put_role<'a>(alloc: Global, fields: &[&'a [u8]]) -> Result<ReadEntry<'a>
     let [name, channels] = fields else {
         return Err(LineFault::Bad(Why::Fields));
     };
-    let name = field::name(alloc, name, 2)?;
-    let channels = field::channels(alloc, channels, 3)?;
+    let name = field::read(alloc, name, 2)?;
+    let channels = field::read(alloc, channels, 3)?;
     Ok(ReadEntry {
         entry: Entry::PutRole(name, channels),
         at_fits: true,
@@ -130,7 +130,7 @@ fn read_drop_user<'a>(alloc: Global, fields: &[&'a [u8]]) -> Result<ReadEntry<'a
     let [name] = fields else {
         return Err(LineFault::Bad(Why::Fields));
     };
-    let name = field::name(alloc, name, 2)?;
+    let name = field::read(alloc, name, 2)?;
     Ok(ReadEntry {
         entry: Entry::DropUser(name),
         at_fits: true,
@@ -149,7 +149,7 @@ fn read_drop_role<'a>(alloc: Global, fields: &[&'a [u8]]) -> Result<ReadEntry<'a
     let [name] = fields else {
         return Err(LineFault::Bad(Why::Fields));
     };
-    let name = field::name(alloc, name, 2)?;
+    let name = field::read(alloc, name, 2)?;
     Ok(ReadEntry {
         entry: Entry::DropRole(name),
         at_fits: true,
