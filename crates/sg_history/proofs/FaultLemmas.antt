@@ -1,6 +1,5 @@
 -- what is wrong with a line, and the lines of entries
 use Rattle.std.proofs.Common.{◌≡◌, ℕ, zero, suc, ◌-◌, ◌≤◌, List, [], ◌∷◌, ◌++◌, ◌<◌, true, length, arith, refl, sym, ap, ◌∙◌, subst, Option, Some, None}
-use Rattle.std.specs.Prelude.{Result, Ok, Err, IfErr}
 use Rattle.sg_history.specs.declared.entries.Entry.{Entry}
 use Rattle.sg_history.specs.declared.entries.Entry.TheVariants as entry
 use Rattle.sg_history.specs.declared.fault.Why.{Why}
@@ -9,7 +8,6 @@ use Rattle.sg_history.specs.declared.fault.LineFault.{LineFault}
 use Rattle.sg_history.specs.declared.fault.LineFault.TheVariants as line
 use Rattle.sg_history.specs.Journal.{IsEntry, fields_of}
 use Rattle.sg_history.specs.Line.{NoEntry}
-use Rattle.sg_history.specs.Refusal.{Refuses}
 use Rattle.sg_history.specs.Faults.{Grammar, IsText, AreTexts, IsFirstBad, IsFaultAmong, IsFaultUnder, IsFault, AreTextsUnder, AreFields, grammars_of, HasReason, IsBadField}
 use Rattle.sg_names.specs.Grammar.{lacks}
 use Rattle.sg_history.specs.Pieces.{pieces}
@@ -58,12 +56,6 @@ entry_fields entry.Unused is = tt
 -- fields with a fault are no entry's
 pub no_entry : (fields : List (List ℕ)) (why : Why) → IsFault fields why → NoEntry fields
 no_entry fields why fault e is spelled = apart fields why fault (subst AreFields (sym spelled) (entry_fields e is))
-
--- a refusal for a fault is one for want of an entry
-pub refused_fault : {T : Type 0} (fields : List (List ℕ)) (r : Result T LineFault) → IfErr r (HasReason (IsFault fields)) → IfErr r (λ e. Refuses e (NoEntry fields))
-refused_fault fields (Ok x) h = tt
-refused_fault fields (Err (line.Bad why)) h = no_entry fields why h
-refused_fault fields (Err line.Memory) h = tt
 
 -- a field that is outside its grammar, behind fields that are in theirs
 pub bad_field : (grammars : List Grammar) (texts : List (List ℕ)) (n : ℕ) (grammar : Grammar) (text : List ℕ) (e : LineFault)

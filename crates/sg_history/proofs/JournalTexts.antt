@@ -1,5 +1,5 @@
 -- a journal's lines and its entries
-use Rattle.std.proofs.Common.{◌≡◌, ◌≢◌, ℕ, Bool, true, false, not, List, [], ◌∷◌, ◌++◌, length, reverse, refl, sym, ap, ◌∙◌, subst, append_assoc, Option}
+use Rattle.std.proofs.Common.{◌≡◌, ◌≢◌, ℕ, Bool, true, false, not, List, [], ◌∷◌, ◌++◌, length, reverse, refl, sym, ap, ◌∙◌, subst, append_assoc}
 use Rattle.std.specs.Prelude.{nat_eq}
 use Rattle.std.proofs.lemmas.List.{reverse-append}
 use Rattle.std.specs.Str.{bytes_eq}
@@ -9,28 +9,16 @@ use Rattle.std.proofs.lemmas.Grind.{flat_map-append}
 use Rattle.sg_names.proofs.Cuts.{cut_same, lacks_seam}
 use Rattle.sg_names.specs.Grammar.{lacks}
 use Rattle.sg_history.specs.declared.entries.Entry.{Entry}
-use Rattle.sg_history.specs.declared.written.WriteRevs.{WriteRevs}
 use Rattle.sg_history.specs.History.{History}
-use Rattle.sg_history.specs.Journal.{IsNext, IsRecord, may_follow, line_of, lines_of, header, Spells}
-use Rattle.sg_history.specs.BadLine.{title}
-use Rattle.sg_history.specs.Line.{NoLine, ReadsLine, is_write}
-use Rattle.sg_history.specs.Reading.{NoNext, SpellsLines}
+use Rattle.sg_history.specs.Journal.{IsNext, IsRecord, line_of, lines_of, header, Spells}
+use Rattle.sg_history.specs.Line.{NoLine}
+use Rattle.sg_history.specs.Reading.{SpellsLines}
 use Rattle.sg_history.proofs.LineTexts.{line_whole}
 use Rattle.sg_history.proofs.OneLine.{line_same}
 
--- a line that was read, of an entry that breaks no rule
-pub next_read : (older : List Entry) (line : List ℕ) (e : Entry) (fits : Bool) (revs : Option WriteRevs) → ReadsLine line (record { entry = e; at_fits = fits; revs = revs })
-    → may_follow older e ≡ true → (is_write e ≡ true → fits ≡ true) → IsNext older e × (line ≡ line_of e)
-next_read older line e true revs read follows fit = (record { grammar = read.0; rules = follows }, read.1)
-next_read older line e false revs read follows fit = absurd (cc (fit read.0))
-
--- a line that was read, of an entry that breaks a rule
-pub next_refused : (entries : List Entry) (line : List ℕ) (e : Entry) (fits : Bool) (revs : Option WriteRevs) → ReadsLine line (record { entry = e; at_fits = fits; revs = revs })
-    → (fits ≡ true → ¬ (may_follow (reverse entries) e ≡ true)) → NoNext entries line
-next_refused entries line e true revs read breaks f next spelled =
-    let same : e ≡ f = line_same e f read.0 next.grammar (sym read.1 ∙ spelled) in
-    breaks refl (ap (may_follow (reverse entries)) same ∙ next.rules)
-next_refused entries line e false revs read breaks f next spelled = read.1 f next.grammar spelled
+-- no entry that may be the next after these has this line
+abbrev pub NoNext : List Entry → List ℕ → Type 0
+NoNext entries line = (e : Entry) → IsNext (reverse entries) e → line ≢ line_of e
 
 pub no_next : (entries : List Entry) (line : List ℕ) → NoLine line → NoNext entries line
 no_next entries line none e next = none e next.grammar
@@ -44,14 +32,14 @@ reversed_at entries e more =
     reverse-append entries (e ∷ more) ∙ ap (λ newer. newer ++ reverse entries) (reverse-append (e ∷ []) more) ∙ append_assoc (reverse more) (e ∷ []) (reverse entries)
 
 -- in a history, each entry may be the next after those before it
-next_in : (entries : List Entry) (e : Entry) (more : List Entry) → IsRecord (reverse (entries ++ e ∷ more)) → IsNext (reverse entries) e
+pub next_in : (entries : List Entry) (e : Entry) (more : List Entry) → IsRecord (reverse (entries ++ e ∷ more)) → IsNext (reverse entries) e
 next_in entries e more h = (record_rest (reverse more) (e ∷ reverse entries) (subst IsRecord (reversed_at entries e more) h)).0
 
 -- one more entry
 pub record_more : (entries : List Entry) (e : Entry) → IsRecord (reverse entries) → IsNext (reverse entries) e → IsRecord (reverse (entries ++ e ∷ []))
 record_more entries e h next = subst IsRecord (sym (reversed_at entries e [])) (next, h)
 
-lines_cons : (e : Entry) (es : List Entry) → lines_of (e ∷ es) ≡ line_of e ++ 10 ∷ lines_of es
+pub lines_cons : (e : Entry) (es : List Entry) → lines_of (e ∷ es) ≡ line_of e ++ 10 ∷ lines_of es
 lines_cons e es = flat_map-cons (λ x. line_of x ++ 10 ∷ []) e es ∙ append_assoc (line_of e) (10 ∷ []) (lines_of es)
 
 -- the entries are the first ones of a history, and the rest are the lines of the others
@@ -122,20 +110,6 @@ pub some_rest : (rest : List ℕ) → nat_eq (length rest) 0 ≡ false → rest 
 some_rest [] h e = cc (h)
 some_rest (b ∷ bs) h e = cc (e)
 
--- a text of another first line is no journal
-pub no_title : (bytes first lines : List ℕ) → bytes ≡ first ++ 10 ∷ lines → lacks 10 first ≡ true → first ≢ title → (h : History) → ¬ (Spells bytes h)
-no_title bytes first lines cut lacking other h spelled =
-    other (cut_same 10 first lines title (lines_of h.entries) lacking refl (sym cut ∙ spelled.1)).0
-
-pub no_first_line : (bytes : List ℕ) → lacks 10 bytes ≡ true → (h : History) → ¬ (Spells bytes h)
-no_first_line bytes lacking h spelled = lacks_seam 10 bytes title (lines_of h.entries) lacking spelled.1
-
-pub journal_lines : (bytes first lines : List ℕ) (h : History) → bytes ≡ first ++ 10 ∷ lines → first ≡ title → Spells bytes h → SpellsLines lines h.entries
-journal_lines bytes first lines h cut same spelled = (spelled.0, cc)
-
-pub lines_journal : (bytes first lines : List ℕ) (h : History) → bytes ≡ first ++ 10 ∷ lines → first ≡ title → SpellsLines lines h.entries → Spells bytes h
-lines_journal bytes first lines h cut same spelled = (spelled.0, cut ∙ (λ i. same i ++ 10 ∷ spelled.1 i))
-
 pub other_bytes : (a b c : List ℕ) → true ≡ not (bytes_eq a b) → b ≡ c → a ≢ c
 other_bytes a b c h is e = cc (h, (bytes_eq-Decides a b).1 (e ∙ sym is))
 
@@ -146,7 +120,7 @@ not_false false e = cc (e)
 pub same_bytes : (a b c : List ℕ) → false ≡ not (bytes_eq a b) → b ≡ c → a ≡ c
 same_bytes a b c h is = (bytes_eq-Decides a b).0 (not_false (bytes_eq a b) h) ∙ is
 
-appended_same : (front a b : List ℕ) → front ++ a ≡ front ++ b → a ≡ b
+pub appended_same : (front a b : List ℕ) → front ++ a ≡ front ++ b → a ≡ b
 appended_same [] a b e = e
 appended_same (x ∷ front) a b e = appended_same front a b (cc)
 

@@ -6,6 +6,7 @@ pub mod Revisions
 pub mod RuleLemmas
 pub mod OneLine
 pub mod JournalTexts
+pub mod ReadLines
 pub mod Books
 pub mod Boards
 pub mod AloneWrites

@@ -16,14 +16,9 @@ use Rattle.sg_history.specs.declared.entries.Entry.TheVariants as entry
 use Rattle.sg_history.specs.declared.entries.Write.{Write}
 use Rattle.sg_history.specs.Pieces.{pieces}
 use Rattle.sg_history.specs.Journal.{IsEntry, IsWrite, fields_of, write_fields, write_fields_at, line_of, mark_text, by_text, is_by}
-use Rattle.std.specs.Prelude.{codes, is_some, Result, Ok, Err, IfOk}
-use Rattle.std.specs.List.{join_with_byte}
-use Rattle.sg_history.specs.History.{as_write}
-use Rattle.sg_history.specs.declared.fault.LineFault.{LineFault}
-use Rattle.sg_history.specs.declared.line.ReadEntry.{ReadEntry}
-use Rattle.sg_history.specs.declared.written.WriteRevs.{WriteRevs}
-use Rattle.sg_history.specs.Line.{AreRead, IsLargeFront, IsLargeWrite, NoEntry, ReadsLine}
-use Rattle.sg_history.proofs.LineTexts.{line_pieces, joined_pieces, no_line}
+use Rattle.std.specs.Prelude.{codes, is_some}
+use Rattle.sg_history.specs.Line.{IsLargeFront, IsLargeWrite, NoEntry}
+use Rattle.sg_history.proofs.LineTexts.{line_pieces}
 
 -- a text as a number, by which short texts are told apart
 abbrev code : List ℕ → ℕ
@@ -119,19 +114,6 @@ large_apart fields None large = absurd large
 large_apart fields (Some w) large =
     let front = large.2 in
     (refl, λ e is spelled. no_write w front.0 e front.2 is (sym (large.1 ∙ ap (λ ts. codes "W" ∷ ts) front.3) ∙ spelled))
-
-reads_line : (line : List ℕ) (fields : List (List ℕ)) (e : Entry) (fits : Bool) (revs : Option WriteRevs) → fields ≡ pieces 9 line
-    → AreRead fields e fits → ReadsLine line (record { entry = e; at_fits = fits; revs = revs })
-reads_line line fields e true revs parts read = (read.0, sym (joined_pieces 9 line) ∙ ap (join_with_byte 9) (sym parts ∙ read.1))
-reads_line line fields e false revs parts read =
-    let apart = large_apart fields (as_write e) read in
-    (apart.0, no_line line fields parts apart.1)
-
--- a line of which the fields were read
-pub read_ok : (line : List ℕ) (fields : List (List ℕ)) (r : Result ReadEntry LineFault) → fields ≡ pieces 9 line
-    → IfOk r (λ read. AreRead fields read.entry read.at_fits) → IfOk r (λ read. ReadsLine line read)
-read_ok line fields (Ok read) parts h = reads_line line fields read.entry read.at_fits read.revs parts h
-read_ok line fields (Err e) parts h = tt
 
 -- entries with the same line are the same
 pub line_same : (e f : Entry) → IsEntry e → IsEntry f → line_of e ≡ line_of f → e ≡ f

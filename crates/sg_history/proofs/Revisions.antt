@@ -34,7 +34,7 @@ swapped : (q k : Key) → is_rev_of (doc_rev q) k.0.now (doc_rev k).rev ≡ is_r
 swapped q k = λ i. bytes_swap q.0.now k.0.now i && (nat_eq_equiv.symm q.1 k.1 i && bytes_swap q.2.now k.2.now i)
 
 -- what a look at the keys finds
-pub found : (q : Key) (ks : List Key) → list_any (λ k. key_eq q k) ks ≡ has (map doc_rev ks) q.0.now (doc_rev q).rev
+found : (q : Key) (ks : List Key) → list_any (λ k. key_eq q k) ks ≡ has (map doc_rev ks) q.0.now (doc_rev q).rev
 found q [] = refl
 found q (k ∷ ks) =
     let same = same_key q k ∙ swapped q k in
@@ -45,10 +45,23 @@ or_of true x = refl
 or_of false x = refl
 
 -- one more key
-pub inserted : (old new : List Key) (k : Key)
+inserted : (old new : List Key) (k : Key)
     → ((q : Key) → list_any (λ x. key_eq q x) new ≡ cond (key_eq k q) true (list_any (λ x. key_eq q x) old))
     → (doc : List ℕ) (rev : RevId) → has (map doc_rev new) doc rev ≡ (is_rev_of (doc_rev k) doc rev || has (map doc_rev old) doc rev)
 inserted old new k each doc rev =
     let q : Key = (record { ref_ptr = (0, 0); now = doc }, rev.generation, record { ref_ptr = (0, 0); now = rev.digest }) in
     sym (found q new) ∙ each q ∙ or_of (key_eq k q) (list_any (λ x. key_eq q x) old)
     ∙ (λ i. same_key k q i || found q old i)
+
+-- what a look at the keys finds of a document's revision
+pub found_rev : (q : Key) (ks : List Key) (doc : List ℕ) (rev : RevId) → q.0.now ≡ doc → q.1 ≡ rev.generation → q.2.now ≡ rev.digest
+    → list_any (λ k. key_eq q k) ks ≡ has (map doc_rev ks) doc rev
+found_rev q ks doc rev same generation digest =
+    found q ks ∙ (λ i. has (map doc_rev ks) (same i) (record { generation = generation i; digest = digest i }))
+
+pub inserted_rev : (old new : List Key) (k : Key) (doc : List ℕ) (rev : RevId) → k.0.now ≡ doc → k.1 ≡ rev.generation → k.2.now ≡ rev.digest
+    → ((q : Key) → list_any (λ x. key_eq q x) new ≡ cond (key_eq k q) true (list_any (λ x. key_eq q x) old))
+    → (other : List ℕ) (r : RevId) → has (map doc_rev new) other r ≡ (is_rev_of (record { doc = doc; rev = rev }) other r || has (map doc_rev old) other r)
+inserted_rev old new k doc rev same generation digest each other r =
+    inserted old new k each other r
+    ∙ (λ i. is_rev_of (record { doc = same i; rev = record { generation = generation i; digest = digest i } }) other r || has (map doc_rev old) other r)

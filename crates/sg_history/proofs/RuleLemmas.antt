@@ -1,6 +1,8 @@
--- the revisions that were written, and the entries that wrote them
-use Rattle.std.proofs.Common.{◌≡◌, ℕ, ◌+◌, length, Bool, true, false, ◌&&◌, ◌||◌, List, [], ◌∷◌, ◌++◌, reverse, refl, sym, ap, ◌∙◌, if◌then◌else◌, Option, Some, None}
-use Rattle.std.specs.Prelude.{is_some}
+-- the rules of writes, and the revisions that were written
+use Rattle.std.proofs.Common.{◌≡◌, ℕ, ◌+◌, ◌<◌, ◌-◌, ◌^◌, length, Bool, true, false, ◌&&◌, ◌||◌, not, List, [], ◌∷◌, ◌++◌, reverse, refl, sym, ap, ◌∙◌, arith, if◌then◌else◌, Option, Some, None}
+use Rattle.std.specs.Prelude.{is_some, nat_lt}
+use Rattle.std.specs.List.{join_with_byte}
+use Rattle.std.proofs.lemmas.Bool.{and_parts, le-ltb}
 use Rattle.std.proofs.lemmas.List.{reverse-append}
 use Rattle.std.specs.Str.{bytes_eq}
 use Rattle.sg_names.specs.declared.rev_id.RevId.{RevId}
@@ -8,10 +10,18 @@ use Rattle.sg_names.specs.RevId.{same_rev}
 use Rattle.sg_history.specs.declared.entries.Entry.{Entry}
 use Rattle.sg_history.specs.declared.entries.Entry.TheVariants as entry
 use Rattle.sg_history.specs.declared.entries.Write.{Write}
+use Rattle.sg_history.specs.declared.fault.Why.{Why}
 use Rattle.sg_history.specs.Current.{Sequenced, write_of_rev, with_rev_or}
-use Rattle.sg_history.specs.Journal.{has_rev}
-use Rattle.sg_history.specs.declared.written.RevTexts.{RevTexts}
-use Rattle.sg_history.specs.Written.{DocRev, is_rev_of, has, revision, HasRevs, Knows}
+use Rattle.sg_history.specs.History.{as_write}
+use Rattle.sg_history.specs.Journal.{IsEntry, IsNext, falls_from, fields_of, has_rev, line_of, may_follow, write_may_follow}
+use Rattle.sg_history.specs.Line.{AreRead, IsLargeWrite}
+use Rattle.sg_history.specs.Pieces.{pieces}
+use Rattle.sg_history.specs.Reading.{BeginsWith}
+use Rattle.sg_history.specs.Rules.{as_fault, rule_fault, write_fault}
+use Rattle.sg_history.specs.Written.{DocRev, is_rev_of, has, Knows}
+use Rattle.sg_history.proofs.JournalTexts.{NoNext}
+use Rattle.sg_history.proofs.LineTexts.{joined_pieces, no_line}
+use Rattle.sg_history.proofs.OneLine.{large_apart, line_same}
 
 chosen : (same right : Bool) (w : Sequenced) (other : Option Sequenced) → is_some (if same then (if right then Some w else other) else other) ≡ ((same && right) || is_some other)
 chosen true true w other = refl
@@ -24,19 +34,18 @@ chosen_write true w seq rev other = chosen true (same_rev w.rev rev) (record { s
 chosen_write false w seq rev other = refl
 
 -- one more write
-pub knows_write : (written after : List DocRev) (entries : List Entry) (w : Write) (texts : RevTexts) → Knows written entries
-    → revision texts ≡ record { doc = w.doc; rev = w.rev }
-    → ((doc : List ℕ) (rev : RevId) → has after doc rev ≡ (is_rev_of (revision texts) doc rev || has written doc rev))
+pub knows_write : (written after : List DocRev) (entries : List Entry) (w : Write) → Knows written entries
+    → ((doc : List ℕ) (rev : RevId) → has after doc rev ≡ (is_rev_of (record { doc = w.doc; rev = w.rev }) doc rev || has written doc rev))
     → Knows after (entries ++ entry.Write w ∷ [])
-knows_write written after entries w texts knows is each doc rev =
+knows_write written after entries w knows each doc rev =
     each doc rev
-    ∙ (λ i. is_rev_of (is i) doc rev || knows doc rev i)
+    ∙ (λ i. is_rev_of (record { doc = w.doc; rev = w.rev }) doc rev || knows doc rev i)
     ∙ sym (chosen_write (bytes_eq w.doc doc) w (length (reverse entries) + 1) rev (write_of_rev (reverse entries) doc rev))
     ∙ ap (λ older. has_rev older doc rev) (sym (reverse-append entries (entry.Write w ∷ [])))
 
 -- an entry that is no write
-unwritten : (older : List Entry) (e : Entry) (doc : List ℕ) (rev : RevId) → HasRevs e None → has_rev older doc rev ≡ has_rev (e ∷ older) doc rev
-unwritten older (entry.Write w) doc rev none = absurd none
+unwritten : (older : List Entry) (e : Entry) (doc : List ℕ) (rev : RevId) → as_write e ≡ None → has_rev older doc rev ≡ has_rev (e ∷ older) doc rev
+unwritten older (entry.Write w) doc rev none = absurd (cc (none))
 unwritten older (entry.PutUser name channels roles) doc rev none = refl
 unwritten older (entry.PutRole name channels) doc rev none = refl
 unwritten older (entry.DropUser name) doc rev none = refl
@@ -44,9 +53,92 @@ unwritten older (entry.DropRole name) doc rev none = refl
 unwritten older entry.Unused doc rev none = refl
 
 -- one more entry that is no write
-pub knows_other : (written : List DocRev) (entries : List Entry) (e : Entry) → Knows written entries → HasRevs e None → Knows written (entries ++ e ∷ [])
+pub knows_other : (written : List DocRev) (entries : List Entry) (e : Entry) → Knows written entries → as_write e ≡ None → Knows written (entries ++ e ∷ [])
 knows_other written entries e knows none doc rev =
     knows doc rev ∙ unwritten (reverse entries) e doc rev none ∙ ap (λ older. has_rev older doc rev) (sym (reverse-append entries (e ∷ [])))
 
 pub knows_none : Knows [] []
 knows_none doc rev = refl
+
+-- a front that is too large is above each front that may be
+late : (older : List Entry) (w : Write) → length older < 2 ^ 64 - 2 → w.at ≡ 18446744073709551615 → nat_lt w.at (length older + 1) ≡ false
+late older w low at = le-ltb w.at (length older + 1) (omega arith)
+
+large_same : (older : List Entry) (fields : List (List ℕ)) (o : Option Write) → length older < 2 ^ 64 - 2 → IsLargeWrite fields o
+    → write_fault older o false ≡ write_fault older o true
+large_same older fields None low large = absurd large
+large_same older fields (Some w) low large =
+    ap (λ fits. as_fault (if has_rev older w.doc w.rev then Some 3
+    else if not (falls_from w.rev.generation w.ancestors) then Some 4
+    else if not fits then Some 8
+    else if not (same_rev w.winner w.rev || has_rev older w.doc w.winner) then Some 9
+    else None)) (sym (late older w low large.2.4))
+
+-- where a front is too large for its type, the write with the type's greatest number breaks the same rule
+pub rule_same : (older : List Entry) (fields : List (List ℕ)) (e : Entry) (fits : Bool) → length older < 2 ^ 64 - 2 → AreRead fields e fits
+    → rule_fault older e fits ≡ rule_fault older e true
+rule_same older fields e true low read = refl
+rule_same older fields e false low read = large_same older fields (as_write e) low read
+
+no_rule : (a b c d : Bool) → as_fault (if a then Some 3 else if not b then Some 4 else if not c then Some 8 else if not d then Some 9 else None) ≡ None
+    → (not a && b && c && d) ≡ true
+no_rule true b c d e = absurd (cc (e))
+no_rule false false c d e = absurd (cc (e))
+no_rule false true false d e = absurd (cc (e))
+no_rule false true true false e = absurd (cc (e))
+no_rule false true true true e = refl
+
+some_rule : (a b c d : Bool) (why : Why)
+    → as_fault (if a then Some 3 else if not b then Some 4 else if not c then Some 8 else if not d then Some 9 else None) ≡ Some why
+    → ¬ ((not a && b && c && d) ≡ true)
+some_rule true b c d why e f = cc (f)
+some_rule false false c d why e f = cc (f)
+some_rule false true false d why e f = cc (f)
+some_rule false true true false why e f = cc (f)
+some_rule false true true true why e f = cc (e)
+
+follows : (older : List Entry) (o : Option Write) → write_fault older o true ≡ None → write_may_follow older o ≡ true
+follows older None e = refl
+follows older (Some w) e =
+    no_rule (has_rev older w.doc w.rev) (falls_from w.rev.generation w.ancestors) (nat_lt w.at (length older + 1))
+    (same_rev w.winner w.rev || has_rev older w.doc w.winner) e
+
+breaks : (older : List Entry) (o : Option Write) (why : Why) → write_fault older o true ≡ Some why → ¬ (write_may_follow older o ≡ true)
+breaks older None why e f = cc (e)
+breaks older (Some w) why e f =
+    some_rule (has_rev older w.doc w.rev) (falls_from w.rev.generation w.ancestors) (nat_lt w.at (length older + 1))
+    (same_rev w.winner w.rev || has_rev older w.doc w.winner) why e f
+
+large_breaks : (older : List Entry) (fields : List (List ℕ)) (o : Option Write) → length older < 2 ^ 64 - 2 → IsLargeWrite fields o
+    → ¬ (write_fault older o true ≡ None)
+large_breaks older fields None low large none = large
+large_breaks older fields (Some w) low large none =
+    let fresh = not (has_rev older w.doc w.rev) && falls_from w.rev.generation w.ancestors in
+    let early = nat_lt w.at (length older + 1) in
+    let known = same_rev w.winner w.rev || has_rev older w.doc w.winner in
+    let front = (and_parts fresh early (and_parts (fresh && early) known (follows older (Some w) none)).0).1 in
+    cc (front, late older w low large.2.4)
+
+line_is : (line : List ℕ) (e : Entry) → pieces 9 line ≡ fields_of e → line ≡ line_of e
+line_is line e read = sym (joined_pieces 9 line) ∙ ap (join_with_byte 9) read
+
+fine_entry : (older : List Entry) (line : List ℕ) (e : Entry) (fits : Bool) → length older < 2 ^ 64 - 2 → AreRead (pieces 9 line) e fits
+    → rule_fault older e true ≡ None → IsEntry e × (line ≡ line_of e)
+fine_entry older line e true low read none = (read.0, line_is line e read.1)
+fine_entry older line e false low read none = absurd (large_breaks older (pieces 9 line) (as_write e) low read none)
+
+-- a line of an entry that breaks no rule
+pub next_is : (older : List Entry) (text : List ℕ) (e : Entry) (after : List ℕ) → length older < 2 ^ 64 - 2 → BeginsWith text e after
+    → rule_fault older e true ≡ None → IsNext older e × (text ≡ line_of e ++ 10 ∷ after)
+next_is older text e after low begins none =
+    let fine = fine_entry older begins.line e begins.fits low begins.read none in
+    (record { grammar = fine.0; rules = follows older (as_write e) none }, begins.cut ∙ ap (λ line. line ++ 10 ∷ after) fine.1)
+
+-- a line of an entry that breaks a rule is no line that may be the next
+pub broken_next : (entries : List Entry) (line : List ℕ) (e : Entry) (fits : Bool) (why : Why) → AreRead (pieces 9 line) e fits
+    → rule_fault (reverse entries) e fits ≡ Some why → NoNext entries line
+broken_next entries line e true why read broken f next spelled =
+    let same : e ≡ f = line_same e f read.0 next.grammar (sym (line_is line e read.1) ∙ spelled) in
+    breaks (reverse entries) (as_write e) why broken (ap (may_follow (reverse entries)) same ∙ next.rules)
+broken_next entries line e false why read broken f next spelled =
+    no_line line (pieces 9 line) refl (large_apart (pieces 9 line) (as_write e) read).1 f next.grammar spelled

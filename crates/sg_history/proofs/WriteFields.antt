@@ -1,6 +1,6 @@
 -- the fields of a write
 use Rattle.std.proofs.Common.{◌≡◌, ℕ, ◌+◌, ◌<◌, ◌^◌, ◌/◌, ◌%◌, Bool, true, ◌&&◌, cond, List, [], ◌∷◌, length, refl, sym, ap, ◌∙◌, subst, arith, inl, inr, unwrap_or, decimal, MatchOption, IsUtf8, IsTrue, Option, Some, None}
-use Rattle.std.specs.Prelude.{nat_lt, nat_le, is_some, IfErr, Result, Ok, Err}
+use Rattle.std.specs.Prelude.{nat_lt, nat_le, is_some}
 use Rattle.std.specs.List.{list_all}
 use Rattle.std.proofs.lemmas.Bool.{and_parts, and_from, or_cases, lt-ltb, leb-true, cases_lt, le-ltb}
 use Rattle.std.proofs.lemmas.Fmt.{IsAscii-decimal}
@@ -15,20 +15,10 @@ use Rattle.sg_names.specs.Channels.{channels_text, is_channels}
 use Rattle.sg_names.specs.Grants.{grants_text, is_grants}
 use Rattle.sg_names.specs.RoleGrants.{role_grants_text, is_role_grants}
 use Rattle.sg_history.specs.declared.entries.Write.{Write}
-use Rattle.sg_history.specs.declared.fault.LineFault.{LineFault}
-use Rattle.sg_history.specs.declared.fault.LineFault.TheVariants.{Bad, Memory}
-use Rattle.sg_history.specs.declared.written.WriteRevs.{WriteRevs}
 use Rattle.sg_history.specs.declared.write_line.WriteTexts.{WriteTexts}
 use Rattle.sg_history.specs.Journal.{IsWrite, is_body, is_by, by_text, mark_text, write_fields, write_fields_at}
 use Rattle.sg_history.specs.Line.{texts_of, IsLargeFront, ReadsWrite}
-use Rattle.sg_history.specs.Refusal.{Refuses}
 use Rattle.sg_history.specs.Faults.{AreTexts, write_grammars}
-
--- a refusal for one cause is one for what follows from it
-pub refused : {T : Type 0} {P Q : Type 0} (r : Result T LineFault) → (P → Q) → IfErr r (λ e. Refuses e P) → IfErr r (λ e. Refuses e Q)
-refused (Ok x) f h = tt
-refused (Err (Bad why)) f h = f h
-refused (Err Memory) f h = tt
 
 body_is : (body : List ℕ) → is_body body ≡ true → is_hex (hex_text body) ≡ true
 body_is [] h = absurd (cc (h))
@@ -124,10 +114,10 @@ fields_at t w holds = λ i.
     ∷ holds.winner.0 i ∷ holds.channels.0 i ∷ holds.grants.0 i ∷ holds.roles.0 i ∷ []
 
 -- the fields are read as the write
-pub reads_write : (t : WriteTexts) (w : Write) (at : Option ℕ) (fits : Bool) (revs : WriteRevs) → HoldsFields t w
+pub reads_write : (t : WriteTexts) (w : Write) (at : Option ℕ) (fits : Bool) → HoldsFields t w
     → MatchOption at (IsLargeFront t.at.now) (λ n. (n < 2 ^ 64) × (t.at.now ≡ decimal n)) → w.at ≡ unwrap_or at 18446744073709551615 → fits ≡ is_some at
-    → ReadsWrite (texts_of t) (record { write = w; at_fits = fits; revs = revs })
-reads_write t w None fits revs holds front value e = rw e (t.at.now, write_is t w holds (omega (arith, value)), front, fields_at t w holds)
-reads_write t w (Some n) fits revs holds front value e =
+    → ReadsWrite (texts_of t) (record { write = w; at_fits = fits })
+reads_write t w None fits holds front value e = rw e (t.at.now, write_is t w holds (omega (arith, value)), front, fields_at t w holds, value)
+reads_write t w (Some n) fits holds front value e =
     let at : t.at.now ≡ decimal w.at = front.1 ∙ ap decimal (sym value) in
     rw e (write_is t w holds (omega (arith, value, front.0)), fields_at t w holds ∙ ap (write_fields_at w) at)

@@ -3,7 +3,6 @@ use Rattle.std.specs.Prelude.{◌≡◌, ◌≢◌, ◌<◌, ◌^◌, ℕ, Bool,
 use Rattle.sg_names.specs.Decimal.{is_decimal}
 use Rattle.sg_history.specs.declared.entries.Entry.{Entry}
 use Rattle.sg_history.specs.declared.entries.Write.{Write}
-use Rattle.sg_history.specs.declared.line.ReadEntry.{ReadEntry}
 use Rattle.sg_history.specs.declared.write_line.ReadWrite.{ReadWrite}
 use Rattle.sg_history.specs.declared.write_line.WriteTexts.{WriteTexts}
 use Rattle.sg_history.specs.History.{as_write}
@@ -27,18 +26,14 @@ is_write e = is_some (as_write e)
 abbrev pub NoLine : List ℕ → Type 0
 NoLine line = (e : Entry) → IsEntry e → line ≢ line_of e
 
--- the line is that of the entry that was read, or of none where it is a write whose front does not fit
-abbrev pub ReadsLine : List ℕ → ReadEntry → Type 0
-ReadsLine line read =
-    MatchBool read.at_fits (IsEntry read.entry × (line ≡ line_of read.entry)) (IsTrue (is_write read.entry) × NoLine line)
-
 -- a front that is a decimal, and too large for its type
 abbrev pub IsLargeFront : List ℕ → Type 0
 IsLargeFront at = IsUtf8 at × IsTrue (is_decimal at) × ((n : ℕ) → n < 2 ^ 64 → at ≢ decimal n)
 
--- the fields are those of the write, but for a front that is too large
+-- the fields are those of the write, but for a front that is too large, for which the write has the greatest number of the type
 abbrev pub HasLargeFront : List (List ℕ) → Write → Type 0
-HasLargeFront texts w = (at : List ℕ) × IsWrite w × IsLargeFront at × (texts ≡ write_fields_at w at)
+HasLargeFront texts w =
+    (at : List ℕ) × IsWrite w × IsLargeFront at × (texts ≡ write_fields_at w at) × (w.at ≡ 18446744073709551615)
 
 -- the fields are those of the write that was read, or so but for a front that is too large
 abbrev pub ReadsWrite : List (List ℕ) → ReadWrite → Type 0

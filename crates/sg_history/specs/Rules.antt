@@ -1,8 +1,9 @@
 -- the rules of a write, each named by the number of its field
-use Rattle.std.specs.Prelude.{ℕ, ◌+◌, Bool, ◌&&◌, ◌||◌, not, nat_lt, List, length, Option, Some, None, if◌then◌else◌}
+use Rattle.std.specs.Prelude.{ℕ, ◌+◌, Bool, true, ◌&&◌, ◌||◌, not, nat_lt, List, [], ◌∷◌, length, Option, Some, None, if◌then◌else◌}
 use Rattle.sg_names.specs.RevId.{same_rev}
 use Rattle.sg_history.specs.declared.entries.Entry.{Entry}
 use Rattle.sg_history.specs.declared.entries.Write.{Write}
+use Rattle.sg_history.specs.declared.fault.BadLine.{BadLine}
 use Rattle.sg_history.specs.declared.fault.Why.{Why}
 use Rattle.sg_history.specs.declared.fault.Why.TheVariants.{Rule}
 use Rattle.sg_history.specs.History.{as_write}
@@ -30,3 +31,13 @@ write_fault older (Some w) fits = as_fault (broken_rule older w fits)
 -- what is wrong with an entry after older ones: the first rule that it breaks, if it is a write
 abbrev pub rule_fault : List Entry → Entry → Bool → Option Why
 rule_fault older e fits = write_fault older (as_write e) fits
+
+-- a line at this place that breaks a rule, or else what is said of the later ones
+abbrev pub broken_or : ℕ → Option Why → Option BadLine → Option BadLine
+broken_or place None later = later
+broken_or place (Some why) later = Some (record { place = place; why = why })
+
+-- the first line that breaks a rule, of the lines of these entries from this place on, after older entries
+abbrev pub first_broken : ℕ → List Entry → List Entry → Option BadLine
+first_broken place older [] = None
+first_broken place older (e ∷ es) = broken_or place (rule_fault older e true) (first_broken (place + 1) (e ∷ older) es)

@@ -22,7 +22,7 @@ mod written;
 pub use book::{Waiting, entry_at};
 pub use entries::{Entries, Entry, Log, Write};
 pub use fault::{BadLine, ReadLog, Why};
-pub use journal::read_journal;
+pub use journal::{read_journal, take_journal};
 pub use journal_text::write_journal;
 pub use log_reads::LogReads;
 pub use number::Number;

@@ -1,27 +1,22 @@
 //! The lines of a journal, each read as an entry.
 
 ghost use Rattle.std.specs.Prelude.{◌≡◌, ◌≢◌, ◌∷◌, ◌<◌, List, ℕ, map, length, codes, IfOk, IfErr, IfSome, IfNone};
-ghost use Rattle.sg_history.specs.Line.{texts_of, AreRead, NoLine, ReadsLine};
-ghost use Rattle.sg_history.specs.Refusal.{Refuses};
+ghost use Rattle.sg_history.specs.Line.{texts_of, AreRead};
 ghost use Rattle.sg_history.specs.Faults.{AreFields, IsFault, HasReason};
 ghost use Rattle.sg_history.specs.Pieces.{pieces};
-ghost use Rattle.sg_history.specs.Written.{HasRevs};
 
 use crate::entries::Entry;
 use crate::fault::{LineFault, Why};
 use crate::field;
 use crate::fields::{MOST, cut, fields_of};
 use crate::write_line::{WriteTexts, read_write};
-use crate::written::WriteRevs;
 use std::alloc::Global;
 
-/// A line that was read as an entry, whether a write's front is a number of the type, and the texts of a
-/// write's revisions.
+/// A line that was read as an entry, and whether a write's front is a number of the type.
 #[derive(Drop)]
-pub struct ReadEntry<'a> {
+pub struct ReadEntry {
     pub entry: Entry,
     pub at_fits: bool,
-    pub revs: Option<WriteRevs<'a>>,
 }
 
 /// The fields of a write after its kind, if they are eleven.
@@ -61,9 +56,9 @@ fn write_texts<'a>(fields: &[&'a [u8]]) -> Option<WriteTexts<'a>>
 }
 
 /// Reads the fields after the kind `W`.
-fn read_write_entry<'a>(alloc: Global, fields: &[&'a [u8]]) -> Result<ReadEntry<'a>, LineFault>
-    ensures ok { IfOk result (λ read. AreRead (codes "W" ∷ map (λ p. p.now) fields.now) read.entry read.at_fits) }
-    ensures revs { IfOk result (λ read. HasRevs read.entry read.revs) }
+fn read_write_entry(alloc: Global, fields: &[&[u8]]) -> Result<ReadEntry, LineFault>
+    ensures ok { IfOk result (λ read. AreRead (codes "W" ∷ map (λ p. p.now) fields.now)
+        read.entry read.at_fits) }
     ensures texts { IfOk result (λ _. AreFields (codes "W" ∷ map (λ p. p.now) fields.now)) }
     ensures reason { IfErr result (HasReason (IsFault (codes "W" ∷ map (λ p. p.now) fields.now))) }
 {
@@ -74,15 +69,13 @@ fn read_write_entry<'a>(alloc: Global, fields: &[&'a [u8]]) -> Result<ReadEntry<
     Ok(ReadEntry {
         entry: Entry::Write(read.write),
         at_fits: read.at_fits,
-        revs: Some(read.revs),
     })
 }
 
 /// Reads the fields after the kind `U`.
-fn read_put_user<'a>(alloc: Global, fields: &[&'a [u8]]) -> Result<ReadEntry<'a>, LineFault>
+fn read_put_user(alloc: Global, fields: &[&[u8]]) -> Result<ReadEntry, LineFault>
     ensures ok { IfOk result (λ read. AreRead (codes "U" ∷ map (λ p. p.now) fields.now)
         read.entry read.at_fits) }
-    ensures revs { IfOk result (λ read. HasRevs read.entry read.revs) }
     ensures texts { IfOk result (λ _. AreFields (codes "U" ∷ map (λ p. p.now) fields.now)) }
     ensures reason { IfErr result (HasReason (IsFault (codes "U" ∷ map (λ p. p.now) fields.now))) }
 {
@@ -95,15 +88,13 @@ fn read_put_user<'a>(alloc: Global, fields: &[&'a [u8]]) -> Result<ReadEntry<'a>
     Ok(ReadEntry {
         entry: Entry::PutUser(name, channels, roles),
         at_fits: true,
-        revs: None,
     })
 }
 
 /// Reads the fields after the kind `R`.
-fn read_put_role<'a>(alloc: Global, fields: &[&'a [u8]]) -> Result<ReadEntry<'a>, LineFault>
+fn read_put_role(alloc: Global, fields: &[&[u8]]) -> Result<ReadEntry, LineFault>
     ensures ok { IfOk result (λ read. AreRead (codes "R" ∷ map (λ p. p.now) fields.now)
         read.entry read.at_fits) }
-    ensures revs { IfOk result (λ read. HasRevs read.entry read.revs) }
     ensures texts { IfOk result (λ _. AreFields (codes "R" ∷ map (λ p. p.now) fields.now)) }
     ensures reason { IfErr result (HasReason (IsFault (codes "R" ∷ map (λ p. p.now) fields.now))) }
 {
@@ -115,15 +106,13 @@ fn read_put_role<'a>(alloc: Global, fields: &[&'a [u8]]) -> Result<ReadEntry<'a>
     Ok(ReadEntry {
         entry: Entry::PutRole(name, channels),
         at_fits: true,
-        revs: None,
     })
 }
 
 /// Reads the fields after the kind `DU`.
-fn read_drop_user<'a>(alloc: Global, fields: &[&'a [u8]]) -> Result<ReadEntry<'a>, LineFault>
+fn read_drop_user(alloc: Global, fields: &[&[u8]]) -> Result<ReadEntry, LineFault>
     ensures ok { IfOk result (λ read. AreRead (codes "DU" ∷ map (λ p. p.now) fields.now)
         read.entry read.at_fits) }
-    ensures revs { IfOk result (λ read. HasRevs read.entry read.revs) }
     ensures texts { IfOk result (λ _. AreFields (codes "DU" ∷ map (λ p. p.now) fields.now)) }
     ensures reason { IfErr result (HasReason (IsFault (codes "DU" ∷ map (λ p. p.now) fields.now))) }
 {
@@ -134,15 +123,13 @@ fn read_drop_user<'a>(alloc: Global, fields: &[&'a [u8]]) -> Result<ReadEntry<'a
     Ok(ReadEntry {
         entry: Entry::DropUser(name),
         at_fits: true,
-        revs: None,
     })
 }
 
 /// Reads the fields after the kind `DR`.
-fn read_drop_role<'a>(alloc: Global, fields: &[&'a [u8]]) -> Result<ReadEntry<'a>, LineFault>
+fn read_drop_role(alloc: Global, fields: &[&[u8]]) -> Result<ReadEntry, LineFault>
     ensures ok { IfOk result (λ read. AreRead (codes "DR" ∷ map (λ p. p.now) fields.now)
         read.entry read.at_fits) }
-    ensures revs { IfOk result (λ read. HasRevs read.entry read.revs) }
     ensures texts { IfOk result (λ _. AreFields (codes "DR" ∷ map (λ p. p.now) fields.now)) }
     ensures reason { IfErr result (HasReason (IsFault (codes "DR" ∷ map (λ p. p.now) fields.now))) }
 {
@@ -153,15 +140,13 @@ fn read_drop_role<'a>(alloc: Global, fields: &[&'a [u8]]) -> Result<ReadEntry<'a
     Ok(ReadEntry {
         entry: Entry::DropRole(name),
         at_fits: true,
-        revs: None,
     })
 }
 
 /// Reads the fields after the kind `X`, which has none.
-fn read_unused<'a>(fields: &[&'a [u8]]) -> Result<ReadEntry<'a>, LineFault>
+fn read_unused(fields: &[&[u8]]) -> Result<ReadEntry, LineFault>
     ensures ok { IfOk result (λ read. AreRead (codes "X" ∷ map (λ p. p.now) fields.now)
         read.entry read.at_fits) }
-    ensures revs { IfOk result (λ read. HasRevs read.entry read.revs) }
     ensures texts { IfOk result (λ _. AreFields (codes "X" ∷ map (λ p. p.now) fields.now)) }
     ensures reason { IfErr result (HasReason (IsFault (codes "X" ∷ map (λ p. p.now) fields.now))) }
 {
@@ -171,14 +156,12 @@ fn read_unused<'a>(fields: &[&'a [u8]]) -> Result<ReadEntry<'a>, LineFault>
     Ok(ReadEntry {
         entry: Entry::Unused,
         at_fits: true,
-        revs: None,
     })
 }
 
 /// Reads the fields of a line.
-fn read_fields<'a>(alloc: Global, fields: &[&'a [u8]]) -> Result<ReadEntry<'a>, LineFault>
+fn read_fields(alloc: Global, fields: &[&[u8]]) -> Result<ReadEntry, LineFault>
     ensures ok { IfOk result (λ read. AreRead (map (λ p. p.now) fields.now) read.entry read.at_fits) }
-    ensures revs { IfOk result (λ read. HasRevs read.entry read.revs) }
     ensures texts { IfOk result (λ _. AreFields (map (λ p. p.now) fields.now)) }
     ensures reason { IfErr result (HasReason (IsFault (map (λ p. p.now) fields.now))) }
 {
@@ -218,11 +201,8 @@ fn fault_of_many(line: &[u8]) -> Why
 }
 
 /// Reads a line, without its line feed, as an entry.
-pub fn read_line(alloc: Global, line: &[u8]) -> Result<ReadEntry<'_>, LineFault>
-    ensures ok { IfOk result (λ read. ReadsLine line.now read) }
+pub fn read_line(alloc: Global, line: &[u8]) -> Result<ReadEntry, LineFault>
     ensures read { IfOk result (λ read. AreRead (pieces 9 line.now) read.entry read.at_fits) }
-    ensures revs { IfOk result (λ read. HasRevs read.entry read.revs) }
-    ensures bad { IfErr result (λ e. Refuses e (NoLine line.now)) }
     ensures texts { IfOk result (λ _. AreFields (pieces 9 line.now)) }
     ensures reason { IfErr result (HasReason (IsFault (pieces 9 line.now))) }
 {

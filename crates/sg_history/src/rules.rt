@@ -1,18 +1,16 @@
 //! The rules that a journal's writes keep.
 
-ghost use Rattle.std.specs.Prelude.{◌≡◌, ◌||◌, reverse, IsTrue, IfNone, IfSome};
+ghost use Rattle.std.specs.Prelude.{◌≡◌, ◌++◌, ◌∷◌, ◌<◌, ◌^◌, ◌-◌, ◌||◌, [], true, length, reverse, Ok, None, IfOk};
 ghost use Rattle.sg_names.specs.RevId.{same_rev};
 ghost use Rattle.sg_history.specs.Journal as journal;
-ghost use Rattle.sg_history.specs.Journal.{follows_rules, may_follow};
-ghost use Rattle.sg_history.specs.Line.{is_write};
 ghost use Rattle.sg_history.specs.Rules as rules;
-ghost use Rattle.sg_history.specs.Written.{Knows, AreRevsOf, HasRevs};
+ghost use Rattle.sg_history.specs.Written.{Knows};
 
 use crate::entries::{Entry, Write};
-use crate::fault::Why;
-use crate::line::ReadEntry;
-use crate::written::{WriteRevs, Written};
+use crate::fault::{BadLine, Why};
+use crate::written::Written;
 use sg_names::RevId;
+use std::alloc::{AllocError, Global};
 
 /// Whether the generations fall strictly from this one on.
 fn falls_from(generation: u32, revs: &[RevId]) -> bool
@@ -29,64 +27,74 @@ fn falls_from(generation: u32, revs: &[RevId]) -> bool
 }
 
 /// Whether the winner is the write's revision or that of an earlier write of the document.
-fn knows_winner<'a>(
-    written: &Written<'a>,
-    older: &[Entry],
-    write: &Write,
-    revs: WriteRevs<'a>,
-) -> bool
+fn knows_winner<'a>(written: &Written<'a>, older: &[Entry], write: &'a Write) -> bool
     requires knows { Knows written.now older.now }
-    requires texts { AreRevsOf write.now revs }
-    ensures { result ≡ (same_rev write.now.winner write.now.rev || journal.has_rev (reverse older.now) write.now.doc write.now.winner) }
+    ensures { result ≡ (same_rev write.now.winner write.now.rev
+        || journal.has_rev (reverse older.now) write.now.doc write.now.winner) }
 {
-    write.winner.equals(&write.rev) || written.has(revs.winner)
+    write.winner.equals(&write.rev) || written.has(&write.doc, &write.winner)
 }
 
-/// The first rule that a write breaks, by the number of its field.
+/// The first rule that a write after these entries breaks, by the number of its field. Where there is none, the write's
+/// revision is put to those that were written.
 fn broken_rule<'a>(
-    written: &Written<'a>,
+    written: &mut Written<'a>,
     older: &[Entry],
-    write: &Write,
-    revs: WriteRevs<'a>,
-    at_fits: bool,
-) -> Option<u64>
-    requires knows { Knows written.now older.now }
-    requires texts { AreRevsOf write.now revs }
-    ensures none { IfNone result (IsTrue at_fits × IsTrue (follows_rules (reverse older.now) write.now)) }
-    ensures some { IfSome result (λ _. IsTrue at_fits → ¬ IsTrue (follows_rules (reverse older.now) write.now)) }
-    ensures rule { result ≡ rules.broken_rule (reverse older.now) write.now at_fits }
+    write: &'a Write,
+) -> Result<Option<u64>, AllocError>
+    requires knows { Knows written.old older.now }
+    ensures rule { IfOk result (λ r. r ≡ rules.broken_rule (reverse older.now) write.now true) }
+    ensures knows { result ≡ Ok None → Knows written.new (older.now ++ Entry.Write write.now ∷ []) }
 {
-    if written.has(revs.own) {
-        return Some(3);
+    let winner_is_known = knows_winner(written, older, write);
+    if !written.insert(&write.doc, &write.rev)? {
+        return Ok(Some(3));
     }
     if !falls_from(write.rev.generation, write.ancestors.as_slice()) {
-        return Some(4);
+        return Ok(Some(4));
     }
-    if !at_fits || write.at > older.len() as u64 {
-        return Some(8);
+    if write.at > older.len() as u64 {
+        return Ok(Some(8));
     }
-    if !knows_winner(written, older, write, revs) {
-        return Some(9);
+    if !winner_is_known {
+        return Ok(Some(9));
     }
-    None
+    Ok(None)
 }
 
-/// What is wrong with an entry after these, of which the revisions are known.
-pub fn fault_of<'a>(written: &Written<'a>, older: &[Entry], read: &ReadEntry<'a>) -> Option<Why>
-    requires knows { Knows written.now older.now }
-    requires texts { HasRevs read.now.entry read.now.revs }
-    ensures none { IfNone result (IsTrue (may_follow (reverse older.now) read.now.entry)) }
-    ensures fits { IfNone result (IsTrue (is_write read.now.entry) → IsTrue read.now.at_fits) }
-    ensures some { IfSome result (λ _. IsTrue read.now.at_fits → ¬ IsTrue (may_follow (reverse older.now) read.now.entry)) }
-    ensures rule { result ≡ rules.rule_fault (reverse older.now) read.now.entry read.now.at_fits }
+/// The first rule that an entry after these breaks. Where there is none, the revision of a write is put to those that
+/// were written.
+fn rule_fault<'a>(
+    written: &mut Written<'a>,
+    older: &[Entry],
+    entry: &'a Entry,
+) -> Result<Option<Why>, AllocError>
+    requires knows { Knows written.old older.now }
+    ensures rule { IfOk result (λ why. why ≡ rules.rule_fault (reverse older.now) entry.now true) }
+    ensures knows { result ≡ Ok None → Knows written.new (older.now ++ entry.now ∷ []) }
 {
-    match (&read.entry, read.revs) {
-        (Entry::Write(write), Some(revs)) => {
-            match broken_rule(written, older, write, revs, read.at_fits) {
-                Some(rule) => Some(Why::Rule(rule)),
-                None => None,
-            }
-        }
-        _ => None,
+    match entry {
+        Entry::Write(write) => match broken_rule(written, older, write)? {
+            Some(rule) => Ok(Some(Why::Rule(rule))),
+            None => Ok(None),
+        },
+        _ => Ok(None),
     }
+}
+
+/// The line of the first entry that breaks a rule, of entries of which the first has line 2.
+pub fn first_broken(alloc: Global, entries: &[Entry]) -> Result<Option<BadLine>, AllocError>
+    requires { length entries.now < 2 ^ 64 - 2 }
+    ensures { IfOk result (λ line. line ≡ rules.first_broken 2 [] entries.now) }
+{
+    let mut written = Written::new(alloc);
+    for i in 0..entries.len() {
+        if let Some(why) = rule_fault(&mut written, &entries[..i], &entries[i])? {
+            return Ok(Some(BadLine {
+                place: i as u64 + 2,
+                why,
+            }));
+        }
+    }
+    Ok(None)
 }

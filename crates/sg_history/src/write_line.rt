@@ -1,18 +1,12 @@
 //! The fields of a write's line, read as a write.
 
 ghost use Rattle.std.specs.Prelude.{◌≡◌, ◌<◌, unwrap_or, IsTrue, IfOk, IfErr};
-ghost use Rattle.sg_names.specs.RevId.{rev_text, is_rev};
 ghost use Rattle.sg_history.specs.Line.{texts_of, ReadsWrite};
 ghost use Rattle.sg_history.specs.Faults.{AreTexts, IsFaultAmong, HasReason, write_grammars};
-ghost use Rattle.sg_history.specs.Written.{AreRevsOf, revision};
-ghost use Rattle.sg_names.specs.declared.rev_id.RevId.{RevId};
 
 use crate::entries::Write;
 use crate::fault::LineFault;
 use crate::field;
-use crate::fields::cut;
-use crate::written::{RevTexts, WriteRevs};
-use sg_names::RevId;
 use std::alloc::Global;
 
 /// The fields of a write's line, after its kind.
@@ -31,13 +25,12 @@ pub struct WriteTexts<'a> {
     pub roles: &'a [u8],
 }
 
-/// A write that was read, whether its front is a number of the type, and the texts of its revisions; where
-/// the front is no such number, `at` is the type's greatest.
+/// A write that was read, and whether its front is a number of the type; where it is no such number, `at` is the
+/// type's greatest.
 #[derive(Drop)]
-pub struct ReadWrite<'a> {
+pub struct ReadWrite {
     pub write: Write,
     pub at_fits: bool,
-    pub revs: WriteRevs<'a>,
 }
 
 fn front_of(at: Option<u64>) -> u64
@@ -46,46 +39,9 @@ fn front_of(at: Option<u64>) -> u64
     at.unwrap_or(u64::MAX)
 }
 
-/// What stands behind the generation of a revision.
-fn digest_in(text: &[u8]) -> &[u8]
-    ensures { (rev : RevId) → text.now ≡ rev_text rev → IsTrue (is_rev rev) → result.now ≡ rev.digest }
-{
-    match cut(text, b'-') {
-        Some((_, digest)) => digest,
-        None => text,
-    }
-}
-
-/// The texts of a document's revision.
-fn texts_of_rev<'a>(doc: &'a [u8], text: &'a [u8], rev: &RevId) -> RevTexts<'a>
-    requires spelled { text.now ≡ rev_text rev.now }
-    requires grammar { IsTrue (is_rev rev.now) }
-    ensures { revision result ≡ record { doc = doc.now; rev = rev.now } }
-{
-    RevTexts {
-        doc,
-        generation: rev.generation,
-        digest: digest_in(text),
-    }
-}
-
-/// The texts of the write's revisions.
-fn revs_of<'a>(texts: WriteTexts<'a>, rev: &RevId, winner: &RevId) -> WriteRevs<'a>
-    requires rev { (texts.rev.now ≡ rev_text rev.now) × IsTrue (is_rev rev.now) }
-    requires winner { (texts.winner.now ≡ rev_text winner.now) × IsTrue (is_rev winner.now) }
-    ensures own { revision result.own ≡ record { doc = texts.entry.doc.now; rev = rev.now } }
-    ensures winner { revision result.winner ≡ record { doc = texts.entry.doc.now; rev = winner.now } }
-{
-    WriteRevs {
-        own: texts_of_rev(texts.doc, texts.rev, rev),
-        winner: texts_of_rev(texts.doc, texts.winner, winner),
-    }
-}
-
 /// Reads the fields of a write, from the first one on.
-pub fn read_write(alloc: Global, texts: WriteTexts<'_>) -> Result<ReadWrite<'_>, LineFault>
+pub fn read_write(alloc: Global, texts: WriteTexts<'_>) -> Result<ReadWrite, LineFault>
     ensures ok { IfOk result (λ read. ReadsWrite (texts_of texts.entry) read) }
-    ensures revs { IfOk result (λ read. AreRevsOf read.write read.revs) }
     ensures texts { IfOk result (λ _. AreTexts write_grammars (texts_of texts.entry)) }
     ensures reason { IfErr result (HasReason (IsFaultAmong write_grammars (texts_of texts.entry))) }
 {
@@ -100,7 +56,6 @@ pub fn read_write(alloc: Global, texts: WriteTexts<'_>) -> Result<ReadWrite<'_>,
     let channels = field::read(alloc, texts.channels, 10)?;
     let grants = field::read(alloc, texts.grants, 11)?;
     let roles = field::read(alloc, texts.roles, 12)?;
-    let revs = revs_of(texts, &rev, &winner);
     Ok(ReadWrite {
         write: Write {
             doc,
@@ -116,6 +71,5 @@ pub fn read_write(alloc: Global, texts: WriteTexts<'_>) -> Result<ReadWrite<'_>,
             roles,
         },
         at_fits: at.is_some(),
-        revs,
     })
 }

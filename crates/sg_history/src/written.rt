@@ -1,27 +1,13 @@
 //! The revisions that were written so far.
 
-ghost use Rattle.std.specs.Prelude.{◌≡◌, ◌||◌, [], List, ℕ, OnOk, OnErr};
+ghost use Rattle.std.specs.Prelude.{◌≡◌, ◌||◌, [], not, List, ℕ, IfOk, OnOk};
 ghost use Rattle.sg_names.specs.declared.rev_id.RevId.{RevId};
-ghost use Rattle.sg_history.specs.Written.{has, is_rev_of, revision};
+ghost use Rattle.sg_history.specs.Written.{has, is_rev_of};
 
+use sg_names::{DocId, RevId};
 use std::alloc::{AllocError, Global};
 use std::collections::HashSet;
 use std::marker::Model;
-
-/// The texts of a document and of one of its revisions.
-#[derive(Clone, Copy)]
-pub struct RevTexts<'a> {
-    pub doc: &'a [u8],
-    pub generation: u32,
-    pub digest: &'a [u8],
-}
-
-/// The texts of a write's own revision and of the winner that it names.
-#[derive(Clone, Copy)]
-pub struct WriteRevs<'a> {
-    pub own: RevTexts<'a>,
-    pub winner: RevTexts<'a>,
-}
 
 /// Revisions of documents, each once. Their texts are borrowed.
 #[derive(Drop)]
@@ -49,20 +35,22 @@ impl<'a> Written<'a> {
     }
 
     /// Whether the revision of the document is there.
-    pub fn has(&self, texts: RevTexts<'a>) -> bool
-        ensures { result ≡ has self.now (revision texts.entry).doc (revision texts.entry).rev }
+    pub fn has(&self, doc: &'a DocId, rev: &'a RevId) -> bool
+        ensures { result ≡ has self.now doc.now rev.now }
     {
         self.keys
-            .contains(&(texts.doc, texts.generation, texts.digest))
+            .contains(&(doc.as_bytes(), rev.generation, rev.digest.as_bytes()))
     }
 
-    /// Puts a revision in.
-    pub fn insert(&mut self, texts: RevTexts<'a>) -> Result<(), AllocError>
-        ensures ok { OnOk result ((doc : List ℕ) (rev : RevId) → has self.new doc rev ≡ (is_rev_of (revision texts.entry) doc rev || has self.old doc rev)) }
-        ensures err { OnErr result (self.new ≡ self.old) }
+    /// Puts a revision in, and tells whether it was not there before.
+    pub fn insert(&mut self, doc: &'a DocId, rev: &'a RevId) -> Result<bool, AllocError>
+        ensures added { IfOk result (λ added. added ≡ not (has self.old doc.now rev.now)) }
+        ensures ok { OnOk result ((other : List ℕ) (r : RevId) → has self.new other r
+            ≡ (is_rev_of (record { doc = doc.now; rev = rev.now }) other r || has self.old other r)) }
     {
-        self.keys
-            .insert((texts.doc, texts.generation, texts.digest))?;
-        Ok(())
+        Ok(
+            self.keys
+                .insert((doc.as_bytes(), rev.generation, rev.digest.as_bytes()))?,
+        )
     }
 }

@@ -1,22 +1,23 @@
-use Rattle.sg_history.proofs.BadLines.{behind_header, other_header}
-use Rattle.sg_history.proofs.JournalTexts.{no_title, other_bytes, same_bytes}
-use Rattle.sg_history.proofs.journal.read_journal.Goals as goal
 use Rattle.std.proofs.Common.{inl, refl}
+use Rattle.sg_history.proofs.BadLines.{named_behind, no_journal, none_spelled, spelled_behind}
+use Rattle.sg_history.proofs.journal.read_journal.Goals as goal
 
-pub returns-then-ne-clause-bad : goal.returns-then-ne-clause-bad
-returns-then-ne-clause-bad c =
-    let cut = c.in-Some.ensures.some in
-    let other = other_bytes c.in-Some.first.now c.as_bytes.result.now _ c.if-ne.ensures c.as_bytes.ensures.value in
-    rw c.bad-then-ne.ensures (no_title c.args.bytes.now c.in-Some.first.now c.in-Some.lines.now cut.0 cut.1 other)
+pub returns-in_ok-read_borrowed-in-Ok-clause-ok : goal.returns-in_ok-read_borrowed-in-Ok-clause-ok
+returns-in_ok-read_borrowed-in-Ok-clause-ok c =
+    let lines = c.in-Ok.lines.now in
+    spelled_behind c.log_of.result c.args.bytes.now lines c.in-Ok.ensures.ok (c.log_of.ensures.ok lines c.in_ok-read_borrowed-in-Ok.ensures)
 
-pub returns-then-ne-clause-line : goal.returns-then-ne-clause-line
-returns-then-ne-clause-line c =
-    let cut = c.in-Some.ensures.some in
-    let other = other_bytes c.in-Some.first.now c.as_bytes.result.now _ c.if-ne.ensures c.as_bytes.ensures.value in
-    rw c.bad-then-ne.ensures (inl (refl, other_header c.args.bytes.now c.in-Some.first.now c.in-Some.lines.now cut.0 cut.1 other))
+pub returns-in_ok-read_borrowed-in-Ok-clause-bad : goal.returns-in_ok-read_borrowed-in-Ok-clause-bad
+returns-in_ok-read_borrowed-in-Ok-clause-bad c =
+    let lines = c.in-Ok.lines.now in
+    none_spelled c.log_of.result c.args.bytes.now
+    (named_behind c.log_of.result c.args.bytes.now lines c.in-Ok.ensures.ok (c.log_of.ensures.line lines c.in_ok-read_borrowed-in-Ok.ensures))
 
-pub returns-clause-line : goal.returns-clause-line
-returns-clause-line c =
-    let cut = c.in-Some.ensures.some in
-    let same = same_bytes c.in-Some.first.now c.as_bytes.result.now _ c.if-ne.ensures c.as_bytes.ensures.value in
-    behind_header c.read_lines.result c.args.bytes.now c.in-Some.first.now c.in-Some.lines.now cut.0 same c.read_lines.ensures.line
+pub returns-in_ok-read_borrowed-in-Ok-clause-line : goal.returns-in_ok-read_borrowed-in-Ok-clause-line
+returns-in_ok-read_borrowed-in-Ok-clause-line c =
+    let lines = c.in-Ok.lines.now in
+    named_behind c.log_of.result c.args.bytes.now lines c.in-Ok.ensures.ok (c.log_of.ensures.line lines c.in_ok-read_borrowed-in-Ok.ensures)
+
+pub returns-in-Err-clause-bad : goal.returns-in-Err-clause-bad
+returns-in-Err-clause-bad c =
+    rw c.bad.ensures (no_journal c.args.bytes.now (record { place = 1; why = c.in-Err.why }) (inl (refl, c.in-Err.ensures.bad)))

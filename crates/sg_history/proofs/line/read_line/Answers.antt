@@ -1,11 +1,7 @@
 use Rattle.std.proofs.Common.{subst, IfOk, IfErr, sym, arith}
 use Rattle.std.proofs.lemmas.List.{length-take-le}
-use Rattle.sg_history.proofs.WriteFields.{refused}
-use Rattle.sg_history.proofs.LineTexts.{no_line, no_long_line}
-use Rattle.sg_history.proofs.OneLine.{read_ok}
 use Rattle.sg_history.specs.Faults.{AreFields, IsFault, HasReason}
 use Rattle.sg_history.specs.Line.{AreRead}
-use Rattle.sg_history.proofs.FaultLemmas.{refused_fault}
 use Rattle.sg_history.proofs.line.read_line.Goals as goal
 
 pub slice_bounds-fields-end-in-Some : goal.slice_bounds-fields-end-in-Some
@@ -13,9 +9,6 @@ slice_bounds-fields-end-in-Some c = omega (arith, c.in-Some.ensures.within, c.in
 
 pub slice_bounds-read_fields-end : goal.slice_bounds-read_fields-end
 slice_bounds-read_fields-end c = sym (length-take-le c.in-Some.count c.fields_of.new.into (omega (arith, c.in-Some.ensures.within, c.in-Some.ensures.room)))
-
-pub returns-in-Some-clause-ok : goal.returns-in-Some-clause-ok
-returns-in-Some-clause-ok c = read_ok c.args.line.now _ c.read_fields.result c.in-Some.ensures.all c.read_fields.ensures.ok
 
 pub returns-in-Some-clause-read : goal.returns-in-Some-clause-read
 returns-in-Some-clause-read c =
@@ -28,10 +21,3 @@ returns-in-Some-clause-texts c =
 pub returns-in-Some-clause-reason : goal.returns-in-Some-clause-reason
 returns-in-Some-clause-reason c =
     subst (λ fields. IfErr c.read_fields.result (HasReason (IsFault fields))) c.in-Some.ensures.all c.read_fields.ensures.reason
-
-pub returns-in-Some-clause-bad : goal.returns-in-Some-clause-bad
-returns-in-Some-clause-bad c =
-    refused c.read_fields.result (no_line c.args.line.now _ c.in-Some.ensures.all) (refused_fault _ c.read_fields.result c.read_fields.ensures.reason)
-
-pub returns-in-None-clause-bad : goal.returns-in-None-clause-bad
-returns-in-None-clause-bad c = no_long_line c.args.line.now c.in-None.ensures.more

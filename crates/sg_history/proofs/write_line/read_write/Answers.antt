@@ -8,7 +8,7 @@ use Rattle.sg_history.proofs.write_line.read_write.Goals as goal
 
 pub returns-clause-ok : goal.returns-clause-ok
 returns-clause-ok c =
-    reads_write c.args.texts _ c.in_ok-at.at c.is_some.result c.revs_of-revs.result (record {
+    reads_write c.args.texts _ c.in_ok-at.at c.is_some.result (record {
       doc = c.in_ok-doc.ensures.ok;
       rev = c.in_ok-rev.ensures.ok;
       ancestors = c.in_ok-ancestors.ensures.ok;
