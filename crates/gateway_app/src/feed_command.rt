@@ -1,10 +1,7 @@
 //! The command `feed`: prints the rows of a user's changes feed over a journal.
 
-ghost use Rattle.std.specs.Prelude.{◌≡◌, ◌≢◌, ◌↔◌, ℕ, List, Option, Some, None, map, string_bytes, IfOk, IfErr, IsErrAnd};
-ghost use Rattle.sg_history.specs.BadLine.{IsBadJournal, NamesLine};
-ghost use Rattle.sg_history.specs.History.{History, history};
-ghost use Rattle.sg_history.specs.Journal.{Spells};
-ghost use Rattle.sg_history.specs.Refusal.{RefusesLog};
+ghost use Rattle.std.specs.Prelude.{◌≡◌, ◌≢◌, ◌↔◌, ℕ, List, Option, Some, None, map, string_bytes, IfOk, IsErrAnd};
+ghost use Rattle.sg_history.specs.History.{history};
 ghost use Rattle.gateway_app.specs.FeedText.{feed_text};
 ghost use Rattle.gateway_app.specs.Words.{FeedWords, IsFeed};
 ghost use Rattle.gateway_app.specs.Request.{words_of};
@@ -14,21 +11,12 @@ use crate::status::Status;
 use crate::text::print_rows;
 use crate::words::{FeedRequest, WordsFault, read_words};
 use feed_rows::rows;
-use sg_history::{BadLine, Key, Log, Name, Options, ReadLog, Why, read_journal};
+use sg_history::{BadLine, Key, Log, Name, Options, ReadLog, Why, take_journal};
 use sg_outside::{Bytes, Files, Gave, Loaded, Memory, Sink};
 use std::alloc::Global;
 
 /// The number of the journal among the command's words.
 const JOURNAL: u64 = 1;
-
-/// The log of a journal. The journal's bytes are let go.
-fn read_log(alloc: Global, journal: Bytes) -> Result<Log, ReadLog>
-    ensures ok { IfOk result (λ log. Spells journal (history log)) }
-    ensures bad { IfErr result (λ e. RefusesLog e ((h : History) → ¬ (Spells journal h))) }
-    ensures line { IfErr result (NamesLine (IsBadJournal journal)) }
-{
-    read_journal(alloc, journal.as_slice())
-}
 
 /// The printed feed of a log, over its whole length, with revocations.
 fn feed_of(alloc: Global, log: &Log, user: &Name, since: &Key) -> Result<Bytes, Memory>
@@ -85,7 +73,7 @@ fn print_log<O: Sink>(alloc: Global, log: &Log, user: &Name, since: &Key, out: &
     }
 }
 
-/// Prints the feed of a journal that was loaded, of which the bytes are let go once they are read.
+/// Prints the feed of a journal that was loaded, of which the bytes are let go while they are read.
 fn print_feed<O: Sink>(
     alloc: Global,
     journal: Bytes,
@@ -96,7 +84,7 @@ fn print_feed<O: Sink>(
     ensures { EndsFeed result journal user.now since.now
         (O.faults out.old) (O.faults out.new) (O.taken out.old) (O.taken out.new) }
 {
-    match read_log(alloc, journal) {
+    match take_journal(alloc, journal) {
         Ok(log) => print_log(alloc, &log, user, since, out),
         Err(ReadLog::Bad(BadLine { place, why })) => Status::BadInput {
             file: JOURNAL,
