@@ -13,7 +13,7 @@ ghost use Rattle.sg_history.specs.BadLine.{IsBadAfter, IsBadJournal, IsHeadFault
 
 use crate::entries::{Entries, Log};
 use crate::fault::{BadLine, LineFault, ReadLog, Why};
-use crate::fields::cut;
+use crate::pieces::cut;
 use crate::line::read_line;
 use crate::rules::first_broken;
 use sg_outside::Bytes;

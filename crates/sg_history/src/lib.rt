@@ -5,14 +5,14 @@
 pub mod book;
 pub mod entries;
 pub mod fault;
-mod field;
-mod fields;
+pub mod field;
 pub mod journal;
 pub mod journal_text;
 pub mod laws;
 mod line;
 pub mod log_reads;
 pub mod number;
+pub mod pieces;
 pub mod room;
 pub mod row;
 mod rules;
@@ -26,6 +26,7 @@ pub use journal::{read_journal, take_journal};
 pub use journal_text::write_journal;
 pub use log_reads::LogReads;
 pub use number::Number;
+pub use pieces::cut;
 pub use room::RoomFor;
 pub use row::{Options, Row, Rows};
 pub use sg_names::{

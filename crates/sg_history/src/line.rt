@@ -8,7 +8,7 @@ ghost use Rattle.sg_history.specs.Pieces.{pieces};
 use crate::entries::Entry;
 use crate::fault::{LineFault, Why};
 use crate::field;
-use crate::fields::{MOST, cut, fields_of};
+use crate::pieces::{MOST, cut, fields_of};
 use crate::write_line::{WriteTexts, read_write};
 use std::alloc::Global;
 

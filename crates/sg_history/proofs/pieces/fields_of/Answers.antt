@@ -1,7 +1,7 @@
 use Rattle.std.proofs.Common.{arith, length, take, ap, List, ℕ, Bor, length-append, ◌<◌, ◌≡◌, ◌∙◌}
 use Rattle.std.proofs.lemmas.List.{length-map, length-set, length-take-le, take_more_set}
 use Rattle.sg_history.proofs.PieceLemmas.{pieces-end, pieces-next, pieces-some}
-use Rattle.sg_history.proofs.fields.fields_of.Goals as goal
+use Rattle.sg_history.proofs.pieces.fields_of.Goals as goal
 
 pub returns-in-None-clause-all : goal.returns-in-None-clause-all
 returns-in-None-clause-all c =

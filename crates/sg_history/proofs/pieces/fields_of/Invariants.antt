@@ -1,6 +1,6 @@
 use Rattle.std.proofs.Common.{◌≡◌, ◌++◌, map, take, length}
 use Rattle.sg_history.specs.Pieces.{pieces}
-use Rattle.sg_history.proofs.fields.fields_of.Given as goal
+use Rattle.sg_history.proofs.pieces.fields_of.Given as goal
 
 abbrev pub invariant-loop-i : goal.invariant-loop-i
 invariant-loop-i l = record {
