@@ -1,4 +1,3 @@
-pub mod Cuts
 pub mod Lines
 pub mod Owners
 pub mod Refusals

@@ -1,6 +1,6 @@
 -- the line that says whose session it is
-use Rattle.std.proofs.Common.{◌≡◌, ◌≢◌, ℕ, ◌<◌, true, false, inl, inr, ◌&&◌, not, List, [], ◌∷◌, ◌++◌, length, refl, sym, ap, ◌∙◌, arith, codes, IsUtf8, Option, Some, None}
-use Rattle.std.specs.Prelude.{nat_eq, nat_lt, nat_le, is_some, IfSome, IfNone, IsTrue}
+use Rattle.std.proofs.Common.{◌≡◌, ◌≢◌, ℕ, ◌<◌, true, false, inl, inr, ◌&&◌, not, List, [], ◌∷◌, ◌++◌, length, refl, sym, ap, ◌∙◌, subst, arith, codes, if◌then◌else◌, IsUtf8, Option, Some, None}
+use Rattle.std.specs.Prelude.{nat_eq, nat_lt, nat_le, is_some, IfSome, IfNone, IsTrue, Result, Ok, Err, IfOk, IfErr, MatchResult}
 use denote.Ref.{Bor}
 use Rattle.std.specs.Str.{bytes_eq, is_utf8}
 use Rattle.std.proofs.lemmas.Str.{is_utf8-from_IsUtf8, IsUtf8-from_is_utf8}
@@ -9,13 +9,18 @@ use Rattle.std.proofs.lemmas.List.Folds.{list_all-append}
 use Rattle.sg_names.proofs.PlainTexts.{plain_lacks}
 use Rattle.sg_names.proofs.Cuts.{cut_same}
 use Rattle.sg_names.specs.Grammar.{lacks, is_plain, is_plain_text, is_channel_name, is_name, is_dash}
+use Rattle.sg_names.specs.Hex.{is_hex}
+use Rattle.sg_history.specs.declared.fault.LineFault.{LineFault}
+use Rattle.sg_history.specs.declared.fault.LineFault.TheVariants as line
 use Rattle.sg_history.specs.declared.fault.Why.TheVariants as reason
+use Rattle.sg_history.specs.Faults as faults
+use Rattle.sg_history.specs.Faults.{IsBadField, IsText}
 use Rattle.sg_history.specs.Pieces.{pieces}
 use Rattle.sg_history.proofs.PieceLemmas.{pieces-cut, pieces-lacking, pieces-some}
 use Rattle.repl_messages.specs.declared.request.Version.{Version}
 use Rattle.repl_messages.specs.declared.request.Version.TheVariants as version
 use Rattle.record_file.specs.Record.{owner_text, version_text}
-use Rattle.record_file.specs.Faults.{fields_fault, first_fault, name_fault, owner_fault, version_fault}
+use Rattle.record_file.specs.Faults.{TellsWhy, fields_fault, first_fault, frame_fault, name_fault, owner_fault, version_fault}
 
 apart : true ≢ false
 apart e = cc (e)
@@ -82,15 +87,39 @@ owner_cut line kind fields cut k = ap (λ t. owner_fault (pieces 9 t)) cut ∙ a
 pub owner_one : (line : List ℕ) → lacks 9 line ≡ true → owner_fault (pieces 9 line) ≡ owner_fault (line ∷ [])
 owner_one line lacking = ap owner_fault (pieces-lacking 9 line lacking)
 
-no_text : (name : List ℕ) → ¬ (IsUtf8 name) → is_utf8 name ≡ false
-no_text name h = elim (cases_Bool (is_utf8 name)) [ inl text ↦ absurd (h (IsUtf8-from_is_utf8 name text)) | inr other ↦ other ]
-
--- a name that is no text
-pub name_no_text : (name : List ℕ) → ¬ (IsUtf8 name) → name_fault name ≡ Some (reason.Field 2)
-name_no_text name h = rw (no_text name h) refl
-
 pub name_fine : (name : List ℕ) → is_name name ≡ true → IsUtf8 name → name_fault name ≡ None
 name_fine name is text = rw (is_utf8-from_IsUtf8 name text, is) refl
+
+name_bad : (name : List ℕ) → ¬ (IsUtf8 name × (is_name name ≡ true)) → name_fault name ≡ Some (reason.Field 2)
+name_bad name none = elim (cases_Bool (is_utf8 name && is_name name)) [
+  | inl both ↦
+      let parts = and_parts (is_utf8 name) (is_name name) both in
+      absurd (none (IsUtf8-from_is_utf8 name parts.0, parts.1))
+  | inr other ↦ ap (λ t. if t then None else Some (reason.Field 2)) other
+]
+
+-- a field that was read as a name
+pub name_read : (text : List ℕ) (r : Result (List ℕ) LineFault) → IfOk r (λ v. (v ≡ text) × IsTrue (is_name v) × IsUtf8 text)
+    → IfOk r (λ v. (v ≡ text) × IsTrue (is_name v) × IsUtf8 v)
+name_read text (Ok v) h = (h.0, h.1, subst IsUtf8 (sym h.0) h.2)
+name_read text (Err e) h = tt
+
+-- what is told of a field that is to be a name
+pub name_told : (text : List ℕ) (r : Result (List ℕ) LineFault) → IfOk r (λ v. IsText faults.name text) → IfErr r (IsBadField 2 faults.name text)
+    → MatchResult r (λ v. name_fault text ≡ None) (TellsWhy (name_fault text))
+name_told text (Ok v) is bad = name_fine text is.1 is.0
+name_told text (Err (line.Bad why)) is bad = name_bad text bad.1 ∙ ap Some (sym bad.0)
+name_told text (Err line.Memory) is bad = tt
+
+-- what is told of a line that is to be a frame
+pub frame_told : (text : List ℕ) (r : Result (List ℕ) LineFault) → IfOk r (λ v. IsText faults.body text) → IfErr r (IsBadField 1 faults.body text)
+    → MatchResult r (λ v. frame_fault text ≡ None) (TellsWhy (frame_fault text))
+frame_told text (Ok v) is bad = ap (λ t. if t then None else Some (reason.Field 1)) is
+frame_told text (Err (line.Bad why)) is bad = elim (cases_Bool (is_hex text)) [
+  | inl hex ↦ absurd (bad.1 hex)
+  | inr other ↦ ap (λ t. if t then None else Some (reason.Field 1)) other ∙ ap Some (sym bad.0)
+]
+frame_told text (Err line.Memory) is bad = tt
 
 version_fine : (v : Version) → version_fault (version_text v) ≡ None
 version_fine version.Two = refl

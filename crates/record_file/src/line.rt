@@ -1,38 +1,22 @@
 //! The lines of what the wire gave.
 
-ghost use Rattle.std.specs.Prelude.{◌≡◌, ◌++◌, ◌∷◌, None, MatchResult, IsTrue, IfOk, IfSome, IfNone};
-ghost use Rattle.sg_names.specs.Grammar.{lacks};
+ghost use Rattle.std.specs.Prelude.{◌≡◌, None, MatchResult, IsTrue, IfOk};
 ghost use Rattle.sg_names.specs.Hex.{hex_text, is_hex};
 ghost use Rattle.record_file.specs.Record.{item_text, is_item};
 ghost use Rattle.record_file.specs.Faults.{frame_fault, item_fault, TellsWhy};
 
 use crate::item::Item;
-use memchr::memchr;
 use sg_history::fault::LineFault;
-use sg_history::{TextFault, Why, from_hex};
+use sg_history::{Why, cut};
 use sg_outside::Bytes;
 use std::alloc::Global;
-
-/// What stands before and after the first such byte.
-pub fn cut(text: &[u8], at: u8) -> Option<(&[u8], &[u8])>
-    ensures some { IfSome result (λ p. (text.now ≡ p.0.now ++ at ∷ p.1.now) × IsTrue (lacks at p.0.now)) }
-    ensures none { IfNone result (IsTrue (lacks at text.now)) }
-{
-    let place = memchr(at, text)?;
-    Some((&text[..place], &text[place + 1..]))
-}
 
 /// Reads a frame: at least one byte, in lower-case hexadecimal.
 fn read_frame(alloc: Global, line: &[u8]) -> Result<Bytes, LineFault>
     ensures ok { IfOk result (λ frame. (line.now ≡ hex_text frame) × IsTrue (is_hex line.now)) }
     ensures fault { MatchResult result (λ _. frame_fault line.now ≡ None) (TellsWhy (frame_fault line.now)) }
 {
-    let mut frame = Bytes::new(alloc);
-    match from_hex(line, &mut frame) {
-        Ok(()) => Ok(frame),
-        Err(TextFault::Bad) => Err(LineFault::Bad(Why::Field(1))),
-        Err(TextFault::Memory) => Err(LineFault::Memory),
-    }
+    sg_history::field::read(alloc, line, 1)
 }
 
 /// Reads a line of what the wire gave, without its line feed.

@@ -6,10 +6,9 @@ ghost use Rattle.sg_names.specs.Grammar.{is_name};
 ghost use Rattle.record_file.specs.Record.{owner_text, version_text};
 ghost use Rattle.record_file.specs.Faults.{fields_fault, name_fault, owner_fault, version_fault, TellsWhy};
 
-use crate::line::cut;
 use repl_messages::Version;
 use sg_history::fault::LineFault;
-use sg_history::{Name, TextFault, Why};
+use sg_history::{Name, Why, cut};
 use std::alloc::Global;
 
 /// Whose session was recorded, and the version that its device speaks.
@@ -24,20 +23,14 @@ fn read_name(alloc: Global, field: &[u8]) -> Result<Name, LineFault>
     ensures ok { IfOk result (λ name. (name ≡ field.now) × IsTrue (is_name name) × IsUtf8 name) }
     ensures fault { MatchResult result (λ _. name_fault field.now ≡ None) (TellsWhy (name_fault field.now)) }
 {
-    let Ok(text) = std::str::from_utf8(field) else {
-        return Err(LineFault::Bad(Why::Field(2)));
-    };
-    match Name::parse(alloc, text) {
-        Ok(name) => Ok(name),
-        Err(TextFault::Bad) => Err(LineFault::Bad(Why::Field(2))),
-        Err(TextFault::Memory) => Err(LineFault::Memory),
-    }
+    sg_history::field::read(alloc, field, 2)
 }
 
 /// Reads the version.
 fn read_version(field: &[u8]) -> Result<Version, LineFault>
     ensures ok { IfOk result (λ version. field.now ≡ version_text version) }
-    ensures fault { MatchResult result (λ _. version_fault field.now ≡ None) (TellsWhy (version_fault field.now)) }
+    ensures fault { MatchResult result (λ _. version_fault field.now ≡ None)
+        (TellsWhy (version_fault field.now)) }
 {
     match field {
         b"2" => Ok(Version::Two),
@@ -50,7 +43,8 @@ fn read_version(field: &[u8]) -> Result<Version, LineFault>
 fn read_fields(alloc: Global, fields: &[u8]) -> Result<Owner, LineFault>
     ensures ok { IfOk result (λ owner. fields.now ≡ owner.user ++ 9 ∷ version_text owner.version) }
     ensures name { IfOk result (λ owner. IsTrue (is_name owner.user) × IsUtf8 owner.user) }
-    ensures fault { MatchResult result (λ _. fields_fault (pieces 9 fields.now) ≡ None) (TellsWhy (fields_fault (pieces 9 fields.now))) }
+    ensures fault { MatchResult result (λ _. fields_fault (pieces 9 fields.now) ≡ None)
+        (TellsWhy (fields_fault (pieces 9 fields.now))) }
 {
     let Some((name, version)) = cut(fields, b'\t') else {
         return Err(LineFault::Bad(Why::Fields));
@@ -77,7 +71,8 @@ fn fault_of_one(kind: &[u8]) -> Why
 pub fn read_owner(alloc: Global, line: &[u8]) -> Result<Owner, LineFault>
     ensures ok { IfOk result (λ owner. line.now ≡ owner_text owner.user owner.version) }
     ensures name { IfOk result (λ owner. IsTrue (is_name owner.user) × IsUtf8 owner.user) }
-    ensures fault { MatchResult result (λ _. owner_fault (pieces 9 line.now) ≡ None) (TellsWhy (owner_fault (pieces 9 line.now))) }
+    ensures fault { MatchResult result (λ _. owner_fault (pieces 9 line.now) ≡ None)
+        (TellsWhy (owner_fault (pieces 9 line.now))) }
 {
     let Some((kind, fields)) = cut(line, b'\t') else {
         return Err(LineFault::Bad(fault_of_one(line)));

@@ -10,11 +10,11 @@ ghost use Rattle.record_file.specs.Record.{Spells, items_text, owner_text, is_it
 ghost use Rattle.record_file.specs.Faults.{bad_among, bad_item, bad_line, bad_owner, refusal_at, Tells};
 
 use crate::item::Items;
-use crate::line::{cut, read_item};
+use crate::line::read_item;
 use crate::owner::{Owner, read_owner};
 use repl_messages::Version;
 use sg_history::fault::LineFault;
-use sg_history::{BadLine, Name, ReadLog, Why};
+use sg_history::{BadLine, Name, ReadLog, Why, cut};
 use std::alloc::Global;
 
 /// The first line of a recorded session.
@@ -46,8 +46,10 @@ fn refuse(place: u64, fault: LineFault) -> ReadLog
 
 /// Reads the lines of what the wire gave, of which the first is line 3.
 fn read_items(alloc: Global, lines: &[u8]) -> Result<Items, ReadLog>
-    ensures ok { IfOk result (λ items. (lines.now ≡ items_text items) × IsTrue (list_all (λ i. is_item i) items)) }
-    ensures line { MatchResult result (λ _. bad_item 3 (pieces 10 lines.now) ≡ None) (Tells (bad_item 3 (pieces 10 lines.now))) }
+    ensures ok { IfOk result (λ items. (lines.now ≡ items_text items)
+        × IsTrue (list_all (λ i. is_item i) items)) }
+    ensures line { MatchResult result (λ _. bad_item 3 (pieces 10 lines.now) ≡ None)
+        (Tells (bad_item 3 (pieces 10 lines.now))) }
 {
     let mut items = Items::new(alloc);
     let mut place = 3;
@@ -71,7 +73,8 @@ fn read_lines(alloc: Global, lines: &[u8]) -> Result<Recorded, ReadLog>
     ensures ok { IfOk result (λ r. lines.now ≡ owner_text r.user r.version ++ 10 ∷ items_text r.items) }
     ensures user { IfOk result (λ r. IsTrue (is_name r.user) × IsUtf8 r.user) }
     ensures items { IfOk result (λ r. IsTrue (list_all (λ i. is_item i) r.items)) }
-    ensures line { MatchResult result (λ _. bad_owner (pieces 10 lines.now) ≡ None) (Tells (bad_owner (pieces 10 lines.now))) }
+    ensures line { MatchResult result (λ _. bad_owner (pieces 10 lines.now) ≡ None)
+        (Tells (bad_owner (pieces 10 lines.now))) }
 {
     let Some((line, further)) = cut(lines, b'\n') else {
         return Err(bad(2, Why::Ending));

@@ -1,11 +1,8 @@
-use Rattle.record_file.proofs.Owners.{name_fine, name_no_text}
+use Rattle.record_file.proofs.Owners.{name_read, name_told}
 use Rattle.record_file.proofs.owner.read_name.Goals as goal
 
-pub returns-in_default-clause-fault : goal.returns-in_default-clause-fault
-returns-in_default-clause-fault c = name_no_text c.args.field.now c.in_default.ensures.cases.0
+pub returns-clause-ok : goal.returns-clause-ok
+returns-clause-ok c = name_read c.args.field.now c.read.result c.read.ensures.ok
 
-pub returns-in-Ok-parse-clause-fault : goal.returns-in-Ok-parse-clause-fault
-returns-in-Ok-parse-clause-fault c =
-    let text = c.in-Ok.ensures.cases in
-    let name = c.in-Ok-parse.ensures.ok in
-    rw (← text.0) (name_fine c.in-Ok.text.now name.1 (rw text.0 text.1))
+pub returns-clause-fault : goal.returns-clause-fault
+returns-clause-fault c = name_told c.args.field.now c.read.result c.read.ensures.text c.read.ensures.fault
