@@ -160,6 +160,30 @@ pub role_grant_cut : (text front back : List ℕ) (g : RoleGrant) → text ≡ f
 role_grant_cut text front back g cut first h e =
     cut_same 61 front back g.user g.role first (name_lacks_equals g.user (role_grant_parts g h).user) (sym cut ∙ e)
 
+-- a text that is that of no grantee, and the names in it
+pub no_user : (text : List ℕ) → ((g : Grantee) → is_grantee g ≡ true → text ≢ grantee_text g) → ¬ (is_name text ≡ true)
+no_user text none is = none (User text) is refl
+
+pub no_role : (text front back : List ℕ) → text ≡ front ++ 58 ∷ back → front ≡ codes "role" → ((g : Grantee) → is_grantee g ≡ true → text ≢ grantee_text g)
+    → ¬ (is_name back ≡ true)
+no_role text front back cut role none is = none (Role back) is (cut ∙ ap (λ f. f ++ 58 ∷ back) role)
+
+-- a text that is that of no grant, and its parts
+pub no_grantee : (text front back : List ℕ) → text ≡ front ++ 61 ∷ back → is_channel_name back ≡ true
+    → ((g : Grant) → is_grant g ≡ true → text ≢ grant_text g) → (g : Grantee) → is_grantee g ≡ true → front ≢ grantee_text g
+no_grantee text front back cut channel none g is e =
+    none (record { to = g; channel = back }) (and_from (is_grantee g) (is_channel_name back) is channel) (cut ∙ ap (λ f. f ++ 61 ∷ back) e)
+
+pub no_channel : (text front back : List ℕ) (to : Grantee) → text ≡ front ++ 61 ∷ back → front ≡ grantee_text to → is_grantee to ≡ true
+    → ((g : Grant) → is_grant g ≡ true → text ≢ grant_text g) → ¬ (is_channel_name back ≡ true)
+no_channel text front back to cut same is none channel = no_grantee text front back cut channel none to is same
+
+-- a text that is that of no grant of a role, and its parts
+pub no_role_grant_user : (text front back : List ℕ) → text ≡ front ++ 61 ∷ back → is_name back ≡ true
+    → ((g : RoleGrant) → is_role_grant g ≡ true → text ≢ role_grant_text g) → ¬ (is_name front ≡ true)
+no_role_grant_user text front back cut role none user =
+    none (record { user = front; role = back }) (and_from (is_name front) (is_name back) user role) cut
+
 -- so each kind can stand in a list
 pub channels_apart : AreApart (λ n. n) (λ n. is_channel_name n)
 channels_apart = record { lacks_comma = channel_lacks_comma; is_no_dash = channel_is_no_dash; has_one_text = λ a b h g e. e }

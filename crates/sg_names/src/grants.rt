@@ -9,7 +9,7 @@ use crate::fault::TextFault;
 use crate::item_list::{self, Item, Rising};
 use crate::list::List;
 use crate::name::Name;
-use crate::pieces;
+use crate::{grammar, pieces};
 use sg_outside::{Bytes, Memory};
 use std::alloc::{AllocError, Global};
 use std::cmp::Ordering;
@@ -31,6 +31,8 @@ impl Grantee {
         ensures ok { IfOk result (λ g. (text.now ≡ grantee_text g) × IsTrue (is_grantee g)) }
         ensures bad { result ≡ Err TextFault.Bad → (g : Grantee) → IsTrue (is_grantee g)
             → text.now ≢ grantee_text g }
+        ensures outside { ((g : Grantee) → IsTrue (is_grantee g) → text.now ≢ grantee_text g)
+            → result ≡ Err TextFault.Bad }
     {
         match pieces::cut(text, ':') {
             None => Ok(Grantee::User(Name::parse(alloc, text)?)),
@@ -79,11 +81,17 @@ impl Grant {
     /// Reads one: `Bad` where the text is outside the grammar.
     pub fn parse(alloc: Global, text: &str) -> Result<Grant, TextFault>
         ensures ok { IfOk result (λ g. (text.now ≡ grant_text g) × IsTrue (is_grant g)) }
-        ensures bad { result ≡ Err TextFault.Bad → (g : Grant) → IsTrue (is_grant g) → text.now ≢ grant_text g }
+        ensures bad { result ≡ Err TextFault.Bad → (g : Grant) → IsTrue (is_grant g)
+            → text.now ≢ grant_text g }
+        ensures outside { ((g : Grant) → IsTrue (is_grant g) → text.now ≢ grant_text g)
+            → result ≡ Err TextFault.Bad }
     {
         let Some((front, back)) = pieces::cut(text, '=') else {
             return Err(TextFault::Bad);
         };
+        if !grammar::is_channel_name(back.as_bytes()) {
+            return Err(TextFault::Bad);
+        }
         Ok(Grant {
             to: Grantee::parse(alloc, front)?,
             channel: ChannelName::parse(alloc, back)?,

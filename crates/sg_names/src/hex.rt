@@ -66,7 +66,8 @@ fn value_of(digit: u8) -> Option<u8>
 
 /// The byte of two digits; none where one is another byte.
 fn byte_of(high: u8, low: u8) -> Option<u8>
-    ensures some { IfSome result (λ b. (hex.hex_digit (b / 16) ≡ high) × (hex.hex_digit (b % 16) ≡ low)) }
+    ensures some { IfSome result (λ b. (hex.hex_digit (b / 16) ≡ high)
+        × (hex.hex_digit (b % 16) ≡ low)) }
     ensures none { IfNone result ((hex.is_hex_digit high && hex.is_hex_digit low) ≡ false) }
 {
     match (value_of(high), value_of(low)) {
@@ -78,7 +79,8 @@ fn byte_of(high: u8, low: u8) -> Option<u8>
 /// Want of memory, where the text is one of digits, else its refusal.
 fn no_memory(text: &[u8]) -> TextFault
     ensures bad { result ≡ TextFault.Bad → list_all (λ b. hex.is_hex_digit b) text.now ≡ false }
-    ensures memory { result ≡ TextFault.Memory → IsTrue (list_all (λ b. hex.is_hex_digit b) text.now) }
+    ensures memory { result ≡ TextFault.Memory
+        → IsTrue (list_all (λ b. hex.is_hex_digit b) text.now) }
 {
     if all_hex_digits(text) {
         TextFault::Memory
@@ -93,7 +95,8 @@ fn read_while(text: &[u8], out: &mut Bytes) -> Result<(), TextFault>
     requires { length text.now % 2 ≡ 0 }
     ensures ok { OnOk result (HasRead text.now (length text.now / 2) out.old out.new) }
     ensures bad { result ≡ Err TextFault.Bad → list_all (λ b. hex.is_hex_digit b) text.now ≡ false }
-    ensures memory { result ≡ Err TextFault.Memory → IsTrue (list_all (λ b. hex.is_hex_digit b) text.now) }
+    ensures memory { result ≡ Err TextFault.Memory
+        → IsTrue (list_all (λ b. hex.is_hex_digit b) text.now) }
     ensures err { OnErr result (take (length out.old) out.new ≡ out.old) }
 {
     if out.reserve(text.len() / 2).is_err() {

@@ -24,7 +24,8 @@ pub trait Item: Drop {
     where
         Self: Sized,
         ensures ok { IfOk result (λ x. (piece.now ≡ text x) × IsTrue (admits x)) }
-        ensures bad { result ≡ Err TextFault.Bad → (x : Self) → IsTrue (admits x) → piece.now ≢ text x };
+        ensures bad { result ≡ Err TextFault.Bad → (x : Self) → IsTrue (admits x)
+            → piece.now ≢ text x };
 
     /// The same again.
     fn duplicate(&self, alloc: Global) -> Result<Self, AllocError>

@@ -24,7 +24,8 @@ pub fn decimals()
 
 /// A text is that of one revision.
 pub fn revisions()
-    ensures { (r s : RevId) → IsTrue (is_rev r) → IsTrue (is_rev s) → rev_text r ≡ rev_text s → r ≡ s }
+    ensures { (r s : RevId) → IsTrue (is_rev r) → IsTrue (is_rev s) → rev_text r ≡ rev_text s
+        → r ≡ s }
 {}
 
 /// What a key is written as is read as that key, and a text is read as one key.
@@ -78,10 +79,14 @@ pub fn plain_texts()
         → IsTrue (is_plain (hex_text bytes)) }
     ensures keys { (k : Key) → IsTrue (is_key k) → IsTrue (is_plain (key_text k)) }
     ensures revisions { (r : RevId) → IsTrue (is_rev r) → IsTrue (is_plain (rev_text r)) }
-    ensures channels { (l : List (List ℕ)) → IsTrue (is_channels l) → IsTrue (is_plain (channels_text l)) }
+    ensures channels { (l : List (List ℕ)) → IsTrue (is_channels l)
+        → IsTrue (is_plain (channels_text l)) }
     ensures names { (l : List (List ℕ)) → IsTrue (is_names l) → IsTrue (is_plain (names_text l)) }
-    ensures revision_lists { (l : List RevId) → IsTrue (is_revs l) → IsTrue (is_plain (revs_text l)) }
+    ensures revision_lists { (l : List RevId) → IsTrue (is_revs l)
+        → IsTrue (is_plain (revs_text l)) }
     ensures grants { (l : List Grant) → IsTrue (is_grants l) → IsTrue (is_plain (grants_text l)) }
-    ensures role_grants { (l : List RoleGrant) → IsTrue (is_role_grants l) → IsTrue (is_plain (role_grants_text l)) }
-    ensures lacks_controls { (c : ℕ) (text : List ℕ) → c < 32 → IsTrue (is_plain text) → IsTrue (lacks c text) }
+    ensures role_grants { (l : List RoleGrant) → IsTrue (is_role_grants l)
+        → IsTrue (is_plain (role_grants_text l)) }
+    ensures lacks_controls { (c : ℕ) (text : List ℕ) → c < 32 → IsTrue (is_plain text)
+        → IsTrue (lacks c text) }
 {}

@@ -34,7 +34,8 @@ pub fn append(pieces: &[&[u8]], out: &mut Bytes) -> Result<(), Memory>
 /// What stands before and after the first `at`, which is an ASCII character.
 pub fn cut(text: &str, at: char) -> Option<(&str, &str)>
     requires { at < 128 }
-    ensures some { IfSome result (λ p. (text.now ≡ p.0.now ++ at ∷ p.1.now) × IsTrue (lacks at p.0.now)) }
+    ensures some { IfSome result (λ p. (text.now ≡ p.0.now ++ at ∷ p.1.now)
+        × IsTrue (lacks at p.0.now)) }
     ensures none { IfNone result (IsTrue (lacks at text.now)) }
 {
     text.split_once(at)

@@ -27,8 +27,10 @@ impl RevId {
     /// Reads one: `Bad` where the text is outside the grammar.
     pub fn parse(alloc: Global, text: &str) -> Result<RevId, TextFault>
         ensures ok { IfOk result (λ r. (text.now ≡ rev_text r) × IsTrue (is_rev r)) }
-        ensures bad { result ≡ Err TextFault.Bad → (r : RevId) → IsTrue (is_rev r) → text.now ≢ rev_text r }
-        ensures outside { ((r : RevId) → IsTrue (is_rev r) → text.now ≢ rev_text r) → result ≡ Err TextFault.Bad }
+        ensures bad { result ≡ Err TextFault.Bad → (r : RevId) → IsTrue (is_rev r)
+            → text.now ≢ rev_text r }
+        ensures outside { ((r : RevId) → IsTrue (is_rev r) → text.now ≢ rev_text r)
+            → result ≡ Err TextFault.Bad }
     {
         let Some((front, back)) = pieces::cut(text, '-') else {
             return Err(TextFault::Bad);

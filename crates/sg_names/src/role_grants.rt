@@ -6,7 +6,7 @@ use crate::fault::TextFault;
 use crate::item_list::{self, Item, Rising};
 use crate::list::List;
 use crate::name::Name;
-use crate::pieces;
+use crate::{grammar, pieces};
 use sg_outside::{Bytes, Memory};
 use std::alloc::{AllocError, Global};
 use std::cmp::Ordering;
@@ -28,10 +28,16 @@ impl RoleGrant {
         ensures ok { IfOk result (λ g. (text.now ≡ role_grant_text g) × IsTrue (is_role_grant g)) }
         ensures bad { result ≡ Err TextFault.Bad → (g : RoleGrant) → IsTrue (is_role_grant g)
             → text.now ≢ role_grant_text g }
+        ensures outside { ((g : RoleGrant) → IsTrue (is_role_grant g)
+            → text.now ≢ role_grant_text g)
+            → result ≡ Err TextFault.Bad }
     {
         let Some((front, back)) = pieces::cut(text, '=') else {
             return Err(TextFault::Bad);
         };
+        if !grammar::is_name(back.as_bytes()) {
+            return Err(TextFault::Bad);
+        }
         Ok(RoleGrant {
             user: Name::parse(alloc, front)?,
             role: Name::parse(alloc, back)?,
@@ -104,7 +110,8 @@ impl List<RoleGrant> {
 
     /// Reads the text of a list: `Bad` where it is outside the grammar, or does not rise.
     pub fn parse(alloc: Global, text: &str) -> Result<RoleGrants, TextFault>
-        ensures ok { IfOk result (λ l. (text.now ≡ role_grants_text l) × IsTrue (is_role_grants l)) }
+        ensures ok { IfOk result (λ l. (text.now ≡ role_grants_text l)
+            × IsTrue (is_role_grants l)) }
         ensures bad { result ≡ Err TextFault.Bad → (l : List RoleGrant) → IsTrue (is_role_grants l)
             → text.now ≢ role_grants_text l }
     {

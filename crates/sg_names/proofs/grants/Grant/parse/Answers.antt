@@ -1,8 +1,8 @@
-use Rattle.std.proofs.Common.{◌≡◌, Err, ap, ◌∙◌}
+use Rattle.std.proofs.Common.{◌≡◌, true, Err, ap, ◌∙◌}
 use Rattle.std.proofs.lemmas.Result.{err_from_is_err_and}
 use Rattle.sg_names.specs.Grammar.{is_channel_name}
 use Rattle.sg_names.specs.declared.fault.TextFault.TheVariants.{Bad}
-use Rattle.sg_names.proofs.ItemTexts.{grant_cut, grant_parts}
+use Rattle.sg_names.proofs.ItemTexts.{grant_cut, grant_parts, no_channel, no_grantee}
 use Rattle.sg_names.proofs.grants.Grant.parse.Goals as goal
 
 pub returns-in_err-parse-clause-bad : goal.returns-in_err-parse-clause-bad
@@ -20,3 +20,32 @@ returns-in_err-parse-2-clause-bad c = λ fault g h e.
     let exit = err_from_is_err_and c.from_residual-in_err-parse-2.result c.from_residual-in_err-parse-2.ensures.1 in
     let inner : c.in_err-parse-2.field-0.0 ≡ Bad = cc in
     c.in_err-parse-2.ensures.bad (ap Err inner) (ap is_channel_name cut.1 ∙ (grant_parts g h).channel)
+
+pub returns-in_err-parse-clause-outside : goal.returns-in_err-parse-clause-outside
+returns-in_err-parse-clause-outside c = λ none.
+    let seam = c.in-Some.ensures.some in
+    let exit = err_from_is_err_and c.from_residual.result c.from_residual.ensures.1 in
+    let channel : is_channel_name c.in-Some.back.now ≡ true = cc (c.as_bytes.ensures.value, c.is_channel_name.ensures, c.if-not-is_channel_name.false) in
+    let bad = c.in_err-parse.ensures.outside (no_grantee c.args.text.now c.in-Some.front.now c.in-Some.back.now seam.0 channel none) in
+    cc
+
+pub returns-in_err-parse-2-clause-outside : goal.returns-in_err-parse-2-clause-outside
+returns-in_err-parse-2-clause-outside c = λ none.
+    let seam = c.in-Some.ensures.some in
+    let to = c.in_ok-parse.ensures.ok in
+    let exit = err_from_is_err_and c.from_residual-in_err-parse-2.result c.from_residual-in_err-parse-2.ensures.1 in
+    let bad = c.in_err-parse-2.ensures.outside (no_channel c.args.text.now c.in-Some.front.now c.in-Some.back.now c.in_ok-parse.field-0 seam.0 to.0 to.1 none) in
+    cc
+
+pub returns-clause-outside : goal.returns-clause-outside
+returns-clause-outside c = λ none.
+    let seam = c.in-Some.ensures.some in
+    let to = c.in_ok-parse.ensures.ok in
+    absurd (no_channel c.args.text.now c.in-Some.front.now c.in-Some.back.now c.in_ok-parse.field-0 seam.0 to.0 to.1 none c.in_ok-parse-2.ensures.ok.1)
+
+pub returns-then-not-is_channel_name-clause-bad : goal.returns-then-not-is_channel_name-clause-bad
+returns-then-not-is_channel_name-clause-bad c = λ fault g h e.
+    let seam = c.in-Some.ensures.some in
+    let cut = grant_cut c.args.text.now c.in-Some.front.now c.in-Some.back.now g seam.0 seam.1 h e in
+    let channel : is_channel_name c.in-Some.back.now ≡ true = ap is_channel_name cut.1 ∙ (grant_parts g h).channel in
+    cc (channel, c.as_bytes.ensures.value, c.is_channel_name.ensures, c.if-not-is_channel_name.true)
