@@ -13,8 +13,8 @@ ghost use Rattle.sg_history.specs.BadLine.{IsBadAfter, IsBadJournal, IsHeadFault
 
 use crate::entries::{Entries, Log};
 use crate::fault::{BadLine, LineFault, ReadLog, Why};
-use crate::pieces::cut;
 use crate::line::read_line;
+use crate::pieces::cut;
 use crate::rules::first_broken;
 use sg_outside::Bytes;
 use std::alloc::{AllocError, Global};

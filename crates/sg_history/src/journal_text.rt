@@ -29,7 +29,8 @@ fn put_writer(by: &Option<Name>, out: &mut Bytes) -> Result<(), Memory>
 
 /// Puts the kind of a write at the end, and the fields that say which revision it is.
 fn put_revision(write: &Write, out: &mut Bytes) -> Result<(), Memory>
-    ensures { OnOk result (out.new ≡ out.old ++ (87 ∷ 9 ∷ write.now.doc ++ 9 ∷ rev_text write.now.rev
+    ensures { OnOk result (out.new ≡ out.old
+        ++ (87 ∷ 9 ∷ write.now.doc ++ 9 ∷ rev_text write.now.rev
         ++ 9 ∷ revs_text write.now.ancestors)) }
 {
     out.extend_from_slice(b"W\t")?;

@@ -161,7 +161,8 @@ fn read_unused(fields: &[&[u8]]) -> Result<ReadEntry, LineFault>
 
 /// Reads the fields of a line.
 fn read_fields(alloc: Global, fields: &[&[u8]]) -> Result<ReadEntry, LineFault>
-    ensures ok { IfOk result (λ read. AreRead (map (λ p. p.now) fields.now) read.entry read.at_fits) }
+    ensures ok { IfOk result
+        (λ read. AreRead (map (λ p. p.now) fields.now) read.entry read.at_fits) }
     ensures texts { IfOk result (λ _. AreFields (map (λ p. p.now) fields.now)) }
     ensures reason { IfErr result (HasReason (IsFault (map (λ p. p.now) fields.now))) }
 {

@@ -11,7 +11,8 @@ pub(crate) const MOST: usize = 12;
 
 /// What stands before and after the first such byte.
 pub fn cut(text: &[u8], at: u8) -> Option<(&[u8], &[u8])>
-    ensures some { IfSome result (λ p. (text.now ≡ p.0.now ++ at ∷ p.1.now) × IsTrue (lacks at p.0.now)) }
+    ensures some { IfSome result (λ p. (text.now ≡ p.0.now ++ at ∷ p.1.now)
+        × IsTrue (lacks at p.0.now)) }
     ensures none { IfNone result (IsTrue (lacks at text.now)) }
     ensures pieces { MatchOption result (pieces at text.now ≡ text.now ∷ [])
         (λ p. pieces at text.now ≡ p.0.now ∷ pieces at p.1.now) }

@@ -61,7 +61,8 @@ impl MemWire {
     pub fn new(alloc: Global, inputs: Vec<Input>) -> MemWire
         ensures inputs { result.inputs.items ≡ inputs.items }
         ensures sent { result.sent.items ≡ [] }
-        ensures told { ⟦<MemWire as Wire>⟧.told result ≡ Some (traffic (map got_of inputs.items) 0 [] []) }
+        ensures told { ⟦<MemWire as Wire>⟧.told result
+            ≡ Some (traffic (map got_of inputs.items) 0 [] []) }
     {
         MemWire {
             inputs,

@@ -68,7 +68,8 @@ fn send_or_fail(
     requires { vec_len gave.old < vec_capacity gave.old }
     ensures counted { Counts faults.old result faults.new }
     ensures script { SendsByScript fails result }
-    ensures sent { (sent.new.items, gave.new.items) ≡ sent_by (sent.old.items, gave.old.items) frame.now result }
+    ensures sent { (sent.new.items, gave.new.items)
+        ≡ sent_by (sent.old.items, gave.old.items) frame.now result }
 {
     if fails {
         if *faults == u64::MAX {
@@ -163,7 +164,8 @@ impl Wire for ScriptedWire {
             (Some (traffic self.old.script.items self.old.calls self.old.sent.items self.old.gave.items))
             frame.now result
             (Some (traffic self.new.script.items self.new.calls self.new.sent.items self.new.gave.items)) }
-        ensures script { SendsByScript (fails_at self.old.send_fails.items (sendings_of self.old)) result }
+        ensures script { SendsByScript
+            (fails_at self.old.send_fails.items (sendings_of self.old)) result }
         ensures kept { self.new.send_fails ≡ self.old.send_fails }
     {
         if self.gave.reserve(1).is_err() {
