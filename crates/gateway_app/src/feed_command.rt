@@ -33,7 +33,8 @@ fn feed_of(alloc: Global, log: &Log, user: &Name, since: &Key) -> Result<Bytes, 
 
 /// The bytes of the journal, or how the run ends without them.
 fn load<F: Files>(alloc: Global, files: &mut F, path: &str) -> Result<Bytes, Status>
-    ensures told { (bytes : List ℕ) → HasFile (F.told files.old) path.now bytes → IsLoaded bytes result }
+    ensures told { (bytes : List ℕ) → HasFile (F.told files.old) path.now bytes
+        → IsLoaded bytes result }
     ensures absent { HasNoFile (F.told files.old) path.now → IsErrAnd result EndsAbsent }
     ensures loaded { EndsLoaded result (F.faults files.old) (F.faults files.new) }
     ensures kept { F.told files.new ≡ F.told files.old }

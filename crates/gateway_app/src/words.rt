@@ -26,10 +26,16 @@ pub enum WordsFault {
 
 /// Reads the words: `feed`, the journal's path, the user's name, and the since key.
 pub fn read_words(alloc: Global, words: &[String]) -> Result<FeedRequest<'_>, WordsFault>
-    ensures ok { IfOk result (λ r. IsFeed (map (λ w. string_bytes w) words.now) (record { journal = r.journal.now; user = r.user; since = r.since })) }
-    ensures only { IfOk result (λ r. (f : FeedWords) → IsFeed (map (λ w. string_bytes w) words.now) f → f ≡ record { journal = r.journal.now; user = r.user; since = r.since }) }
-    ensures bad { result ≡ Err WordsFault.BadWords → (f : FeedWords) → ¬ IsFeed (map (λ w. string_bytes w) words.now) f }
-    ensures outside { ((f : FeedWords) → ¬ IsFeed (map (λ w. string_bytes w) words.now) f) → result ≡ Err WordsFault.BadWords }
+    ensures ok { IfOk result
+        (λ r. IsFeed (map (λ w. string_bytes w) words.now)
+        (record { journal = r.journal.now; user = r.user; since = r.since })) }
+    ensures only { IfOk result (λ r. (f : FeedWords)
+        → IsFeed (map (λ w. string_bytes w) words.now) f
+        → f ≡ record { journal = r.journal.now; user = r.user; since = r.since }) }
+    ensures bad { result ≡ Err WordsFault.BadWords → (f : FeedWords)
+        → ¬ IsFeed (map (λ w. string_bytes w) words.now) f }
+    ensures outside { ((f : FeedWords) → ¬ IsFeed (map (λ w. string_bytes w) words.now) f)
+        → result ≡ Err WordsFault.BadWords }
 {
     let [command, journal, user, since] = words else {
         return Err(WordsFault::BadWords);
