@@ -9,10 +9,10 @@ use Rattle.blip_mux.specs.declared.class.Class.{Class}
 use Rattle.blip_mux.specs.declared.ready.Ready.{Ready}
 use Rattle.blip_mux.specs.Sending.{Waiting, is_of, heard, heard_of, heard_in}
 use Rattle.blip_mux.specs.Class.{class_of}
-use Rattle.blip_mux.specs.Entries.{Entries, look}
+use Rattle.blip_mux.specs.Entries.{Entries, look, with_message}
 use Rattle.blip_mux.specs.Stamped.{is_message, IsKept}
 use Rattle.blip_mux.proofs.Cuts.{some_same}
-use Rattle.blip_mux.proofs.Listed.{with_message, some_none, find_of, find_none, any_of, any_none, heard_of_all, heard_by_none}
+use Rattle.blip_mux.proofs.Listed.{some_none, find_of, find_none, any_of, any_none, heard_of_all, heard_by_none}
 
 of_class : (kind : Kind) (number : ℕ) (w : Waiting) → is_of kind number w ≡ is_message (class_of kind) number w
 of_class kinds.Msg number w = refl

@@ -3,7 +3,7 @@ use Rattle.std.proofs.Common.{◌≡◌, ℕ, ◌<◌, ◌≤◌, Bool, true, fa
 use Rattle.std.specs.Prelude.{Option, find}
 use Rattle.std.specs.List.{list_any}
 use Rattle.std.specs.List.Sorted.{IsStrictlySortedBy}
-use Rattle.std.specs.Map.{keys_of, values_of, set_value}
+use Rattle.std.specs.Map.{keys_of, values_of}
 use Rattle.std.specs.BTreeMap.{is_at, insert_entry}
 use Rattle.std.specs.Ordering.{nat_cmp, match_ordering}
 use Rattle.std.specs.declared.cmp.Ordering.TheVariants.{Less, Equal, Greater}
@@ -14,12 +14,8 @@ use Rattle.std.proofs.lemmas.Map.Keys.{sorted_head, sorted_tail}
 use Rattle.std.specs.List.{AllByRecursion}
 use Rattle.blip_frame.specs.declared.frame.Kind.{Kind}
 use Rattle.blip_mux.specs.Sending.{Waiting, taken_out, is_of, heard, heard_in}
-use Rattle.blip_mux.specs.Entries.{Entries, look}
-use Rattle.blip_mux.specs.Stamped.{without}
+use Rattle.blip_mux.specs.Entries.{Entries, look, with_message, without}
 use Rattle.blip_mux.proofs.Cuts.{Found, behind}
-
-abbrev pub with_message : ℕ → Entries → Waiting → Entries
-with_message stamp es w = set_value (is_at (nat_cmp stamp)) es w
 
 -- ---- the test of a stamp
 

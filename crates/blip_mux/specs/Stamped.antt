@@ -1,13 +1,14 @@
 -- The messages that wait, by their stamps.
-use Rattle.std.specs.Prelude.{◌≡◌, ℕ, ◌≤◌, Bool, true, ◌&&◌, cond, length, Option, Some, None, ◌==◌}
+use Rattle.std.specs.Prelude.{◌≡◌, ℕ, ◌≤◌, Bool, true, ◌&&◌, cond, length, Option, Some, None, ◌==◌, List, ◌++◌}
 use Rattle.std.specs.Option.{option_map_or}
 use Rattle.std.specs.List.{sum_by}
 use Rattle.std.specs.List.Sorted.{IsStrictlySortedBy}
-use Rattle.std.specs.Map.{keys_of, values_of, remove_entry}
-use Rattle.std.specs.BTreeMap.{is_at}
+use Rattle.std.specs.Map.{keys_of, values_of}
 use Rattle.std.specs.Ordering.{nat_cmp}
-use Rattle.blip_mux.specs.Sending.{Waiting, may_send, chosen}
-use Rattle.blip_mux.specs.Entries.{Entries, look}
+use Rattle.blip_frame.specs.Checksum.{checksum}
+use Rattle.blip_frame.specs.Frame.{spelling, sent_after, value_after, WritesAfter}
+use Rattle.blip_mux.specs.Sending.{Waiting, may_send, chosen, first_piece}
+use Rattle.blip_mux.specs.Entries.{Entries, look, without}
 use Rattle.blip_mux.specs.declared.class.Class.{Class}
 use Rattle.blip_mux.specs.Class.{is_in, stamp_at}
 use Rattle.blip_mux.specs.Stamps.{times, IsLowest, same_flag}
@@ -15,10 +16,6 @@ use Rattle.blip_mux.specs.Ready.{stamps_in, count_in, room_in}
 use Rattle.blip_mux.specs.declared.ready.Ready.{Ready}
 use Rattle.blip_mux.specs.declared.ready.Turn.{Turn}
 use Rattle.blip_mux.specs.declared.stamped.Stamped.{Stamped}
-
--- the others
-abbrev pub without : ℕ → Entries → Entries
-without stamp es = remove_entry (is_at (nat_cmp stamp)) es
 
 -- whether a message has this class and this number
 abbrev pub is_message : Class → ℕ → Waiting → Bool
@@ -38,6 +35,21 @@ pub record IsKept (es : Entries) (next : ℕ) (at : Class → ℕ → Option ℕ
   pub counted : (u : Bool) → count_in u turns_of ≡ sum_by (turns u) (values_of es)
   pub room : (u : Bool) → length es ≤ room_in u turns_of
 
+-- the messages, in their order
+abbrev pub listed : Stamped → List Waiting
+listed s = values_of s.messages.entries
+
+abbrev pub listed_without : ℕ → Stamped → List Waiting
+listed_without stamp s = values_of (without stamp s.messages.entries)
+
+-- the message of a stamp
+abbrev pub message_at : Stamped → ℕ → Option Waiting
+message_at s stamp = look s.messages.entries stamp
+
+-- the stamp that stands at a class and a number
+abbrev pub stands : Class → ℕ → Stamped → Option ℕ
+stands class number s = stamp_at class number s.index.requests s.index.replies
+
 abbrev pub Keeps : Stamped → Type 0
 Keeps s = IsKept s.messages.entries s.next (λ c n. stamp_at c n s.index.requests s.index.replies) s.ready
 
@@ -49,3 +61,9 @@ pub record IsNext (turn : Turn) (s : Stamped) : Type 0 where
   pub lowest : IsLowest turn.stamp (stamps_in turn.urgent s.ready)
   pub may : may_send message ≡ true
   pub first : chosen (values_of s.messages.entries) ≡ Some (message, values_of (without turn.stamp s.messages.entries))
+
+-- The next frame of a message was put at the end and taken into the checksum, also that of all bytes that were sent before.
+pub record Writes (w : Waiting) (before after : ℕ) (old new : List ℕ) : Type 0 where
+  pub frame : new ≡ old ++ spelling (value_after before (first_piece w)) (first_piece w)
+  pub value : after ≡ value_after before (first_piece w)
+  pub sent : (sent : List ℕ) → before ≡ checksum sent → WritesAfter sent old new (first_piece w) × (after ≡ checksum (sent_after sent (first_piece w)))

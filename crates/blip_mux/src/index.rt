@@ -1,6 +1,6 @@
 //! The stamps of messages, by their classes and numbers.
 
-ghost use Rattle.std.specs.Prelude.{◌≡◌, cond, ℕ, Some, None, OnOk, OnErr};
+ghost use Rattle.std.specs.Prelude.{◌≡◌, if◌then◌else◌, ℕ, Some, None, OnOk, OnErr};
 ghost use Rattle.blip_mux.specs.declared.class.Class.{Class as AClass};
 ghost use Rattle.blip_mux.specs.Class.{stamp_at, is_same};
 
@@ -39,10 +39,15 @@ impl Index {
     /// Puts the stamp of a message, in the place of the one that it had. Takes no memory where it had
     /// one.
     pub(crate) fn put(&mut self, class: Class, number: u64, stamp: u64) -> Result<(), AllocError>
-        ensures ok { OnOk result ((c : AClass) (n : ℕ) → stamp_at c n self.new.requests self.new.replies
-            ≡ cond (is_same class number c n) (Some stamp) (stamp_at c n self.old.requests self.old.replies)) }
-        ensures err { OnErr result ((c : AClass) (n : ℕ) → stamp_at c n self.new.requests self.new.replies ≡ stamp_at c n self.old.requests self.old.replies) }
-        ensures absent { OnErr result (stamp_at class number self.old.requests self.old.replies ≡ None) }
+        ensures ok { OnOk result ((c : AClass) (n : ℕ)
+            → stamp_at c n self.new.requests self.new.replies
+            ≡ (if is_same class number c n then Some stamp
+            else stamp_at c n self.old.requests self.old.replies)) }
+        ensures err { OnErr result ((c : AClass) (n : ℕ)
+            → stamp_at c n self.new.requests self.new.replies
+            ≡ stamp_at c n self.old.requests self.old.replies) }
+        ensures absent { OnErr result
+            (stamp_at class number self.old.requests self.old.replies ≡ None) }
     {
         match class {
             Class::Request => self.requests.insert(number, stamp)?,
@@ -54,7 +59,8 @@ impl Index {
     /// Takes the stamp of a message away.
     pub(crate) fn remove(&mut self, class: Class, number: u64)
         ensures { (c : AClass) (n : ℕ) → stamp_at c n self.new.requests self.new.replies
-            ≡ cond (is_same class number c n) None (stamp_at c n self.old.requests self.old.replies) }
+            ≡ (if is_same class number c n then None
+            else stamp_at c n self.old.requests self.old.replies) }
     {
         match class {
             Class::Request => self.requests.remove(&number),

@@ -68,8 +68,10 @@ impl Ready {
     /// Puts a message, for which there is room.
     pub(crate) fn put(&mut self, turn: Turn)
         requires { count_in turn.urgent self.old < room_in turn.urgent self.old }
-        ensures times { (u : Bool) (q : ℕ) → times q (stamps_in u self.new) ≡ cond (same_flag turn.urgent u && turn.stamp == q) 1 0 + times q (stamps_in u self.old) }
-        ensures count { (u : Bool) → count_in u self.new ≡ cond (same_flag turn.urgent u) 1 0 + count_in u self.old }
+        ensures times { (u : Bool) (q : ℕ) → times q (stamps_in u self.new)
+            ≡ cond (same_flag turn.urgent u && turn.stamp == q) 1 0 + times q (stamps_in u self.old) }
+        ensures count { (u : Bool) → count_in u self.new
+            ≡ cond (same_flag turn.urgent u) 1 0 + count_in u self.old }
         ensures room { (u : Bool) → room_in u self.old ≤ room_in u self.new }
     {
         if turn.urgent {
@@ -83,8 +85,10 @@ impl Ready {
     pub(crate) fn put_if(&mut self, may_send: bool, turn: Turn)
         requires { count_in turn.urgent self.old < room_in turn.urgent self.old }
         ensures times { (u : Bool) (q : ℕ) → times q (stamps_in u self.new)
-            ≡ cond ((same_flag turn.urgent u && may_send) && turn.stamp == q) 1 0 + times q (stamps_in u self.old) }
-        ensures count { (u : Bool) → count_in u self.new ≡ cond (same_flag turn.urgent u && may_send) 1 0 + count_in u self.old }
+            ≡ cond ((same_flag turn.urgent u && may_send) && turn.stamp == q) 1 0
+            + times q (stamps_in u self.old) }
+        ensures count { (u : Bool) → count_in u self.new
+            ≡ cond (same_flag turn.urgent u && may_send) 1 0 + count_in u self.old }
         ensures room { (u : Bool) → room_in u self.old ≤ room_in u self.new }
     {
         if may_send {
@@ -95,8 +99,10 @@ impl Ready {
     /// Takes a message away that is the first of the urgent ones, or of the others.
     pub(crate) fn drop_first(&mut self, turn: Turn)
         requires { IsLowest turn.stamp (stamps_in turn.urgent self.old) }
-        ensures times { (u : Bool) (q : ℕ) → times q (stamps_in u self.new) + cond (same_flag turn.urgent u && turn.stamp == q) 1 0 ≡ times q (stamps_in u self.old) }
-        ensures count { (u : Bool) → count_in u self.new + cond (same_flag turn.urgent u) 1 0 ≡ count_in u self.old }
+        ensures times { (u : Bool) (q : ℕ) → times q (stamps_in u self.new)
+            + cond (same_flag turn.urgent u && turn.stamp == q) 1 0 ≡ times q (stamps_in u self.old) }
+        ensures count { (u : Bool) → count_in u self.new
+            + cond (same_flag turn.urgent u) 1 0 ≡ count_in u self.old }
         ensures room { (u : Bool) → room_in u self.new ≡ room_in u self.old }
     {
         if turn.urgent {

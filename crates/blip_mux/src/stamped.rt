@@ -1,13 +1,10 @@
 //! The messages that wait, by their stamps.
 
-ghost use Rattle.std.specs.Prelude.{◌≡◌, ◌∷◌, ◌++◌, ◌≤◌, ◌&&◌, not, cond, [], true, Some, None, List, ℕ, IsSome, IfSome, IfNone, OnOk, OnErr, option_map};
-ghost use Rattle.std.specs.Map.{values_of, set_value};
-ghost use Rattle.std.specs.BTreeMap.{IsOrdered, is_at};
+ghost use Rattle.std.specs.Prelude.{◌≡◌, ◌∷◌, ◌++◌, ◌≤◌, ◌&&◌, not, if◌then◌else◌, [], true, Some, None, List, ℕ, IsSome, IfSome, IfNone, OnOk, OnErr, option_map};
+ghost use Rattle.std.specs.BTreeMap.{IsOrdered};
 ghost use Rattle.std.specs.Ordering.{nat_cmp};
-ghost use Rattle.blip_frame.specs.Checksum.{checksum};
-ghost use Rattle.blip_frame.specs.Frame.{spelling, sent_after, value_after, WritesAfter};
-ghost use Rattle.blip_mux.specs.Entries.{look};
-ghost use Rattle.blip_mux.specs.Sending.{chosen, first_piece, without_piece, has_more, may_send, heard};
+ghost use Rattle.blip_mux.specs.Entries.{look, with_message};
+ghost use Rattle.blip_mux.specs.Sending.{chosen, without_piece, has_more, may_send, heard};
 
 use crate::class::Class;
 use crate::index::Index;
@@ -29,8 +26,8 @@ pub(crate) struct Stamped {
 }
 
 impl Stamped {
-    ghost use Rattle.blip_mux.specs.Class.{class_of, stamp_at};
-    ghost use Rattle.blip_mux.specs.Stamped.{without, Keeps, IsNext};
+    ghost use Rattle.blip_mux.specs.Class.{class_of};
+    ghost use Rattle.blip_mux.specs.Stamped.{listed, listed_without, message_at, stands, Keeps, IsNext, Writes};
 
     /// No messages. Takes no memory.
     pub(crate) fn new(alloc: Global) -> Stamped
@@ -48,7 +45,7 @@ impl Stamped {
 
     /// The stamp of a message.
     pub(crate) fn stamp_of(&self, class: Class, number: u64) -> Option<u64>
-        ensures { result ≡ stamp_at class number self.now.index.requests self.now.index.replies }
+        ensures { result ≡ stands class number self.now }
     {
         self.index.get(class, number)
     }
@@ -57,7 +54,7 @@ impl Stamped {
     pub(crate) fn next_turn(&self) -> Option<Turn>
         requires { Keeps self.now }
         ensures some { IfSome result (λ turn. IsNext turn self.now) }
-        ensures none { IfNone result (chosen (values_of self.now.messages.entries) ≡ None) }
+        ensures none { IfNone result (chosen (listed self.now) ≡ None) }
     {
         self.ready.first()
     }
@@ -65,7 +62,7 @@ impl Stamped {
     /// A stamp above those of all messages. They begin at 0 again where no message waits.
     fn last_stamp(&self) -> u64
         requires { Keeps self.now }
-        ensures { (q : ℕ) → result ≤ q → look self.now.messages.entries q ≡ None }
+        ensures { (q : ℕ) → result ≤ q → message_at self.now q ≡ None }
     {
         if self.messages.is_empty() {
             0
@@ -77,9 +74,9 @@ impl Stamped {
     /// Puts a message last. Refuses, as at want of memory, where the last stamp of all is reached.
     pub(crate) fn push(&mut self, message: WaitingMessage) -> Result<(), AllocError>
         requires keeps { Keeps self.old }
-        requires alone { stamp_at (class_of message.kind) message.number self.old.index.requests self.old.index.replies ≡ None }
+        requires alone { stands (class_of message.kind) message.number self.old ≡ None }
         ensures keeps { Keeps self.new }
-        ensures ok { OnOk result (values_of self.new.messages.entries ≡ values_of self.old.messages.entries ++ message ∷ []) }
+        ensures ok { OnOk result (listed self.new ≡ listed self.old ++ message ∷ []) }
         ensures err { OnErr result (self.new.messages.entries ≡ self.old.messages.entries) }
     {
         let stamp = self.last_stamp();
@@ -107,18 +104,16 @@ impl Stamped {
     /// Whether more of a message is left than one frame carries.
     pub(crate) fn has_more(&self, turn: Turn) -> bool
         requires { IsNext turn self.now }
-        ensures { IfSome (look self.now.messages.entries turn.stamp) (λ w. result ≡ has_more w) }
+        ensures { IfSome (message_at self.now turn.stamp) (λ w. result ≡ has_more w) }
     {
         self.messages[&turn.stamp].has_more()
     }
 
     /// Writes the next frame of the message of a stamp.
     fn write(&self, stamp: u64, crc: &mut Crc, out: &mut Bytes) -> Result<(), Memory>
-        requires { IsSome (look self.now.messages.entries stamp) }
-        ensures ok { IfSome (look self.now.messages.entries stamp) (λ w. OnOk result (out.new ≡ out.old ++ spelling (value_after crc.old.value (first_piece w)) (first_piece w))) }
-        ensures value { IfSome (look self.now.messages.entries stamp) (λ w. OnOk result (crc.new.value ≡ value_after crc.old.value (first_piece w))) }
-        ensures sent { IfSome (look self.now.messages.entries stamp) (λ w. (sent : List ℕ) → crc.old.value ≡ checksum sent
-            → OnOk result (WritesAfter sent out.old out.new (first_piece w) × (crc.new.value ≡ checksum (sent_after sent (first_piece w))))) }
+        requires { IsSome (message_at self.now stamp) }
+        ensures wrote { IfSome (message_at self.now stamp)
+            (λ w. OnOk result (Writes w crc.old.value crc.new.value out.old out.new)) }
         ensures err { OnErr result ((crc.new ≡ crc.old) × (out.new ≡ out.old)) }
     {
         let frame = self.messages[&stamp].next_frame();
@@ -135,12 +130,11 @@ impl Stamped {
         requires keeps { Keeps self.old }
         requires next { IsNext turn self.old }
         ensures keeps { Keeps self.new }
-        ensures after { OnOk result (values_of self.new.messages.entries ≡ values_of (without turn.stamp self.old.messages.entries)) }
-        ensures ok { IfSome (look self.old.messages.entries turn.stamp) (λ w. OnOk result (out.new ≡ out.old ++ spelling (value_after crc.old.value (first_piece w)) (first_piece w))) }
-        ensures value { IfSome (look self.old.messages.entries turn.stamp) (λ w. OnOk result (crc.new.value ≡ value_after crc.old.value (first_piece w))) }
-        ensures sent { IfSome (look self.old.messages.entries turn.stamp) (λ w. (sent : List ℕ) → crc.old.value ≡ checksum sent
-            → OnOk result (WritesAfter sent out.old out.new (first_piece w) × (crc.new.value ≡ checksum (sent_after sent (first_piece w))))) }
-        ensures err { OnErr result ((self.new.messages.entries ≡ self.old.messages.entries) × (crc.new ≡ crc.old) × (out.new ≡ out.old)) }
+        ensures after { OnOk result (listed self.new ≡ listed_without turn.stamp self.old) }
+        ensures wrote { IfSome (message_at self.old turn.stamp)
+            (λ w. OnOk result (Writes w crc.old.value crc.new.value out.old out.new)) }
+        ensures err { OnErr result ((self.new.messages.entries ≡ self.old.messages.entries)
+            × (crc.new ≡ crc.old) × (out.new ≡ out.old)) }
     {
         self.write(turn.stamp, crc, out)?;
         let message = self.messages.remove(&turn.stamp).unwrap();
@@ -160,14 +154,14 @@ impl Stamped {
     ) -> Result<(), Memory>
         requires keeps { Keeps self.old }
         requires next { IsNext turn self.old }
-        requires more { IfSome (look self.old.messages.entries turn.stamp) (λ w. has_more w ≡ true) }
+        requires more { IfSome (message_at self.old turn.stamp) (λ w. has_more w ≡ true) }
         ensures keeps { Keeps self.new }
-        ensures after { IfSome (look self.old.messages.entries turn.stamp) (λ w. OnOk result (values_of self.new.messages.entries ≡ values_of (without turn.stamp self.old.messages.entries) ++ without_piece w ∷ [])) }
-        ensures ok { IfSome (look self.old.messages.entries turn.stamp) (λ w. OnOk result (out.new ≡ out.old ++ spelling (value_after crc.old.value (first_piece w)) (first_piece w))) }
-        ensures value { IfSome (look self.old.messages.entries turn.stamp) (λ w. OnOk result (crc.new.value ≡ value_after crc.old.value (first_piece w))) }
-        ensures sent { IfSome (look self.old.messages.entries turn.stamp) (λ w. (sent : List ℕ) → crc.old.value ≡ checksum sent
-            → OnOk result (WritesAfter sent out.old out.new (first_piece w) × (crc.new.value ≡ checksum (sent_after sent (first_piece w))))) }
-        ensures err { OnErr result ((self.new.messages.entries ≡ self.old.messages.entries) × (crc.new ≡ crc.old) × (out.new ≡ out.old)) }
+        ensures after { IfSome (message_at self.old turn.stamp)
+            (λ w. OnOk result (listed self.new ≡ listed_without turn.stamp self.old ++ without_piece w ∷ [])) }
+        ensures wrote { IfSome (message_at self.old turn.stamp)
+            (λ w. OnOk result (Writes w crc.old.value crc.new.value out.old out.new)) }
+        ensures err { OnErr result ((self.new.messages.entries ≡ self.old.messages.entries)
+            × (crc.new ≡ crc.old) × (out.new ≡ out.old)) }
     {
         let stamp = self.next;
         let Some(after) = stamp.checked_add(1) else {
@@ -196,8 +190,9 @@ impl Stamped {
     /// How many bytes were sent of a message, where it waits.
     pub(crate) fn sent_of(&self, class: Class, number: u64) -> Option<u64>
         requires { Keeps self.now }
-        ensures none { stamp_at class number self.now.index.requests self.now.index.replies ≡ None → result ≡ None }
-        ensures some { (q : ℕ) → stamp_at class number self.now.index.requests self.now.index.replies ≡ Some q → result ≡ option_map (λ w. w.sent) (look self.now.messages.entries q) }
+        ensures none { stands class number self.now ≡ None → result ≡ None }
+        ensures some { (q : ℕ) → stands class number self.now ≡ Some q
+            → result ≡ option_map (λ w. w.sent) (message_at self.now q) }
     {
         let stamp = self.index.get(class, number)?;
         Some(self.messages.get(&stamp)?.sent())
@@ -206,11 +201,13 @@ impl Stamped {
     /// Notes that so many bytes of a message have come, of those that were sent.
     pub(crate) fn heard(&mut self, class: Class, number: u64, bytes: u64)
         requires keeps { Keeps self.old }
-        requires sent { (q : ℕ) → stamp_at class number self.old.index.requests self.old.index.replies ≡ Some q → IfSome (look self.old.messages.entries q) (λ w. bytes ≤ w.sent) }
+        requires sent { (q : ℕ) → stands class number self.old ≡ Some q
+            → IfSome (message_at self.old q) (λ w. bytes ≤ w.sent) }
         ensures keeps { Keeps self.new }
-        ensures none { stamp_at class number self.old.index.requests self.old.index.replies ≡ None → self.new.messages.entries ≡ self.old.messages.entries }
-        ensures some { (q : ℕ) → stamp_at class number self.old.index.requests self.old.index.replies ≡ Some q
-            → IfSome (look self.old.messages.entries q) (λ w. self.new.messages.entries ≡ set_value (is_at (nat_cmp q)) self.old.messages.entries (heard bytes w)) }
+        ensures none { stands class number self.old ≡ None
+            → self.new.messages.entries ≡ self.old.messages.entries }
+        ensures some { (q : ℕ) → stands class number self.old ≡ Some q
+            → IfSome (message_at self.old q) (λ w. self.new.messages.entries ≡ with_message q self.old.messages.entries (heard bytes w)) }
     {
         let Some(stamp) = self.index.get(class, number) else {
             return;
@@ -225,8 +222,11 @@ impl Stamped {
 /// again, if it paused.
 fn hear(messages: &mut BTreeMap<u64, WaitingMessage>, stamp: u64, bytes: u64) -> Option<Turn>
     requires { IfSome (look messages.old.entries stamp) (λ w. bytes ≤ w.sent) }
-    ensures set { IfSome (look messages.old.entries stamp) (λ w. messages.new.entries ≡ set_value (is_at (nat_cmp stamp)) messages.old.entries (heard bytes w)) }
-    ensures turn { IfSome (look messages.old.entries stamp) (λ w. result ≡ cond (not (may_send w) && may_send (heard bytes w)) (Some (record { urgent = w.urgent; stamp = stamp })) None) }
+    ensures set { IfSome (look messages.old.entries stamp)
+        (λ w. messages.new.entries ≡ with_message stamp messages.old.entries (heard bytes w)) }
+    ensures turn { IfSome (look messages.old.entries stamp)
+        (λ w. result ≡ (if not (may_send w) && may_send (heard bytes w)
+        then Some (record { urgent = w.urgent; stamp = stamp }) else None)) }
     ensures ordered { IsOrdered nat_cmp messages.new }
 {
     let message = messages.get_mut(&stamp)?;

@@ -1,10 +1,9 @@
 //! The stamps of the messages that may send, the lowest first.
 
-ghost use Rattle.std.specs.Prelude.{◌≡◌, ◌+◌, ◌<◌, ◌≤◌, cond, ℕ, IfSome, IfNone, OnOk};
+ghost use Rattle.std.specs.Prelude.{◌≡◌, ◌==◌, ◌+◌, ◌<◌, ◌≤◌, cond, ℕ, IfSome, IfNone, OnOk};
 ghost use Rattle.std.specs.BinaryHeap.{IsHeap, heap_items, heap_len, heap_capacity};
 ghost use Rattle.std.specs.Ordering.{nat_cmp};
 ghost use Rattle.std.proofs.Props.{props};
-ghost use Rattle.std.proofs.Common.{eqb};
 ghost use Rattle.blip_mux.specs.Stamps.{times, IsLowest};
 
 use std::alloc::{AllocError, Global};
@@ -54,7 +53,8 @@ impl Stamps {
     /// Puts a stamp, for which there is room.
     pub(crate) fn put(&mut self, stamp: u64)
         requires { heap_len self.old.heap < heap_capacity self.old.heap }
-        ensures times { (q : ℕ) → times q (heap_items self.new.heap) ≡ cond (eqb stamp q) 1 0 + times q (heap_items self.old.heap) }
+        ensures times { (q : ℕ) → times q (heap_items self.new.heap)
+            ≡ cond (stamp == q) 1 0 + times q (heap_items self.old.heap) }
         ensures len { heap_len self.new.heap ≡ heap_len self.old.heap + 1 }
         ensures room { heap_capacity self.old.heap ≤ heap_capacity self.new.heap }
     {
@@ -64,7 +64,8 @@ impl Stamps {
     /// Takes the lowest stamp away.
     pub(crate) fn drop_lowest(&mut self, stamp: u64)
         requires { IsLowest stamp (heap_items self.old.heap) }
-        ensures times { (q : ℕ) → times q (heap_items self.new.heap) + cond (eqb stamp q) 1 0 ≡ times q (heap_items self.old.heap) }
+        ensures times { (q : ℕ) → times q (heap_items self.new.heap)
+            + cond (stamp == q) 1 0 ≡ times q (heap_items self.old.heap) }
         ensures len { heap_len self.new.heap + 1 ≡ heap_len self.old.heap }
         ensures room { heap_capacity self.new.heap ≡ heap_capacity self.old.heap }
     {
