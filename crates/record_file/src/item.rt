@@ -91,7 +91,8 @@ impl Items {
     /// The wire in memory that gives these one after another, and then its end. No frame is copied; at want of memory
     /// the items are let go.
     pub fn into_wire(self, alloc: Global) -> Result<MemWire, Memory>
-        ensures { IfOk result (λ w. ⟦<MemWire as Wire>⟧.told w ≡ Some (traffic (texts.results_of self) 0 [] [])) }
+        ensures { IfOk result
+            (λ w. ⟦<MemWire as Wire>⟧.told w ≡ Some (traffic (texts.results_of self) 0 [] [])) }
     {
         let inputs = inputs_of(alloc, self.items)?;
         Ok(MemWire::new(alloc, inputs))

@@ -14,7 +14,8 @@ use std::alloc::Global;
 /// Reads a frame: at least one byte, in lower-case hexadecimal.
 fn read_frame(alloc: Global, line: &[u8]) -> Result<Bytes, LineFault>
     ensures ok { IfOk result (λ frame. (line.now ≡ hex_text frame) × IsTrue (is_hex line.now)) }
-    ensures fault { MatchResult result (λ _. frame_fault line.now ≡ None) (TellsWhy (frame_fault line.now)) }
+    ensures fault { MatchResult result
+        (λ _. frame_fault line.now ≡ None) (TellsWhy (frame_fault line.now)) }
 {
     sg_history::field::read(alloc, line, 1)
 }
@@ -22,7 +23,8 @@ fn read_frame(alloc: Global, line: &[u8]) -> Result<Bytes, LineFault>
 /// Reads a line of what the wire gave, without its line feed.
 pub fn read_item(alloc: Global, line: &[u8]) -> Result<Item, LineFault>
     ensures ok { IfOk result (λ item. (line.now ≡ item_text item) × IsTrue (is_item item)) }
-    ensures fault { MatchResult result (λ _. item_fault line.now ≡ None) (TellsWhy (item_fault line.now)) }
+    ensures fault { MatchResult result
+        (λ _. item_fault line.now ≡ None) (TellsWhy (item_fault line.now)) }
 {
     if cut(line, b'\t').is_some() {
         return Err(LineFault::Bad(Why::Fields));

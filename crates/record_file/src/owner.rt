@@ -21,7 +21,8 @@ pub struct Owner {
 /// Reads the user's name.
 fn read_name(alloc: Global, field: &[u8]) -> Result<Name, LineFault>
     ensures ok { IfOk result (λ name. (name ≡ field.now) × IsTrue (is_name name) × IsUtf8 name) }
-    ensures fault { MatchResult result (λ _. name_fault field.now ≡ None) (TellsWhy (name_fault field.now)) }
+    ensures fault { MatchResult result
+        (λ _. name_fault field.now ≡ None) (TellsWhy (name_fault field.now)) }
 {
     sg_history::field::read(alloc, field, 2)
 }

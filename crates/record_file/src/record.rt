@@ -70,7 +70,8 @@ fn read_items(alloc: Global, lines: &[u8]) -> Result<Items, ReadLog>
 
 /// Reads the lines after the header.
 fn read_lines(alloc: Global, lines: &[u8]) -> Result<Recorded, ReadLog>
-    ensures ok { IfOk result (λ r. lines.now ≡ owner_text r.user r.version ++ 10 ∷ items_text r.items) }
+    ensures ok { IfOk result
+        (λ r. lines.now ≡ owner_text r.user r.version ++ 10 ∷ items_text r.items) }
     ensures user { IfOk result (λ r. IsTrue (is_name r.user) × IsUtf8 r.user) }
     ensures items { IfOk result (λ r. IsTrue (list_all (λ i. is_item i) r.items)) }
     ensures line { MatchResult result (λ _. bad_owner (pieces 10 lines.now) ≡ None)
@@ -110,7 +111,8 @@ fn fault_of_header(line: &[u8]) -> Why
 pub fn read_record(alloc: Global, bytes: &[u8]) -> Result<Recorded, ReadLog>
     ensures ok { IfOk result (λ r. Spells bytes.now r) }
     ensures bad { IfErr result (λ e. RefusesLog e ((r : Recorded) → ¬ (Spells bytes.now r))) }
-    ensures line { MatchResult result (λ _. bad_line bytes.now ≡ None) (Tells (bad_line bytes.now)) }
+    ensures line { MatchResult result
+        (λ _. bad_line bytes.now ≡ None) (Tells (bad_line bytes.now)) }
 {
     let Some((first, lines)) = cut(bytes, b'\n') else {
         return Err(bad(1, fault_of_header(bytes)));
