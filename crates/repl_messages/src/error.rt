@@ -144,13 +144,13 @@ fn write_checkpoint(current: u64, out: &mut Bytes) -> Result<(), Memory>
 }
 
 /// The empty reply. Takes no memory.
-pub fn write_ok(alloc: Global) -> Result<Payload, Memory>
-    ensures { IfOk result (λ payload. payload ≡ ok_payload) }
+pub fn write_ok(alloc: Global) -> Payload
+    ensures { result ≡ ok_payload }
 {
-    Ok(Payload {
+    Payload {
         props: Props::new(alloc),
         body: Bytes::new(alloc),
-    })
+    }
 }
 
 /// The reply that says why a request is refused: domain and code as properties, and words as body.

@@ -47,7 +47,7 @@ pub(crate) fn refuse(alloc: Global, asker: Asker, error: ErrorKind) -> Result<Ve
 pub(crate) fn accept(alloc: Global, asker: Asker) -> Result<Vec<Act>, Memory>
     ensures { IfOk result (λ acts. acts.items ≡ reply_act asker Kind.Rpy ok_payload) }
 {
-    reply(alloc, asker, Kind::Rpy, write_ok(alloc)?)
+    reply(alloc, asker, Kind::Rpy, write_ok(alloc))
 }
 
 /// The error by which a message that is no known request is refused.

@@ -443,7 +443,7 @@ fn revisions(rt: HostRuntime) -> Result<(), Fail> {
 #[test]
 fn plain_replies(rt: HostRuntime) -> Result<(), Fail> {
     let alloc = rt.alloc();
-    assert!(rt; payload_text(alloc, &write_ok(alloc)?)?.is_empty());
+    assert!(rt; payload_text(alloc, &write_ok(alloc))?.is_empty());
     let text = payload_text(alloc, &write_checkpoint(alloc, 1, b"{\"a\":1}")?)?;
     assert!(rt; text.as_slice() == b"rev=0-1&{\"a\":1}".as_slice());
     Ok(())
