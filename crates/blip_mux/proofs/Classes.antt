@@ -1,11 +1,13 @@
 -- Kinds, and the two classes of messages.
-use Rattle.std.proofs.Common.{◌≡◌, ℕ, zero, suc, true, false, eqb, refl, sym, ap, ◌∙◌}
+use Rattle.std.proofs.Common.{◌≡◌, ℕ, zero, suc, true, false, eqb, refl, sym, ap, ◌∙◌, ◌⊎◌, inl, inr}
 use Rattle.std.specs.Prelude.{not}
 use Rattle.std.proofs.lemmas.Bool.{eqb-true}
 use Rattle.blip_frame.specs.Frame.{kind_number, has_checksum}
 use Rattle.blip_frame.specs.declared.frame.Kind.{Kind}
 use Rattle.blip_frame.specs.declared.frame.Kind.TheVariants as kinds
 use Rattle.blip_mux.specs.Joining.{is_request, is_reply}
+use Rattle.blip_mux.specs.Class.{class_of}
+use Rattle.blip_mux.specs.declared.class.Class.TheVariants as classes
 
 -- the kind of a number
 abbrev kind_of : ℕ → Kind
@@ -48,3 +50,11 @@ other_class kinds.Rpy e = refl
 other_class kinds.Err e = refl
 other_class kinds.AckMsg e = absurd cc
 other_class kinds.AckRpy e = absurd cc
+
+-- the class of a message's kind
+pub of_class : (k : Kind) → has_checksum k ≡ true → (class_of k ≡ classes.Request) × (is_request k ≡ true) × (is_reply k ≡ false) ⊎ (class_of k ≡ classes.Reply) × (is_request k ≡ false) × (is_reply k ≡ true)
+of_class kinds.Msg e = inl (refl, refl, refl)
+of_class kinds.Rpy e = inr (refl, refl, refl)
+of_class kinds.Err e = inr (refl, refl, refl)
+of_class kinds.AckMsg e = absurd cc
+of_class kinds.AckRpy e = absurd cc

@@ -8,6 +8,7 @@ ghost use Rattle.blip_frame.specs.Varint.{number_at};
 ghost use Rattle.blip_mux.specs.Joining.{begun_or, given_by, may_begin, may_come, acknowledged, count_in};
 ghost use Rattle.blip_mux.specs.Standing.{new_standing, expecting, so_far_at, answer_at, taken_after};
 
+use crate::class::{Class, class_of};
 use crate::message::Message;
 use crate::numbers::Numbers;
 use crate::parts::Parts;
@@ -122,24 +123,25 @@ impl Inbox {
     }
 
     /// The kind of the message that a frame is part of.
+    #[tactic(auto, using(crate::proofs::Classes::of_class))]
     fn begun_kind(&self, frame: &Frame<'_>) -> Option<Kind>
+        requires { has_checksum frame.now.kind ≡ true }
         ensures { result ≡ option_map (λ b. b.kind) (so_far_at self.now (parts_of frame.now)) }
     {
-        match frame.kind {
-            Kind::Msg => self.requests_begun.kind_of(frame.number),
-            Kind::Rpy | Kind::Err | Kind::AckMsg | Kind::AckRpy => {
-                self.replies_begun.kind_of(frame.number)
-            }
+        match class_of(frame.kind) {
+            Class::Request => self.requests_begun.kind_of(frame.number),
+            Class::Reply => self.replies_begun.kind_of(frame.number),
         }
     }
 
+    #[tactic(auto, using(crate::proofs::Classes::of_class))]
     fn may_begin(&self, frame: &Frame<'_>) -> bool
+        requires { has_checksum frame.now.kind ≡ true }
         ensures { result ≡ may_begin self.now.requests (set.contains self.now.expected frame.now.number) (parts_of frame.now) }
     {
-        match frame.kind {
-            Kind::Msg => self.requests.checked_add(1) == Some(frame.number),
-            Kind::Rpy | Kind::Err => self.expected.contains(frame.number),
-            Kind::AckMsg | Kind::AckRpy => false,
+        match class_of(frame.kind) {
+            Class::Request => self.requests.checked_add(1) == Some(frame.number),
+            Class::Reply => self.expected.contains(frame.number),
         }
     }
 

@@ -5,6 +5,7 @@ ghost use Rattle.blip_frame.specs.Frame.{parts_of};
 ghost use Rattle.blip_frame.specs.Payload.{payload_at};
 ghost use Rattle.blip_mux.specs.Joining.{begun_by, with_frame, part_by, message_by, with_fault, acknowledges, acknowledge_after};
 
+use crate::class::{Class, class_of};
 use crate::inbox::{TakeFault, Taken};
 use crate::message::Message;
 use blip_frame::{Frame, Kind, Payload, PayloadFault, read_payload, take_payload};
@@ -165,8 +166,8 @@ fn fault_of(fault: PayloadFault) -> TakeFault
 fn acknowledges(kind: Kind) -> Kind
     ensures { result ≡ acknowledges kind }
 {
-    match kind {
-        Kind::Msg | Kind::AckMsg => Kind::AckMsg,
-        Kind::Rpy | Kind::Err | Kind::AckRpy => Kind::AckRpy,
+    match class_of(kind) {
+        Class::Request => Kind::AckMsg,
+        Class::Reply => Kind::AckRpy,
     }
 }
