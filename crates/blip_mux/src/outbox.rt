@@ -39,6 +39,10 @@ pub struct BadAck {
 
 /// What waits to be sent in one direction. Contracts see how many requests and which replies were put,
 /// and the acknowledgements and messages that wait.
+///
+/// A message takes a stamp as it is put, and one more with each frame that leaves more of it. There are
+/// 2^64, anew whenever no message waits; where all are spent, what takes one answers as at want of
+/// memory.
 #[derive(Drop)]
 pub struct Outbox {
     alloc: Global,
