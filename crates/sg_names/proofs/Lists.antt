@@ -1,12 +1,14 @@
 -- lists by their texts
-use Rattle.std.proofs.Common.{◌≡◌, ◌≢◌, ℕ, ◌≤◌, Bool, true, false, not, List, [], ◌∷◌, ◌++◌, length, map, refl, sym, ap, ◌∙◌, arith, append_assoc, inl, inr, Ordering}
+use Rattle.std.proofs.Common.{◌≡◌, ◌≢◌, ℕ, Bool, true, false, not, ◌&&◌, List, [], ◌∷◌, ◌++◌, length, map, refl, sym, ap, ◌∙◌, arith, append_assoc, inl, inr, Ordering}
 use Rattle.std.specs.Prelude.{nat_eq}
 use Rattle.std.specs.List.{list_all, slice_split, onto_first, join_with_byte}
-use Rattle.std.proofs.lemmas.Bool.{and_parts, not_from_true, cases_Bool}
+use Rattle.std.proofs.lemmas.Bool.{and_parts, and_from, not_from_true, cases_Bool}
+use Rattle.std.proofs.lemmas.List.Folds.{list_all-append}
+use Rattle.std.specs.Ordering.{is_lt}
 use Rattle.std.proofs.lemmas.List.{map-append}
 use Rattle.std.proofs.lemmas.List.Splits.{slice_split-cons_yes, slice_split-cons_no, join_with_byte-slice_split, length-slice_split}
 use Rattle.sg_names.specs.Grammar.{lacks}
-use Rattle.sg_names.specs.ItemList.{list_text, rises, AreApart}
+use Rattle.sg_names.specs.ItemList.{list_text, rises, AreApart, HasItem, HasItems, StartsWith}
 
 abbrev pub is_comma : ℕ → Bool
 is_comma b = nat_eq b 44
@@ -81,12 +83,6 @@ pub parts_from_list : {X : Type 0} (text : X → List ℕ) (admits : X → Bool)
 parts_from_list text admits apart whole [] other h e = absurd (other e)
 parts_from_list text admits apart whole (x ∷ xs) other h e = ap (slice_split is_comma) e ∙ split_joined text admits apart x xs h
 
--- an item whose text is the part
-pub record HasItem {X : Type 0} (text : X → List ℕ) (admits : X → Bool) (part : List ℕ) : Type 0 where
-  pub item : X
-  pub admitted : admits item ≡ true
-  pub spelled : part ≡ text item
-
 item_behind : {X : Type 0} (text : X → List ℕ) (admits : X → Bool) (before : List X) (part : List ℕ) (others : List (List ℕ)) (xs : List X)
     → map text before ++ part ∷ others ≡ map text xs → list_all admits xs ≡ true → HasItem text admits part
 item_behind text admits [] part others [] e h = absurd (cc (e))
@@ -128,8 +124,128 @@ parts_last text items more x whole rest so_far none spelled pushed =
     so_far ∙ ap (λ parts. map text items ++ parts) (split_whole rest none ∙ ap (λ p. p ∷ []) spelled)
     ∙ sym (ap (map text) pushed ∙ map-append text items (x ∷ []))
 
--- one item rises, and so does none
-pub rises_short : {X : Type 0} (order : X → X → Ordering) (xs : List X) → length xs ≤ 1 → rises order xs ≡ true
-rises_short order [] h = refl
-rises_short order (x ∷ []) h = refl
-rises_short order (x ∷ y ∷ more) h = absurd (omega arith)
+-- what stands before the rest of a text are parts, each the text of an item
+pub record Passed {X : Type 0} (text : X → List ℕ) (admits : X → Bool) (whole rest : List ℕ) : Type 0 where
+  pub items : List X
+  pub admitted : list_all admits items ≡ true
+  pub parts : slice_split is_comma whole ≡ map text items ++ slice_split is_comma rest
+
+pub passed_none : {X : Type 0} (text : X → List ℕ) (admits : X → Bool) (whole : List ℕ) → Passed text admits whole whole
+passed_none text admits whole = record { items = []; admitted = refl; parts = refl }
+
+all_with : {X : Type 0} (admits : X → Bool) (items : List X) (x : X) → list_all admits items ≡ true → admits x ≡ true → list_all admits (items ++ x ∷ []) ≡ true
+all_with admits items x h is = list_all-append admits items (x ∷ []) ∙ and_from _ _ h (and_from _ _ is refl)
+
+pub passed_more : {X : Type 0} (text : X → List ℕ) (admits : X → Bool) (whole rest part after : List ℕ) → Passed text admits whole rest
+    → rest ≡ part ++ 44 ∷ after → lacks 44 part ≡ true → HasItem text admits part → Passed text admits whole after
+passed_more text admits whole rest part after so_far cut first has = record {
+  items = so_far.items ++ has.item ∷ [];
+  admitted = all_with admits so_far.items has.item so_far.admitted has.admitted;
+  parts = parts_more text so_far.items (so_far.items ++ has.item ∷ []) has.item whole rest part after so_far.parts cut first has.spelled refl;
+}
+
+pub passed_all : {X : Type 0} (text : X → List ℕ) (admits : X → Bool) (whole rest : List ℕ) → Passed text admits whole rest
+    → lacks 44 rest ≡ true → HasItem text admits rest → HasItems text admits whole
+passed_all text admits whole rest so_far none has = record {
+  items = so_far.items ++ has.item ∷ [];
+  admitted = all_with admits so_far.items has.item so_far.admitted has.admitted;
+  parts = parts_last text so_far.items (so_far.items ++ has.item ∷ []) has.item whole rest so_far.parts none has.spelled refl;
+}
+
+-- a part that is no item's text is none of a list's
+pub no_next : {X : Type 0} (text : X → List ℕ) (admits : X → Bool) (whole rest part after : List ℕ) → Passed text admits whole rest
+    → rest ≡ part ++ 44 ∷ after → lacks 44 part ≡ true → ((x : X) → admits x ≡ true → part ≢ text x)
+    → (xs : List X) → list_all admits xs ≡ true → slice_split is_comma whole ≢ map text xs
+no_next text admits whole rest part after so_far cut first none xs h e =
+    let has = next_item text admits so_far.items whole rest part after xs so_far.parts cut first e h in
+    none has.item has.admitted has.spelled
+
+pub no_last : {X : Type 0} (text : X → List ℕ) (admits : X → Bool) (whole rest : List ℕ) → Passed text admits whole rest
+    → lacks 44 rest ≡ true → ((x : X) → admits x ≡ true → rest ≢ text x)
+    → (xs : List X) → list_all admits xs ≡ true → slice_split is_comma whole ≢ map text xs
+no_last text admits whole rest so_far lacking none xs h e =
+    let has = last_item text admits so_far.items whole rest xs so_far.parts lacking e h in
+    none has.item has.admitted has.spelled
+
+-- a text starts with its first part
+pub starts_cut : (whole part after : List ℕ) → whole ≡ part ++ 44 ∷ after → lacks 44 part ≡ true → StartsWith part whole
+starts_cut whole part after cut first = record { others = slice_split is_comma after; parts = ap (slice_split is_comma) cut ∙ split_front part after first }
+
+pub starts_whole : (whole : List ℕ) → lacks 44 whole ≡ true → StartsWith whole whole
+starts_whole whole none = record { others = []; parts = split_whole whole none }
+
+-- the rest of a text is what items of a list make, and the list rises exactly where they do
+pub record Behind {X : Type 0} (text : X → List ℕ) (admits : X → Bool) (order : X → X → Ordering) (xs : List X) (rest : List ℕ) : Type 0 where
+  pub items : List X
+  pub admitted : list_all admits items ≡ true
+  pub parts : slice_split is_comma rest ≡ map text items
+  pub same : rises order items ≡ rises order xs
+
+pub behind_none : {X : Type 0} (text : X → List ℕ) (admits : X → Bool) (order : X → X → Ordering) (xs : List X) (whole : List ℕ) → list_all admits xs ≡ true
+    → slice_split is_comma whole ≡ map text xs → Behind text admits order xs whole
+behind_none text admits order xs whole h e = record { items = xs; admitted = h; parts = e; same = refl }
+
+-- the first two items of the rest
+pub record Two {X : Type 0} (text : X → List ℕ) (admits : X → Bool) (items : List X) (part next : List ℕ) (behind : List (List ℕ)) : Type 0 where
+  pub first : X
+  pub second : X
+  pub more : List X
+  pub are : items ≡ first ∷ second ∷ more
+  pub first_admitted : admits first ≡ true
+  pub second_admitted : admits second ≡ true
+  pub first_spelled : part ≡ text first
+  pub second_spelled : next ≡ text second
+  pub others_admitted : list_all admits (second ∷ more) ≡ true
+  pub others_spelled : behind ≡ map text (second ∷ more)
+
+two_of : {X : Type 0} (text : X → List ℕ) (admits : X → Bool) (items : List X) (part next : List ℕ) (others : List (List ℕ)) → list_all admits items ≡ true
+    → part ∷ next ∷ others ≡ map text items → Two text admits items part next (next ∷ others)
+two_of text admits [] part next others h e = absurd (cc (e))
+two_of text admits (x ∷ []) part next others h e = absurd (cc (e))
+two_of text admits (x ∷ y ∷ more) part next others h e =
+    let outer = and_parts (admits x) (list_all admits (y ∷ more)) h in
+    let inner = and_parts (admits y) (list_all admits more) outer.1 in
+    record {
+      first = x;
+      second = y;
+      more = more;
+      are = refl;
+      first_admitted = outer.0;
+      second_admitted = inner.0;
+      first_spelled = cc;
+      second_spelled = cc;
+      others_admitted = outer.1;
+      others_spelled = cc;
+    }
+
+pub two_behind : {X : Type 0} (text : X → List ℕ) (admits : X → Bool) (order : X → X → Ordering) (xs : List X) (rest part after next : List ℕ) (b : Behind text admits order xs rest)
+    → rest ≡ part ++ 44 ∷ after → lacks 44 part ≡ true → (s : StartsWith next after) → Two text admits b.items part next (next ∷ s.others)
+two_behind text admits order xs rest part after next b cut first s =
+    two_of text admits b.items part next s.others b.admitted
+    (ap (λ others. part ∷ others) (sym s.parts) ∙ sym (split_front part after first) ∙ sym (ap (slice_split is_comma) cut) ∙ b.parts)
+
+-- two that don't rise
+pub falls_there : {X : Type 0} (text : X → List ℕ) (admits : X → Bool) (order : X → X → Ordering) (xs : List X) (rest part next : List ℕ) (others : List (List ℕ)) (b : Behind text admits order xs rest)
+    → (two : Two text admits b.items part next others) → is_lt (order two.first two.second) ≡ false → rises order xs ≡ false
+falls_there text admits order xs rest part next others b two falls =
+    sym b.same ∙ ap (rises order) two.are ∙ ap (λ (l : Bool). l && rises order (two.second ∷ two.more)) falls
+
+-- two that rise
+pub behind_more : {X : Type 0} (text : X → List ℕ) (admits : X → Bool) (order : X → X → Ordering) (xs : List X) (rest part after next : List ℕ) (b : Behind text admits order xs rest)
+    → (s : StartsWith next after) → (two : Two text admits b.items part next (next ∷ s.others)) → is_lt (order two.first two.second) ≡ true → Behind text admits order xs after
+behind_more text admits order xs rest part after next b s two rising = record {
+  items = two.second ∷ two.more;
+  admitted = two.others_admitted;
+  parts = s.parts ∙ two.others_spelled;
+  same = sym (ap (rises order) two.are ∙ ap (λ (l : Bool). l && rises order (two.second ∷ two.more)) rising) ∙ b.same;
+}
+
+-- the last item rises
+one_part : {X : Type 0} (text : X → List ℕ) (order : X → X → Ordering) (items : List X) (rest : List ℕ) → rest ∷ [] ≡ map text items → rises order items ≡ true
+one_part text order [] rest e = refl
+one_part text order (x ∷ []) rest e = refl
+one_part text order (x ∷ y ∷ more) rest e = absurd (cc (e))
+
+pub rises_there : {X : Type 0} (text : X → List ℕ) (admits : X → Bool) (order : X → X → Ordering) (xs : List X) (rest : List ℕ) → Behind text admits order xs rest
+    → lacks 44 rest ≡ true → rises order xs ≡ true
+rises_there text admits order xs rest b none = sym b.same ∙ one_part text order b.items rest (sym (split_whole rest none) ∙ b.parts)

@@ -90,6 +90,10 @@ impl Item for ChannelName {
 
     ghost admits = { λ n. is_channel_name n };
 
+    fn is_text(piece: &str) -> bool {
+        grammar::is_channel_name(piece.as_bytes())
+    }
+
     fn read(alloc: Global, piece: &str) -> Result<ChannelName, TextFault> {
         ChannelName::parse(alloc, piece)
     }
@@ -106,7 +110,7 @@ impl Item for ChannelName {
 impl Rising for ChannelName {
     ghost order = { slice_cmp nat_cmp };
 
-    fn compare(&self, other: &ChannelName) -> Ordering {
-        self.order(other)
+    fn compare_texts(one: &str, other: &str) -> Ordering {
+        one.as_bytes().cmp(other.as_bytes())
     }
 }

@@ -19,12 +19,11 @@ impl List<ChannelName> {
         ensures ok { IfOk result (λ l. (text.now ≡ channels_text l) × IsTrue (is_channels l)) }
         ensures bad { result ≡ Err TextFault.Bad → (l : List (List ℕ)) → IsTrue (is_channels l)
             → text.now ≢ channels_text l }
+        ensures outside { ((l : List (List ℕ)) → IsTrue (is_channels l)
+            → text.now ≢ channels_text l)
+            → result ≡ Err TextFault.Bad }
     {
-        let items = item_list::read_list(alloc, text)?;
-        if !item_list::rises(items.as_slice()) {
-            return Err(TextFault::Bad);
-        }
-        Ok(List::from_vec(items))
+        Ok(List::from_vec(item_list::read_rising(alloc, text)?))
     }
 
     /// Puts the text at the end. An error leaves the bytes as they were.

@@ -1,7 +1,10 @@
 //! Grants of channels.
 
-ghost use Rattle.std.specs.Prelude.{◌≡◌, ◌≢◌, ◌++◌, ◌∷◌, List, [], IsTrue, IfOk, OnOk, OnErr};
+ghost use Rattle.std.specs.Prelude.{◌≡◌, ◌≢◌, ◌++◌, ◌∷◌, List, [], true, false, IsTrue, IfOk, OnOk, OnErr};
 ghost use Rattle.std.specs.Ordering.{nat_cmp};
+ghost use Rattle.sg_names.specs.Grants as grants;
+ghost use Rattle.sg_names.specs.ItemList.{HasItem};
+ghost use Rattle.sg_names.specs.declared.grants.Grantee.{Grantee};
 ghost use Rattle.std.specs.Cmp.Lexicographic.{slice_cmp};
 
 use crate::channel_name::ChannelName;
@@ -64,6 +67,19 @@ impl Grantee {
             Grantee::User(name) => Ok(Grantee::User(name.copy(alloc)?)),
             Grantee::Role(name) => Ok(Grantee::Role(name.copy(alloc)?)),
         }
+    }
+}
+
+/// Whether a text is that of a grantee. Allocates nothing.
+fn is_grantee(text: &str) -> bool
+    ensures yes { result ≡ true
+        → HasItem (λ g. grants.grantee_text g) (λ g. grants.is_grantee g) text.now }
+    ensures no { result ≡ false → (g : Grantee) → grants.is_grantee g ≡ true
+        → text.now ≢ grants.grantee_text g }
+{
+    match pieces::cut(text, ':') {
+        None => grammar::is_name(text.as_bytes()),
+        Some((front, back)) => front == "role" && grammar::is_name(back.as_bytes()),
     }
 }
 
@@ -138,6 +154,13 @@ impl Item for Grant {
 
     ghost admits = { λ g. is_grant g };
 
+    fn is_text(piece: &str) -> bool {
+        let Some((front, back)) = pieces::cut(piece, '=') else {
+            return false;
+        };
+        is_grantee(front) && grammar::is_channel_name(back.as_bytes())
+    }
+
     fn read(alloc: Global, piece: &str) -> Result<Grant, TextFault> {
         Grant::parse(alloc, piece)
     }
@@ -156,8 +179,8 @@ impl Rising for Grant {
 
     ghost order = { λ a b. grant_cmp a b };
 
-    fn compare(&self, other: &Grant) -> Ordering {
-        self.order(other)
+    fn compare_texts(one: &str, other: &str) -> Ordering {
+        pieces::order_at_equals(one, other)
     }
 }
 
@@ -173,12 +196,10 @@ impl List<Grant> {
         ensures ok { IfOk result (λ l. (text.now ≡ grants_text l) × IsTrue (is_grants l)) }
         ensures bad { result ≡ Err TextFault.Bad → (l : List Grant) → IsTrue (is_grants l)
             → text.now ≢ grants_text l }
+        ensures outside { ((l : List Grant) → IsTrue (is_grants l) → text.now ≢ grants_text l)
+            → result ≡ Err TextFault.Bad }
     {
-        let items = item_list::read_list(alloc, text)?;
-        if !item_list::rises(items.as_slice()) {
-            return Err(TextFault::Bad);
-        }
-        Ok(List::from_vec(items))
+        Ok(List::from_vec(item_list::read_rising(alloc, text)?))
     }
 
     /// Puts the text at the end. An error leaves the bytes as they were.

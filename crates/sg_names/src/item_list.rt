@@ -1,11 +1,11 @@
 //! Texts of lists: `-` for none, else the items joined by commas.
 
-ghost use Rattle.std.specs.Prelude.{◌≡◌, ◌≢◌, ◌==◌, ◌++◌, ◌∷◌, List, [], ℕ, Bool, map, length, take, IsTrue, IfOk, OnOk, OnErr};
+ghost use Rattle.std.specs.Prelude.{◌≡◌, ◌≢◌, ◌==◌, ◌&&◌, ◌++◌, ◌∷◌, List, [], ℕ, Bool, true, false, map, length, take, IsTrue, IfOk, OnOk, OnErr};
 ghost use Rattle.std.specs.List.{flat_map, list_all, slice_split};
 ghost use Rattle.std.specs.declared.cmp.Ordering as ordering;
 ghost use Rattle.sg_names.specs.Grammar.{lacks};
 ghost use Rattle.sg_names.specs.ItemList as lists;
-ghost use Rattle.sg_names.specs.ItemList.{list_text};
+ghost use Rattle.sg_names.specs.ItemList.{list_text, HasItem, HasItems, StartsWith};
 
 use crate::fault::TextFault;
 use crate::pieces;
@@ -18,6 +18,11 @@ pub trait Item: Drop {
     ghost text: { Self → List ℕ };
 
     ghost admits: { Self → Bool };
+
+    /// Whether a text is that of one. Allocates nothing.
+    fn is_text(piece: &str) -> bool
+        ensures yes { result ≡ true → HasItem text admits piece.now }
+        ensures no { result ≡ false → (x : Self) → admits x ≡ true → piece.now ≢ text x };
 
     /// Reads one: `Bad` where the text is outside the grammar.
     fn read(alloc: Global, piece: &str) -> Result<Self, TextFault>
@@ -43,8 +48,26 @@ pub trait Item: Drop {
 pub trait Rising: Item {
     ghost order: { Self → Self → ordering.Ordering };
 
-    fn compare(&self, other: &Self) -> Ordering
-        ensures { result ≡ order self.now other.now };
+    /// The order of the two that have these texts. Allocates nothing.
+    fn compare_texts(one: &str, other: &str) -> Ordering
+        ensures { (x y : Self) → Self.Item.admits x ≡ true → Self.Item.admits y ≡ true
+            → one.now ≡ Self.Item.text x → other.now ≡ Self.Item.text y → result ≡ order x y };
+}
+
+/// Whether each part between commas is the text of an item. Allocates nothing.
+fn are_items<T: Item>(text: &str) -> bool
+    ensures yes { result ≡ true → HasItems T.text T.admits text.now }
+    ensures no { result ≡ false → (xs : List T) → list_all T.admits xs ≡ true
+        → slice_split (λ b. b == 44) text.now ≢ map T.text xs }
+{
+    let mut rest = text;
+    while let Some((part, after)) = pieces::cut(rest, ',') {
+        if !T::is_text(part) {
+            return false;
+        }
+        rest = after;
+    }
+    T::is_text(rest)
 }
 
 /// Reads an item from each part between commas: `Bad` where one is outside the grammar.
@@ -65,13 +88,60 @@ fn read_items<T: Item>(alloc: Global, text: &str) -> Result<Vec<T>, TextFault>
     Ok(items)
 }
 
-/// Reads the text of a list, in any order: `Bad` where it is outside the grammar.
-pub fn read_list<T: Item>(alloc: Global, text: &str) -> Result<Vec<T>, TextFault>
+/// The part before the first comma, or the whole text.
+fn first_part(text: &str) -> &str
+    ensures { StartsWith result.now text.now }
+{
+    match pieces::cut(text, ',') {
+        Some((part, _)) => part,
+        None => text,
+    }
+}
+
+/// Whether each part between commas comes strictly before the next. Allocates nothing.
+fn parts_rise<T: Rising>(text: &str) -> bool
+    ensures { (xs : List T) → list_all T.Item.admits xs ≡ true
+        → slice_split (λ b. b == 44) text.now ≡ map T.Item.text xs
+        → result ≡ lists.rises T.order xs }
+{
+    let mut rest = text;
+    while let Some((part, after)) = pieces::cut(rest, ',') {
+        if T::compare_texts(part, first_part(after)) != Ordering::Less {
+            return false;
+        }
+        rest = after;
+    }
+    true
+}
+
+/// Whether a text is that of a list, in any order. Allocates nothing.
+fn is_list<T: Item>(text: &str) -> bool
+    requires { lists.AreApart T.text T.admits }
+    ensures yes { result ≡ true → (xs : List T) × (list_all T.admits xs ≡ true)
+        × (text.now ≡ list_text (map T.text xs)) }
+    ensures no { result ≡ false → (xs : List T) → list_all T.admits xs ≡ true
+        → text.now ≢ list_text (map T.text xs) }
+{
+    text == "-" || are_items::<T>(text)
+}
+
+/// Whether each item of a list comes strictly before the next, by its text. Allocates nothing.
+fn rises<T: Rising>(text: &str) -> bool
+    requires { lists.AreApart T.Item.text T.Item.admits }
+    ensures { (xs : List T) → list_all T.Item.admits xs ≡ true
+        → text.now ≡ list_text (map T.Item.text xs) → result ≡ lists.rises T.order xs }
+{
+    if text == "-" {
+        return true;
+    }
+    parts_rise::<T>(text)
+}
+
+/// Reads the text of a list from its parts: `Bad` where one is outside the grammar.
+fn read_parts<T: Item>(alloc: Global, text: &str) -> Result<Vec<T>, TextFault>
     requires { lists.AreApart T.text T.admits }
     ensures ok { IfOk result (λ v. (text.now ≡ list_text (map T.text v.items))
         × IsTrue (list_all T.admits v.items)) }
-    ensures only { IfOk result (λ v. (xs : List T) → IsTrue (list_all T.admits xs)
-        → text.now ≡ list_text (map T.text xs) → v.items ≡ xs) }
     ensures bad { result ≡ Err TextFault.Bad → (xs : List T) → IsTrue (list_all T.admits xs)
         → text.now ≢ list_text (map T.text xs) }
 {
@@ -81,16 +151,39 @@ pub fn read_list<T: Item>(alloc: Global, text: &str) -> Result<Vec<T>, TextFault
     read_items(alloc, text)
 }
 
-/// Whether each item comes strictly before the next.
-pub fn rises<T: Rising>(items: &[T]) -> bool
-    ensures { result ≡ lists.rises T.order items.now }
+/// Reads the text of a list, in any order: `Bad` where it is outside the grammar, which is found
+/// before memory is taken.
+pub fn read_list<T: Item>(alloc: Global, text: &str) -> Result<Vec<T>, TextFault>
+    requires { lists.AreApart T.text T.admits }
+    ensures ok { IfOk result (λ v. (text.now ≡ list_text (map T.text v.items))
+        × IsTrue (list_all T.admits v.items)) }
+    ensures bad { result ≡ Err TextFault.Bad → (xs : List T) → IsTrue (list_all T.admits xs)
+        → text.now ≢ list_text (map T.text xs) }
+    ensures outside { ((xs : List T) → IsTrue (list_all T.admits xs)
+        → text.now ≢ list_text (map T.text xs)) → result ≡ Err TextFault.Bad }
 {
-    for i in 1..items.len() {
-        if items[i - 1].compare(&items[i]) != Ordering::Less {
-            return false;
-        }
+    if !is_list::<T>(text) {
+        return Err(TextFault::Bad);
     }
-    true
+    read_parts(alloc, text)
+}
+
+/// Reads the text of a list that rises strictly: `Bad` where it is outside the grammar or does not
+/// rise, which is found before memory is taken.
+pub fn read_rising<T: Rising>(alloc: Global, text: &str) -> Result<Vec<T>, TextFault>
+    requires { lists.AreApart T.Item.text T.Item.admits }
+    ensures ok { IfOk result (λ v. (text.now ≡ list_text (map T.Item.text v.items))
+        × IsTrue (list_all T.Item.admits v.items && lists.rises T.order v.items)) }
+    ensures bad { result ≡ Err TextFault.Bad → (xs : List T)
+        → IsTrue (list_all T.Item.admits xs && lists.rises T.order xs)
+        → text.now ≢ list_text (map T.Item.text xs) }
+    ensures outside { ((xs : List T) → IsTrue (list_all T.Item.admits xs && lists.rises T.order xs)
+        → text.now ≢ list_text (map T.Item.text xs)) → result ≡ Err TextFault.Bad }
+{
+    if !rises::<T>(text) {
+        return Err(TextFault::Bad);
+    }
+    read_list(alloc, text)
 }
 
 /// Puts the items at the end, a comma before each, up to one for which there is no memory.

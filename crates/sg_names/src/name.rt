@@ -89,6 +89,10 @@ impl Item for Name {
 
     ghost admits = { λ n. is_name n };
 
+    fn is_text(piece: &str) -> bool {
+        grammar::is_name(piece.as_bytes())
+    }
+
     fn read(alloc: Global, piece: &str) -> Result<Name, TextFault> {
         Name::parse(alloc, piece)
     }
@@ -105,7 +109,7 @@ impl Item for Name {
 impl Rising for Name {
     ghost order = { slice_cmp nat_cmp };
 
-    fn compare(&self, other: &Name) -> Ordering {
-        self.order(other)
+    fn compare_texts(one: &str, other: &str) -> Ordering {
+        one.as_bytes().cmp(other.as_bytes())
     }
 }

@@ -1,11 +1,13 @@
 //! Pieces of a text.
 
-ghost use Rattle.std.specs.Prelude.{◌≡◌, ◌<◌, ◌++◌, ◌∷◌, length, take, map, ◌==◌, IsTrue, IfOk, IfSome, IfNone, OnOk, OnErr};
+ghost use Rattle.std.specs.Prelude.{◌≡◌, ◌<◌, ◌++◌, ◌∷◌, List, ℕ, length, take, map, ◌==◌, IsTrue, IfOk, IfSome, IfNone, OnOk, OnErr};
+ghost use Rattle.std.specs.Ordering.{nat_cmp, ordering_then};
+ghost use Rattle.std.specs.Cmp.Lexicographic.{slice_cmp};
 ghost use Rattle.std.specs.List.{flat_map, slice_split};
 ghost use Rattle.sg_names.specs.Grammar.{lacks};
 
 use sg_outside::{Bytes, Memory};
-use std::alloc::{AllocError, Global};
+use std::cmp::Ordering;
 
 /// Puts the pieces at the end, up to one for which there is no memory.
 fn append_while(pieces: &[&[u8]], out: &mut Bytes) -> Result<(), Memory>
@@ -41,9 +43,18 @@ pub fn cut(text: &str, at: char) -> Option<(&str, &str)>
     text.split_once(at)
 }
 
-/// The parts of a text between its commas, of which there is one more than commas.
-pub fn split_at_commas(alloc: Global, text: &str) -> Result<Vec<&str>, AllocError>
-    ensures { IfOk result (λ v. map (λ p. p.now) v.items ≡ slice_split (λ b. b == 44) text.now) }
+/// The order of two texts by what stands before the first `=`, then by what stands behind it; of texts without one, equal.
+pub fn order_at_equals(one: &str, other: &str) -> Ordering
+    ensures { (front back first rest : List ℕ) → one.now ≡ front ++ 61 ∷ back
+        → IsTrue (lacks 61 front)
+        → other.now ≡ first ++ 61 ∷ rest → IsTrue (lacks 61 first)
+        → result ≡ ordering_then (slice_cmp nat_cmp front first) (slice_cmp nat_cmp back rest) }
 {
-    text.split(',').collect(alloc)
+    match (cut(one, '='), cut(other, '=')) {
+        (Some((front, back)), Some((first, rest))) => {
+            let fronts = front.as_bytes().cmp(first.as_bytes());
+            fronts.then(back.as_bytes().cmp(rest.as_bytes()))
+        }
+        _ => Ordering::Equal,
+    }
 }

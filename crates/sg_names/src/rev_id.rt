@@ -7,7 +7,7 @@ use crate::digest::Digest;
 use crate::fault::TextFault;
 use crate::item_list::{self, Item};
 use crate::list::List;
-use crate::pieces;
+use crate::{grammar, pieces};
 use itoa::Buffer;
 use sg_outside::{Bytes, Memory};
 use std::alloc::{AllocError, Global};
@@ -79,6 +79,16 @@ impl Item for RevId {
 
     ghost admits = { λ r. is_rev r };
 
+    fn is_text(piece: &str) -> bool {
+        let Some((front, back)) = pieces::cut(piece, '-') else {
+            return false;
+        };
+        let Some(_generation) = read_generation(front) else {
+            return false;
+        };
+        grammar::is_digest(back.as_bytes())
+    }
+
     fn read(alloc: Global, piece: &str) -> Result<RevId, TextFault> {
         RevId::parse(alloc, piece)
     }
@@ -115,9 +125,10 @@ impl List<RevId> {
         ensures ok { IfOk result (λ l. (text.now ≡ revs_text l) × IsTrue (is_revs l)) }
         ensures bad { result ≡ Err TextFault.Bad → (l : List RevId) → IsTrue (is_revs l)
             → text.now ≢ revs_text l }
+        ensures outside { ((l : List RevId) → IsTrue (is_revs l) → text.now ≢ revs_text l)
+            → result ≡ Err TextFault.Bad }
     {
-        let items = item_list::read_list(alloc, text)?;
-        Ok(List::from_vec(items))
+        Ok(List::from_vec(item_list::read_list(alloc, text)?))
     }
 
     /// Puts the text at the end. An error leaves the bytes as they were.

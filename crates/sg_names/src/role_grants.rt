@@ -78,6 +78,13 @@ impl Item for RoleGrant {
 
     ghost admits = { λ g. is_role_grant g };
 
+    fn is_text(piece: &str) -> bool {
+        let Some((front, back)) = pieces::cut(piece, '=') else {
+            return false;
+        };
+        grammar::is_name(front.as_bytes()) && grammar::is_name(back.as_bytes())
+    }
+
     fn read(alloc: Global, piece: &str) -> Result<RoleGrant, TextFault> {
         RoleGrant::parse(alloc, piece)
     }
@@ -96,8 +103,8 @@ impl Rising for RoleGrant {
 
     ghost order = { λ a b. role_grant_cmp a b };
 
-    fn compare(&self, other: &RoleGrant) -> Ordering {
-        self.order(other)
+    fn compare_texts(one: &str, other: &str) -> Ordering {
+        pieces::order_at_equals(one, other)
     }
 }
 
@@ -114,12 +121,11 @@ impl List<RoleGrant> {
             × IsTrue (is_role_grants l)) }
         ensures bad { result ≡ Err TextFault.Bad → (l : List RoleGrant) → IsTrue (is_role_grants l)
             → text.now ≢ role_grants_text l }
+        ensures outside { ((l : List RoleGrant) → IsTrue (is_role_grants l)
+            → text.now ≢ role_grants_text l)
+            → result ≡ Err TextFault.Bad }
     {
-        let items = item_list::read_list(alloc, text)?;
-        if !item_list::rises(items.as_slice()) {
-            return Err(TextFault::Bad);
-        }
-        Ok(List::from_vec(items))
+        Ok(List::from_vec(item_list::read_rising(alloc, text)?))
     }
 
     /// Puts the text at the end. An error leaves the bytes as they were.

@@ -1,26 +1,6 @@
-use Rattle.std.proofs.Common.{◌≢◌, [], ◌∷◌, map, sym, ◌∙◌, refl}
-use Rattle.std.proofs.lemmas.Result.{IfOk-weaker}
-use Rattle.std.proofs.lemmas.Slice.Eq.{bytes_eq-Decides}
-use Rattle.sg_names.proofs.Lists.{lists_same, list_from_parts, parts_from_list}
 use Rattle.sg_names.proofs.item_list.read_list.Goals as goal
 
-pub returns-then-eq-clause-only : goal.returns-then-eq-clause-only
-returns-then-eq-clause-only g c = λ xs h e.
-    let dash = (bytes_eq-Decides c.args.text.now (45 ∷ [])).0 (sym c.if-eq.ensures) in
-    c.new.ensures.items ∙ lists_same g.T.Item.text g.T.Item.admits c.requires [] xs refl h (sym dash ∙ e)
-
-pub returns-clause-ok : goal.returns-clause-ok
-returns-clause-ok g c =
-    IfOk-weaker c.read_items.result _ _ (λ v read. (list_from_parts c.args.text.now (map g.T.Item.text v.items) read.0, read.1)) c.read_items.ensures.ok
-
-pub returns-clause-only : goal.returns-clause-only
-returns-clause-only g c =
-    IfOk-weaker c.read_items.result _ _ (λ v read. λ xs h e.
-    lists_same g.T.Item.text g.T.Item.admits c.requires v.items xs read.1 h
-    (sym (list_from_parts c.args.text.now (map g.T.Item.text v.items) read.0) ∙ e)) c.read_items.ensures.ok
-
-pub returns-clause-bad : goal.returns-clause-bad
-returns-clause-bad g c = λ fault xs h e.
-    let other : c.args.text.now ≢ 45 ∷ [] = λ same. cc ((bytes_eq-Decides c.args.text.now (45 ∷ [])).1 same, c.if-eq.ensures) in
-    c.read_items.ensures.bad fault xs h
-    (parts_from_list g.T.Item.text g.T.Item.admits c.requires c.args.text.now xs other h e)
+pub returns-clause-outside : goal.returns-clause-outside
+returns-clause-outside g c = λ none.
+    let has = c.is_list.ensures.yes c.if-not-is_list.false in
+    absurd (none has.0 has.1 has.2)

@@ -1,5 +1,5 @@
 use Rattle.sg_names.proofs.ItemTexts.{grants_apart}
 use Rattle.sg_names.proofs.grants.List+Grant.parse.Goals as goal
 
-pub read_list-requires : goal.read_list-requires
-read_list-requires c = grants_apart
+pub read_rising-requires : goal.read_rising-requires
+read_rising-requires c = grants_apart
