@@ -1,6 +1,6 @@
 -- what is kept of documents is right after each entry
 use Rattle.std.proofs.Common.{◌≡◌, ◌+◌, ℕ, Bool, true, false, List, [], ◌∷◌, length, Option, Some, None, BTreeMap, String, Global, refl, sym, ap, ◌∙◌, subst, arith, true≢false, if◌then◌else◌, nat_eq}
-use Rattle.std.specs.Prelude.{MatchOption, IsTrue}
+use Rattle.std.specs.Prelude.{MatchOption, IsTrue, is_some}
 use Rattle.std.specs.BTreeMap.{get_by_text}
 use Rattle.std.specs.Str.{bytes_eq}
 use Rattle.std.proofs.lemmas.Bool.{ne_eqb}
@@ -8,7 +8,7 @@ use Rattle.std.proofs.lemmas.Slice.Eq.{bytes_eq-Decides}
 use Rattle.sg_history.specs.declared.entries.Entry.{Entry}
 use Rattle.sg_history.specs.declared.entries.Entry.TheVariants as entry
 use Rattle.sg_history.specs.declared.entries.Write.{Write}
-use Rattle.sg_history.specs.History.{write_to}
+use Rattle.sg_history.specs.History.{as_write, of_document, write_to}
 use Rattle.sg_history.specs.Current.{Sequenced, sequenced_or, last_write}
 use Rattle.rev_tree.specs.declared.tree.Node.{Node}
 use Rattle.rev_tree.specs.Extension.{Recorded, with_write}
@@ -99,13 +99,12 @@ place_made es before after doc made kept name =
 
 -- ---- an entry that is no write
 
+no_write_to : (o : Option Write) (doc : List ℕ) → is_some o ≡ false → of_document o doc ≡ None
+no_write_to None doc h = refl
+no_write_to (Some w) doc h = absurd (true≢false h)
+
 no_write : (e : Entry) (doc : List ℕ) → is_write e ≡ false → write_to e doc ≡ None
-no_write (entry.Write w) doc h = absurd (true≢false h)
-no_write (entry.PutUser name channels roles) doc h = refl
-no_write (entry.PutRole name channels) doc h = refl
-no_write (entry.DropUser name) doc h = refl
-no_write (entry.DropRole name) doc h = refl
-no_write entry.Unused doc h = refl
+no_write e doc h = no_write_to (as_write e) doc h
 
 pub writes_past : (e : Entry) (es : List Entry) (doc : List ℕ) → is_write e ≡ false → writes_of (e ∷ es) doc ≡ writes_of es doc
 writes_past e es doc h = ap (λ (o : Option Write). recorded_before o (writes_of es doc)) (no_write e doc h)

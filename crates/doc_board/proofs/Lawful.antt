@@ -8,11 +8,11 @@ use Rattle.std.proofs.lemmas.Option.{none-some}
 use Rattle.sg_names.specs.declared.rev_id.RevId.{RevId}
 use Rattle.sg_names.specs.RevId.{same_rev, is_rev}
 use Rattle.sg_history.specs.declared.entries.Entry.{Entry}
-use Rattle.sg_history.specs.declared.entries.Entry.TheVariants as entry
 use Rattle.sg_history.specs.declared.entries.Write.{Write}
-use Rattle.sg_history.specs.History.{write_to}
+use Rattle.sg_history.specs.History.{as_write, of_document, write_to}
 use Rattle.sg_history.specs.Current.{Sequenced, with_rev_or, write_of_rev}
-use Rattle.sg_history.specs.Journal.{falls_from, has_rev, follows_rules, IsRecord, IsEntry}
+use Rattle.sg_history.specs.Journal.{falls_from, has_rev, follows_rules, IsRecord, IsEntry, IsEntryBy}
+use Rattle.sg_history.specs.Principals.{Put, as_put}
 use Rattle.doc_board.specs.Lawful.{AreLawful}
 use Rattle.rev_tree.specs.declared.leaf.Leaf.{Leaf}
 use Rattle.rev_tree.specs.declared.tree.Node.{Node}
@@ -183,17 +183,16 @@ named_next (Some w) seq other rev named rest h =
     ]
 
 -- the write that an entry is has a revision in its grammar
-write_named : (e : Entry) (doc : List ℕ) → IsEntry e → (w : Write) → write_to e doc ≡ Some w → IsTrue (is_rev w.rev)
-write_named (entry.Write x) doc is w h = go (bytes_eq x.doc doc) h
+named_by : (o : Option Write) (p : Option Put) (doc : List ℕ) → IsEntryBy o p → (w : Write) → of_document o doc ≡ Some w → IsTrue (is_rev w.rev)
+named_by None p doc is w h = absurd (none-some _ h)
+named_by (Some x) p doc is w h = go (bytes_eq x.doc doc) h
   where
     go : (b : Bool) → (if b then Some x else None) ≡ Some w → IsTrue (is_rev w.rev)
     go true e = subst (λ (y : Write). IsTrue (is_rev y.rev)) (same_some x w e) is.rev.0
     go false e = absurd (none-some _ e)
-write_named (entry.PutUser name channels roles) doc is w h = absurd (none-some _ h)
-write_named (entry.PutRole name channels) doc is w h = absurd (none-some _ h)
-write_named (entry.DropUser name) doc is w h = absurd (none-some _ h)
-write_named (entry.DropRole name) doc is w h = absurd (none-some _ h)
-write_named entry.Unused doc is w h = absurd (none-some _ h)
+
+write_named : (e : Entry) (doc : List ℕ) → IsEntry e → (w : Write) → write_to e doc ≡ Some w → IsTrue (is_rev w.rev)
+write_named e doc is w h = named_by (as_write e) (as_put e) doc is w h
 
 written_named : (es : List Entry) (doc : List ℕ) (rev : RevId) → AreLawful es → has_rev es doc rev ≡ true → IsTrue (is_rev rev)
 written_named [] doc rev lawful h = absurd (both_ways false refl h)

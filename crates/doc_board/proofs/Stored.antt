@@ -2,12 +2,14 @@
 use Rattle.std.proofs.Common.{◌≡◌, ◌+◌, ◌≤◌, ◌*◌, ◌++◌, ℕ, true, false, List, [], ◌∷◌, length, reverse, Option, Some, None, refl, sym, ap, ◌<◌, true≢false, ◌∙◌, subst, arith, if◌then◌else◌}
 use Rattle.std.proofs.lemmas.List.{reverse-append, length-reverse, length-append}
 use Rattle.std.specs.BTreeMap.{get_by_text}
+use Rattle.std.specs.Prelude.{is_some}
 use Rattle.std.specs.Str.{bytes_eq}
 use Rattle.sg_history.specs.declared.entries.Entry.{Entry}
 use Rattle.sg_history.specs.declared.entries.Entry.TheVariants as entry
 use Rattle.sg_history.specs.declared.entries.Write.{Write}
 use Rattle.sg_history.specs.Kept as entries
-use Rattle.sg_history.specs.Journal.{IsEntry, may_follow}
+use Rattle.sg_history.specs.History.{as_write}
+use Rattle.sg_history.specs.Journal.{IsEntry, may_follow, write_may_follow}
 use Rattle.rev_tree.specs.declared.tree.Node.{Node}
 use Rattle.rev_tree.specs.Writes.{AreAccepted}
 use Rattle.sg_history.specs.declared.room.RoomFor.{RoomFor}
@@ -24,13 +26,12 @@ use Rattle.doc_board.proofs.OutRooms.{all_without, one_less, places_stay, all_pl
 newest : (log new : entries.Kept) (e : Entry) → new.list ≡ log.list ++ e ∷ [] → reverse new.list ≡ e ∷ reverse log.list
 newest log new e h = ap (λ (es : List Entry). reverse es) h ∙ reverse-append log.list (e ∷ [])
 
+none_may_follow : (o : Option Write) (es : List Entry) → is_some o ≡ false → write_may_follow es o ≡ true
+none_may_follow None es h = refl
+none_may_follow (Some w) es h = absurd (true≢false h)
+
 no_rule : (e : Entry) (es : List Entry) → is_write e ≡ false → may_follow es e ≡ true
-no_rule (entry.Write w) es h = absurd (true≢false h)
-no_rule (entry.PutUser name channels roles) es h = refl
-no_rule (entry.PutRole name channels) es h = refl
-no_rule (entry.DropUser name) es h = refl
-no_rule (entry.DropRole name) es h = refl
-no_rule entry.Unused es h = refl
+no_rule e es h = none_may_follow (as_write e) es h
 
 -- a write
 pub kept_write : SameRevisions → SameLeaves → (w : Write) (log new : entries.Kept) (before after : Documents) (rooms : List RoomFor) (room : RoomFor) (sequence : ℕ) (tree : List Node) → IsKept log before rooms → is_out rooms room ≡ true → IsEntry (entry.Write w) → w.at < sequence → sequence ≡ length log.list + 1 → ExtendsTree (tree_at (reverse log.list) w.doc) w tree → ((name : List ℕ) → get_by_text after name ≡ (if bytes_eq w.doc name then Some (record { last = sequence; tree = tree }) else get_by_text before name)) → new.list ≡ log.list ++ entry.Write w ∷ [] → new.spare + 1 ≡ log.spare → IsKept new after (without room rooms)

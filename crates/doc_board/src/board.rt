@@ -73,7 +73,8 @@ impl Board {
         ensures log { IfOk result (λ board. board.log ≡ entries_of log) }
         ensures rooms { IfOk result (λ board. board.rooms ≡ []) }
         ensures following { IfOk result (λ board. AreFollowing (reverse (entries_of log))) }
-        ensures bad { (sequence : ℕ) → result ≡ Err (OpenFault.Bad sequence) → IsFirstBad (entries_of log) sequence }
+        ensures bad { (sequence : ℕ) → result ≡ Err (OpenFault.Bad sequence) → IsFirstBad
+            (entries_of log) sequence }
     {
         let documents = documents_of(alloc, log.entries.as_slice())?;
         Ok(Board {
@@ -121,8 +122,11 @@ impl Board {
     /// The channels of a user at the end of the log, each once; none where the user does not exist.
     pub fn channels(&mut self, user: &Name) -> Result<Option<Channels>, Memory>
         ensures same { self.new ≡ self.old }
-        ensures exists { IfOk result (λ found. is_some found ≡ principals.exists (principals.user_at (newest_first self.old) user.now)) }
-        ensures channels { IfOk result (λ found. IfSome found (λ channels. (channel : List ℕ) → among channels channel ≡ principals.has_channel (newest_first self.old) user.now channel)) }
+        ensures exists { IfOk result (λ found. is_some found ≡ principals.exists
+            (principals.user_at (newest_first self.old) user.now)) }
+        ensures channels { IfOk result (λ found. IfSome found
+            (λ channels. (channel : List ℕ) → among channels channel ≡ principals.has_channel
+            (newest_first self.old) user.now channel)) }
     {
         channels_of(*self.rooms.allocator(), &self.log, self.front(), user)
     }
@@ -134,11 +138,16 @@ impl Board {
         by: Option<&Name>,
     ) -> Result<Snapshot, Memory>
         ensures at { IfOk result (λ s. s.at ≡ length self.now.log) }
-        ensures last { IfOk result (λ s. s.last ≡ last_at (newest_first self.now) revision.now.doc) }
-        ensures step { IfOk result (λ s. IsStep (tree_at (newest_first self.now) revision.now.doc) revision.now strict s.step) }
-        ensures old { IfOk result (λ s. s.old ≡ option_map (λ w. w.body) (base_write (newest_first self.now) revision.now.doc revision.now.ancestors)) }
-        ensures old_deleted { IfOk result (λ s. s.old_deleted ≡ deletes (base_write (newest_first self.now) revision.now.doc revision.now.ancestors)) }
-        ensures user { IfOk result (λ s. s.user_exists ≡ proposer_exists (newest_first self.now) (option_copied by.entry)) }
+        ensures last { IfOk result (λ s. s.last ≡ last_at
+            (newest_first self.now) revision.now.doc) }
+        ensures step { IfOk result (λ s. IsStep (tree_at
+            (newest_first self.now) revision.now.doc) revision.now strict s.step) }
+        ensures old { IfOk result (λ s. s.old ≡ option_map (λ w. w.body)
+            (base_write (newest_first self.now) revision.now.doc revision.now.ancestors)) }
+        ensures old_deleted { IfOk result (λ s. s.old_deleted ≡ deletes
+            (base_write (newest_first self.now) revision.now.doc revision.now.ancestors)) }
+        ensures user { IfOk result (λ s. s.user_exists ≡ proposer_exists (newest_first self.now)
+            (option_copied by.entry)) }
     {
         let alloc = *self.rooms.allocator();
         let entries = self.log.entries.as_slice();
@@ -164,10 +173,14 @@ impl Board {
         ensures same { self.new ≡ self.old }
         ensures at { IfOk result (λ s. s.at ≡ length self.old.log) }
         ensures last { IfOk result (λ s. s.last ≡ last_on self.old revision.now.doc) }
-        ensures step { IfOk result (λ s. IsStep (tree_on self.old revision.now.doc) revision.now strict s.step) }
-        ensures old { IfOk result (λ s. s.old ≡ option_map (λ w. w.body) (base_on self.old revision.now.doc revision.now.ancestors)) }
-        ensures old_deleted { IfOk result (λ s. s.old_deleted ≡ deletes (base_on self.old revision.now.doc revision.now.ancestors)) }
-        ensures user { IfOk result (λ s. s.user_exists ≡ proposer_exists (newest_first self.old) (option_copied by.entry)) }
+        ensures step { IfOk result
+            (λ s. IsStep (tree_on self.old revision.now.doc) revision.now strict s.step) }
+        ensures old { IfOk result (λ s. s.old ≡ option_map (λ w. w.body)
+            (base_on self.old revision.now.doc revision.now.ancestors)) }
+        ensures old_deleted { IfOk result (λ s. s.old_deleted ≡ deletes
+            (base_on self.old revision.now.doc revision.now.ancestors)) }
+        ensures user { IfOk result (λ s. s.user_exists ≡ proposer_exists (newest_first self.old)
+            (option_copied by.entry)) }
     {
         histories();
         self.snapshot_of(revision, strict, by)
@@ -175,7 +188,8 @@ impl Board {
 
     fn make_room(&mut self, doc: Option<&DocId>, bytes: u64) -> Result<RoomFor, AllocError>
         ensures log { self.new.log ≡ self.old.log }
-        ensures ok { OnOk result (self.new.rooms ≡ self.old.rooms ++ room_for (option_copied doc.entry) bytes ∷ []) }
+        ensures ok { OnOk result (self.new.rooms ≡ self.old.rooms ++ room_for
+            (option_copied doc.entry) bytes ∷ []) }
         ensures err { OnErr result (self.new.rooms ≡ self.old.rooms) }
         ensures room { IfOk result (λ room. room ≡ room_for (option_copied doc.entry) bytes) }
         ensures out { IfOk result (λ room. IsTrue (is_out self.new.rooms room)) }
@@ -193,9 +207,11 @@ impl Board {
     pub fn room(&mut self, doc: Option<&DocId>, body_bytes: u64) -> Result<Room, NoRoom>
         requires { body_bytes ≤ 20971520 }
         ensures log { self.new.log ≡ self.old.log }
-        ensures ok { OnOk result (self.new.rooms ≡ self.old.rooms ++ room_for (option_copied doc.entry) body_bytes ∷ []) }
+        ensures ok { OnOk result (self.new.rooms ≡ self.old.rooms ++ room_for
+            (option_copied doc.entry) body_bytes ∷ []) }
         ensures err { OnErr result (self.new.rooms ≡ self.old.rooms) }
-        ensures room { IfOk result (λ room. room.made_for ≡ room_for (option_copied doc.entry) body_bytes) }
+        ensures room { IfOk result (λ room. room.made_for ≡ room_for
+            (option_copied doc.entry) body_bytes) }
         ensures out { IfOk result (λ room. IsTrue (is_out self.new.rooms room.made_for)) }
     {
         match self.make_room(doc, body_bytes) {
@@ -244,11 +260,15 @@ impl Board {
         requires candidate { MayBeStored self.old number.value candidate }
         ensures stale { IfStale result (λ r n c last. is_stale self.old candidate ≡ true) }
         ensures stored { IfStored result (λ sequence at. is_stale self.old candidate ≡ false) }
-        ensures back { IfStale result (λ r n c last. (r ≡ room) × (n ≡ number) × (c ≡ candidate) × (last ≡ last_of self.old candidate)) }
+        ensures back { IfStale result (λ r n c last. (r ≡ room) × (n ≡ number) × (c ≡ candidate)
+            × (last ≡ last_of self.old candidate)) }
         ensures same { IfStale result (λ r n c last. self.new ≡ self.old) }
-        ensures answer { IfStored result (λ sequence at. (sequence ≡ number.value) × (at ≡ front_of candidate (length self.old.log))) }
-        ensures log { IfStored result (λ sequence at. self.new.log ≡ self.old.log ++ entry_of candidate ∷ []) }
-        ensures rooms { IfStored result (λ sequence at. self.new.rooms ≡ without room.made_for self.old.rooms) }
+        ensures answer { IfStored result (λ sequence at. (sequence ≡ number.value)
+            × (at ≡ front_of candidate (length self.old.log))) }
+        ensures log { IfStored result (λ sequence at. self.new.log ≡ self.old.log
+            ++ entry_of candidate ∷ []) }
+        ensures rooms { IfStored result
+            (λ sequence at. self.new.rooms ≡ without room.made_for self.old.rooms) }
     {
         match candidate {
             Candidate::Plain(entry) => {

@@ -50,8 +50,10 @@ pub fn tree_of(document: Option<&Document>) -> Option<&Tree>
 
 /// Makes a place for a document, unless it has one.
 fn make_place(alloc: Global, documents: &mut Documents, doc: &DocId) -> Result<(), AllocError>
-    ensures ok { OnOk result ((name : List ℕ) → get_by_text documents.new name ≡ kept.placed (Some doc.now) documents.old name) }
-    ensures err { OnErr result ((name : List ℕ) → get_by_text documents.new name ≡ get_by_text documents.old name) }
+    ensures ok { OnOk result ((name : List ℕ) → get_by_text documents.new name ≡ kept.placed
+        (Some doc.now) documents.old name) }
+    ensures err { OnErr result ((name : List ℕ) → get_by_text documents.new name
+        ≡ get_by_text documents.old name) }
 {
     if document_of(documents, doc).is_some() {
         return Ok(());
@@ -70,8 +72,10 @@ pub fn make_place_for(
     documents: &mut Documents,
     doc: Option<&DocId>,
 ) -> Result<(), AllocError>
-    ensures ok { OnOk result ((name : List ℕ) → get_by_text documents.new name ≡ kept.placed (option_copied doc.entry) documents.old name) }
-    ensures err { OnErr result ((name : List ℕ) → get_by_text documents.new name ≡ get_by_text documents.old name) }
+    ensures ok { OnOk result ((name : List ℕ) → get_by_text documents.new name ≡ kept.placed
+        (option_copied doc.entry) documents.old name) }
+    ensures err { OnErr result ((name : List ℕ) → get_by_text documents.new name
+        ≡ get_by_text documents.old name) }
 {
     match doc {
         None => Ok(()),
@@ -82,7 +86,8 @@ pub fn make_place_for(
 /// Keeps this of a document that has a place. Takes no memory.
 pub fn put(documents: &mut Documents, doc: &DocId, document: Document)
     requires { IsTrue (is_some (get_by_text documents.old doc.now)) }
-    ensures { (name : List ℕ) → get_by_text documents.new name ≡ (if bytes_eq doc.now name then Some document else get_by_text documents.old name) }
+    ensures { (name : List ℕ) → get_by_text documents.new name
+        ≡ (if bytes_eq doc.now name then Some document else get_by_text documents.old name) }
 {
     if let Some(place) = documents.get_mut(doc.as_str()) {
         *place = document;

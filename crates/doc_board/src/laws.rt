@@ -20,7 +20,9 @@ pub fn recorded()
 
 /// The winner that a write names is a revision in its grammar, where the write's own is one.
 pub fn winners()
-    ensures { (es : List Entry) (w : Write) (after : List Node) → AreLawful es → AreAccepted (writes_of es w.doc) → ExtendsTree (tree_at es w.doc) w after → IsTrue (is_rev w.rev) → IsTrue (is_rev w.winner) }
+    ensures { (es : List Entry) (w : Write) (after : List Node) → AreLawful es → AreAccepted
+        (writes_of es w.doc) → ExtendsTree (tree_at es w.doc) w after → IsTrue (is_rev w.rev)
+        → IsTrue (is_rev w.winner) }
 {
     trees_of_writes();
 }

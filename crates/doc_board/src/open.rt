@@ -50,7 +50,8 @@ fn wins(tree: &Tree, rev: &RevId) -> bool
 
 /// The tree after a write, where that write is an accepted extension with all its ancestors, and names the winner.
 fn extended(tree: &Tree, write: &Write) -> Result<Option<Tree>, AllocError>
-    ensures some { IfOk result (λ found. IfSome found (λ after. ExtendsTree tree.now write.now after)) }
+    ensures some { IfOk result (λ found. IfSome found
+        (λ after. ExtendsTree tree.now write.now after)) }
     ensures follows { IfOk result (λ found. IfSome found (λ after. Follows tree.now write.now)) }
     ensures none { IfOk result (λ found. IfNone found (¬ Follows tree.now write.now)) }
 {
@@ -86,9 +87,13 @@ fn tree_after(
     documents: &Documents,
     write: &Write,
 ) -> Result<Option<Tree>, AllocError>
-    ensures some { IfOk result (λ found. IfSome found (λ after. ExtendsTree (kept_nodes (get_by_text documents.now write.now.doc)) write.now after)) }
-    ensures next { IfOk result (λ found. IfSome found (λ after. IsNext (kept_nodes (get_by_text documents.now write.now.doc)) write.now)) }
-    ensures none { IfOk result (λ found. IfNone found (¬ IsNext (kept_nodes (get_by_text documents.now write.now.doc)) write.now)) }
+    ensures some { IfOk result (λ found. IfSome found
+        (λ after. ExtendsTree (kept_nodes
+        (get_by_text documents.now write.now.doc)) write.now after)) }
+    ensures next { IfOk result (λ found. IfSome found
+        (λ after. IsNext (kept_nodes (get_by_text documents.now write.now.doc)) write.now)) }
+    ensures none { IfOk result (λ found. IfNone found
+        (¬ IsNext (kept_nodes (get_by_text documents.now write.now.doc)) write.now)) }
 {
     if !is_document(alloc, write.body.as_slice())? {
         return Ok(None);
@@ -110,10 +115,14 @@ fn take_write(
 ) -> Result<bool, AllocError>
     requires kept { AreKept (reverse older.now) documents.old }
     requires accepted { (doc : List ℕ) → AreAccepted (writes_of (reverse older.now) doc) }
-    ensures kept { IfOk result (λ follows. follows ≡ true → AreKept (kinds.Write write.now ∷ reverse older.now) documents.new) }
-    ensures accepted { IfOk result (λ follows. follows ≡ true → (doc : List ℕ) → AreAccepted (writes_of (kinds.Write write.now ∷ reverse older.now) doc)) }
-    ensures yes { IfOk result (λ follows. follows ≡ true → IsNext (tree_at (reverse older.now) write.now.doc) write.now) }
-    ensures no { IfOk result (λ follows. follows ≡ false → ¬ IsNext (tree_at (reverse older.now) write.now.doc) write.now) }
+    ensures kept { IfOk result (λ follows. follows ≡ true → AreKept
+        (kinds.Write write.now ∷ reverse older.now) documents.new) }
+    ensures accepted { IfOk result (λ follows. follows ≡ true → (doc : List ℕ) → AreAccepted
+        (writes_of (kinds.Write write.now ∷ reverse older.now) doc)) }
+    ensures yes { IfOk result (λ follows. follows ≡ true → IsNext
+        (tree_at (reverse older.now) write.now.doc) write.now) }
+    ensures no { IfOk result (λ follows. follows ≡ false → ¬ IsNext
+        (tree_at (reverse older.now) write.now.doc) write.now) }
 {
     let Some(tree) = tree_after(alloc, documents, write)? else {
         return Ok(false);
@@ -133,10 +142,14 @@ fn take(
 ) -> Result<bool, AllocError>
     requires kept { AreKept (reverse older.now) documents.old }
     requires accepted { (doc : List ℕ) → AreAccepted (writes_of (reverse older.now) doc) }
-    ensures kept { IfOk result (λ follows. follows ≡ true → AreKept (entry.now ∷ reverse older.now) documents.new) }
-    ensures accepted { IfOk result (λ follows. follows ≡ true → (doc : List ℕ) → AreAccepted (writes_of (entry.now ∷ reverse older.now) doc)) }
-    ensures yes { IfOk result (λ follows. follows ≡ true → MayFollow (reverse older.now) entry.now) }
-    ensures no { IfOk result (λ follows. follows ≡ false → ¬ MayFollow (reverse older.now) entry.now) }
+    ensures kept { IfOk result (λ follows. follows ≡ true → AreKept
+        (entry.now ∷ reverse older.now) documents.new) }
+    ensures accepted { IfOk result (λ follows. follows ≡ true → (doc : List ℕ) → AreAccepted
+        (writes_of (entry.now ∷ reverse older.now) doc)) }
+    ensures yes { IfOk result (λ follows. follows ≡ true → MayFollow
+        (reverse older.now) entry.now) }
+    ensures no { IfOk result (λ follows. follows ≡ false → ¬ MayFollow
+        (reverse older.now) entry.now) }
 {
     match entry {
         Entry::Write(write) => take_write(alloc, documents, older, write),
@@ -147,9 +160,11 @@ fn take(
 /// The documents of recorded entries.
 pub(crate) fn documents_of(alloc: Global, entries: &[Entry]) -> Result<Documents, OpenFault>
     ensures kept { IfOk result (λ documents. AreKept (reverse entries.now) documents) }
-    ensures accepted { IfOk result (λ documents. (doc : List ℕ) → AreAccepted (writes_of (reverse entries.now) doc)) }
+    ensures accepted { IfOk result (λ documents. (doc : List ℕ) → AreAccepted
+        (writes_of (reverse entries.now) doc)) }
     ensures following { IfOk result (λ documents. AreFollowing (reverse entries.now)) }
-    ensures bad { (sequence : ℕ) → result ≡ Err (OpenFault.Bad sequence) → IsFirstBad entries.now sequence }
+    ensures bad { (sequence : ℕ) → result ≡ Err (OpenFault.Bad sequence)
+        → IsFirstBad entries.now sequence }
 {
     let mut documents = BTreeMap::new(alloc);
     for (i, entry) in entries.iter().enumerate() {

@@ -31,7 +31,8 @@ fn same_room(a: &RoomFor, b: &RoomFor) -> bool
 
 fn place_of(list: &[RoomFor], room: &RoomFor) -> Option<usize>
     ensures some { IfSome result (λ i. i < length list.now) }
-    ensures place { IfSome result (λ i. take i list.now ++ drop (i + 1) list.now ≡ rooms.without room.now list.now) }
+    ensures place { IfSome result (λ i. take i list.now ++ drop (i + 1) list.now
+        ≡ rooms.without room.now list.now) }
     ensures none { IfNone result (rooms.is_out list.now room.now ≡ false) }
 {
     for (i, r) in list.iter().enumerate() {

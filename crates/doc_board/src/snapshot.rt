@@ -40,7 +40,8 @@ pub(crate) fn step_in(
     revision: &Revision,
     strict: bool,
 ) -> Result<Extended, AllocError>
-    ensures { IfOk result (IsStep (kept.kept_nodes (option_copied document.entry)) revision.now strict) }
+    ensures { IfOk result (IsStep (kept.kept_nodes
+        (option_copied document.entry)) revision.now strict) }
 {
     let empty = Tree::new(alloc);
     let tree = match document {
@@ -96,7 +97,8 @@ pub(crate) fn proposer_exists(
     log: &Log,
     by: Option<&Name>,
 ) -> Result<bool, AllocError>
-    ensures { IfOk result (λ found. found ≡ answers.proposer_exists (reverse (entries_of log.now)) (option_copied by.entry)) }
+    ensures { IfOk result (λ found. found ≡ answers.proposer_exists (reverse (entries_of log.now))
+        (option_copied by.entry)) }
 {
     match by {
         None => Ok(true),

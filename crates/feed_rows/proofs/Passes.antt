@@ -1,15 +1,14 @@
 -- what a pass knows after one entry more
 use Rattle.std.proofs.Common.{◌≡◌, ℕ, ◌+◌, refl, sym, ◌∙◌, ap, subst, Bool, true, false, not, if◌then◌else◌, List, [], ◌∷◌, ◌++◌, length, map, Option, Some, None}
 use Rattle.std.proofs.Math.Path.{fun_ext}
-use Rattle.std.specs.Prelude.{slice_get, slice_set}
+use Rattle.std.specs.Prelude.{slice_get, slice_set, is_none}
 use Rattle.std.specs.Borrow.{Bor}
 use Rattle.std.specs.BTreeMap.{BTreeMap}
 use Rattle.std.specs.List.{list_any}
 use Rattle.std.specs.Str.{bytes_eq}
-use Rattle.std.proofs.lemmas.Bool.{false≢true}
+use Rattle.std.proofs.lemmas.Bool.{false≢true, and_parts}
 use Rattle.std.proofs.lemmas.List.{map-append, map-id}
 use Rattle.std.proofs.lemmas.Simd.{map-map}
-use Rattle.std.proofs.lemmas.Option.{none-some, same_Some}
 use Rattle.sg_names.specs.RevId.{same_rev}
 use Rattle.sg_names.specs.declared.rev_id.RevId.{RevId}
 use Rattle.sg_history.specs.declared.entries.Entry.{Entry}
@@ -18,7 +17,8 @@ use Rattle.sg_history.specs.declared.entries.Write.{Write}
 use Rattle.sg_history.specs.History.{as_write, of_document, document_of, write_to, documents, among}
 use Rattle.sg_history.specs.Current.{Current, Sequenced, current, current_after, sequenced_or, last_write, write_or, with_rev_or, write_of_rev, write_alone, rev_or}
 use Rattle.sg_history.proofs.AloneWrites.{alone_next}
-use Rattle.sg_history.specs.Principals.{Standing, user_after, user_at, roles_put, role_at, has_channel, grants_channel, gives_role}
+use Rattle.sg_history.specs.Principals.{Standing, Put, as_put, standing_after, same_grantee, role_put, role_named, user_after, user_at, roles_put, role_at, has_channel, grants_channel, gives_role}
+use Rattle.sg_names.specs.declared.grants.Grantee.{Grantee}
 use Rattle.sg_names.specs.declared.grants.Grantee.TheVariants.{User, Role}
 use Rattle.feed_rows.specs.declared.documents.Latest.{Latest}
 use Rattle.feed_rows.specs.declared.document.Document.{Document}
@@ -26,48 +26,52 @@ use Rattle.feed_rows.specs.declared.numbers.Numbered.{Numbered}
 use Rattle.feed_rows.specs.declared.pass.Pass.{Pass}
 use Rattle.feed_rows.specs.Latest.{written_as, current_in, winner_in}
 use Rattle.feed_rows.specs.Index.{IsIndex, IsWriteIndex, winner_among, write_in, alone_or}
-use Rattle.feed_rows.specs.Kept.{Kept, RoleKept, kept_at, kept_next, blank, add_blank, changed_at, current_there, with_current, written_names, distinct_of, add_name, looked_at, looked_where, sought, WrittenPlace, is_quiet, is_idle, role_kept_at}
-use Rattle.feed_rows.specs.Channels.{role_next, roles_next, add_role, user_channels, add_names}
+use Rattle.feed_rows.specs.Kept.{Kept, RoleKept, kept_at, kept_next, blank, add_blank, changed_at, current_there, with_current, written_names, distinct_of, add_name, looked_at, looked_where, sought, WrittenPlace, is_quiet, is_idle, is_of_other, is_other_user, role_kept_at}
+use Rattle.feed_rows.specs.Channels.{role_next, roles_next, roles_with, roles_named, add_role, user_channels, add_names}
 use Rattle.feed_rows.specs.Numbers.{IsNumbering, GoesOn, AreNumbers}
 use Rattle.feed_rows.specs.Pass.{kept_in, noted_in, Noted, noted, AreNoted, StayNoted, granting_in, role_in}
 use Rattle.feed_rows.specs.PassAt.{PassAt, Ready, HasChannels}
-use Rattle.feed_rows.specs.Put.{standing_in}
+use Rattle.sg_history.specs.Puts.{standing_in}
 use Rattle.feed_rows.proofs.Names.{any_distinct, distinct_names, get_there, changed_there, placed_among, text_is_itself, other_texts}
 use Rattle.feed_rows.proofs.ChannelLists.{any_mapped, listed}
 use Rattle.feed_rows.proofs.Looks.{Misses, granting_found, noted_on, noted_set}
 use Rattle.feed_rows.proofs.Numberings.{holds_same}
 use Rattle.feed_rows.proofs.Steps.{current_same, current_never, view_never, row_never, kept_same, looked_now, writes_other, quiet_is, quiet_write, has_by}
 
--- a write is an entry of its own kind
-is_write : (e : Entry) (w : Write) → as_write e ≡ Some w → e ≡ entry.Write w
-is_write (entry.Write v) w h = ap entry.Write (same_Some v w h)
-is_write (entry.PutUser name channels roles) w h = absurd (none-some _ h)
-is_write (entry.PutRole name channels) w h = absurd (none-some _ h)
-is_write (entry.DropUser name) w h = absurd (none-some _ h)
-is_write (entry.DropRole name) w h = absurd (none-some _ h)
-is_write entry.Unused w h = absurd (none-some _ h)
+-- the roles after one entry more that puts or drops a role
+role_pushed : (name : List ℕ) (standing : Standing) (e : Entry) (es : List Entry) (names : List (List ℕ)) → as_put e ≡ Some (record { of = Role name; standing = Some standing }) → (b : Bool) → (if b then map (role_kept_at (e ∷ es)) names else map (role_kept_at (e ∷ es)) names ++ (record { name = name; standing = Some standing }) ∷ []) ≡ map (role_kept_at (e ∷ es)) (if b then names else names ++ name ∷ [])
+role_pushed name standing e es names put true = refl
+role_pushed name standing e es names put false =
+    let at : List ℕ → RoleKept = role_kept_at (e ∷ es) in
+    let kept : at name ≡ record { name = name; standing = Some standing } =
+    ap (λ (p : Option Put). record { name = name; standing = standing_after p (Role name) (role_at es name) }) put
+    ∙ ap (λ (b : Bool). record { name = name; standing = if b then Some standing else role_at es name }) (text_is_itself name) in
+    sym (map-append at names (name ∷ []) ∙ ap (λ (k : RoleKept). map at names ++ k ∷ []) kept)
 
--- the roles after one entry more
-role_pushed : (name : List ℕ) (channels : List (List ℕ)) (es : List Entry) (names : List (List ℕ)) (b : Bool) → (if b then map (role_kept_at (entry.PutRole name channels ∷ es)) names else map (role_kept_at (entry.PutRole name channels ∷ es)) names ++ (record { name = name; standing = Some (record { channels = channels; roles = [] }) }) ∷ []) ≡ map (role_kept_at (entry.PutRole name channels ∷ es)) (if b then names else names ++ name ∷ [])
-role_pushed name channels es names true = refl
-role_pushed name channels es names false =
-    let at : List ℕ → RoleKept = role_kept_at (entry.PutRole name channels ∷ es) in
-    sym (map-append at names (name ∷ []) ∙ ap (λ (b : Bool). map at names ++ (record { name = name; standing = if b then Some (record { channels = channels; roles = [] }) else role_at es name }) ∷ []) (text_is_itself name))
+added_role : (name : List ℕ) (standing : Standing) (e : Entry) (es : List Entry) (names : List (List ℕ)) → as_put e ≡ Some (record { of = Role name; standing = Some standing }) → add_role name standing (map (role_kept_at (e ∷ es)) names) ≡ map (role_kept_at (e ∷ es)) (add_name name names)
+added_role name standing e es names put =
+    let at : List ℕ → RoleKept = role_kept_at (e ∷ es) in
+    ap (λ (b : Bool). if b then map at names else map at names ++ (record { name = name; standing = Some standing }) ∷ []) (any_mapped (λ (r : RoleKept). bytes_eq r.name name) at names)
+    ∙ role_pushed name standing e es names put (among names name)
 
-added_role : (name : List ℕ) (channels : List (List ℕ)) (es : List Entry) (names : List (List ℕ)) → add_role name channels (map (role_kept_at (entry.PutRole name channels ∷ es)) names) ≡ map (role_kept_at (entry.PutRole name channels ∷ es)) (add_name name names)
-added_role name channels es names =
-    let at : List ℕ → RoleKept = role_kept_at (entry.PutRole name channels ∷ es) in
-    ap (λ (b : Bool). if b then map at names else map at names ++ (record { name = name; standing = Some (record { channels = channels; roles = [] }) }) ∷ []) (any_mapped (λ (r : RoleKept). bytes_eq r.name name) at names)
-    ∙ role_pushed name channels es names (among names name)
+-- the roles after one entry more that puts or drops none
+roles_same : (e : Entry) (es : List Entry) (names : List (List ℕ)) (o : Option Put) → as_put e ≡ o → ((name : List ℕ) → standing_after o (Role name) (role_at es name) ≡ role_at es name) → map (role_kept_at es) names ≡ map (role_kept_at (e ∷ es)) names
+roles_same e es names o put same =
+    ap (λ (f : List ℕ → RoleKept). map f names)
+    (fun_ext (λ name. sym (ap (λ (s : Option Standing). record { name = name; standing = s }) (ap (λ (p : Option Put). standing_after p (Role name) (role_at es name)) put ∙ same name))))
+
+roles_by : (of : Grantee) (standing : Option Standing) (e : Entry) (es : List Entry) → as_put e ≡ Some (record { of = of; standing = standing }) → roles_named of standing e (map (role_kept_at es) (distinct_of (roles_put es))) ≡ map (role_kept_at (e ∷ es)) (distinct_of (role_named of standing ++ roles_put es))
+roles_by (User name) standing e es put = roles_same e es (distinct_of (roles_put es)) (Some (record { of = User name; standing = standing })) put (λ other. refl)
+roles_by (Role name) None e es put = map-map (role_next e) (role_kept_at es) (distinct_of (roles_put es))
+roles_by (Role name) (Some standing) e es put =
+    ap (add_role name standing) (map-map (role_next e) (role_kept_at es) (distinct_of (roles_put es))) ∙ added_role name standing e es (distinct_of (roles_put es)) put
+
+roles_with_put : (o : Option Put) (e : Entry) (es : List Entry) → as_put e ≡ o → roles_with o e (map (role_kept_at es) (distinct_of (roles_put es))) ≡ map (role_kept_at (e ∷ es)) (distinct_of (role_put o ++ roles_put es))
+roles_with_put None e es put = roles_same e es (distinct_of (roles_put es)) None put (λ other. refl)
+roles_with_put (Some put) e es is = roles_by put.of put.standing e es is
 
 pub roles_are : (e : Entry) (es : List Entry) → roles_next e (map (role_kept_at es) (distinct_of (roles_put es))) ≡ map (role_kept_at (e ∷ es)) (distinct_of (roles_put (e ∷ es)))
-roles_are (entry.Write w) es = refl
-roles_are (entry.PutUser name channels roles) es = refl
-roles_are (entry.PutRole name channels) es =
-    ap (add_role name channels) (map-map (role_next (entry.PutRole name channels)) (role_kept_at es) (distinct_of (roles_put es))) ∙ added_role name channels es (distinct_of (roles_put es))
-roles_are (entry.DropUser name) es = refl
-roles_are (entry.DropRole name) es = map-map (role_next (entry.DropRole name)) (role_kept_at es) (distinct_of (roles_put es))
-roles_are entry.Unused es = refl
+roles_are e es = roles_with_put (as_put e) e es refl
 
 -- an entry that is no write
 no_document : (e : Entry) (es : List Entry) → as_write e ≡ None → written_names (e ∷ es) ≡ written_names es
@@ -128,7 +132,7 @@ pub looked_written : (e : Entry) (es : List Entry) (user : List ℕ) (filter : O
 looked_written e es user filter has is same None h =
     ap (λ (f : List ℕ → Kept). map f (written_names (e ∷ es))) (fun_ext (λ n. next_same e es user filter n (writes_none e n h) ∙ kept_same e es user filter n (writes_none e n h) same))
 looked_written e es user filter has is same (Some k) (w, writes, at) =
-    let other : (n : List ℕ) → bytes_eq n w.doc ≡ false → write_to e n ≡ None = λ n b. ap (λ (x : Entry). write_to x n) (is_write e w writes) ∙ writes_other w n (other_texts n w.doc b) in
+    let other : (n : List ℕ) → bytes_eq n w.doc ≡ false → write_to e n ≡ None = λ n b. ap (λ (o : Option Write). of_document o n) writes ∙ writes_other w n (other_texts n w.doc b) in
     changed_there (kept_next e es user filter) (kept_at (e ∷ es) user filter) (looked_at has filter (length es + 1) e) w.doc (written_names (e ∷ es)) k (distinct_names (documents (e ∷ es))) at
     (λ n b. next_same e es user filter n (other n b) ∙ kept_same e es user filter n (other n b) same)
     (ap (λ (f : List ℕ → Bool). looked_at f filter (length es + 1) e (kept_next e es user filter w.doc)) (fun_ext is) ∙ looked_now e es user filter w.doc)
@@ -139,9 +143,38 @@ idle_has e es user none docs put role_puts roles c =
     let at : (λ doc. current (e ∷ es) doc) ≡ (λ doc. current es doc) = fun_ext (λ doc. current_same e es doc (none doc)) in
     λ i. has_by (put i) (λ r. role_puts r i) (roles i) (λ channel. list_any (λ doc. grants_channel ((at i) doc) (User user) channel) (docs i)) (λ role channel. list_any (λ doc. grants_channel ((at i) doc) (Role role) channel) (docs i)) (λ role. list_any (λ doc. gives_role ((at i) doc) user role) (docs i)) user c
 
-idle_user : (b : Bool) → not b ≡ true → {X : Type 0} (x y : X) → (if b then x else y) ≡ y
-idle_user true h x y = absurd (false≢true h)
-idle_user false h x y = refl
+-- a put of another user leaves the user and all roles as they were
+other_user : (o : Option Put) (user : List ℕ) → is_of_other o user ≡ true → (before : Option Standing) → standing_after o (User user) before ≡ before
+other_user None user h before = refl
+other_user (Some put) user h before = go put.of h
+  where
+    other : (b : Bool) → not b ≡ true → (if b then put.standing else before) ≡ before
+    other true h = absurd (false≢true h)
+    other false h = refl
+
+    go : (of : Grantee) → is_other_user of user ≡ true → (if same_grantee of (User user) then put.standing else before) ≡ before
+    go (User name) h = other (bytes_eq name user) h
+    go (Role name) h = absurd (false≢true h)
+
+other_role : (o : Option Put) (user : List ℕ) → is_of_other o user ≡ true → (role : List ℕ) (before : Option Standing) → standing_after o (Role role) before ≡ before
+other_role None user h role before = refl
+other_role (Some put) user h role before = go put.of h
+  where
+    go : (of : Grantee) → is_other_user of user ≡ true → (if same_grantee of (Role role) then put.standing else before) ≡ before
+    go (User name) h = refl
+    go (Role name) h = absurd (false≢true h)
+
+no_role_put : (o : Option Put) (user : List ℕ) → is_of_other o user ≡ true → (older : List (List ℕ)) → role_put o ++ older ≡ older
+no_role_put None user h older = refl
+no_role_put (Some put) user h older = go put.of h
+  where
+    go : (of : Grantee) → is_other_user of user ≡ true → role_named of put.standing ++ older ≡ older
+    go (User name) h = refl
+    go (Role name) h = absurd (false≢true h)
+
+none_there : (o : Option Write) → is_none o ≡ true → o ≡ None
+none_there None h = refl
+none_there (Some w) h = absurd (false≢true h)
 
 -- what an idle entry leaves as it was
 pub record Idle (e : Entry) (es : List Entry) (user : List ℕ) (filter : Option (List (List ℕ))) : Type 0 where
@@ -156,20 +189,25 @@ all_kept : (e : Entry) (es : List Entry) (user : List ℕ) (filter : Option (Lis
 all_kept e es user filter none has = ap (λ (f : List ℕ → Kept). map f (written_names es)) (fun_ext (λ n. kept_same e es user filter n (none n) has))
 
 pub idle : (e : Entry) (es : List Entry) (user : List ℕ) (filter : Option (List (List ℕ))) → is_idle e user ≡ true → Idle e es user filter
-idle (entry.Write w) es user filter h = absurd (false≢true h)
-idle (entry.PutUser name channels roles) es user filter h =
-    let put = idle_user (bytes_eq name user) h (Some (record { channels = channels; roles = roles })) (user_at es user) in
-    let has = idle_has (entry.PutUser name channels roles) es user (λ doc. refl) refl put (λ r. refl) refl in
-    record { has = has; put = sym put; documents = all_kept (entry.PutUser name channels roles) es user filter (λ doc. refl) has; names = refl; found = λ doc rev. refl; roles = refl }
-idle (entry.PutRole name channels) es user filter h = absurd (false≢true h)
-idle (entry.DropUser name) es user filter h =
-    let put = idle_user (bytes_eq name user) h None (user_at es user) in
-    let has = idle_has (entry.DropUser name) es user (λ doc. refl) refl put (λ r. refl) refl in
-    record { has = has; put = sym put; documents = all_kept (entry.DropUser name) es user filter (λ doc. refl) has; names = refl; found = λ doc rev. refl; roles = refl }
-idle (entry.DropRole name) es user filter h = absurd (false≢true h)
-idle entry.Unused es user filter h =
-    let has = idle_has entry.Unused es user (λ doc. refl) refl refl (λ r. refl) refl in
-    record { has = has; put = refl; documents = all_kept entry.Unused es user filter (λ doc. refl) has; names = refl; found = λ doc rev. refl; roles = refl }
+idle e es user filter h =
+    let both = and_parts (is_none (as_write e)) (is_of_other (as_put e) user) h in
+    let none : as_write e ≡ None = none_there (as_write e) both.0 in
+    let unwritten : (doc : List ℕ) → write_to e doc ≡ None = λ doc. ap (λ (o : Option Write). of_document o doc) none in
+    let put = other_user (as_put e) user both.1 (user_at es user) in
+    let roles : (role : List ℕ) → role_at (e ∷ es) role ≡ role_at es role = λ role. other_role (as_put e) user both.1 role (role_at es role) in
+    let named : roles_put (e ∷ es) ≡ roles_put es = no_role_put (as_put e) user both.1 (roles_put es) in
+    let has = idle_has e es user unwritten (ap (λ (o : Option Write). document_of o ++ documents es) none) put roles named in
+    let names = no_document e es none in
+    record {
+      has = has;
+      put = sym put;
+      documents = all_kept e es user filter unwritten has ∙ ap (map (kept_at (e ∷ es) user filter)) (sym names);
+      names = sym names;
+      found = λ doc rev. sym (ap (λ (o : Option Write). with_rev_or o (length es + 1) rev (write_of_rev es doc rev)) (unwritten doc));
+      roles =
+          roles_same e es (distinct_of (roles_put es)) (as_put e) refl (λ role. other_role (as_put e) user both.1 role (role_at es role))
+          ∙ ap (λ (ns : List (List ℕ)). map (role_kept_at (e ∷ es)) (distinct_of ns)) (sym named);
+    }
 
 -- a pass whose documents were looked at
 pub passed : (e : Entry) (es : List Entry) (user : List ℕ) (filter : Option (List (List ℕ))) (before after : Pass) → Ready e es user filter before → after.places ≡ before.places → after.writes ≡ before.writes → after.roles ≡ before.roles → after.put ≡ before.put → after.numbered.numbers ≡ before.numbered.numbers → length after.numbered.held.items ≡ length before.numbered.held.items → map noted_in after.documents.items ≡ map noted_in before.documents.items → HasChannels (e ∷ es) user after → map kept_in after.documents.items ≡ map (kept_at (e ∷ es) user filter) (written_names (e ∷ es)) → PassAt (e ∷ es) user filter after
@@ -245,7 +283,7 @@ latest_is w es writes is =
     chosen false (Some other) = refl
 
 -- a pass that gave a written document its place
-module _ (e : Entry) (w : Write) (es : List Entry) (user : List ℕ) (filter : Option (List (List ℕ))) (before : Pass) (known : PassAt es user filter before) (writes : as_write e ≡ Some w) (k : ℕ) (placed : List Document) (documents_are : map kept_in placed ≡ add_blank w.doc (map kept_in before.documents.items)) (at : slice_get (map (λ d. d.name.now) placed) k ≡ Some w.doc) where
+module _ (e : Entry) (w : Write) (es : List Entry) (user : List ℕ) (filter : Option (List (List ℕ))) (before : Pass) (known : PassAt es user filter before) (writes : e ≡ entry.Write w) (k : ℕ) (placed : List Document) (documents_are : map kept_in placed ≡ add_blank w.doc (map kept_in before.documents.items)) (at : slice_get (map (λ d. d.name.now) placed) k ≡ Some w.doc) where
   placed_is : map kept_in placed ≡ map (kept_at es user filter) (written_names (entry.Write w ∷ es))
   placed_is = documents_are ∙ ap (add_blank w.doc) known.documents ∙ added_blank es user filter w.doc
 
@@ -253,7 +291,7 @@ module _ (e : Entry) (w : Write) (es : List Entry) (user : List ℕ) (filter : O
   here = ap (λ names. slice_get names k) (sym (names_are es user filter placed _ placed_is)) ∙ at
 
   pub written_place : WrittenPlace e (written_names (e ∷ es)) (Some k)
-  written_place = (w, writes, ap (λ (x : Entry). slice_get (written_names (x ∷ es)) k) (is_write e w writes) ∙ here)
+  written_place = (w, ap as_write writes, ap (λ (x : Entry). slice_get (written_names (x ∷ es)) k) writes ∙ here)
 
   was : current_there k (map kept_in placed) ≡ current es w.doc
   was = ap (current_there k) placed_is ∙ ap (λ (x : Kept). x.current) (get_there (kept_at es user filter) w.doc (written_names (entry.Write w ∷ es)) k (blank []) here)
@@ -263,7 +301,7 @@ module _ (e : Entry) (w : Write) (es : List Entry) (user : List ℕ) (filter : O
 
   pub quiet_same : (latest : Latest) (earlier : Option Latest) → winner_in latest ≡ written_as (length es + 1) (winner_among before.writes w) → current_in earlier ≡ current_there k (map kept_in placed) → is_quiet user (current_in earlier) ≡ true → is_quiet user (Some (winner_in latest)) ≡ true → (c : List ℕ) → has_channel (e ∷ es) user c ≡ has_channel es user c
   quiet_same latest earlier now h a b c =
-      ap (λ (x : Entry). has_channel (x ∷ es) user c) (is_write e w writes)
+      ap (λ (x : Entry). has_channel (x ∷ es) user c) writes
       ∙ quiet_write w es user (quiet_is user _ (ap (is_quiet user) (sym (h ∙ was)) ∙ a)) (quiet_is user _ (ap (is_quiet user) (sym (now_is latest now)) ∙ b)) c
 
   -- the notes of all documents, once those of the written one were set
@@ -296,7 +334,7 @@ module _ (e : Entry) (w : Write) (es : List Entry) (user : List ℕ) (filter : O
   pub ready_write : (latest : Latest) (after : Pass) → winner_in latest ≡ written_as (length es + 1) (winner_among before.writes w) → map kept_in after.documents.items ≡ changed_at k (with_current (winner_in latest)) (map kept_in placed) → IsIndex (map (λ d. d.name.now) placed) after.places → ((doc : List ℕ) (rev : RevId) → write_in after.writes doc rev ≡ rev_or (if bytes_eq w.doc doc then Some w else None) rev (write_in before.writes doc rev)) → after.roles ≡ before.roles → after.put ≡ before.put → IsNumbering after.numbered.numbers (length after.numbered.held.items) → AreNoted user filter after.numbered.numbers (map noted_in after.documents.items) → Ready e es user filter after
   ready_write latest after now set index added same_roles same_put numbering noted =
       let P : Entry → Type 0 = λ x. Ready x es user filter after in
-      subst P (sym (is_write e w writes)) (ready_of latest after now set index added same_roles same_put numbering noted)
+      subst P (sym writes) (ready_of latest after now set index added same_roles same_put numbering noted)
 
 -- the channels of a user that an entry leaves as they were
 pub still_has : (e : Entry) (es : List Entry) (user : List ℕ) (before : Pass) → ((c : List ℕ) → has_channel (e ∷ es) user c ≡ has_channel es user c) → HasChannels es user before → HasChannels (e ∷ es) user before

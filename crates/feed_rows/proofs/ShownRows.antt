@@ -9,10 +9,9 @@ use Rattle.std.specs.Str.{bytes_eq}
 use Rattle.sg_names.specs.declared.rev_id.RevId.{RevId}
 use Rattle.sg_names.specs.RevId.{same_rev}
 use Rattle.sg_history.specs.declared.entries.Entry.{Entry}
-use Rattle.sg_history.specs.declared.entries.Entry.TheVariants as entry
 use Rattle.sg_history.specs.declared.entries.Write.{Write}
 use Rattle.sg_history.specs.declared.row.Row.{Row}
-use Rattle.sg_history.specs.History.{write_to, written_by, documents}
+use Rattle.sg_history.specs.History.{as_write, of_document, document_of, write_to, written_by, documents}
 use Rattle.sg_history.specs.Current.{Current, Sequenced, sequenced_or, last_write, current, current_after}
 use Rattle.sg_history.specs.View.{Shown, view, view_of, is_shown, same_view}
 use Rattle.sg_history.specs.Feed.{changed, row_at, row_of}
@@ -96,17 +95,16 @@ last_place (e ∷ older) doc l h = go (write_to e doc) (last_write older doc) (l
     go (Some w) before rest h = let s : l.seq ≡ length older + 1 = cc in (omega arith, omega arith)
 
 -- an entry writes one document
-write_of : (e : Entry) (doc : List ℕ) (w : Write) → write_to e doc ≡ Some w → (written_by e ≡ w.doc ∷ []) × (w.doc ≡ doc)
-write_of (entry.Write w) doc v h = go (bytes_eq w.doc doc) refl h
+write_by : (o : Option Write) (doc : List ℕ) (w : Write) → of_document o doc ≡ Some w → (document_of o ≡ w.doc ∷ []) × (w.doc ≡ doc)
+write_by None doc v h = absurd (none-some _ h)
+write_by (Some w) doc v h = go (bytes_eq w.doc doc) refl h
   where
     go : (b : Bool) → bytes_eq w.doc doc ≡ b → (if b then Some w else None) ≡ Some v → (w.doc ∷ [] ≡ v.doc ∷ []) × (v.doc ≡ doc)
     go true e h = let same : w ≡ v = cc in let docs = ap (λ (x : Write). x.doc) same in (ap (λ (d : List ℕ). d ∷ []) docs, sym docs ∙ same_bytes w.doc doc e)
     go false e h = absurd (none-some _ h)
-write_of (entry.PutUser name channels roles) doc v h = absurd (none-some _ h)
-write_of (entry.PutRole name channels) doc v h = absurd (none-some _ h)
-write_of (entry.DropUser name) doc v h = absurd (none-some _ h)
-write_of (entry.DropRole name) doc v h = absurd (none-some _ h)
-write_of entry.Unused doc v h = absurd (none-some _ h)
+
+write_of : (e : Entry) (doc : List ℕ) (w : Write) → write_to e doc ≡ Some w → (written_by e ≡ w.doc ∷ []) × (w.doc ≡ doc)
+write_of e doc w h = write_by (as_write e) doc w h
 
 one_written : (e : Entry) (a b : List ℕ) (v w : Write) → write_to e a ≡ Some v → write_to e b ≡ Some w → a ≡ b
 one_written e a b v w h k =

@@ -13,7 +13,7 @@ use Rattle.sg_history.specs.declared.entries.Entry.{Entry}
 use Rattle.sg_history.specs.declared.entries.Entry.TheVariants as entry
 use Rattle.sg_history.specs.declared.entries.Write.{Write}
 use Rattle.sg_history.specs.declared.row.Row.{Row}
-use Rattle.sg_history.specs.History.{write_to, written_by, documents, among}
+use Rattle.sg_history.specs.History.{as_write, of_document, document_of, write_to, written_by, documents, among}
 use Rattle.sg_history.specs.Current.{Current, Sequenced, sequenced_or, with_rev_or, write_of_rev, write_or, last_write, current, current_after}
 use Rattle.feed_rows.specs.Latest.{written_as}
 use Rattle.sg_history.specs.Principals.{Standing, exists, names_role, names_channel, same_grantee, grants_channel, is_granted, gives_role, is_given, has_channel, user_at, role_at, roles_put, everyone}
@@ -36,13 +36,12 @@ pub writes_other : (w : Write) (doc : List ℕ) → bytes_eq w.doc doc ≡ false
 writes_other w doc h = ap (λ (b : Bool). if b then Some w else None) h
 
 -- a document that was never written
+not_written_by : (o : Option Write) (doc : List ℕ) (docs : List (List ℕ)) → among (document_of o ++ docs) doc ≡ false → (of_document o doc ≡ None) × (among docs doc ≡ false)
+not_written_by None doc docs h = (refl, h)
+not_written_by (Some w) doc docs h = let parts = or_parts (bytes_eq w.doc doc) (among docs doc) h in (writes_other w doc parts.0, parts.1)
+
 not_written : (e : Entry) (doc : List ℕ) (docs : List (List ℕ)) → among (written_by e ++ docs) doc ≡ false → (write_to e doc ≡ None) × (among docs doc ≡ false)
-not_written (entry.Write w) doc docs h = let parts = or_parts (bytes_eq w.doc doc) (among docs doc) h in (writes_other w doc parts.0, parts.1)
-not_written (entry.PutUser name channels roles) doc docs h = (refl, h)
-not_written (entry.PutRole name channels) doc docs h = (refl, h)
-not_written (entry.DropUser name) doc docs h = (refl, h)
-not_written (entry.DropRole name) doc docs h = (refl, h)
-not_written entry.Unused doc docs h = (refl, h)
+not_written e doc docs h = not_written_by (as_write e) doc docs h
 
 pub current_never : (es : List Entry) (doc : List ℕ) → among (documents es) doc ≡ false → current es doc ≡ None
 current_never [] doc h = refl

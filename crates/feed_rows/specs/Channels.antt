@@ -55,16 +55,16 @@ abbrev pub role_next : Entry → RoleKept → RoleKept
 role_next e role = record { name = role.name; standing = role_after e role.name role.standing }
 
 -- roles with one more that is put, unless it is there
-abbrev pub add_role : List ℕ → List (List ℕ) → List RoleKept → List RoleKept
-add_role name channels roles =
+abbrev pub add_role : List ℕ → Standing → List RoleKept → List RoleKept
+add_role name standing roles =
     if list_any (λ (r : RoleKept). bytes_eq r.name name) roles
     then roles
-    else roles ++ (record { name = name; standing = Some (record { channels = channels; roles = [] }) }) ∷ []
+    else roles ++ (record { name = name; standing = Some standing }) ∷ []
 
 abbrev pub roles_named : Grantee → Option Standing → Entry → List RoleKept → List RoleKept
 roles_named (User name) standing e roles = roles
 roles_named (Role name) None e roles = map (role_next e) roles
-roles_named (Role name) (Some standing) e roles = add_role name standing.channels (map (role_next e) roles)
+roles_named (Role name) (Some standing) e roles = add_role name standing (map (role_next e) roles)
 
 abbrev pub roles_with : Option Put → Entry → List RoleKept → List RoleKept
 roles_with None e roles = roles

@@ -7,4 +7,4 @@ pub mod Numbers
 pub mod Ordered
 pub mod Pass
 pub mod PassAt
-pub mod Put
+pub mod To

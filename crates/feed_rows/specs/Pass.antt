@@ -9,6 +9,7 @@ use Rattle.sg_history.specs.declared.row.Row.{Row}
 use Rattle.sg_history.specs.Current.{Current}
 use Rattle.sg_history.specs.View.{Shown}
 use Rattle.sg_history.specs.Feed.{row_with}
+use Rattle.sg_history.specs.Puts.{standing_in}
 use Rattle.feed_rows.specs.declared.document.Change.{Change}
 use Rattle.feed_rows.specs.declared.document.Document.{Document}
 use Rattle.feed_rows.specs.declared.document.Seen.{Seen}
@@ -18,7 +19,6 @@ use Rattle.feed_rows.specs.declared.grants.RoleState.{RoleState}
 use Rattle.feed_rows.specs.Kept.{Kept, RoleKept, view_when, shown_at, looked_where, sought, is_quiet}
 use Rattle.feed_rows.specs.Latest.{current_in, shown_in, winner_in}
 use Rattle.feed_rows.specs.Numbers.{AreNumbers, is_held}
-use Rattle.feed_rows.specs.Put.{role_standing_in}
 
 -- the row of a document, as its last change gives it
 abbrev pub row_in : List ℕ → Option Change → Option Row
@@ -96,7 +96,7 @@ granting_in documents = flat_map (λ document. granting_by document.quiet (curre
 
 -- what the code keeps of a role
 abbrev pub role_in : RoleState → RoleKept
-role_in role = record { name = role.name.now; standing = role_standing_in role.channels }
+role_in role = record { name = role.name.now; standing = standing_in role.given }
 
 -- the texts behind references
 abbrev pub texts : List (Bor (List ℕ)) → List (List ℕ)

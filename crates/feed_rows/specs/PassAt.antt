@@ -8,7 +8,7 @@ use Rattle.feed_rows.specs.Index.{IsIndex, IsWriteIndex}
 use Rattle.feed_rows.specs.Kept.{kept_at, kept_next, role_kept_at, written_names, distinct_of, WrittenPlace}
 use Rattle.feed_rows.specs.Numbers.{IsNumbering, Holds}
 use Rattle.feed_rows.specs.Pass.{kept_in, noted_in, AreNoted, role_in, texts}
-use Rattle.feed_rows.specs.Put.{standing_in}
+use Rattle.sg_history.specs.Puts.{standing_in}
 
 -- the pass has the channels that the user has after these entries, by name and by number
 pub record HasChannels (es : List Entry) (user : List ℕ) (pass : Pass) : Type 0 where

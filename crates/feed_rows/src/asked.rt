@@ -20,7 +20,8 @@ use std::collections::BTreeMap;
 
 /// What was shown of a document from a change on.
 fn shown_by<'a>(change: Change<'a>) -> Option<Latest<'a>>
-    ensures { shown_in result ≡ view_when change.entry.is_shown (Some (winner_in change.entry.latest)) }
+    ensures { shown_in result ≡ view_when change.entry.is_shown
+        (Some (winner_in change.entry.latest)) }
 {
     if change.is_shown {
         Some(change.latest)
@@ -59,7 +60,9 @@ fn add_row(
     document: &Document<'_>,
     rows: &mut BTreeMap<(u64, u64), Row>,
 ) -> Result<(), AllocError>
-    ensures { OnOk result ((before : List Row) → rows.old.entries ≡ map under_key before → rows.new.entries ≡ map under_key (insert_asked options.now since.now (kept_in document.now).row before)) }
+    ensures { OnOk result ((before : List Row) → rows.old.entries ≡ map under_key before
+        → rows.new.entries ≡ map under_key (insert_asked options.now since.now
+        (kept_in document.now).row before)) }
 {
     if let Some(row) = row_of_change(alloc, document.name, document.change)? {
         if keeps(options, since, &row) {
@@ -75,7 +78,8 @@ fn map_of(
     since: &Key,
     documents: &[Document<'_>],
 ) -> Result<BTreeMap<(u64, u64), Row>, AllocError>
-    ensures { IfOk result (λ rows. rows.entries ≡ map under_key (asked_rows options.now since.now (reverse (map kept_in documents.now)))) }
+    ensures { IfOk result (λ rows. rows.entries ≡ map under_key
+        (asked_rows options.now since.now (reverse (map kept_in documents.now)))) }
 {
     let mut rows = BTreeMap::new(alloc);
     for document in documents {
@@ -97,7 +101,8 @@ pub fn rows_asked(
     since: &Key,
     documents: &[Document<'_>],
 ) -> Result<Vec<Row>, AllocError>
-    ensures { IfOk result (λ rows. rows.items ≡ asked_rows options.now since.now (reverse (map kept_in documents.now))) }
+    ensures { IfOk result (λ rows. rows.items ≡ asked_rows options.now since.now
+        (reverse (map kept_in documents.now))) }
 {
     let found = map_of(alloc, options, since, documents)?;
     let rows = values_of(alloc, found)?;
@@ -112,7 +117,8 @@ pub fn rows_of_pass(
     since: &Key,
     options: &Options,
 ) -> Result<Vec<Row>, AllocError>
-    ensures { IfOk result (λ rows. rows.items ≡ feed (reverse entries.now) user.now since.now options.now) }
+    ensures { IfOk result (λ rows. rows.items ≡ feed
+        (reverse entries.now) user.now since.now options.now) }
 {
     let everyone = everyone(alloc)?;
     let pass = pass_over(alloc, &everyone, entries, user, &options.filter)?;

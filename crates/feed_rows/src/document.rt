@@ -65,7 +65,8 @@ pub fn latest_after<'a>(
 
 /// What is shown of a document, kept while the document changes.
 fn seen_before<'a>(latest: Option<Latest<'a>>, seen: Seen<'a>) -> Seen<'a>
-    ensures { (now : Option Latest) → pass.seen_in now result ≡ pass.seen_in latest.entry seen.entry }
+    ensures { (now : Option Latest) → pass.seen_in now result
+        ≡ pass.seen_in latest.entry seen.entry }
 {
     match (seen, latest) {
         (Seen::Now, Some(latest)) => Seen::Earlier(latest),
@@ -82,8 +83,10 @@ fn bring_up<'a>(
     quiet: bool,
 ) -> Option<Latest<'a>>
     ensures before { result ≡ document.old.latest }
-    ensures kept { pass.kept_in document.new ≡ kept.with_current (winner_in latest.entry) (pass.kept_in document.old) }
-    ensures noted { pass.noted_in document.new ≡ pass.noted (Some (winner_in latest.entry)) numbers.items quiet }
+    ensures kept { pass.kept_in document.new ≡ kept.with_current (winner_in latest.entry)
+        (pass.kept_in document.old) }
+    ensures noted { pass.noted_in document.new ≡ pass.noted
+        (Some (winner_in latest.entry)) numbers.items quiet }
 {
     let before = document.latest;
     document.seen = seen_before(before, document.seen);
@@ -102,9 +105,13 @@ pub fn set_latest<'a>(
     quiet: bool,
 ) -> Option<Latest<'a>>
     requires { place < length documents.old.items }
-    ensures before { current_in result ≡ kept.current_there place (map pass.kept_in documents.old.items) }
-    ensures documents { map pass.kept_in documents.new.items ≡ kept.changed_at place (kept.with_current (winner_in latest.entry)) (map pass.kept_in documents.old.items) }
-    ensures noted { map pass.noted_in documents.new.items ≡ slice_set (map pass.noted_in documents.old.items) place (pass.noted (Some (winner_in latest.entry)) numbers.items quiet) }
+    ensures before { current_in result ≡ kept.current_there place
+        (map pass.kept_in documents.old.items) }
+    ensures documents { map pass.kept_in documents.new.items ≡ kept.changed_at place
+        (kept.with_current (winner_in latest.entry)) (map pass.kept_in documents.old.items) }
+    ensures noted { map pass.noted_in documents.new.items ≡ slice_set
+        (map pass.noted_in documents.old.items) place
+        (pass.noted (Some (winner_in latest.entry)) numbers.items quiet) }
     ensures count { length documents.new.items ≡ length documents.old.items }
 {
     bring_up(&mut documents[place], latest, numbers, quiet)
@@ -179,7 +186,8 @@ fn seen_of<'a>(latest: Option<Latest<'a>>, seen: Seen<'a>) -> Option<Latest<'a>>
 }
 
 fn seen_when<'a>(is_shown: bool) -> Seen<'a>
-    ensures { (latest : Option Latest) → pass.seen_in latest result ≡ kept.view_when is_shown (current_in latest) }
+    ensures { (latest : Option Latest) → pass.seen_in latest result ≡ kept.view_when is_shown
+        (current_in latest) }
 {
     if is_shown { Seen::Now } else { Seen::Nothing }
 }
@@ -191,7 +199,8 @@ fn change_of<'a>(
     is_shown: bool,
     latest: Option<Latest<'a>>,
 ) -> Option<Change<'a>>
-    ensures { pass.row_in name.now result ≡ feed.row_with by (feed.writes entry.now name.now) (kept.view_when is_shown (current_in latest.entry)) name.now (current_in latest.entry) }
+    ensures { pass.row_in name.now result ≡ feed.row_with by (feed.writes entry.now name.now)
+        (kept.view_when is_shown (current_in latest.entry)) name.now (current_in latest.entry) }
 {
     let latest = latest?;
     let wrote = write_in(entry, name).is_some();
@@ -205,7 +214,8 @@ fn change_of<'a>(
 
 /// Shows a document or hides it after the entry at this place.
 fn show<'a>(is_shown: bool, by: u64, entry: &Entry, document: &mut Document<'a>)
-    ensures kept { pass.kept_in document.new ≡ kept.shown_at is_shown by entry.now (pass.kept_in document.old) }
+    ensures kept { pass.kept_in document.new ≡ kept.shown_at is_shown by entry.now
+        (pass.kept_in document.old) }
     ensures noted { pass.noted_in document.new ≡ pass.noted_in document.old }
 {
     let seen = seen_when(is_shown);
@@ -229,7 +239,8 @@ fn look(held: &[bool], by: u64, entry: &Entry, document: &mut Document<'_>)
 }
 
 fn look_at_each(held: &[bool], by: u64, entry: &Entry, documents: &mut [Document<'_>])
-    ensures kept { map pass.kept_in documents.new ≡ map (λ d. pass.looked_in held.now by entry.now d) documents.old }
+    ensures kept { map pass.kept_in documents.new ≡ map
+        (λ d. pass.looked_in held.now by entry.now d) documents.old }
     ensures noted { map pass.noted_in documents.new ≡ map pass.noted_in documents.old }
 {
     for document in documents.iter_mut() {
@@ -239,7 +250,8 @@ fn look_at_each(held: &[bool], by: u64, entry: &Entry, documents: &mut [Document
 
 /// Looks at all documents anew after the entry at this place.
 pub fn look_at_all(held: &[bool], by: u64, entry: &Entry, documents: &mut Vec<Document<'_>>)
-    ensures kept { map pass.kept_in documents.new.items ≡ map (λ d. pass.looked_in held.now by entry.now d) documents.old.items }
+    ensures kept { map pass.kept_in documents.new.items ≡ map
+        (λ d. pass.looked_in held.now by entry.now d) documents.old.items }
     ensures noted { map pass.noted_in documents.new.items ≡ map pass.noted_in documents.old.items }
 {
     look_at_each(held, by, entry, documents.as_mut_slice());
@@ -254,7 +266,8 @@ pub fn look_at_written(
     documents: &mut Vec<Document<'_>>,
 )
     requires { ForSome place (λ k. k < length documents.old.items) }
-    ensures kept { map pass.kept_in documents.new.items ≡ pass.looked_there held.now by entry.now place documents.old.items }
+    ensures kept { map pass.kept_in documents.new.items
+        ≡ pass.looked_there held.now by entry.now place documents.old.items }
     ensures noted { map pass.noted_in documents.new.items ≡ map pass.noted_in documents.old.items }
 {
     if let Some(k) = place {

@@ -32,7 +32,8 @@ fn with_rev_after<'a>(
     rev: &RevId,
     before: Option<Latest<'a>>,
 ) -> Option<Latest<'a>>
-    ensures { sequenced_in result ≡ with_rev_or (write_to entry.now doc.now) seq rev.now (sequenced_in before.entry) }
+    ensures { sequenced_in result ≡ with_rev_or (write_to entry.now doc.now) seq rev.now
+        (sequenced_in before.entry) }
 {
     match write_in(entry, doc) {
         Some(write) if write.rev.equals(rev) => Some(Latest { seq, write }),
@@ -42,7 +43,8 @@ fn with_rev_after<'a>(
 
 /// The write of a document that has this revision, with its sequence.
 pub fn write_of_rev<'a>(entries: &'a [Entry], doc: &DocId, rev: &RevId) -> Option<Latest<'a>>
-    ensures { sequenced_in result ≡ Rattle.sg_history.specs.Current.write_of_rev (reverse entries.now) doc.now rev.now }
+    ensures { sequenced_in result ≡ Rattle.sg_history.specs.Current.write_of_rev
+        (reverse entries.now) doc.now rev.now }
 {
     let mut found = None;
     for (i, entry) in entries.iter().enumerate() {

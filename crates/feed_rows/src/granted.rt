@@ -25,8 +25,11 @@ fn channels_of_entries(
     entries: &[Entry],
     user: &[u8],
 ) -> Result<Option<Channels>, AllocError>
-    ensures exists { IfOk result (λ found. is_some found ≡ principals.exists (principals.user_at (reverse entries.now) user.now)) }
-    ensures channels { IfOk result (λ found. IfSome found (λ channels. (channel : List ℕ) → among channels channel ≡ principals.has_channel (reverse entries.now) user.now channel)) }
+    ensures exists { IfOk result (λ found. is_some found ≡ principals.exists
+        (principals.user_at (reverse entries.now) user.now)) }
+    ensures channels { IfOk result (λ found. IfSome found
+        (λ channels. (channel : List ℕ) → among channels channel ≡ principals.has_channel
+        (reverse entries.now) user.now channel)) }
 {
     let everyone = everyone(alloc)?;
     let pass = pass_over(alloc, &everyone, entries, user, &None)?;
@@ -45,8 +48,11 @@ pub fn channels_of(
     user: &Name,
 ) -> Result<Option<Channels>, AllocError>
     requires { front ≤ length (entries_of log.now) }
-    ensures exists { IfOk result (λ found. is_some found ≡ principals.exists (principals.user_at (past (entries_of log.now) front) user.now)) }
-    ensures channels { IfOk result (λ found. IfSome found (λ channels. (channel : List ℕ) → among channels channel ≡ principals.has_channel (past (entries_of log.now) front) user.now channel)) }
+    ensures exists { IfOk result (λ found. is_some found ≡ principals.exists
+        (principals.user_at (past (entries_of log.now) front) user.now)) }
+    ensures channels { IfOk result (λ found. IfSome found
+        (λ channels. (channel : List ℕ) → among channels channel ≡ principals.has_channel
+        (past (entries_of log.now) front) user.now channel)) }
 {
     let entries = &log.entries.as_slice()[..front as usize];
     channels_of_entries(alloc, entries, user.as_bytes())

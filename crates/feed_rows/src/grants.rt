@@ -10,19 +10,21 @@ ghost use Rattle.feed_rows.specs.Channels as channels;
 ghost use Rattle.feed_rows.specs.Kept.{add_name};
 ghost use Rattle.feed_rows.specs.Latest.{current_in, winner_in};
 ghost use Rattle.feed_rows.specs.Pass.{granting_by, granting_in, role_in, texts};
-ghost use Rattle.feed_rows.specs.Put.{standing_in, role_standing_in, grantee_in};
+ghost use Rattle.feed_rows.specs.To.{grantee_in};
+ghost use Rattle.sg_history.specs.Puts as puts;
+ghost use Rattle.sg_history.specs.Puts.{standing_in};
 
 use crate::document::Document;
 use crate::documents::Latest;
-use crate::principals::{Put, To, gives_role, is_to, put_names_role, role_after};
-use sg_history::{ChannelName, Channels, Entry, Grant, Name, TextFault};
+use crate::principals::{To, gives_role, is_to, put_names_role, role_after};
+use sg_history::{ChannelName, Channels, Entry, Given, Grant, Name, Principal, Put, TextFault};
 use std::alloc::{AllocError, Global};
 
-/// A role, with the channels of its last put where it was not dropped since.
+/// A role, with what its last put gave it where it was not dropped since.
 #[derive(Clone, Copy)]
 pub struct RoleState<'a> {
     pub name: &'a Name,
-    pub channels: Option<&'a Channels>,
+    pub given: Option<Given<'a>>,
 }
 
 fn next_role<'a>(role: RoleState<'a>, entry: &'a Entry) -> RoleState<'a>
@@ -30,12 +32,13 @@ fn next_role<'a>(role: RoleState<'a>, entry: &'a Entry) -> RoleState<'a>
 {
     RoleState {
         name: role.name,
-        channels: role_after(entry, role.name.as_bytes(), role.channels),
+        given: role_after(entry, role.name.as_bytes(), role.given),
     }
 }
 
 fn next_roles<'a>(roles: &mut [RoleState<'a>], entry: &'a Entry)
-    ensures { map role_in roles.new ≡ map (λ r. channels.role_next entry.now r) (map role_in roles.old) }
+    ensures { map role_in roles.new ≡ map (λ r. channels.role_next entry.now r)
+        (map role_in roles.old) }
 {
     for role in roles.iter_mut() {
         *role = next_role(*role, entry);
@@ -57,33 +60,52 @@ fn is_known(roles: &[RoleState<'_>], name: &Name) -> bool
 fn add_role<'a>(
     roles: &mut Vec<RoleState<'a>>,
     name: &'a Name,
-    put: &'a Channels,
+    given: Given<'a>,
 ) -> Result<(), AllocError>
-    ensures { OnOk result (map role_in roles.new.items ≡ channels.add_role name.now put.now (map role_in roles.old.items)) }
+    ensures { OnOk result (map role_in roles.new.items
+        ≡ channels.add_role name.now (puts.given_in given.entry) (map role_in roles.old.items)) }
 {
     if !is_known(roles.as_slice(), name) {
         roles.push(RoleState {
             name,
-            channels: Some(put),
+            given: Some(given),
         })?;
     }
     Ok(())
 }
 
-/// Brings the roles up to date with one entry more.
-pub fn put_role<'a>(roles: &mut Vec<RoleState<'a>>, entry: &'a Entry) -> Result<(), AllocError>
-    ensures { OnOk result (map role_in roles.new.items ≡ channels.roles_next entry.now (map role_in roles.old.items)) }
+/// Brings the roles up to date with a put or drop, which the entry is.
+fn put_or_drop<'a>(
+    roles: &mut Vec<RoleState<'a>>,
+    put: Put<'a>,
+    entry: &'a Entry,
+) -> Result<(), AllocError>
+    ensures { OnOk result (map role_in roles.new.items
+        ≡ channels.roles_named (puts.grantee_in put.entry.of)
+        (standing_in put.entry.given) entry.now
+        (map role_in roles.old.items)) }
 {
-    match entry {
-        Entry::PutRole(name, put) => {
-            next_roles(roles.as_mut_slice(), entry);
-            add_role(roles, name, put)
-        }
-        Entry::DropRole(_) => {
+    match (put.of, put.given) {
+        (Principal::User(_), _) => Ok(()),
+        (Principal::Role(_), None) => {
             next_roles(roles.as_mut_slice(), entry);
             Ok(())
         }
-        _ => Ok(()),
+        (Principal::Role(name), Some(given)) => {
+            next_roles(roles.as_mut_slice(), entry);
+            add_role(roles, name, given)
+        }
+    }
+}
+
+/// Brings the roles up to date with one entry more.
+pub fn put_role<'a>(roles: &mut Vec<RoleState<'a>>, entry: &'a Entry) -> Result<(), AllocError>
+    ensures { OnOk result (map role_in roles.new.items
+        ≡ channels.roles_next entry.now (map role_in roles.old.items)) }
+{
+    match entry.as_put() {
+        Some(put) => put_or_drop(roles, put, entry),
+        None => Ok(()),
     }
 }
 
@@ -104,7 +126,9 @@ fn add_grants<'a>(
     grants: &'a [Grant],
     to: To<'_>,
 ) -> Result<(), AllocError>
-    ensures { OnOk result (texts list.new.items ≡ texts list.old.items ++ map (λ g. g.channel) (filter (λ g. principals.same_grantee g.to (grantee_in to.entry)) grants.now)) }
+    ensures { OnOk result (texts list.new.items ≡ texts list.old.items
+        ++ map (λ g. g.channel) (filter (λ g. principals.same_grantee g.to
+        (grantee_in to.entry)) grants.now)) }
 {
     for grant in grants {
         if is_to(&grant.to, to) {
@@ -119,7 +143,8 @@ fn add_granted<'a>(
     documents: &[Latest<'a>],
     to: To<'_>,
 ) -> Result<(), AllocError>
-    ensures { OnOk result (texts list.new.items ≡ texts list.old.items ++ channels.granted (map winner_in documents.now) (grantee_in to.entry)) }
+    ensures { OnOk result (texts list.new.items ≡ texts list.old.items
+        ++ channels.granted (map winner_in documents.now) (grantee_in to.entry)) }
 {
     for latest in documents {
         add_grants(list, latest.write.grants.as_slice(), to)?;
@@ -128,7 +153,8 @@ fn add_granted<'a>(
 }
 
 fn some_gives(documents: &[Latest<'_>], user: &[u8], role: &[u8]) -> bool
-    ensures { result ≡ list_any (λ l. principals.gives_role (Some (winner_in l)) user.now role.now) documents.now }
+    ensures { result ≡ list_any (λ l. principals.gives_role (Some
+        (winner_in l)) user.now role.now) documents.now }
 {
     documents.iter().any(|l| gives_role(Some(*l), user, role))
 }
@@ -141,17 +167,19 @@ fn is_given(documents: &[Latest<'_>], user: &[u8], role: &[u8]) -> bool
 
 fn add_by_role<'a>(
     list: &mut Vec<&'a ChannelName>,
-    put: Option<Put<'a>>,
+    put: Option<Given<'a>>,
     user: &[u8],
     documents: &[Latest<'a>],
     role: RoleState<'a>,
 ) -> Result<(), AllocError>
-    ensures { OnOk result (texts list.new.items ≡ texts list.old.items ++ channels.by_role (standing_in put.entry) user.now (map winner_in documents.now) (role_in role.entry)) }
+    ensures { OnOk result (texts list.new.items ≡ texts list.old.items
+        ++ channels.by_role (standing_in put.entry) user.now (map winner_in documents.now)
+        (role_in role.entry)) }
 {
     let name = role.name.as_bytes();
-    if let Some(channels) = role.channels {
+    if let Some(given) = role.given {
         if put_names_role(put, name) || is_given(documents, user, name) {
-            add_channels(list, channels)?;
+            add_channels(list, given.channels)?;
             add_granted(list, documents, To::Role(name))?;
         }
     }
@@ -160,12 +188,14 @@ fn add_by_role<'a>(
 
 fn add_by_roles<'a>(
     list: &mut Vec<&'a ChannelName>,
-    put: Option<Put<'a>>,
+    put: Option<Given<'a>>,
     user: &[u8],
     documents: &[Latest<'a>],
     roles: &[RoleState<'a>],
 ) -> Result<(), AllocError>
-    ensures { OnOk result (texts list.new.items ≡ texts list.old.items ++ flat_map (λ r. channels.by_role (standing_in put.entry) user.now (map winner_in documents.now) r) (map role_in roles.now)) }
+    ensures { OnOk result (texts list.new.items ≡ texts list.old.items
+        ++ flat_map (λ r. channels.by_role (standing_in put.entry) user.now
+        (map winner_in documents.now) r) (map role_in roles.now)) }
 {
     for role in roles {
         add_by_role(list, put, user, documents, *role)?;
@@ -176,18 +206,19 @@ fn add_by_roles<'a>(
 fn all_channels<'a>(
     alloc: Global,
     everyone: &'a ChannelName,
-    put: Option<Put<'a>>,
+    put: Option<Given<'a>>,
     user: &[u8],
     roles: &[RoleState<'a>],
     documents: &[Latest<'a>],
 ) -> Result<Vec<&'a ChannelName>, AllocError>
     requires { everyone.now ≡ principals.everyone }
-    ensures { IfOk result (λ list. texts list.items ≡ channels.user_channels (standing_in put.entry) user.now (map role_in roles.now) (map winner_in documents.now)) }
+    ensures { IfOk result (λ list. texts list.items ≡ channels.user_channels
+        (standing_in put.entry) user.now (map role_in roles.now) (map winner_in documents.now)) }
 {
     let mut list = Vec::new(alloc);
-    if let Some(standing) = put {
+    if let Some(given) = put {
         list.push(everyone)?;
-        add_channels(&mut list, standing.channels)?;
+        add_channels(&mut list, given.channels)?;
         add_granted(&mut list, documents, To::User(user))?;
         add_by_roles(&mut list, put, user, documents, roles)?;
     }
@@ -230,7 +261,8 @@ fn each_once<'a>(
 }
 
 fn add_granting<'a>(list: &mut Vec<Latest<'a>>, document: &Document<'a>) -> Result<(), AllocError>
-    ensures { OnOk result (map winner_in list.new.items ≡ map winner_in list.old.items ++ granting_by document.now.quiet (current_in document.now.latest)) }
+    ensures { OnOk result (map winner_in list.new.items ≡ map winner_in list.old.items
+        ++ granting_by document.now.quiet (current_in document.now.latest)) }
 {
     if !document.quiet {
         if let Some(latest) = document.latest {
@@ -267,13 +299,14 @@ pub fn everyone(alloc: Global) -> Result<ChannelName, AllocError>
 pub fn user_channels<'a>(
     alloc: Global,
     everyone: &'a ChannelName,
-    put: Option<Put<'a>>,
+    put: Option<Given<'a>>,
     user: &[u8],
     roles: &[RoleState<'a>],
     documents: &[Document<'a>],
 ) -> Result<Vec<&'a ChannelName>, AllocError>
     requires { everyone.now ≡ principals.everyone }
-    ensures { IfOk result (λ list. texts list.items ≡ channels.add_names (channels.user_channels (standing_in put.entry) user.now (map role_in roles.now) (granting_in documents.now)) []) }
+    ensures { IfOk result (λ list. texts list.items ≡ channels.add_names (channels.user_channels
+        (standing_in put.entry) user.now (map role_in roles.now) (granting_in documents.now)) []) }
 {
     let granting = granting(alloc, documents)?;
     let list = all_channels(alloc, everyone, put, user, roles, granting.as_slice())?;

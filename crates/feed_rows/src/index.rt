@@ -24,7 +24,8 @@ pub fn add_place<'a>(
     name: &'a DocId,
     place: usize,
 ) -> Result<(), AllocError>
-    ensures { OnOk result ((other : List ℕ) → place_in places.new other ≡ (if bytes_eq name.now other then Some place else place_in places.old other)) }
+    ensures { OnOk result ((other : List ℕ) → place_in places.new other
+        ≡ (if bytes_eq name.now other then Some place else place_in places.old other)) }
 {
     places.insert(name.as_str(), place)?;
     Ok(())
@@ -47,7 +48,9 @@ pub fn add_write<'a>(
     writes: &mut BTreeMap<(&'a str, u32, &'a str), &'a Write>,
     write: &'a Write,
 ) -> Result<(), AllocError>
-    ensures { OnOk result ((doc : List ℕ) (rev : RevId) → write_in writes.new doc rev ≡ rev_or (if bytes_eq write.now.doc doc then Some write.now else None) rev (write_in writes.old doc rev)) }
+    ensures { OnOk result ((doc : List ℕ) (rev : RevId) → write_in writes.new doc rev ≡ rev_or
+        (if bytes_eq write.now.doc doc then Some write.now else None) rev
+        (write_in writes.old doc rev)) }
 {
     let key = (
         write.doc.as_str(),

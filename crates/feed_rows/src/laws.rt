@@ -13,8 +13,11 @@ ghost use Rattle.feed_rows.specs.Laws.{HasRow, IsAskedFor, IsBelow, Rising, all_
 
 /// A feed has exactly the rows of documents that are asked for, and of each document at most one.
 pub fn members()
-    ensures exact { (es : List Entry) (user : List ℕ) (since : Key) (options : Options) (row : Row) → HasRow (feed es user since options) row ↔ IsAskedFor es user since options row }
-    ensures one_each { (es : List Entry) (user : List ℕ) (since : Key) (options : Options) (row other : Row) → HasRow (feed es user since options) row → HasRow (feed es user since options) other → row.doc ≡ other.doc → row ≡ other }
+    ensures exact { (es : List Entry) (user : List ℕ) (since : Key) (options : Options) (row : Row)
+        → HasRow (feed es user since options) row ↔ IsAskedFor es user since options row }
+    ensures one_each { (es : List Entry) (user : List ℕ) (since : Key) (options : Options)
+        (row other : Row) → HasRow (feed es user since options) row → HasRow
+        (feed es user since options) other → row.doc ≡ other.doc → row ≡ other }
 {}
 
 /// A row says what is shown of its document at the front: it is gone exactly where the document is not shown, and else it has the
@@ -36,10 +39,15 @@ pub fn said()
 /// The keys of a feed rise. A plain number S is the key (S, S), and a since key at or past the last key gives
 /// no row.
 pub fn order()
-    ensures rising { (es : List Entry) (user : List ℕ) (since : Key) (options : Options) → Rising (feed es user since options) }
-    ensures plain_keys { (number : ℕ) (key : Key) → IsBelow (plain number) key ↔ ((number < key.by) ⊎ ((number ≡ key.by) × (number < key.seq))) }
-    ensures past_the_last { (es : List Entry) (user : List ℕ) (since : Key) (options : Options) → ((doc : List ℕ) (row : Row) → row_of es user options.filter doc ≡ Some row → ¬ (IsBelow since row.key)) → feed es user since options ≡ [] }
-    ensures past_the_front { (es : List Entry) (user : List ℕ) (since : Key) (options : Options) → ¬ (IsBelow since (plain (length es))) → feed es user since options ≡ [] }
+    ensures rising { (es : List Entry) (user : List ℕ) (since : Key) (options : Options) → Rising
+        (feed es user since options) }
+    ensures plain_keys { (number : ℕ) (key : Key) → IsBelow (plain number) key ↔
+        ((number < key.by) ⊎ ((number ≡ key.by) × (number < key.seq))) }
+    ensures past_the_last { (es : List Entry) (user : List ℕ) (since : Key) (options : Options) →
+        ((doc : List ℕ) (row : Row) → row_of es user options.filter doc ≡ Some row → ¬
+        (IsBelow since row.key)) → feed es user since options ≡ [] }
+    ensures past_the_front { (es : List Entry) (user : List ℕ) (since : Key) (options : Options)
+        → ¬ (IsBelow since (plain (length es))) → feed es user since options ≡ [] }
 {}
 
 /// What a sent key leaves for later, in every history that extends the one that its feed was of: each row
@@ -47,13 +55,27 @@ pub fn order()
 /// and stands in the later feed from it; and so does each row of a document past the sent key, also one that a
 /// feed from the start omits, but for revocations that are not asked for.
 pub fn resume()
-    ensures sent_or_ahead { (entries more : List Entry) (front : ℕ) (user : List ℕ) (since : Key) (options : Options) (sent row : Row) → front ≤ length entries → HasRow (feed (past entries front) user since options) sent → HasRow (feed (all_of (entries ++ more)) user since options) row → WasSent (feed (past entries front) user since options) sent.key row ⊎ IsAhead (feed (all_of (entries ++ more)) user sent.key options) sent.key row }
-    ensures none_lost { (entries more : List Entry) (front : ℕ) (user : List ℕ) (since : Key) (options : Options) (sent row : Row) (doc : List ℕ) → front ≤ length entries → HasRow (feed (past entries front) user since options) sent → row_of (all_of (entries ++ more)) user options.filter doc ≡ Some row → IsBelow sent.key row.key → IsTrue (options.revocations || not (nat_eq row.bits 2)) → HasRow (feed (all_of (entries ++ more)) user sent.key options) row }
+    ensures sent_or_ahead { (entries more : List Entry) (front : ℕ) (user : List ℕ) (since : Key)
+        (options : Options) (sent row : Row) → front ≤ length entries → HasRow
+        (feed (past entries front) user since options) sent → HasRow
+        (feed (all_of (entries ++ more)) user since options) row → WasSent
+        (feed (past entries front) user since options) sent.key row ⊎ IsAhead
+        (feed (all_of (entries ++ more)) user sent.key options) sent.key row }
+    ensures none_lost { (entries more : List Entry) (front : ℕ) (user : List ℕ) (since : Key)
+        (options : Options) (sent row : Row) (doc : List ℕ) → front ≤ length entries → HasRow
+        (feed (past entries front) user since options) sent → row_of
+        (all_of (entries ++ more)) user options.filter doc ≡ Some row → IsBelow sent.key row.key
+        → IsTrue (options.revocations || not (nat_eq row.bits 2)) → HasRow
+        (feed (all_of (entries ++ more)) user sent.key options) row }
 {}
 
 /// What a device holds that takes the first rows of its feed turn by turn, at fronts that don't fall of a
 /// history that only goes on, with revocations: after a turn in which it took the whole feed, exactly what is
 /// shown at that front, under active only but for what is deleted.
 pub fn device()
-    ensures { (user : List ℕ) (options : Options) (last : DeviceTurn) (earlier : List DeviceTurn) (doc : List ℕ) → IsTrue options.revocations → IsRun (last ∷ earlier) → TakesAll user options last earlier → live options ((state_after user options (last ∷ earlier)).copy doc) ≡ live options (shown_to (past last.history last.front) user options.filter doc) }
+    ensures { (user : List ℕ) (options : Options) (last : DeviceTurn) (earlier : List DeviceTurn)
+        (doc : List ℕ) → IsTrue options.revocations → IsRun (last ∷ earlier)
+        → TakesAll user options last earlier → live options
+        ((state_after user options (last ∷ earlier)).copy doc) ≡ live options
+        (shown_to (past last.history last.front) user options.filter doc) }
 {}

@@ -37,7 +37,8 @@ fn number_for<'a>(
     channels: &[&'a ChannelName],
     channel: &'a [u8],
 ) -> Result<usize, AllocError>
-    ensures grown { OnOk result (Grows (λ c. among (texts channels.now) c) numbered.old numbered.new) }
+    ensures grown { OnOk result
+        (Grows (λ c. among (texts channels.now) c) numbered.old numbered.new) }
     ensures number { IfOk result (λ n. place_in numbered.new.numbers channel.now ≡ Some n) }
 {
     if let Some(number) = number_of(&numbered.numbers, channel) {
@@ -55,8 +56,11 @@ fn add_numbers<'a>(
     channels: &[&'a ChannelName],
     names: &'a [ChannelName],
 ) -> Result<(), AllocError>
-    ensures grown { OnOk result (Grows (λ c. among (texts channels.now) c) numbered.old numbered.new) }
-    ensures numbers { OnOk result ((before : List (List ℕ)) → AreNumbers numbered.old.numbers before list.old.items → AreNumbers numbered.new.numbers (before ++ names.now) list.new.items) }
+    ensures grown { OnOk result
+        (Grows (λ c. among (texts channels.now) c) numbered.old numbered.new) }
+    ensures numbers { OnOk result ((before : List (List ℕ))
+        → AreNumbers numbered.old.numbers before list.old.items → AreNumbers numbered.new.numbers
+        (before ++ names.now) list.new.items) }
 {
     for name in names {
         let number = number_for(numbered, channels, name.as_bytes())?;
@@ -72,8 +76,10 @@ fn all_numbers<'a>(
     channels: &[&'a ChannelName],
     names: &'a [ChannelName],
 ) -> Result<SmallVec<usize, 4>, AllocError>
-    ensures grown { OnOk result (Grows (λ c. among (texts channels.now) c) numbered.old numbered.new) }
-    ensures numbers { IfOk result (λ list. AreNumbers numbered.new.numbers (every ∷ names.now) list.items) }
+    ensures grown { OnOk result
+        (Grows (λ c. among (texts channels.now) c) numbered.old numbered.new) }
+    ensures numbers { IfOk result (λ list. AreNumbers numbered.new.numbers
+        (every ∷ names.now) list.items) }
 {
     let mut list = SmallVec::new(alloc);
     let number = number_for(numbered, channels, b"*".as_slice())?;
@@ -90,8 +96,10 @@ pub fn numbers_sought<'a>(
     filter: &Option<Channels>,
     latest: Latest<'a>,
 ) -> Result<SmallVec<usize, 4>, AllocError>
-    ensures grown { OnOk result (Grows (λ c. among (texts channels.now) c) numbered.old numbered.new) }
-    ensures numbers { IfOk result (λ list. AreNumbers numbered.new.numbers (sought filter.now (Some (winner_in latest.entry))) list.items) }
+    ensures grown { OnOk result
+        (Grows (λ c. among (texts channels.now) c) numbered.old numbered.new) }
+    ensures numbers { IfOk result (λ list. AreNumbers numbered.new.numbers
+        (sought filter.now (Some (winner_in latest.entry))) list.items) }
 {
     let names = latest.write.channels.as_slice();
     if !passes(filter, names) {
@@ -110,7 +118,8 @@ fn no_flags(alloc: Global, count: usize) -> Result<Vec<bool>, AllocError>
 /// Sets the flag of a channel that has a number.
 fn set_flag(flags: &mut [bool], numbers: &BTreeMap<&[u8], usize>, channel: &[u8])
     requires { IsNumbering numbers.now (length flags.old) }
-    ensures { (has : List ℕ → Bool) → Holds has numbers.now flags.old → Holds (λ c. has c || bytes_eq channel.now c) numbers.now flags.new }
+    ensures { (has : List ℕ → Bool) → Holds has numbers.now flags.old → Holds
+        (λ c. has c || bytes_eq channel.now c) numbers.now flags.new }
 {
     if let Some(number) = number_of(numbers, channel) {
         flags[number] = true;
@@ -119,7 +128,8 @@ fn set_flag(flags: &mut [bool], numbers: &BTreeMap<&[u8], usize>, channel: &[u8]
 
 fn set_flags(flags: &mut [bool], numbers: &BTreeMap<&[u8], usize>, channels: &[&ChannelName])
     requires { IsNumbering numbers.now (length flags.old) }
-    ensures { Holds (λ c. false) numbers.now flags.old → Holds (λ c. among (texts channels.now) c) numbers.now flags.new }
+    ensures { Holds (λ c. false) numbers.now flags.old → Holds
+        (λ c. among (texts channels.now) c) numbers.now flags.new }
 {
     for channel in channels {
         set_flag(flags, numbers, channel.as_bytes());
@@ -135,7 +145,8 @@ fn flags_of(
 ) -> Result<Vec<bool>, AllocError>
     requires { IsNumbering numbers.now count }
     ensures count { IfOk result (λ flags. length flags.items ≡ count) }
-    ensures held { IfOk result (λ flags. Holds (λ c. among (texts channels.now) c) numbers.now flags.items) }
+    ensures held { IfOk result
+        (λ flags. Holds (λ c. among (texts channels.now) c) numbers.now flags.items) }
 {
     let mut flags = no_flags(alloc, count)?;
     set_flags(flags.as_mut_slice(), numbers, channels);
@@ -151,7 +162,8 @@ pub fn hold<'a>(
     requires { IsNumbering numbered.old.numbers (length numbered.old.held.items) }
     ensures numbers { OnOk result (numbered.new.numbers ≡ numbered.old.numbers) }
     ensures count { OnOk result (length numbered.new.held.items ≡ length numbered.old.held.items) }
-    ensures held { OnOk result (Holds (λ c. among (texts channels.now) c) numbered.new.numbers numbered.new.held.items) }
+    ensures held { OnOk result
+        (Holds (λ c. among (texts channels.now) c) numbered.new.numbers numbered.new.held.items) }
 {
     let held = flags_of(alloc, &numbered.numbers, numbered.held.len(), channels)?;
     numbered.held = held;

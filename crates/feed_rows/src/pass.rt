@@ -1,9 +1,11 @@
 //! One pass over the log for a user: what every document is, what is shown of it, and where that changed last.
 
-ghost use Rattle.std.specs.Prelude.{◌≡◌, ◌+◌, ◌<◌, ◌^◌, ℕ, List, Option, [], ◌∷◌, ◌&&◌, true, length, map, reverse, slice_get, Some, None, OnOk, IfOk};
+ghost use Rattle.std.specs.Prelude.{◌≡◌, ◌+◌, ◌<◌, ◌^◌, ℕ, List, Option, [], ◌∷◌, ◌&&◌, true, length, map, reverse, slice_get, Some, None, option_map, OnOk, IfOk};
 ghost use Rattle.std.specs.Option.{ForSome};
+ghost use Rattle.sg_history.specs.declared.entries.Entry.TheVariants as kinds;
 ghost use Rattle.sg_history.specs.History.{as_write};
 ghost use Rattle.sg_history.specs.Principals as principals;
+ghost use Rattle.sg_history.specs.Puts.{put_in};
 ghost use Rattle.feed_rows.specs.Index.{IsIndex};
 ghost use Rattle.feed_rows.specs.Kept as kept;
 ghost use Rattle.feed_rows.specs.Latest.{current_in};
@@ -17,8 +19,8 @@ use crate::documents::Latest;
 use crate::grants::{RoleState, are_same, put_role, user_channels};
 use crate::index::{add_place, add_write, place_of};
 use crate::numbers::{Numbered, hold, numbers_sought};
-use crate::principals::{Put, user_after};
-use sg_history::{ChannelName, Channels, DocId, Entry, Write};
+use crate::principals::{is_other_user, user_after};
+use sg_history::{ChannelName, Channels, DocId, Entry, Given, Put, Write};
 use smallvec::SmallVec;
 use std::alloc::{AllocError, Global};
 use std::collections::BTreeMap;
@@ -32,21 +34,26 @@ pub struct Pass<'a> {
     pub places: BTreeMap<&'a str, usize>,
     pub writes: BTreeMap<(&'a str, u32, &'a str), &'a Write>,
     pub roles: Vec<RoleState<'a>>,
-    pub put: Option<Put<'a>>,
+    pub put: Option<Given<'a>>,
     pub channels: Vec<&'a ChannelName>,
     pub numbered: Numbered<'a>,
+}
+
+/// Whether a put or a drop, where there is one, is of a user of another name.
+fn is_of_other(put: Option<Put<'_>>, user: &[u8]) -> bool
+    ensures { result ≡ kept.is_of_other (option_map put_in put.entry) user.now }
+{
+    match put {
+        None => true,
+        Some(put) => is_other_user(put, user),
+    }
 }
 
 /// Whether an entry changes neither a document nor what the user has.
 fn is_idle(entry: &Entry, user: &[u8]) -> bool
     ensures { result ≡ kept.is_idle entry.now user.now }
 {
-    match entry {
-        Entry::PutUser(name, _, _) => name.as_bytes() != user,
-        Entry::DropUser(name) => name.as_bytes() != user,
-        Entry::Unused => true,
-        _ => false,
-    }
+    entry.as_write().is_none() && is_of_other(entry.as_put(), user)
 }
 
 /// Looks at the document that the entry at this place wrote, where it wrote one and left the user's channels.
@@ -74,7 +81,8 @@ fn refresh<'a>(
     requires fits { length older.now + 1 < 2 ^ 64 }
     requires ready { Ready entry.now (reverse older.now) user.now filter.now pass.old }
     requires had { HasChannels (reverse older.now) user.now pass.old }
-    requires place { kept.WrittenPlace entry.now (kept.written_names (entry.now ∷ reverse older.now)) place }
+    requires place { kept.WrittenPlace entry.now (kept.written_names (entry.now
+        ∷ reverse older.now)) place }
     ensures { OnOk result (PassAt (entry.now ∷ reverse older.now) user.now filter.now pass.new) }
 {
     let channels = user_channels(
@@ -126,10 +134,13 @@ fn place_for<'a>(
     name: &'a DocId,
 ) -> Result<usize, AllocError>
     requires { IsIndex (map (λ d. d.name.now) documents.old.items) places.old }
-    ensures documents { OnOk result (map kept_in documents.new.items ≡ kept.add_blank name.now (map kept_in documents.old.items)) }
-    ensures noted { OnOk result (StayNoted (map noted_in documents.old.items) (map noted_in documents.new.items)) }
+    ensures documents { OnOk result (map kept_in documents.new.items
+        ≡ kept.add_blank name.now (map kept_in documents.old.items)) }
+    ensures noted { OnOk result (StayNoted (map noted_in documents.old.items)
+        (map noted_in documents.new.items)) }
     ensures places { OnOk result (IsIndex (map (λ d. d.name.now) documents.new.items) places.new) }
-    ensures place { IfOk result (λ k. slice_get (map (λ d. d.name.now) documents.new.items) k ≡ Some name.now) }
+    ensures place { IfOk result (λ k. slice_get (map (λ d. d.name.now) documents.new.items) k
+        ≡ Some name.now) }
 {
     if let Some(place) = place_of(places, name) {
         return Ok(place);
@@ -171,12 +182,14 @@ fn put_write<'a>(
     write: &'a Write,
 ) -> Result<Brought, AllocError>
     requires fits { length older.now + 1 < 2 ^ 64 }
-    requires writes { as_write entry.now ≡ Some write.now }
+    requires writes { entry.now ≡ kinds.Write write.now }
     requires known { PassAt (reverse older.now) user.now filter.now pass.old }
     ensures ready { OnOk result (Ready entry.now (reverse older.now) user.now filter.now pass.new) }
     ensures had { OnOk result (HasChannels (reverse older.now) user.now pass.new) }
-    ensures place { IfOk result (λ r. kept.WrittenPlace entry.now (kept.written_names (entry.now ∷ reverse older.now)) (Some r.place)) }
-    ensures stays { IfOk result (λ r. r.stays_quiet ≡ true → Stays entry.now (reverse older.now) user.now) }
+    ensures place { IfOk result (λ r. kept.WrittenPlace entry.now (kept.written_names (entry.now
+        ∷ reverse older.now)) (Some r.place)) }
+    ensures stays { IfOk result (λ r. r.stays_quiet ≡ true
+        → Stays entry.now (reverse older.now) user.now) }
     ensures within { IfOk result (λ r. r.place < length pass.new.documents.items) }
 {
     let place = place_for(alloc, &mut pass.documents, &mut pass.places, &write.doc)?;
@@ -205,7 +218,7 @@ fn take_write<'a>(
 ) -> Result<(), AllocError>
     requires everyone { everyone.now ≡ principals.everyone }
     requires fits { length older.now + 1 < 2 ^ 64 }
-    requires writes { as_write entry.now ≡ Some write.now }
+    requires writes { entry.now ≡ kinds.Write write.now }
     requires known { PassAt (reverse older.now) user.now filter.now pass.old }
     ensures { OnOk result (PassAt (entry.now ∷ reverse older.now) user.now filter.now pass.new) }
 {

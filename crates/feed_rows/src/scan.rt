@@ -61,7 +61,8 @@ pub fn rows(
     options: &Options,
 ) -> Result<Rows, AllocError>
     requires { front ≤ length (entries_of log.now) }
-    ensures { IfOk result (λ rows. rows ≡ feed.feed (past (entries_of log.now) front) user.now since.now options.now) }
+    ensures { IfOk result (λ rows. rows ≡ feed.feed
+        (past (entries_of log.now) front) user.now since.now options.now) }
 {
     let entries = &log.entries.as_slice()[..front as usize];
     Ok(Rows::from_vec(rows_of_pass(alloc, entries, user.as_bytes(), since, options)?))

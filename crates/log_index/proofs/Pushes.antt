@@ -3,7 +3,6 @@ use Rattle.std.proofs.Common.{◌≡◌, ◌≢◌, ◌<◌, ◌≤◌, ◌+◌,
 use Rattle.std.specs.BTreeMap.{get_by_text}
 use Rattle.std.specs.Str.{bytes_eq}
 use Rattle.std.specs.Cmp.Lexicographic.{bytes_decides}
-use Rattle.std.proofs.lemmas.Option.{none-some}
 use Rattle.sg_names.specs.declared.grants.Grantee.{Grantee}
 use Rattle.sg_names.specs.declared.grants.Grantee.TheVariants.{User, Role}
 use Rattle.sg_names.specs.declared.rev_id.RevId.{RevId}
@@ -11,7 +10,7 @@ use Rattle.sg_names.specs.RevId.{same_rev}
 use Rattle.sg_history.specs.declared.entries.Entry.{Entry}
 use Rattle.sg_history.specs.declared.entries.Entry.TheVariants as entry
 use Rattle.sg_history.specs.declared.entries.Write.{Write}
-use Rattle.sg_history.specs.History.{as_write, of_document, write_to}
+use Rattle.sg_history.specs.History.{write_to}
 use Rattle.sg_history.specs.Current.{Sequenced, sequenced_or, with_rev_or, write_or, last_write, write_of_rev}
 use Rattle.log_index.specs.declared.documents.Document.{Document}
 use Rattle.log_index.specs.declared.index.LogIndex.{LogIndex}
@@ -60,14 +59,6 @@ chosen true found last = refl
 chosen false None last = refl
 chosen false (Some found) last = refl
 
-pub no_put : (e : Entry) (w : Write) → as_write e ≡ Some w → put_by e ≡ None
-no_put (entry.Write v) w h = refl
-no_put (entry.PutUser name channels roles) w h = absurd (none-some w h)
-no_put (entry.PutRole name channels) w h = absurd (none-some w h)
-no_put (entry.DropUser name) w h = absurd (none-some w h)
-no_put (entry.DropRole name) w h = absurd (none-some w h)
-no_put entry.Unused w h = absurd (none-some w h)
-
 -- what is kept of a document, of revisions and of users and roles once a write was taken
 pub record Took (old new : LogIndex) (w : Write) (seq : ℕ) : Type 0 where
   pub count : new.count ≡ seq
@@ -100,7 +91,7 @@ took_write old new w seq first winning before looked first_is winning_is documen
       roles = roles;
     }
 
-module _ (old new : LogIndex) (es : List Entry) (e : Entry) (w : Write) (is : Indexes old es) (writes : as_write e ≡ Some w) (took : Took old new w (length es + 1)) where
+module _ (old new : LogIndex) (es : List Entry) (e : Entry) (w : Write) (is : Indexes old es) (writes : e ≡ entry.Write w) (took : Took old new w (length es + 1)) where
   abbrev n : ℕ
   n = length es + 1
 
@@ -109,7 +100,7 @@ module _ (old new : LogIndex) (es : List Entry) (e : Entry) (w : Write) (is : In
 
   -- the write of a document that the entry is
   written : (doc : List ℕ) (b : Bool) → bytes_eq w.doc doc ≡ b → write_to e doc ≡ (if b then Some w else None)
-  written doc b h = ap (λ (o : Option Write). of_document o doc) writes ∙ ap (λ (x : Bool). if x then Some w else None) h
+  written doc b h = ap (λ (x : Entry). write_to x doc) writes ∙ ap (λ (x : Bool). if x then Some w else None) h
 
   first_is : (doc : List ℕ) → bytes_eq w.doc doc ≡ true → first ≡ earlier_or (Some w) n (first_seq es doc)
   first_is doc h =
@@ -205,5 +196,5 @@ module _ (old new : LogIndex) (es : List Entry) (e : Entry) (w : Write) (is : In
     documents = λ doc. documents_are doc (bytes_eq w.doc doc) refl;
     revisions = λ doc rev pos. revisions_are doc rev (bytes_eq w.doc doc) refl pos;
     unused = unused_are;
-    puts = λ whom. puts_were whom ∙ is.puts whom ∙ ap (λ (of : Option Grantee). put_or of whom n (last_put es whom)) (sym (no_put e w writes));
+    puts = λ whom. puts_were whom ∙ is.puts whom ∙ ap (λ (of : Option Grantee). put_or of whom n (last_put es whom)) (sym (ap put_by writes));
   }

@@ -12,19 +12,12 @@ use Rattle.sg_names.specs.RevId.{same_rev}
 use Rattle.sg_history.specs.declared.entries.Entry.{Entry}
 use Rattle.sg_history.specs.declared.entries.Write.{Write}
 use Rattle.log_index.specs.declared.index.LogIndex.{LogIndex}
-use Rattle.log_index.specs.declared.principals.Principal.{Principal}
-use Rattle.log_index.specs.declared.principals.Principal.TheVariants as principal
 use Rattle.log_index.specs.Places.{first_seq, revision_seq, document_at, last_put}
 
 -- the sequence that is kept of a revision, by the first write of its document
 abbrev pub seq_in : BTreeMap (ℕ × ℕ × String Global) ℕ → ℕ → RevId → Option ℕ
 seq_in revisions first rev =
     get_by (λ k. ordering_then (ordering_then (nat_cmp first k.0) (nat_cmp rev.generation k.1)) (slice_cmp nat_cmp rev.digest (string_bytes k.2))) revisions
-
--- a user or a role, as what is granted to it names it
-abbrev pub grantee_of : Principal → Grantee
-grantee_of (principal.User name) = User name.now
-grantee_of (principal.Role name) = Role name.now
 
 -- the sequence that is kept of a user or a role
 abbrev pub put_in : LogIndex → Grantee → Option ℕ

@@ -2,16 +2,18 @@
 
 ghost use Rattle.std.specs.Prelude.{◌≡◌, ◌<◌, ◌+◌, List, [], ◌∷◌, length, Some, None, option_map, OnOk, OnErr, IfOk};
 ghost use Rattle.sg_history.specs.declared.entries.Entry.{Entry};
+ghost use Rattle.sg_history.specs.declared.entries.Entry.TheVariants as kinds;
 ghost use Rattle.sg_history.specs.History.{as_write};
+ghost use Rattle.sg_history.specs.Puts.{grantee_in};
 ghost use Rattle.sg_names.specs.declared.grants.Grantee.TheVariants as grantee;
-ghost use Rattle.log_index.specs.Index.{Indexes, grantee_of, winning_seq};
+ghost use Rattle.log_index.specs.Index.{Indexes, winning_seq};
 ghost use Rattle.log_index.specs.Places as places;
 ghost use Rattle.log_index.specs.Places.{document_at, revision_seq, last_put};
 
 use crate::documents::{Document, Documents, document_of, first_or, put_back, put_document};
-use crate::principals::{Principal, Puts, keep_put, put_by, put_of};
+use crate::principals::{Puts, keep_put, put_by, put_of};
 use crate::revisions::{Revisions, put_revision, seq_of};
-use sg_history::{DocId, Entry, Name, RevId, Write};
+use sg_history::{DocId, Entry, Name, Principal, RevId, Write};
 use std::alloc::{AllocError, Global};
 use std::collections::BTreeMap;
 
@@ -108,7 +110,7 @@ impl LogIndex {
         principal: Option<Principal<'_>>,
         seq: u64,
     ) -> Result<(), AllocError>
-        ensures ok { OnOk result ((es : List Entry) (e : Entry) → as_write e ≡ None → places.put_by e ≡ option_map grantee_of principal.entry → seq ≡ length es + 1 → Indexes self.old es → Indexes (record self.new { count = seq }) (e ∷ es)) }
+        ensures ok { OnOk result ((es : List Entry) (e : Entry) → as_write e ≡ None → places.put_by e ≡ option_map grantee_in principal.entry → seq ≡ length es + 1 → Indexes self.old es → Indexes (record self.new { count = seq }) (e ∷ es)) }
         ensures err { OnErr result ((es : List Entry) → Indexes self.old es → Indexes self.new es) }
         ensures count { self.new.count ≡ self.old.count }
     {
@@ -131,7 +133,7 @@ impl LogIndex {
     }
 
     fn keep_write(&mut self, write: &Write, seq: u64) -> Result<(), AllocError>
-        ensures ok { OnOk result ((es : List Entry) (e : Entry) → as_write e ≡ Some write.now → seq ≡ length es + 1 → Indexes self.old es → Indexes (record self.new { count = seq }) (e ∷ es)) }
+        ensures ok { OnOk result ((es : List Entry) (e : Entry) → e ≡ kinds.Write write.now → seq ≡ length es + 1 → Indexes self.old es → Indexes (record self.new { count = seq }) (e ∷ es)) }
         ensures err { OnErr result ((es : List Entry) → Indexes self.old es → Indexes self.new es) }
         ensures count { self.new.count ≡ self.old.count }
     {

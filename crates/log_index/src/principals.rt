@@ -3,31 +3,23 @@
 ghost use Rattle.std.specs.Prelude.{◌≡◌, ℕ, List, Some, OnOk, OnErr, option_map, if◌then◌else◌};
 ghost use Rattle.std.specs.BTreeMap.{get_by_text};
 ghost use Rattle.std.specs.Str.{bytes_eq};
-ghost use Rattle.log_index.specs.Index.{grantee_of};
+ghost use Rattle.sg_history.specs.Puts.{grantee_in};
 ghost use Rattle.log_index.specs.Places as places;
 
-use sg_history::{Entry, Name};
+use sg_history::{Entry, Name, Principal};
 use std::alloc::{AllocError, Global};
 use std::collections::BTreeMap;
-
-/// A user or a role.
-#[derive(Clone, Copy)]
-pub enum Principal<'a> {
-    User(&'a Name),
-    Role(&'a Name),
-}
 
 /// The sequences of last puts or drops, by name.
 pub type Puts = BTreeMap<String, u64>;
 
 /// The user or role that an entry puts or drops, if it does.
 pub fn put_by(entry: &Entry) -> Option<Principal<'_>>
-    ensures { option_map grantee_of result ≡ places.put_by entry.now }
+    ensures { option_map grantee_in result ≡ places.put_by entry.now }
 {
-    match entry {
-        Entry::PutUser(name, _, _) | Entry::DropUser(name) => Some(Principal::User(name)),
-        Entry::PutRole(name, _) | Entry::DropRole(name) => Some(Principal::Role(name)),
-        _ => None,
+    match entry.as_put() {
+        None => None,
+        Some(put) => Some(put.of),
     }
 }
 

@@ -2,6 +2,8 @@
 -- parted by one TAB, and each line ends with a line feed.
 use Rattle.std.specs.Prelude.{◌≡◌, ℕ, ◌+◌, ◌<◌, ◌^◌, Bool, true, false, ◌&&◌, ◌||◌, not, nat_lt, List, [], ◌∷◌, ◌++◌, length, reverse, is_some, Option, Some, None, codes, decimal, IsTrue, IsUtf8}
 use Rattle.std.specs.List.{flat_map, join_with_byte}
+use Rattle.sg_names.specs.declared.grants.Grantee.{Grantee}
+use Rattle.sg_names.specs.declared.grants.Grantee.TheVariants.{User, Role}
 use Rattle.sg_names.specs.declared.rev_id.RevId.{RevId}
 use Rattle.sg_names.specs.Grammar.{is_doc_id, is_name}
 use Rattle.sg_names.specs.RevId.{rev_text, is_rev, same_rev}
@@ -16,6 +18,7 @@ use Rattle.sg_history.specs.declared.entries.Entry.TheVariants as entry
 use Rattle.sg_history.specs.declared.entries.Write.{Write}
 use Rattle.sg_history.specs.History.{History, as_write}
 use Rattle.sg_history.specs.Current.{write_of_rev}
+use Rattle.sg_history.specs.Principals.{Put, Standing, as_put}
 
 -- the first line
 abbrev pub header : List ℕ
@@ -95,14 +98,22 @@ pub record IsPutRole (role : List ℕ) (its_channels : List (List ℕ)) : Type 0
   pub name : IsTrue (is_name role) × IsUtf8 role
   pub channels : IsTrue (is_channels its_channels) × IsUtf8 (channels_text its_channels)
 
+-- a put or a drop in its grammar
+abbrev pub IsPutOf : Grantee → Option Standing → Type 0
+IsPutOf (User name) (Some standing) = IsPutUser name standing.channels standing.roles
+IsPutOf (User name) None = IsTrue (is_name name) × IsUtf8 name
+IsPutOf (Role name) (Some standing) = IsPutRole name standing.channels
+IsPutOf (Role name) None = IsTrue (is_name name) × IsUtf8 name
+
+-- an entry in its grammar, by the write or else the put or drop that it is: one that is neither has no fields
+abbrev pub IsEntryBy : Option Write → Option Put → Type 0
+IsEntryBy (Some w) put = IsWrite w
+IsEntryBy None (Some put) = IsPutOf put.of put.standing
+IsEntryBy None None = Unit {0}
+
 -- an entry in its grammar: each of its fields is, and each that is no number is UTF-8
 abbrev pub IsEntry : Entry → Type 0
-IsEntry (entry.Write w) = IsWrite w
-IsEntry (entry.PutUser name channels roles) = IsPutUser name channels roles
-IsEntry (entry.PutRole name channels) = IsPutRole name channels
-IsEntry (entry.DropUser name) = IsTrue (is_name name) × IsUtf8 name
-IsEntry (entry.DropRole name) = IsTrue (is_name name) × IsUtf8 name
-IsEntry entry.Unused = Unit {0}
+IsEntry e = IsEntryBy (as_write e) (as_put e)
 
 -- the generations fall strictly from this one on
 abbrev pub falls_from : ℕ → List RevId → Bool

@@ -5,6 +5,7 @@ pub mod Kept
 pub mod History
 pub mod Current
 pub mod Principals
+pub mod Puts
 pub mod View
 pub mod Feed
 pub mod Device

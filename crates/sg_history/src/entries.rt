@@ -1,10 +1,15 @@
 //! Entries of a history, and the log that keeps them in order.
 
-ghost use Rattle.std.specs.Prelude.{◌≡◌, ◌++◌, ◌∷◌, ◌+◌, ◌≤◌, ◌<◌, [], length, OnOk, OnErr};
+ghost use Rattle.std.specs.Prelude.{◌≡◌, ◌++◌, ◌∷◌, ◌+◌, ◌≤◌, ◌<◌, [], length, Some, option_map, OnOk, OnErr};
 ghost use Rattle.std.specs.Option.{option_copied};
+ghost use Rattle.sg_history.specs.declared.entries.Entry.TheVariants as kinds;
+ghost use Rattle.sg_history.specs.declared.entries.Write as writes;
 ghost use Rattle.sg_history.specs.History.{as_write};
 ghost use Rattle.sg_history.specs.Kept.{Kept};
+ghost use Rattle.sg_history.specs.Principals.{as_put};
+ghost use Rattle.sg_history.specs.Puts.{put_in};
 
+use crate::puts::{Given, Principal, Put};
 use sg_names::{Channels, DocId, Grants, Name, Names, RevId, Revs, RoleGrants};
 use sg_outside::Bytes;
 use std::alloc::{AllocError, Global};
@@ -50,11 +55,43 @@ pub enum Entry {
 impl Entry {
     /// The write that this entry is, if it is one.
     pub fn as_write(&self) -> Option<&Write>
-        ensures { option_copied result ≡ as_write self.now }
+        ensures write { option_copied result ≡ as_write self.now }
+        ensures only { (w : writes.Write) → as_write self.now ≡ Some w → self.now ≡ kinds.Write w }
     {
         match self {
             Entry::Write(write) => Some(write),
             _ => None,
+        }
+    }
+
+    /// The put or drop that this entry is, if it is one.
+    pub fn as_put(&self) -> Option<Put<'_>>
+        ensures { option_map put_in result ≡ as_put self.now }
+    {
+        match self {
+            Entry::PutUser(name, channels, roles) => Some(Put {
+                of: Principal::User(name),
+                given: Some(Given {
+                    channels,
+                    roles: Some(roles),
+                }),
+            }),
+            Entry::PutRole(name, channels) => Some(Put {
+                of: Principal::Role(name),
+                given: Some(Given {
+                    channels,
+                    roles: None,
+                }),
+            }),
+            Entry::DropUser(name) => Some(Put {
+                of: Principal::User(name),
+                given: None,
+            }),
+            Entry::DropRole(name) => Some(Put {
+                of: Principal::Role(name),
+                given: None,
+            }),
+            Entry::Write(_) | Entry::Unused => None,
         }
     }
 }

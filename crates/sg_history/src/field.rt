@@ -141,7 +141,8 @@ impl Field for Grants {
 impl Field for RoleGrants {
     ghost grammar = { faults.role_grants };
 
-    ghost reads = { λ text v. (text ≡ role_grants_text v) × IsTrue (is_role_grants v) × IsUtf8 text };
+    ghost reads = { λ text v. (text ≡ role_grants_text v) × IsTrue (is_role_grants v)
+        × IsUtf8 text };
 
     fn read_field(alloc: Global, field: &[u8]) -> Result<RoleGrants, TextFault> {
         let text = text_of(field)?;
@@ -196,7 +197,8 @@ impl Field for Option<Name> {
 impl Field for Option<u64> {
     ghost grammar = { faults.number };
 
-    ghost reads = { λ text v. MatchOption v (IsLargeFront text) (λ n. (n < 2 ^ 64) × (text ≡ decimal n)) };
+    ghost reads = { λ text v. MatchOption v (IsLargeFront text)
+        (λ n. (n < 2 ^ 64) × (text ≡ decimal n)) };
 
     fn read_field(_alloc: Global, field: &[u8]) -> Result<Option<u64>, TextFault> {
         let text = text_of(field)?;

@@ -13,6 +13,7 @@ mod line;
 pub mod log_reads;
 pub mod number;
 pub mod pieces;
+pub mod puts;
 pub mod room;
 pub mod row;
 mod rules;
@@ -27,6 +28,7 @@ pub use journal_text::write_journal;
 pub use log_reads::LogReads;
 pub use number::Number;
 pub use pieces::cut;
+pub use puts::{Given, Principal, Put};
 pub use room::RoomFor;
 pub use row::{Options, Row, Rows};
 pub use sg_names::{

@@ -1,10 +1,9 @@
 //! Rows of a feed, and what a feed is asked for.
 
-ghost use Rattle.std.specs.Prelude.{◌≡◌, ◌++◌, ◌∷◌, [], IfOk, OnOk, OnErr};
+ghost use Rattle.std.specs.Prelude.{◌≡◌, IfOk};
 
-use sg_names::{Channels, DocId, Key, RevId};
+use sg_names::{Channels, DocId, Key, List, RevId};
 use std::alloc::{AllocError, Global};
-use std::marker::Model;
 
 /// One row of a feed: a document that changed.
 ///
@@ -32,58 +31,7 @@ impl Row {
 }
 
 /// A list of rows.
-#[derive(Drop)]
-pub struct Rows {
-    items: Vec<Row>,
-}
-
-impl Model for Rows {
-    ghost use Rattle.std.specs.Prelude.{List};
-    ghost use Rattle.sg_history.specs.declared.row.Row.{Row};
-
-    ghost Value = { List Row };
-
-    ghost view = { λ l. l.items.items };
-}
-
-impl Rows {
-    /// None. Takes no memory.
-    pub fn new(alloc: Global) -> Rows
-        ensures { result ≡ [] }
-    {
-        Rows {
-            items: Vec::new(alloc),
-        }
-    }
-
-    /// The list of a vector's rows. Takes no memory.
-    pub fn from_vec(items: Vec<Row>) -> Rows
-        ensures { result ≡ items.items }
-    {
-        Rows { items }
-    }
-
-    /// The vector of the rows. Takes no memory.
-    pub fn into_vec(self) -> Vec<Row>
-        ensures { result.items ≡ self }
-    {
-        self.items
-    }
-
-    pub fn as_slice(&self) -> &[Row]
-        ensures { result.now ≡ self.now }
-    {
-        self.items.as_slice()
-    }
-
-    pub fn push(&mut self, item: Row) -> Result<(), AllocError>
-        ensures ok { OnOk result (self.new ≡ self.old ++ item ∷ []) }
-        ensures err { OnErr result (self.new ≡ self.old) }
-    {
-        self.items.push(item)?;
-        Ok(())
-    }
-}
+pub type Rows = List<Row>;
 
 /// What a feed is asked for.
 #[derive(Drop)]

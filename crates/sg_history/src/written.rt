@@ -46,7 +46,8 @@ impl<'a> Written<'a> {
     pub fn insert(&mut self, doc: &'a DocId, rev: &'a RevId) -> Result<bool, AllocError>
         ensures added { IfOk result (λ added. added ≡ not (has self.old doc.now rev.now)) }
         ensures ok { OnOk result ((other : List ℕ) (r : RevId) → has self.new other r
-            ≡ (is_rev_of (record { doc = doc.now; rev = rev.now }) other r || has self.old other r)) }
+            ≡ (is_rev_of (record { doc = doc.now; rev = rev.now }) other r
+            || has self.old other r)) }
     {
         Ok(
             self.keys

@@ -7,25 +7,23 @@ use Rattle.std.specs.Str.{bytes_eq}
 use Rattle.sg_names.specs.declared.rev_id.RevId.{RevId}
 use Rattle.sg_names.specs.RevId.{same_rev}
 use Rattle.sg_history.specs.declared.entries.Entry.{Entry}
-use Rattle.sg_history.specs.declared.entries.Entry.TheVariants as entry
 use Rattle.sg_history.specs.declared.entries.Write.{Write}
-use Rattle.sg_history.specs.History.{write_to}
+use Rattle.sg_history.specs.History.{as_write, of_document, write_to}
 use Rattle.sg_history.specs.Current.{Current, Sequenced, sequenced_or, last_write, write_of_rev, with_rev_or, write_or, current, current_after, current_by, winning_of, write_alone, rev_or}
 use Rattle.sg_history.proofs.AloneWrites.{alone_next}
 use Rattle.repl_messages.specs.Looks.{winning_write, winner_after}
 use Rattle.write_path.proofs.Same.{same_bytes}
 
-pub write_names : (e : Entry) (doc : List ℕ) (w : Write) → write_to e doc ≡ Some w → w.doc ≡ doc
-write_names (entry.Write w) doc v h = go (bytes_eq w.doc doc) refl h
+names_by : (o : Option Write) (doc : List ℕ) (w : Write) → of_document o doc ≡ Some w → w.doc ≡ doc
+names_by None doc v h = absurd (none-some _ h)
+names_by (Some w) doc v h = go (bytes_eq w.doc doc) refl h
   where
     go : (b : Bool) → bytes_eq w.doc doc ≡ b → (if b then Some w else None) ≡ Some v → v.doc ≡ doc
     go true e h = let same : w ≡ v = same_Some w v h in sym (ap (λ (x : Write). x.doc) same) ∙ same_bytes w.doc doc e
     go false e h = absurd (none-some _ h)
-write_names (entry.PutUser name channels roles) doc v h = absurd (none-some _ h)
-write_names (entry.PutRole name channels) doc v h = absurd (none-some _ h)
-write_names (entry.DropUser name) doc v h = absurd (none-some _ h)
-write_names (entry.DropRole name) doc v h = absurd (none-some _ h)
-write_names entry.Unused doc v h = absurd (none-some _ h)
+
+pub write_names : (e : Entry) (doc : List ℕ) (w : Write) → write_to e doc ≡ Some w → w.doc ≡ doc
+write_names e doc w h = names_by (as_write e) doc w h
 
 last_names : (es : List Entry) (doc : List ℕ) (l : Sequenced) → last_write es doc ≡ Some l → l.write.doc ≡ doc
 last_names [] doc l h = absurd (none-some _ h)

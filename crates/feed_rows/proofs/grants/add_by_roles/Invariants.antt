@@ -3,7 +3,7 @@ use Rattle.std.specs.List.{flat_map}
 use Rattle.feed_rows.specs.Channels.{by_role}
 use Rattle.feed_rows.specs.Latest.{winner_in}
 use Rattle.feed_rows.specs.Pass.{texts, role_in}
-use Rattle.feed_rows.specs.Put.{standing_in}
+use Rattle.sg_history.specs.Puts.{standing_in}
 use Rattle.feed_rows.proofs.grants.add_by_roles.Given as goal
 
 abbrev pub invariant-loop-role : goal.invariant-loop-role

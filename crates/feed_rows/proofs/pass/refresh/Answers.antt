@@ -8,7 +8,7 @@ use Rattle.feed_rows.specs.Channels.{user_channels, add_names, same_names}
 use Rattle.feed_rows.specs.Kept.{looked_at, written_names}
 use Rattle.feed_rows.specs.Numbers.{Holds}
 use Rattle.feed_rows.specs.Pass.{granting_in, looked_in, role_in, texts}
-use Rattle.feed_rows.specs.Put.{standing_in}
+use Rattle.sg_history.specs.Puts.{standing_in}
 use Rattle.feed_rows.proofs.ChannelLists.{same_named}
 use Rattle.feed_rows.proofs.Looks.{all_seen}
 use Rattle.feed_rows.proofs.Numberings.{holds_same}

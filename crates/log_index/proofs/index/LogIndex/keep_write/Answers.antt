@@ -3,7 +3,7 @@ use Rattle.std.proofs.lemmas.Result.{IfOk-weaker}
 use Rattle.sg_names.specs.declared.rev_id.RevId.{RevId}
 use Rattle.sg_names.specs.RevId.{same_rev}
 use Rattle.sg_history.specs.declared.entries.Entry.{Entry}
-use Rattle.sg_history.specs.History.{as_write}
+use Rattle.sg_history.specs.declared.entries.Entry.TheVariants as entry
 use Rattle.log_index.specs.declared.index.LogIndex.{LogIndex}
 use Rattle.log_index.specs.Index.{Indexes, seq_in}
 use Rattle.log_index.proofs.Pushes.{Took, took_write, write_taken}
@@ -21,7 +21,7 @@ returns-else-is_err-clause-ok c =
     } in
     IfOk-weaker c.put_revision-kept.result
     (λ _. (other : ℕ) (rev : RevId) → seq_in new.revisions other rev ≡ (if nat_eq c.first_or-first.result other && same_rev c.args.write.now.rev rev then Some c.args.seq else seq_in c.args.self.now.revisions other rev))
-    (λ _. (es : List Entry) (e : Entry) → as_write e ≡ Some c.args.write.now → c.args.seq ≡ length es + 1 → Indexes c.args.self.now es → Indexes new (e ∷ es))
+    (λ _. (es : List Entry) (e : Entry) → e ≡ entry.Write c.args.write.now → c.args.seq ≡ length es + 1 → Indexes c.args.self.now es → Indexes new (e ∷ es))
     (λ _ revisions es e writes seq is.
     let took : Took c.args.self.now new c.args.write.now c.args.seq =
     took_write c.args.self.now new c.args.write.now c.args.seq c.first_or-first.result c.in_ok-winning.field-0 c.document_of-before.result
