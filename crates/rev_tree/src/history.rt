@@ -42,8 +42,10 @@ pub fn is_bad(rev: &RevId, ancestors: &[RevId]) -> bool
 fn place_below(ancestors: &[RevId], generation: u32) -> usize
     requires { IsTrue (extension.falls ancestors.now) }
     ensures within { result ≤ length ancestors.now }
-    ensures above { (k : ℕ) (d : RevId) → k < result → generation < (slice_index_or ancestors.now k d).generation }
-    ensures below { (d : RevId) → result < length ancestors.now → (slice_index_or ancestors.now result d).generation ≤ generation }
+    ensures above { (k : ℕ) (d : RevId) → k < result → generation <
+        (slice_index_or ancestors.now k d).generation }
+    ensures below { (d : RevId) → result < length ancestors.now →
+        (slice_index_or ancestors.now result d).generation ≤ generation }
 {
     ancestors.partition_point(|a| a.generation > generation)
 }
@@ -113,7 +115,8 @@ pub fn add_ancestors(
     nodes: &mut Vec<Node>,
 ) -> Result<(), AllocError>
     requires { count ≤ length ancestors.now }
-    ensures { OnOk result (nodes.new.items ≡ nodes.old.items ++ search_for.links ancestors.now count) }
+    ensures { OnOk result (nodes.new.items ≡ nodes.old.items
+        ++ search_for.links ancestors.now count) }
 {
     for i in 0..count {
         nodes.push(node_on(alloc, &ancestors[i], false, &ancestors[i + 1..])?)?;
@@ -155,7 +158,8 @@ pub fn kept(ancestors: &[RevId], place: usize) -> u64
 
 /// The parent of a node, where the node is of this revision and has one.
 fn parent_if<'a>(node: &'a Node, rev: &RevId) -> Option<&'a RevId>
-    ensures { option_copied result ≡ (if same_rev node.now.rev rev.now then node.now.parent else None) }
+    ensures { option_copied result ≡ (if same_rev node.now.rev rev.now then node.now.parent
+        else None) }
 {
     if node.rev.equals(rev) {
         node.parent.as_ref()

@@ -21,30 +21,41 @@ ghost use Rattle.rev_tree.specs.Writes as writes;
 /// lists, the pairs that stand next to each other there, so that each revision has one parent at most, the
 /// leaves that these pairs leave, and their winner.
 pub fn trees_of_writes()
-    ensures revisions { (ws : List Recorded) (rev : RevId) → writes.AreAccepted ws → trees.knows (writes.tree_of ws) rev ≡ writes.among (writes.revisions ws) rev }
-    ensures pairs { (ws : List Recorded) (rev parent : RevId) → writes.AreAccepted ws → trees.has_pair (writes.tree_of ws) rev parent ≡ writes.has_pair_in ws rev parent }
-    ensures parents { (ws : List Recorded) (rev parent : RevId) → writes.AreAccepted ws → ((trees.parent_of (writes.tree_of ws) rev ≡ Some parent) ↔ IsTrue (writes.has_pair_in ws rev parent)) }
-    ensures leaves { (ws : List Recorded) → writes.AreAccepted ws → trees.leaves_of (writes.tree_of ws) ≡ writes.leaves_in ws }
-    ensures winner { (ws : List Recorded) → writes.AreAccepted ws → trees.winner_of (writes.tree_of ws) ≡ writes.winner_in ws }
+    ensures revisions { (ws : List Recorded) (rev : RevId) → writes.AreAccepted ws → trees.knows
+        (writes.tree_of ws) rev ≡ writes.among (writes.revisions ws) rev }
+    ensures pairs { (ws : List Recorded) (rev parent : RevId) → writes.AreAccepted ws
+        → trees.has_pair (writes.tree_of ws) rev parent ≡ writes.has_pair_in ws rev parent }
+    ensures parents { (ws : List Recorded) (rev parent : RevId) → writes.AreAccepted ws →
+        ((trees.parent_of (writes.tree_of ws) rev ≡ Some parent) ↔ IsTrue
+        (writes.has_pair_in ws rev parent)) }
+    ensures leaves { (ws : List Recorded) → writes.AreAccepted ws → trees.leaves_of
+        (writes.tree_of ws) ≡ writes.leaves_in ws }
+    ensures winner { (ws : List Recorded) → writes.AreAccepted ws → trees.winner_of
+        (writes.tree_of ws) ≡ writes.winner_in ws }
 {}
 
 /// The winner is a leaf before which none comes, and no other leaf is.
 pub fn winners()
-    ensures first { (tree : List Node) (winner : Leaf) → trees.winner_of tree ≡ Some winner → order.IsFirst (trees.leaves_of tree) winner }
-    ensures alone { (tree : List Node) (winner other : Leaf) → trees.winner_of tree ≡ Some winner → order.IsFirst (trees.leaves_of tree) other → other ≡ winner }
+    ensures first { (tree : List Node) (winner : Leaf) → trees.winner_of tree ≡ Some winner
+        → order.IsFirst (trees.leaves_of tree) winner }
+    ensures alone { (tree : List Node) (winner other : Leaf) → trees.winner_of tree ≡ Some winner
+        → order.IsFirst (trees.leaves_of tree) other → other ≡ winner }
 {}
 
 /// The leaves are the revisions that are no parent. In order they are the same leaves, by falling
 /// generation, then by falling digest.
 pub fn leaves()
-    ensures no_parents { (tree : List Node) (rev : RevId) → list_any (λ l. same_rev l.rev rev) (trees.leaves_of tree) ≡ (trees.knows tree rev && not (trees.is_parent tree rev)) }
+    ensures no_parents { (tree : List Node) (rev : RevId) → list_any (λ l. same_rev l.rev rev)
+        (trees.leaves_of tree) ≡ (trees.knows tree rev && not (trees.is_parent tree rev)) }
     ensures same { (ls : List Leaf) → IsPermutation ls (order.in_order ls) }
     ensures falling { (ls : List Leaf) → IsTrue (order.falls_by_rev (order.in_order ls)) }
 {}
 
 /// After an accepted extension the tree knows what it knew, the revision, and the ancestors kept.
 pub fn extensions()
-    ensures { (tree : List Node) (w : Recorded) (rev : RevId) → IsTrue (writes.is_accepted tree w) → trees.knows (with_write tree w) rev ≡ (writes.among (writes.path_of w) rev || trees.knows tree rev) }
+    ensures { (tree : List Node) (w : Recorded) (rev : RevId) → IsTrue (writes.is_accepted tree w)
+        → trees.knows (with_write tree w) rev
+        ≡ (writes.among (writes.path_of w) rev || trees.knows tree rev) }
 {}
 
 /// The tree of a document, up to the number of the last write that a book has of it, is the same in each later book, and so are that

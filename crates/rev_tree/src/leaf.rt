@@ -162,7 +162,8 @@ fn push_other(
     gone: Option<&RevId>,
     kept: &mut Vec<Leaf>,
 ) -> Result<(), AllocError>
-    ensures { OnOk result (kept.new.items ≡ kept.old.items ++ filter (λ l. not (trees.is_this (option_copied gone.entry) l.rev)) (leaf.now ∷ [])) }
+    ensures { OnOk result (kept.new.items ≡ kept.old.items ++ filter
+        (λ l. not (trees.is_this (option_copied gone.entry) l.rev)) (leaf.now ∷ [])) }
 {
     if !is_this(gone, &leaf.rev) {
         kept.push(leaf.copy(alloc)?)?;
@@ -178,7 +179,8 @@ pub fn leaves_after(
     deleted: bool,
     gone: Option<&RevId>,
 ) -> Result<Vec<Leaf>, AllocError>
-    ensures { IfOk result (λ kept. kept.items ≡ record { rev = rev.now; deleted = deleted } ∷ filter (λ l. not (trees.is_this (option_copied gone.entry) l.rev)) leaves.now) }
+    ensures { IfOk result (λ kept. kept.items ≡ record { rev = rev.now; deleted = deleted }
+        ∷ filter (λ l. not (trees.is_this (option_copied gone.entry) l.rev)) leaves.now) }
 {
     let mut kept = Vec::new(alloc);
     kept.push(Leaf {

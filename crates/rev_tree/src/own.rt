@@ -77,7 +77,8 @@ pub fn own_rev(
     body: &[u8],
 ) -> Result<RevId, Memory>
     requires { own.generation_of (option_copied parent) < 4294967295 }
-    ensures value { IfOk result (λ rev. rev ≡ own.own_rev_of (option_copied parent.entry) deleted body.now) }
+    ensures value { IfOk result (λ rev. rev ≡ own.own_rev_of
+        (option_copied parent.entry) deleted body.now) }
     ensures grammar { IfOk result (λ rev. IsTrue (is_rev rev)) }
 {
     let text = parent_text(alloc, parent)?;

@@ -46,7 +46,8 @@ impl Model for Tree {
 
     ghost view = { λ t. t.nodes.items };
 
-    ghost invariant = { λ t. IsTrue (is_grown t.nodes.items) × (t.leaves.items ≡ leaves_of t.nodes.items) };
+    ghost invariant = { λ t. IsTrue (is_grown t.nodes.items)
+        × (t.leaves.items ≡ leaves_of t.nodes.items) };
 }
 
 impl Tree {
@@ -92,7 +93,8 @@ impl Tree {
         place: usize,
     ) -> Result<Vec<Node>, AllocError>
         requires { place ≡ known_place self.now ancestors.now }
-        ensures { IfOk result (λ nodes. nodes.items ≡ extension.with_write self.now (record { rev = rev.now; ancestors = ancestors.now; deleted = deleted })) }
+        ensures { IfOk result (λ nodes. nodes.items ≡ extension.with_write self.now
+            (record { rev = rev.now; ancestors = ancestors.now; deleted = deleted })) }
     {
         let alloc = *self.nodes.allocator();
         let mut nodes = Vec::new(alloc);
@@ -114,7 +116,8 @@ impl Tree {
         requires unknown { trees.knows self.now rev.now ≡ false }
         requires history { IsTrue (extension.falls (rev.now ∷ ancestors.now)) }
         requires place { place ≡ known_place self.now ancestors.now }
-        ensures { IfOk result (λ tree. tree ≡ extension.with_write self.now (record { rev = rev.now; ancestors = ancestors.now; deleted = deleted })) }
+        ensures { IfOk result (λ tree. tree ≡ extension.with_write self.now
+            (record { rev = rev.now; ancestors = ancestors.now; deleted = deleted })) }
     {
         let alloc = *self.nodes.allocator();
         let nodes = self.nodes_with(rev, deleted, ancestors, place)?;
@@ -126,7 +129,8 @@ impl Tree {
     /// Whether a revision may be added where conflicts are not allowed: the tree is empty, or the known
     /// ancestor is the winner, or no ancestor is known and the winner is deleted.
     fn goes_on(&self, known: Option<&RevId>) -> bool
-        ensures { result ≡ extension.goes_on (trees.winner_of self.now) (option_copied known.entry) }
+        ensures { result ≡ extension.goes_on (trees.winner_of self.now)
+            (option_copied known.entry) }
     {
         match (self.winner(), known) {
             (None, _) => true,
@@ -138,7 +142,8 @@ impl Tree {
     /// Whether a revision makes a conflict where none is allowed; the first known ancestor is at a place.
     fn makes_conflict(&self, ancestors: &[RevId], place: usize, strict: bool) -> bool
         requires { place ≡ known_place self.now ancestors.now }
-        ensures { result ≡ (strict && not (extension.goes_on (trees.winner_of self.now) (extension.first_known self.now ancestors.now))) }
+        ensures { result ≡ (strict && not (extension.goes_on (trees.winner_of self.now)
+            (extension.first_known self.now ancestors.now))) }
     {
         strict && !self.goes_on(history::ancestor_at(ancestors, place))
     }
@@ -159,7 +164,8 @@ impl Tree {
         requires { ¬ (trees.winner_of self.now ≡ None) }
         ensures known { result ≢ Known }
         ensures bad_history { result ≢ BadHistory400 }
-        ensures conflict { IfConflict result (λ leaf. option_map (λ w. w.rev) (trees.winner_of self.now) ≡ Some leaf) }
+        ensures conflict { IfConflict result (λ leaf. option_map (λ w. w.rev)
+            (trees.winner_of self.now) ≡ Some leaf) }
         ensures new_tree { IfNewTree result (λ tree kept. ⊥) }
     {
         match self.winning_rev() {
@@ -177,10 +183,23 @@ impl Tree {
         ensures known { result ≢ Known }
         ensures bad_history { result ≢ BadHistory400 }
         ensures conflict { IfConflict result (λ leaf. ⊥) }
-        ensures kept { IfNewTree result (λ tree kept. kept ≡ extension.kept_of self.now ancestors.now) }
+        ensures kept { IfNewTree result
+            (λ tree kept. kept ≡ extension.kept_of self.now ancestors.now) }
         ensures within { IfNewTree result (λ tree kept. kept ≤ length ancestors.now) }
-        ensures tree { IfNewTree result (λ tree kept. tree ≡ extension.with_write self.now (record { rev = rev.now; ancestors = take (extension.kept_of self.now ancestors.now) ancestors.now; deleted = deleted })) }
-        ensures accepted { IsTrue (is_accepted self.now (record { rev = rev.now; ancestors = take (extension.kept_of self.now ancestors.now) ancestors.now; deleted = deleted })) }
+        ensures tree { IfNewTree result (λ tree kept. tree ≡ extension.with_write self.now
+            (record {
+              rev = rev.now;
+              ancestors = take
+                  (extension.kept_of self.now ancestors.now) ancestors.now;
+              deleted = deleted;
+            })) }
+        ensures accepted { IsTrue (is_accepted self.now
+            (record {
+              rev = rev.now;
+              ancestors = take
+                  (extension.kept_of self.now ancestors.now) ancestors.now;
+              deleted = deleted;
+            })) }
     {
         match self.with_write(rev, deleted, ancestors, place) {
             Ok(tree) => Extended::NewTree {
@@ -196,14 +215,23 @@ impl Tree {
     /// its first ancestor that the tree knows, with those before that one as revisions without bodies, or
     /// below all its ancestors where none is known. The tree stays as it is.
     pub fn extend(&self, rev: &RevId, deleted: bool, ancestors: &[RevId], strict: bool) -> Extended
-        ensures known { result ≡ Known → extension.verdict_of self.now rev.now ancestors.now strict ≡ is_known }
-        ensures bad_history { result ≡ BadHistory400 → extension.verdict_of self.now rev.now ancestors.now strict ≡ has_bad_history }
-        ensures conflict { IfConflict result (λ leaf. (extension.verdict_of self.now rev.now ancestors.now strict ≡ makes_conflict) × (option_map (λ w. w.rev) (trees.winner_of self.now) ≡ Some leaf)) }
-        ensures new_tree { IfNewTree result (λ tree kept. extension.verdict_of self.now rev.now ancestors.now strict ≡ extends_tree) }
-        ensures kept { IfNewTree result (λ tree kept. kept ≡ extension.kept_of self.now ancestors.now) }
+        ensures known { result ≡ Known → extension.verdict_of self.now rev.now ancestors.now strict
+            ≡ is_known }
+        ensures bad_history { result ≡ BadHistory400
+            → extension.verdict_of self.now rev.now ancestors.now strict ≡ has_bad_history }
+        ensures conflict { IfConflict result
+            (λ leaf. (extension.verdict_of self.now rev.now ancestors.now strict ≡ makes_conflict)
+            × (option_map (λ w. w.rev) (trees.winner_of self.now) ≡ Some leaf)) }
+        ensures new_tree { IfNewTree result
+            (λ tree kept. extension.verdict_of self.now rev.now ancestors.now strict
+            ≡ extends_tree) }
+        ensures kept { IfNewTree result
+            (λ tree kept. kept ≡ extension.kept_of self.now ancestors.now) }
         ensures within { IfNewTree result (λ tree kept. kept ≤ length ancestors.now) }
-        ensures tree { IfNewTree result (λ tree kept. tree ≡ extension.with_write self.now (record { rev = rev.now; ancestors = take kept ancestors.now; deleted = deleted })) }
-        ensures accepted { IfNewTree result (λ tree kept. IsTrue (is_accepted self.now (record { rev = rev.now; ancestors = take kept ancestors.now; deleted = deleted }))) }
+        ensures tree { IfNewTree result (λ tree kept. tree ≡ extension.with_write self.now
+            (record { rev = rev.now; ancestors = take kept ancestors.now; deleted = deleted })) }
+        ensures accepted { IfNewTree result (λ tree kept. IsTrue (is_accepted self.now
+            (record { rev = rev.now; ancestors = take kept ancestors.now; deleted = deleted }))) }
     {
         if self.knows(rev) {
             return Extended::Known;
