@@ -1,7 +1,7 @@
 //! Reading subChanges.
 
-ghost use Rattle.std.specs.Prelude.{◌≡◌, ◌≢◌, Ok, Err, IfOk, IfErr, Result, map, false, IsTrue, codes};
-ghost use Rattle.std.specs.List.{list_all};
+ghost use Rattle.std.specs.Prelude.{◌≡◌, ◌≢◌, ◌==◌, Ok, Err, IfOk, IfErr, Result, map, false, IsTrue, codes};
+ghost use Rattle.std.specs.List.{list_all, slice_split};
 ghost use Rattle.std.specs.Option.{option_copied};
 ghost use Rattle.sg_names.specs.Grammar.{is_channel_name};
 ghost use Rattle.sg_names.specs.declared.key.Key.{Key};
@@ -14,8 +14,7 @@ use crate::properties::{is_set, number_up_to};
 use crate::request::{Field, Request, RequestFault, Version};
 use blip_frame::Props;
 use sg_history::{ChannelName, Channels, Key, KeyFault, Options, TextFault};
-use sg_names::pieces::split_at_commas;
-use std::alloc::Global;
+use std::alloc::{AllocError, Global};
 
 /// Whether a subChanges asks for the changes that come later, too.
 pub fn is_continuous(props: &Props) -> bool
@@ -137,6 +136,13 @@ fn filter_of(
         });
     }
     Ok(Some(channels_of(alloc, channels)?))
+}
+
+/// The parts of a text between its commas, of which there is one more than commas.
+fn split_at_commas(alloc: Global, text: &str) -> Result<Vec<&str>, AllocError>
+    ensures { IfOk result (λ v. map (λ p. p.now) v.items ≡ slice_split (λ b. b == 44) text.now) }
+{
+    text.split(',').collect(alloc)
 }
 
 fn channels_of(alloc: Global, value: Option<&str>) -> Result<Channels, RequestFault>
