@@ -2,6 +2,7 @@ pub mod Exchanging
 pub mod Answering
 pub mod Looking
 pub mod Sending
+pub mod Fitting
 pub mod Putting
 pub mod Rising
 pub mod Turning

@@ -1,9 +1,10 @@
 //! Messages over frames, in both directions of one wire.
 
-ghost use Rattle.std.specs.Prelude.{◌≡◌, ◌<◌, ◌+◌, false, OnOk};
+ghost use Rattle.std.specs.Prelude.{◌≡◌, ◌<◌, ◌≤◌, ◌+◌, [], false, length, List, ℕ, IfOk, OnOk, OnErr};
 ghost use Rattle.sg_outside.specs.Sink.{Counts};
+ghost use Rattle.blip_frame.specs.Checksum.{checksum};
 ghost use Rattle.blip_frame.specs.Frame.{has_checksum};
-ghost use Rattle.blip_mux.specs.Sending.{new_sending, is_bad_ack, sent_of, heard_in};
+ghost use Rattle.blip_mux.specs.Sending.{new_sending, is_bad_ack, sent_of, heard_in, picked, after_picked, Sends, SendsAfter};
 ghost use Rattle.blip_mux.specs.Standing.{new_standing};
 ghost use Rattle.session_run.specs.Frames.{why_of};
 ghost use Rattle.session_run.specs.Muxed.{IsTaken, IsTookFault, IsAcked, MayPut, MayPutAll, put_one, put_all, requests_in, HaveGone};
@@ -26,13 +27,18 @@ pub(crate) enum Took {
     Memory,
 }
 
-/// Both directions of one wire: what has come and what is to go, each with its checksum so far.
+/// The most bytes of a frame that is sent: of its number, its flags, its payload and its checksum.
+const LONGEST_FRAME: usize = 10 + 1 + 16_384 + 4;
+
+/// Both directions of one wire: what has come and what is to go, each with its checksum so far, and
+/// the one buffer in which frames are written.
 #[derive(Drop)]
 pub(crate) struct Mux {
     pub(crate) inbox: Inbox,
     pub(crate) outbox: Outbox,
     pub(crate) received: Crc,
     pub(crate) sent: Crc,
+    pub(crate) frame: Bytes,
 }
 
 fn why_of_frame(fault: FrameFault) -> FrameWhy
@@ -61,7 +67,7 @@ fn took_fault(fault: TakeFault) -> Took
 }
 
 impl Mux {
-    /// Nothing has come, and nothing is to go. Takes no memory.
+    /// Nothing has come, and nothing is to go. Allocates nothing: the buffer has no room yet.
     pub(crate) fn new(alloc: Global) -> Mux
         ensures inbox { result.inbox ≡ new_standing }
         ensures outbox { result.outbox ≡ new_sending }
@@ -73,7 +79,15 @@ impl Mux {
             outbox: Outbox::new(alloc),
             received: Crc::new(),
             sent: Crc::new(),
+            frame: Bytes::new(alloc),
         }
+    }
+
+    /// Makes room in the buffer for each frame that may be sent.
+    pub(crate) fn reserve(&mut self) -> Result<(), Memory>
+        ensures { self.new ≡ self.old }
+    {
+        self.frame.reserve(LONGEST_FRAME)
     }
 
     /// Takes the bytes of a frame. An acknowledgement that it is, or that is owed for it, is noted.
@@ -166,22 +180,40 @@ impl Mux {
         }
     }
 
-    /// Sends frame after frame, each in one buffer, until there is none that may be sent, or one is not sent.
-    pub(crate) fn send_all<W: Wire>(&mut self, alloc: Global, wire: &mut W) -> Gave
-        ensures sent { HaveGone self.old.outbox self.old.sent.value (W.told wire.old) (W.told wire.new) result self.new.outbox self.new.sent.value }
+    /// Writes the next frame that may be sent, alone in the buffer.
+    fn write_next(&mut self) -> Result<Next, Memory>
+        ensures frame { IfOk result (λ next. Sends (picked self.old.outbox) next
+            self.old.sent.value self.new.sent.value [] self.new.frame) }
+        ensures sent { (sent : List ℕ) → self.old.sent.value ≡ checksum sent
+            → IfOk result (λ next. SendsAfter sent (picked self.old.outbox) next
+            self.new.sent.value [] self.new.frame) }
+        ensures after { OnOk result (self.new.outbox ≡ after_picked self.old.outbox) }
+        ensures fits { length self.new.frame ≤ LONGEST_FRAME }
+        ensures err { OnErr result ((self.new.outbox ≡ self.old.outbox)
+            × (self.new.sent ≡ self.old.sent)) }
+        ensures inbox { self.new.inbox ≡ self.old.inbox }
+        ensures received { self.new.received ≡ self.old.received }
+    {
+        self.frame.truncate(0);
+        self.outbox.next_frame(&mut self.sent, &mut self.frame)
+    }
+
+    /// Sends frame after frame, each from the one buffer, until there is none that may be sent, or
+    /// one is not sent.
+    pub(crate) fn send_all<W: Wire>(&mut self, wire: &mut W) -> Gave
+        ensures sent { HaveGone self.old.outbox self.old.sent.value (W.told wire.old)
+            (W.told wire.new) result self.new.outbox self.new.sent.value }
         ensures counted { Counts (W.faults wire.old) result (W.faults wire.new) }
         ensures inbox { self.new.inbox ≡ self.old.inbox }
         ensures received { self.new.received ≡ self.old.received }
     {
-        let mut frame = Bytes::new(alloc);
         loop {
-            frame.truncate(0);
-            match self.outbox.next_frame(&mut self.sent, &mut frame) {
+            match self.write_next() {
                 Ok(Next::Frame) => {}
                 Ok(Next::Idle) => return Gave::Done,
                 Err(_) => return Gave::Memory,
             }
-            match wire.send(frame.as_slice()) {
+            match wire.send(self.frame.as_slice()) {
                 Gave::Done => {}
                 other => return other,
             }

@@ -29,8 +29,8 @@ pub struct Setup {
 const MOST_RESULTS: u64 = 1_099_511_627_776;
 
 /// Serves one device: receives its frames one after another, answers each message that they give, sends what is
-/// put for it, and goes on until the wire ends, a fault ends the session, or memory runs out. Gives the
-/// ground back.
+/// put for it, and goes on until the wire ends, a fault ends the session, or memory runs out. All frames are sent
+/// from one buffer; where there is no memory for it, nothing is received. Gives the ground back.
 pub fn serve_session<W: Wire, G: Ground>(
     alloc: Global,
     ground: G,
@@ -56,6 +56,9 @@ pub fn serve_session<W: Wire, G: Ground>(
     write_path::laws::looks();
     write_path::laws::no_foreign_body();
     write_path::laws::removals();
+    if session.reserve().is_err() {
+        return (ground, session.ended(End::Memory));
+    }
     for received in 0..MOST_RESULTS {
         if let Some(end) = session.step(alloc, &mut ground, wire) {
             return (ground, session.ended(end));

@@ -55,6 +55,13 @@ impl Session {
         }
     }
 
+    /// Makes room for the frames that it sends, once for all of them.
+    pub(crate) fn reserve(&mut self) -> Result<(), Memory>
+        ensures { self.new ≡ self.old }
+    {
+        self.mux.reserve()
+    }
+
     /// The end of the session.
     pub(crate) fn ended(self, end: End) -> Ended
         ensures { result ≡ record { end = end; looks = self.looks } }
@@ -133,13 +140,13 @@ impl Session {
             return Some(End::Memory);
         };
         match self.mux.put(acts) {
-            Ok(()) => end_of(self.mux.send_all(alloc, wire)),
+            Ok(()) => end_of(self.mux.send_all(wire)),
             Err(_) => Some(End::Memory),
         }
     }
 
     /// Goes on after a frame that gave no message: sends what may be sent.
-    fn go_on<W: Wire>(&mut self, alloc: Global, wire: &mut W) -> Option<End>
+    fn go_on<W: Wire>(&mut self, wire: &mut W) -> Option<End>
         requires rest { self.old.core.pending ≡ Pending.Nothing }
         requires requests { self.old.mux.outbox.requests ≡ self.old.core.requests }
         requires apart { AreApart self.old.mux.inbox self.old.mux.outbox }
@@ -152,7 +159,7 @@ impl Session {
     {
         blip_mux::laws::replies();
         self.frames += 1;
-        end_of(self.mux.send_all(alloc, wire))
+        end_of(self.mux.send_all(wire))
     }
 
     /// Takes a frame: its message, where it gives one, is answered, and what may be sent is sent. Answers how the session
@@ -182,7 +189,7 @@ impl Session {
         write_path::laws::looks();
         match self.mux.take(bytes) {
             Took::Whole(message) => self.answer(alloc, ground, wire, message),
-            Took::Part => self.go_on(alloc, wire),
+            Took::Part => self.go_on(wire),
             Took::Bad(why) => Some(self.bad_frame(why)),
             Took::Memory => Some(End::Memory),
         }
