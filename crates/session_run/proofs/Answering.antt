@@ -9,6 +9,7 @@ use Rattle.blip_mux.specs.Joining.{is_request, is_reply}
 use Rattle.sg_history.specs.declared.entries.Entry.{Entry}
 use Rattle.sg_history.specs.declared.row.Options.{Options}
 use Rattle.sg_history.specs.declared.row.Row.{Row}
+use Rattle.sg_history.specs.Board.{BoardState}
 use Rattle.repl_messages.specs.declared.request.RequestFault.{RequestFault}
 use Rattle.repl_messages.specs.declared.error.ErrorKind.TheVariants as errors
 use Rattle.repl_messages.specs.declared.looks.Body.{Body}
@@ -18,7 +19,7 @@ use Rattle.repl_messages.specs.declared.looks.Fed.{Fed}
 use Rattle.repl_messages.specs.declared.looks.Fed.TheVariants as fed
 use Rattle.repl_messages.specs.Changes.{changes_payload}
 use Rattle.repl_messages.specs.Looks.{AreBodies}
-use Rattle.write_path.specs.Looks.{IsLaterThanAll}
+use Rattle.write_path.specs.Reads.{IsLaterThanAll}
 use Rattle.repl_messages.specs.Errors.{ok_payload, error_payload}
 use Rattle.session_core.specs.declared.served.Served.{Served}
 use Rattle.session_core.specs.declared.served.Served.TheVariants.{Feed}
@@ -172,8 +173,8 @@ bodies_by_pending (pending.Bodies rows) between message answer after acts s = su
 pub answers_bodies : (between : Machine) (message : Message) (answer : Bodies) (after : Machine) (acts : List Act) → Steps between (event.Bodies answer) after acts → Answers message acts
 answers_bodies between message answer after acts s = bodies_by_pending between.pending between message answer after acts s
 
-pub answers_bodies_in : (between : Machine) (message : Message) (after : Machine) (acts : List Act) (options : Options) (rows : List Row) (most : ℕ) (look : Look) (met : List (List Entry))
+pub answers_bodies_in : (between : Machine) (message : Message) (after : Machine) (acts : List Act) (options : Options) (rows : List Row) (most : ℕ) (look : Look) (boards : List BoardState)
     → ((answer : Bodies) × Steps between (event.Bodies answer) after acts × (look ≡ record { front = answer.front; purpose = purposes.Bodies })
-    × ((h : List Entry) → IsLaterThanAll met h → AreBodies h between.user options rows most answer))
+    × ((h : List Entry) → IsLaterThanAll boards h → AreBodies h between.user options rows most answer))
     → Answers message acts
-answers_bodies_in between message after acts options rows most look met (answer, steps, look_is, said) = answers_bodies between message answer after acts steps
+answers_bodies_in between message after acts options rows most look boards (answer, steps, look_is, said) = answers_bodies between message answer after acts steps

@@ -14,6 +14,7 @@ use Rattle.sg_history.specs.declared.row.Row.{Row}
 use Rattle.sg_history.specs.History.{past}
 use Rattle.sg_history.specs.View.{view}
 use Rattle.sg_history.specs.Feed.{feed, changed}
+use Rattle.sg_history.specs.Board.{BoardState}
 use Rattle.repl_messages.specs.declared.request.Version.{Version}
 use Rattle.repl_messages.specs.declared.request.RequestFault.{RequestFault}
 use Rattle.repl_messages.specs.declared.error.ErrorKind.{ErrorKind}
@@ -158,6 +159,6 @@ bodies_are_own shows wins removes h user version (x ∷ earlier) (one, all) = (
 )
 
 -- a session whose bodies are the user's own
-pub served : Shows → Wins → Removes → (user : List ℕ) (version : Version) (met : List (List Entry)) (told : Option Traffic) (ended : Ended) (told_after : Option Traffic) → Ends user version met told ended told_after → IsServed user version met told ended told_after
-served shows wins removes user version met told ended told_after (results, sent, session, tells) =
+pub served : Shows → Wins → Removes → (user : List ℕ) (version : Version) (boards : List BoardState) (told : Option Traffic) (ended : Ended) (told_after : Option Traffic) → Ends user version boards told ended told_after → IsServed user version boards told ended told_after
+served shows wins removes user version boards told ended told_after (results, sent, session, tells) =
     (results, sent, session, tells, λ h later. bodies_are_own shows wins removes h user version (exchanges_of session.turns) (session.exchanged h later))

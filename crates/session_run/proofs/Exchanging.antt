@@ -6,6 +6,7 @@ use Rattle.sg_names.specs.declared.key.Key.{Key}
 use Rattle.sg_history.specs.declared.entries.Entry.{Entry}
 use Rattle.sg_history.specs.declared.row.Row.{Row}
 use Rattle.sg_history.specs.declared.row.Options.{Options}
+use Rattle.sg_history.specs.Board.{BoardState}
 use Rattle.repl_messages.specs.declared.looks.Bodies.{Bodies}
 use Rattle.repl_messages.specs.declared.looks.Fed.{Fed}
 use Rattle.repl_messages.specs.Looks as looked
@@ -24,7 +25,7 @@ use Rattle.session_core.specs.Exchange.{Exchange, requests_among}
 use Rattle.session_core.specs.Machine.{Machine, Steps}
 use Rattle.session_core.specs.Conduct as conduct
 use Rattle.session_core.specs.Conduct.{messages_from, are_puts, led_to, Keeps, Wants}
-use Rattle.write_path.specs.Looks.{IsLaterThanAll}
+use Rattle.write_path.specs.Reads.{IsLaterThanAll}
 use Rattle.session_run.specs.Exchanges.{Makes, is_look, WantsFeed}
 
 -- ---- which look is wanted
@@ -82,13 +83,13 @@ wants_bodies (pending.Bodies others) acts options rows most (o, m, w) e =
 
 -- ---- the exchange
 
--- an exchange of the machine, which looked at one of the histories met
-pub exchange_of : (m : Machine) (message : Message) (taken : List Look) (acts : List Act) (By : List Entry → List ℕ → Type 0) (after : Machine) (met : List (List Entry))
+-- an exchange of the machine, which looked at one of the boards read
+pub exchange_of : (m : Machine) (message : Message) (taken : List Look) (acts : List Act) (By : List Entry → List ℕ → Type 0) (after : Machine) (boards : List BoardState)
     → conduct.Makes m message taken acts By after
-    → ((h : List Entry) → IsLaterThanAll met h → By h m.user)
+    → ((h : List Entry) → IsLaterThanAll boards h → By h m.user)
     → Keeps m acts after
-    → (x : Exchange) × Makes m message taken acts met after x
-exchange_of m message taken acts By after met (x, message_is, looks_are, puts_are, leads) by (user, version, requests) = (
+    → (x : Exchange) × Makes m message taken acts boards after x
+exchange_of m message taken acts By after boards (x, message_is, looks_are, puts_are, leads) by (user, version, requests) = (
   x,
   record {
     message_is = message_is;
@@ -119,57 +120,57 @@ Feeds m between after message acts =
     (asked : Asked) (answer : Fed) → between.pending ≡ pending.Feed asked → Steps between (event.Fed answer) after acts
     → conduct.Makes m message (record { front = looked.front_of answer; purpose = purposes.Feed } ∷ []) acts (λ h user. IsFed h user asked.since asked.options answer) after
 
-with_fed : (m between after : Machine) (message : Message) (asks acts : List Act) (since : Key) (options : Options) (look : Look) (met : List (List Entry))
+with_fed : (m between after : Machine) (message : Message) (asks acts : List Act) (since : Key) (options : Options) (look : Look) (boards : List BoardState)
     → Feeds m between after message acts
     → (asked : Asked) → between.pending ≡ pending.Feed asked → since ≡ asked.since → options ≡ asked.options
     → asks ≡ act.Want (want.Feed since options) ∷ []
     → Keeps m asks between → Keeps between acts after
     → (answer : Fed) → Steps between (event.Fed answer) after acts → look ≡ record { front = looked.front_of answer; purpose = purposes.Feed }
-    → ((h : List Entry) → IsLaterThanAll met h → IsFed h between.user since options answer)
-    → (x : Exchange) × Makes m message (look ∷ []) acts met after x
-with_fed m between after message asks acts since options look met law asked waits since_is options_is is kept kept_on answer steps look_is said =
-    subst (λ l. (x : Exchange) × Makes m message (l ∷ []) acts met after x) (sym look_is)
-    (exchange_of m message (record { front = looked.front_of answer; purpose = purposes.Feed } ∷ []) acts (λ h user. IsFed h user asked.since asked.options answer) after met
+    → ((h : List Entry) → IsLaterThanAll boards h → IsFed h between.user since options answer)
+    → (x : Exchange) × Makes m message (look ∷ []) acts boards after x
+with_fed m between after message asks acts since options look boards law asked waits since_is options_is is kept kept_on answer steps look_is said =
+    subst (λ l. (x : Exchange) × Makes m message (l ∷ []) acts boards after x) (sym look_is)
+    (exchange_of m message (record { front = looked.front_of answer; purpose = purposes.Feed } ∷ []) acts (λ h user. IsFed h user asked.since asked.options answer) after boards
     (law asked answer waits steps)
     (λ h later. subst (λ o. IsFed h m.user asked.since o answer) options_is (subst (λ s. IsFed h m.user s options answer) since_is (subst (λ u. IsFed h u since options answer) kept.0 (said h later))))
     (keeps_on m between after (want.Feed since options) asks acts is kept kept_on))
 
-fed_with : (m between after : Machine) (message : Message) (asks acts : List Act) (since : Key) (options : Options) (look : Look) (met : List (List Entry))
+fed_with : (m between after : Machine) (message : Message) (asks acts : List Act) (since : Key) (options : Options) (look : Look) (boards : List BoardState)
     → Feeds m between after message acts
     → ((asked : Asked) × (between.pending ≡ pending.Feed asked) × (since ≡ asked.since) × (options ≡ asked.options))
     → asks ≡ act.Want (want.Feed since options) ∷ []
     → Keeps m asks between → Keeps between acts after
     → (answer : Fed) → Steps between (event.Fed answer) after acts → look ≡ record { front = looked.front_of answer; purpose = purposes.Feed }
-    → ((h : List Entry) → IsLaterThanAll met h → IsFed h between.user since options answer)
-    → (x : Exchange) × Makes m message (look ∷ []) acts met after x
-fed_with m between after message asks acts since options look met law (asked, waits, since_is, options_is) is kept kept_on answer steps look_is said =
-    with_fed m between after message asks acts since options look met law asked waits since_is options_is is kept kept_on answer steps look_is said
+    → ((h : List Entry) → IsLaterThanAll boards h → IsFed h between.user since options answer)
+    → (x : Exchange) × Makes m message (look ∷ []) acts boards after x
+fed_with m between after message asks acts since options look boards law (asked, waits, since_is, options_is) is kept kept_on answer steps look_is said =
+    with_fed m between after message asks acts since options look boards law asked waits since_is options_is is kept kept_on answer steps look_is said
 
-pub feed_made : (m between after : Machine) (message : Message) (asks acts : List Act) (since : Key) (options : Options) (look : Look) (met : List (List Entry))
+pub feed_made : (m between after : Machine) (message : Message) (asks acts : List Act) (since : Key) (options : Options) (look : Look) (boards : List BoardState)
     → Feeds m between after message acts
     → Wants between.pending asks → asks ≡ act.Want (want.Feed since options) ∷ []
     → Keeps m asks between → Keeps between acts after
     → ((answer : Fed) × Steps between (event.Fed answer) after acts × (look ≡ record { front = looked.front_of answer; purpose = purposes.Feed })
-    × ((h : List Entry) → IsLaterThanAll met h → IsFed h between.user since options answer))
-    → (x : Exchange) × Makes m message (look ∷ []) acts met after x
-feed_made m between after message asks acts since options look met law wants is kept kept_on (answer, steps, look_is, said) =
-    fed_with m between after message asks acts since options look met law (asked_for between.pending since options (wants_feed between.pending asks since options wants is)) is kept kept_on answer steps look_is said
+    × ((h : List Entry) → IsLaterThanAll boards h → IsFed h between.user since options answer))
+    → (x : Exchange) × Makes m message (look ∷ []) acts boards after x
+feed_made m between after message asks acts since options look boards law wants is kept kept_on (answer, steps, look_is, said) =
+    fed_with m between after message asks acts since options look boards law (asked_for between.pending since options (wants_feed between.pending asks since options wants is)) is kept kept_on answer steps look_is said
 
 abbrev Embodies : Machine → Machine → Machine → Message → List Act → Options → List Row → ℕ → Type 0
 Embodies m between after message acts options rows most =
     (answer : Bodies) → Steps between (event.Bodies answer) after acts
     → conduct.Makes m message (record { front = answer.front; purpose = purposes.Bodies } ∷ []) acts (λ h user. AreBodies h user options rows most answer) after
 
-pub bodies_made : (m between after : Machine) (message : Message) (asks acts : List Act) (options : Options) (rows : List Row) (most : ℕ) (look : Look) (met : List (List Entry))
+pub bodies_made : (m between after : Machine) (message : Message) (asks acts : List Act) (options : Options) (rows : List Row) (most : ℕ) (look : Look) (boards : List BoardState)
     → Embodies m between after message acts options rows most
     → asks ≡ act.Want (want.Bodies options rows most) ∷ []
     → Keeps m asks between → Keeps between acts after
     → ((answer : Bodies) × Steps between (event.Bodies answer) after acts × (look ≡ record { front = answer.front; purpose = purposes.Bodies })
-    × ((h : List Entry) → IsLaterThanAll met h → AreBodies h between.user options rows most answer))
-    → (x : Exchange) × Makes m message (look ∷ []) acts met after x
-bodies_made m between after message asks acts options rows most look met law is kept kept_on (answer, steps, look_is, said) =
-    subst (λ l. (x : Exchange) × Makes m message (l ∷ []) acts met after x) (sym look_is)
-    (exchange_of m message (record { front = answer.front; purpose = purposes.Bodies } ∷ []) acts (λ h user. AreBodies h user options rows most answer) after met
+    × ((h : List Entry) → IsLaterThanAll boards h → AreBodies h between.user options rows most answer))
+    → (x : Exchange) × Makes m message (look ∷ []) acts boards after x
+bodies_made m between after message asks acts options rows most look boards law is kept kept_on (answer, steps, look_is, said) =
+    subst (λ l. (x : Exchange) × Makes m message (l ∷ []) acts boards after x) (sym look_is)
+    (exchange_of m message (record { front = answer.front; purpose = purposes.Bodies } ∷ []) acts (λ h user. AreBodies h user options rows most answer) after boards
     (law answer steps)
     (λ h later. subst (λ u. AreBodies h u options rows most answer) kept.0 (said h later))
     (keeps_on m between after (want.Bodies options rows most) asks acts is kept kept_on))

@@ -16,6 +16,7 @@ use Rattle.blip_mux.specs.Remembered.{Standing}
 use Rattle.blip_mux.specs.Standing.{new_standing, expecting, answer_at, taken_after, StandsFor}
 use Rattle.blip_mux.specs.Sending.{Sending, new_sending, picked}
 use Rattle.sg_history.specs.declared.entries.Entry.{Entry}
+use Rattle.sg_history.specs.Board.{BoardState}
 use Rattle.repl_messages.specs.declared.request.Version.{Version}
 use Rattle.session_core.specs.declared.look.Look.{Look}
 use Rattle.session_core.specs.declared.machine.Pending.TheVariants as pending
@@ -23,7 +24,7 @@ use Rattle.session_core.specs.Exchange.{Exchange, requests_among, requests_put}
 use Rattle.session_core.specs.Session.{Exchanged, AreExchanged, looks_of}
 use Rattle.session_core.specs.Machine.{Machine}
 use Rattle.session_core.specs.Conduct.{led_to}
-use Rattle.write_path.specs.Looks.{IsLaterThanAll}
+use Rattle.write_path.specs.Reads.{IsLaterThanAll}
 use Rattle.session_run.specs.declared.session.Session.{Session}
 use Rattle.session_run.specs.Held.{IsAtRest, IsMade, Holds, Turns}
 use Rattle.session_run.specs.Sent.{expecting_by, expecting_all}
@@ -120,59 +121,59 @@ sent_more sent (f ∷ frames) others = sent_more (frame.sent_after sent f) frame
 
 -- ---- from turn to turn
 
--- what goes on from all that were met since goes on from all that were met before
-abbrev pub Extends : List (List Entry) → List (List Entry) → Type 0
+-- what is later than all boards read since is later than all read before
+abbrev pub Extends : List BoardState → List BoardState → Type 0
 Extends before after = (h : List Entry) → IsLaterThanAll after h → IsLaterThanAll before h
 
 -- what holds of an exchange, where one was begun
-made_user : (old new : Session) (met : List (List Entry)) (x : Option Exchange) → IsMade old new met x → new.core.user ≡ old.core.user
-made_user old new met None made = ap (λ (m : Machine). m.user) made.0
-made_user old new met (Some x) (acts, made, looks) = made.user
+made_user : (old new : Session) (boards : List BoardState) (x : Option Exchange) → IsMade old new boards x → new.core.user ≡ old.core.user
+made_user old new boards None made = ap (λ (m : Machine). m.user) made.0
+made_user old new boards (Some x) (acts, made, looks) = made.user
 
-made_version : (old new : Session) (met : List (List Entry)) (x : Option Exchange) → IsMade old new met x → new.core.version ≡ old.core.version
-made_version old new met None made = ap (λ (m : Machine). m.version) made.0
-made_version old new met (Some x) (acts, made, looks) = made.version
+made_version : (old new : Session) (boards : List BoardState) (x : Option Exchange) → IsMade old new boards x → new.core.version ≡ old.core.version
+made_version old new boards None made = ap (λ (m : Machine). m.version) made.0
+made_version old new boards (Some x) (acts, made, looks) = made.version
 
-made_requests : (old new : Session) (met : List (List Entry)) (x : Option Exchange) (earlier : List Exchange) → IsMade old new met x → old.core.requests ≡ requests_put earlier → new.core.requests ≡ requests_put (with_exchange x earlier)
-made_requests old new met None earlier made e = ap (λ (m : Machine). m.requests) made.0 ∙ e
-made_requests old new met (Some x) earlier (acts, made, looks) e = made.requests ∙ ap (λ n. requests_among x.puts + n) e
+made_requests : (old new : Session) (boards : List BoardState) (x : Option Exchange) (earlier : List Exchange) → IsMade old new boards x → old.core.requests ≡ requests_put earlier → new.core.requests ≡ requests_put (with_exchange x earlier)
+made_requests old new boards None earlier made e = ap (λ (m : Machine). m.requests) made.0 ∙ e
+made_requests old new boards (Some x) earlier (acts, made, looks) e = made.requests ∙ ap (λ n. requests_among x.puts + n) e
 
-pub made_looks : (old new : Session) (met : List (List Entry)) (x : Option Exchange) (earlier : List Exchange) → IsMade old new met x → old.looks ≡ looks_of earlier → new.looks ≡ looks_of (with_exchange x earlier)
-made_looks old new met None earlier made e = made.1 ∙ e
-made_looks old new met (Some x) earlier (acts, made, looks) e = looks ∙ ap (λ (l : List Look). l ++ x.looks) e
+pub made_looks : (old new : Session) (boards : List BoardState) (x : Option Exchange) (earlier : List Exchange) → IsMade old new boards x → old.looks ≡ looks_of earlier → new.looks ≡ looks_of (with_exchange x earlier)
+made_looks old new boards None earlier made e = made.1 ∙ e
+made_looks old new boards (Some x) earlier (acts, made, looks) e = looks ∙ ap (λ (l : List Look). l ++ x.looks) e
 
-made_led : (h : List Entry) (user : List ℕ) (version : Version) (old new : Session) (met : List (List Entry)) (x : Option Exchange) (earlier : List Exchange) → IsMade old new met x → IsLaterThanAll met h
+made_led : (h : List Entry) (user : List ℕ) (version : Version) (old new : Session) (boards : List BoardState) (x : Option Exchange) (earlier : List Exchange) → IsMade old new boards x → IsLaterThanAll boards h
     → old.core ≡ led_to h user version earlier → AreExchanged h user version earlier
     → AreExchanged h user version (with_exchange x earlier) × (new.core ≡ led_to h user version (with_exchange x earlier))
-made_led h user version old new met None earlier made later led all = (all, made.0 ∙ led)
-made_led h user version old new met (Some x) earlier (acts, made, looks) later led all =
+made_led h user version old new boards None earlier made later led all = (all, made.0 ∙ led)
+made_led h user version old new boards (Some x) earlier (acts, made, looks) later led all =
     let made_now : Exchanged h user version earlier x × (new.core ≡ led_to h user version (x ∷ earlier)) = made.leads h user version earlier later led in
     ((made_now.0, all), made_now.1)
 
 -- the exchanges of a turn are the session's
-pub turn_exchanged : (user : List ℕ) (version : Version) (met after : List (List Entry)) (old new : Session) (turns : List Turn) (frames : List FrameParts) (results : List Got) (sent : List (List ℕ))
+pub turn_exchanged : (user : List ℕ) (version : Version) (boards after : List BoardState) (old new : Session) (turns : List Turn) (frames : List FrameParts) (results : List Got) (sent : List (List ℕ))
     (bytes : List ℕ) (told told_after : Option Traffic) (t : Turn) (left : Sending)
-    → Holds user version met old turns frames results sent → Turns old new bytes after told told_after t left → Extends met after
+    → Holds user version boards old turns frames results sent → Turns old new bytes after told told_after t left → Extends boards after
     → (h : List Entry) → IsLaterThanAll after h → AreExchanged h user version (exchanges_of (t ∷ turns)) × (new.core ≡ led_to h user version (exchanges_of (t ∷ turns)))
-turn_exchanged user version met after old new turns frames results sent bytes told told_after t left held did extends h later =
+turn_exchanged user version boards after old new turns frames results sent bytes told told_after t left held did extends h later =
     made_led h user version old new after t.exchange (exchanges_of turns) did.made later (held.led h (extends h later)) (held.exchanged h (extends h later))
 
 pub holds_on : Came → Expects → Joins
-    → (user : List ℕ) (version : Version) (met after : List (List Entry)) (old new : Session) (turns : List Turn) (frames : List FrameParts) (results : List Got) (sent : List (List ℕ))
+    → (user : List ℕ) (version : Version) (boards after : List BoardState) (old new : Session) (turns : List Turn) (frames : List FrameParts) (results : List Got) (sent : List (List ℕ))
     (bytes : List ℕ) (told told_after : Option Traffic) (t : Turn)
-    → Holds user version met old turns frames results sent → Extends met after
+    → Holds user version boards old turns frames results sent → Extends boards after
     → (did : Turns old new bytes after told told_after t new.mux.outbox) → did.value ≡ new.mux.sent.value → IsAtRest new
     → new.mux.inbox ≡ expecting_all (puts_in t.exchange) (taken_after old.mux.inbox t.frame)
     → Holds user version after new (t ∷ turns) (frames ++ did.frames) (results ++ got.Frame bytes ∷ []) (sent ++ did.sent)
-holds_on law_came law_expects law_joins user version met after old new turns frames results sent bytes told told_after t held extends did value rest inbox =
+holds_on law_came law_expects law_joins user version boards after old new turns frames results sent bytes told told_after t held extends did value rest inbox =
     let written : AreWrittenAfter (all_sent [] frames) did.sent did.frames × (did.value ≡ checksum (all_sent (all_sent [] frames) did.frames)) = did.written (all_sent [] frames) held.checked in
     record {
       user_is = made_user old new after t.exchange did.made ∙ held.user_is;
       version_is = made_version old new after t.exchange did.made ∙ held.version_is;
       requests = made_requests old new after t.exchange (exchanges_of turns) did.made held.requests;
       rest = rest;
-      exchanged = λ h later. (turn_exchanged user version met after old new turns frames results sent bytes told told_after t new.mux.outbox held did extends h later).0;
-      led = λ h later. (turn_exchanged user version met after old new turns frames results sent bytes told told_after t new.mux.outbox held did extends h later).1;
+      exchanged = λ h later. (turn_exchanged user version boards after old new turns frames results sent bytes told told_after t new.mux.outbox held did extends h later).0;
+      led = λ h later. (turn_exchanged user version boards after old new turns frames results sent bytes told told_after t new.mux.outbox held did extends h later).1;
       joined = (sym (law_joins old.mux.inbox (events_of turns) t.frame held.inbox) ∙ did.answer, did.given, held.joined);
       inbox = subst (λ s. StandsFor s (events_of (t ∷ turns))) (sym inbox)
           (all_stand law_expects (puts_in t.exchange) (taken_after old.mux.inbox t.frame) (came t.frame ∷ events_of turns) (law_came old.mux.inbox (events_of turns) t.frame held.inbox));
@@ -185,9 +186,9 @@ holds_on law_came law_expects law_joins user version met after old new turns fra
       checked = sym value ∙ written.1 ∙ ap checksum (sym (sent_more [] frames did.frames));
     }
 
-pub holds_idle : (user : List ℕ) (version : Version) (met : List (List Entry)) (s : Session) (turns : List Turn) (frames : List FrameParts) (results : List Got) (sent : List (List ℕ))
-    → Holds user version met s turns frames results sent → Holds user version met s turns frames (results ++ got.Idle ∷ []) sent
-holds_idle user version met s turns frames results sent held = record {
+pub holds_idle : (user : List ℕ) (version : Version) (boards : List BoardState) (s : Session) (turns : List Turn) (frames : List FrameParts) (results : List Got) (sent : List (List ℕ))
+    → Holds user version boards s turns frames results sent → Holds user version boards s turns frames (results ++ got.Idle ∷ []) sent
+holds_idle user version boards s turns frames results sent held = record {
   user_is = held.user_is;
   version_is = held.version_is;
   requests = held.requests;
@@ -212,12 +213,12 @@ unfolding checksum after_bits
 nothing_checked = refl
 
 -- a session to which nothing has come
-pub holds_new : (user : List ℕ) (version : Version) (met : List (List Entry)) (s : Session)
+pub holds_new : (user : List ℕ) (version : Version) (boards : List BoardState) (s : Session)
     → StandsFor new_standing [] → AreApart new_standing new_sending
     → s.core ≡ record { user = user; version = version; requests = 0; feed = None; pending = pending.Nothing }
     → s.mux.inbox ≡ new_standing → s.mux.outbox ≡ new_sending → s.mux.received.value ≡ 0 → s.mux.sent.value ≡ 0 → s.looks ≡ [] → s.frames ≡ 0
-    → Holds user version met s [] [] [] []
-holds_new user version met s stands apart core inbox outbox received sent looks frames = record {
+    → Holds user version boards s [] [] [] []
+holds_new user version boards s stands apart core inbox outbox received sent looks frames = record {
   user_is = ap (λ (m : Machine). m.user) core;
   version_is = ap (λ (m : Machine). m.version) core;
   requests = ap (λ (m : Machine). m.requests) core;

@@ -1,21 +1,22 @@
--- What a look says of all histories that go on from those met.
+-- What a read of a board says of all histories that are later than those read.
 use Rattle.std.proofs.Common.{◌≡◌, ◌≤◌, ℕ, List, length, Option, sym, subst}
 use Rattle.sg_history.specs.declared.entries.Entry.{Entry}
-use Rattle.write_path.specs.Looks.{IsLaterThanAll, WasLookedAt, IsTold}
+use Rattle.sg_history.specs.Board.{BoardState}
+use Rattle.write_path.specs.Reads.{IsLaterThanAll, WasRead, HasLength}
 
--- what holds by the history that was looked at
-pub said_later : (before after : List (List Entry)) (told : Option (List Entry)) (P Q : List Entry → Type 0)
-    → ((h : List Entry) × WasLookedAt before after h × IsTold told h × P h)
-    → ((h j : List Entry) → WasLookedAt before after h → IsLaterThanAll after j → P h → Q j)
-    → (j : List Entry) → IsLaterThanAll after j → Q j
-said_later before after told P Q (h, was, is_told, p) f j later = f h j was later p
+-- what holds by the board that was read
+pub said_later : (before after : List BoardState) (recorded : Option ℕ) (P : BoardState → Type 0) (Q : List Entry → Type 0)
+    → ((b : BoardState) × WasRead before after b × HasLength recorded b × P b)
+    → ((b : BoardState) (h : List Entry) → WasRead before after b → IsLaterThanAll after h → P b → Q h)
+    → (h : List Entry) → IsLaterThanAll after h → Q h
+said_later before after recorded P Q (b, was, has, p) f h later = f b h was later p
 
--- the front of a look is the length of the history that was looked at
-pub front_within : (before after : List (List Entry)) (told : Option (List Entry)) (P : List Entry → Type 0) (low high front : ℕ)
-    → ((h : List Entry) × WasLookedAt before after h × IsTold told h × P h)
-    → ((h : List Entry) → P h → front ≡ length h)
-    → ((h : List Entry) → WasLookedAt before after h → low ≤ length h)
-    → ((h : List Entry) → WasLookedAt before after h → length h ≤ high)
+-- the front of a look is the length of the log of the board that was read
+pub front_within : (before after : List BoardState) (recorded : Option ℕ) (P : BoardState → Type 0) (low high front : ℕ)
+    → ((b : BoardState) × WasRead before after b × HasLength recorded b × P b)
+    → ((b : BoardState) → P b → front ≡ length b.log)
+    → ((b : BoardState) → WasRead before after b → low ≤ length b.log)
+    → ((b : BoardState) → WasRead before after b → length b.log ≤ high)
     → (low ≤ front) × (front ≤ high)
-front_within before after told P low high front (h, was, is_told, p) is least most =
-    (subst (λ n. low ≤ n) (sym (is h p)) (least h was), subst (λ n. n ≤ high) (sym (is h p)) (most h was))
+front_within before after recorded P low high front (b, was, has, p) is least most =
+    (subst (λ n. low ≤ n) (sym (is b p)) (least b was), subst (λ n. n ≤ high) (sym (is b p)) (most b was))

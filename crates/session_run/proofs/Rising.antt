@@ -1,9 +1,8 @@
 -- Looks, one after another.
 use Rattle.std.proofs.Common.{◌≤◌, ℕ, List, [], ◌∷◌, ◌++◌, Option, Some, None, le_trans}
-use Rattle.sg_history.specs.declared.entries.Entry.{Entry}
 use Rattle.session_core.specs.declared.look.Look.{Look}
 use Rattle.session_core.specs.Session.{RiseBetween}
-use Rattle.session_run.specs.Exchanges.{AreAtTold}
+use Rattle.session_run.specs.Exchanges.{AreAtLength}
 
 -- fronts rise from a lower one on, and up to a higher one
 rise_from : (least low high : ℕ) (looks : List Look) → least ≤ low → RiseBetween low looks high → RiseBetween least looks high
@@ -18,11 +17,11 @@ pub rise_on : (low middle high : ℕ) (looks later : List Look) → RiseBetween 
 rise_on low middle high [] later a b = rise_from low middle high later a b
 rise_on low middle high (look ∷ looks) later (first, a) b = (first, rise_on look.front middle high looks later a b)
 
-pub told_on : (told : Option (List Entry)) (looks later : List Look) → AreAtTold told looks → AreAtTold told later → AreAtTold told (looks ++ later)
-told_on None looks later a b = tt
-told_on (Some h) [] later a b = b
-told_on (Some h) (look ∷ looks) later (first, a) b = (first, told_on (Some h) looks later a b)
+pub length_on : (recorded : Option ℕ) (looks later : List Look) → AreAtLength recorded looks → AreAtLength recorded later → AreAtLength recorded (looks ++ later)
+length_on None looks later a b = tt
+length_on (Some n) [] later a b = b
+length_on (Some n) (look ∷ looks) later (first, a) b = (first, length_on (Some n) looks later a b)
 
-pub none_told : (told : Option (List Entry)) → AreAtTold told []
-none_told None = tt
-none_told (Some h) = tt
+pub none_at_length : (recorded : Option ℕ) → AreAtLength recorded []
+none_at_length None = tt
+none_at_length (Some n) = tt

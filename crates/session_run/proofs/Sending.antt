@@ -111,9 +111,9 @@ pub tells_none : (told : Option Traffic) → Tells told [] [] told
 tells_none None = refl
 tells_none (Some t) = (t, refl, sym (append-nil t.got), sym (append-nil t.sent))
 
-told_on : (t u : Traffic) (after : Option Traffic) (got more_got : List Got) (sent more_sent : List (List ℕ)) → u.got ≡ t.got ++ got → u.sent ≡ t.sent ++ sent
+length_on : (t u : Traffic) (after : Option Traffic) (got more_got : List Got) (sent more_sent : List (List ℕ)) → u.got ≡ t.got ++ got → u.sent ≡ t.sent ++ sent
     → Tells (Some u) more_got more_sent after → Tells (Some t) (got ++ more_got) (sent ++ more_sent) after
-told_on t u after got more_got sent more_sent got_is sent_is (v, e, more_got_is, more_sent_is) = (
+length_on t u after got more_got sent more_sent got_is sent_is (v, e, more_got_is, more_sent_is) = (
   v,
   e,
   more_got_is ∙ ap (λ g. g ++ more_got) got_is ∙ append_assoc t.got got more_got,
@@ -123,7 +123,7 @@ told_on t u after got more_got sent more_sent got_is sent_is (v, e, more_got_is,
 pub tells_on : (told between after : Option Traffic) (got more_got : List Got) (sent more_sent : List (List ℕ))
     → Tells told got sent between → Tells between more_got more_sent after → Tells told (got ++ more_got) (sent ++ more_sent) after
 tells_on None between after got more_got sent more_sent a b = subst (λ t. Tells t more_got more_sent after) a b
-tells_on (Some t) between after got more_got sent more_sent (u, e, got_is, sent_is) b = told_on t u after got more_got sent more_sent got_is sent_is (subst (λ t. Tells t more_got more_sent after) e b)
+tells_on (Some t) between after got more_got sent more_sent (u, e, got_is, sent_is) b = length_on t u after got more_got sent more_sent got_is sent_is (subst (λ t. Tells t more_got more_sent after) e b)
 
 -- a frame that was sent
 pub tells_sent : (told after : Option Traffic) (bytes : List ℕ) → SendsIfTold told bytes gave.Done after → Tells told [] (bytes ∷ []) after

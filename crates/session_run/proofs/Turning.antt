@@ -17,7 +17,7 @@ use Rattle.blip_mux.specs.Joining.{is_request}
 use Rattle.blip_mux.specs.Remembered.{Standing}
 use Rattle.blip_mux.specs.Standing.{answer_at, taken_after}
 use Rattle.blip_mux.specs.Sending.{Sending, picked, heard_in, is_reply_to}
-use Rattle.sg_history.specs.declared.entries.Entry.{Entry}
+use Rattle.sg_history.specs.Board.{BoardState}
 use Rattle.session_core.specs.declared.act.Act.{Act}
 use Rattle.session_core.specs.declared.machine.Pending.TheVariants as pending
 use Rattle.session_core.specs.Conduct.{messages_from}
@@ -36,15 +36,15 @@ use Rattle.session_run.proofs.Sending.{none_written, tells_none}
 
 -- ---- what goes after a frame
 
-goes_done : PicksApart → (old new : Session) (message : Option Message) (met : List (List Entry)) (told told_after : Option Traffic) (x : Option Exchange) (out : Sending)
-    → option_map (λ x. x.message) x ≡ message → IsMade old new met x → new.frames ≡ old.frames + 1 → new.mux.received ≡ old.mux.received
+goes_done : PicksApart → (old new : Session) (message : Option Message) (boards : List BoardState) (told told_after : Option Traffic) (x : Option Exchange) (out : Sending)
+    → option_map (λ x. x.message) x ≡ message → IsMade old new boards x → new.frames ≡ old.frames + 1 → new.mux.received ≡ old.mux.received
     → out ≡ after_deeds old.mux.outbox (puts_of x) → new.mux.inbox ≡ expecting_all (puts_in x) old.mux.inbox
     → new.core.pending ≡ pending.Nothing → out.requests ≡ new.core.requests → AreApart new.mux.inbox out
     → (frames : List FrameParts) (texts : List (List ℕ)) (left : Sending) (value : ℕ)
     → ArePicked out frames left → AreWrittenFrom old.mux.sent.value frames texts value → Tells told [] texts told_after
     → picked left ≡ None → left ≡ new.mux.outbox → value ≡ new.mux.sent.value
-    → GoesOn old new message met told told_after None
-goes_done law old new message met told told_after x out given made count received out_is inbox rest requests apart frames texts left value go written tells idle left_is value_is = (
+    → GoesOn old new message boards told told_after None
+goes_done law old new message boards told told_after x out given made count received out_is inbox rest requests apart frames texts left value go written tells idle left_is value_is = (
   record {
     exchange = x;
     frames = frames;
@@ -68,13 +68,13 @@ goes_done law old new message met told told_after x out given made count receive
   inbox,
 )
 
-goes_partly : (old new : Session) (message : Option Message) (met : List (List Entry)) (told told_after : Option Traffic) (x : Option Exchange) (out : Sending)
-    → option_map (λ x. x.message) x ≡ message → IsMade old new met x → new.frames ≡ old.frames + 1 → new.mux.received ≡ old.mux.received
+goes_partly : (old new : Session) (message : Option Message) (boards : List BoardState) (told told_after : Option Traffic) (x : Option Exchange) (out : Sending)
+    → option_map (λ x. x.message) x ≡ message → IsMade old new boards x → new.frames ≡ old.frames + 1 → new.mux.received ≡ old.mux.received
     → out ≡ after_deeds old.mux.outbox (puts_of x)
     → (frames : List FrameParts) (texts : List (List ℕ)) (left : Sending) (value : ℕ)
     → ArePicked out frames left → AreWrittenFrom old.mux.sent.value frames texts value → Tells told [] texts told_after
-    → Goes old new message met told told_after left
-goes_partly old new message met told told_after x out given made count received out_is frames texts left value go written tells = record {
+    → Goes old new message boards told told_after left
+goes_partly old new message boards told told_after x out given made count received out_is frames texts left value go written tells = record {
   exchange = x;
   frames = frames;
   sent = texts;
@@ -88,21 +88,21 @@ goes_partly old new message met told told_after x out given made count received 
   tells = tells;
 }
 
-pub goes : PicksApart → (old new : Session) (message : Option Message) (met : List (List Entry)) (told told_after : Option Traffic) (x : Option Exchange) (out : Sending) (g : Gave) (result : Option End)
-    → option_map (λ x. x.message) x ≡ message → IsMade old new met x → new.frames ≡ old.frames + 1 → new.mux.received ≡ old.mux.received
+pub goes : PicksApart → (old new : Session) (message : Option Message) (boards : List BoardState) (told told_after : Option Traffic) (x : Option Exchange) (out : Sending) (g : Gave) (result : Option End)
+    → option_map (λ x. x.message) x ≡ message → IsMade old new boards x → new.frames ≡ old.frames + 1 → new.mux.received ≡ old.mux.received
     → out ≡ after_deeds old.mux.outbox (puts_of x) → new.mux.inbox ≡ expecting_all (puts_in x) old.mux.inbox
     → new.core.pending ≡ pending.Nothing → out.requests ≡ new.core.requests → AreApart new.mux.inbox out
     → HaveGone out old.mux.sent.value told told_after g new.mux.outbox new.mux.sent.value → IsEndOf g result
-    → GoesOn old new message met told told_after result
-goes law old new message met told told_after x out gave.Done result given made count received out_is inbox rest requests apart (frames, texts, left, value, go, written, tells, is_left) e =
-    subst (GoesOn old new message met told told_after) (sym e)
-    (goes_done law old new message met told told_after x out given made count received out_is inbox rest requests apart frames texts left value go written tells is_left.0 is_left.1 is_left.2)
-goes law old new message met told told_after x out gave.Failed result given made count received out_is inbox rest requests apart (frames, texts, left, value, go, written, tells, is_left) e =
-    subst (GoesOn old new message met told told_after) (sym e)
-    (left, goes_partly old new message met told told_after x out given made count received out_is frames texts left value go written tells)
-goes law old new message met told told_after x out gave.Memory result given made count received out_is inbox rest requests apart (frames, texts, left, value, go, written, tells, is_left) e =
-    subst (GoesOn old new message met told told_after) (sym e)
-    (inl (left, goes_partly old new message met told told_after x out given made count received out_is frames texts left value go written tells))
+    → GoesOn old new message boards told told_after result
+goes law old new message boards told told_after x out gave.Done result given made count received out_is inbox rest requests apart (frames, texts, left, value, go, written, tells, is_left) e =
+    subst (GoesOn old new message boards told told_after) (sym e)
+    (goes_done law old new message boards told told_after x out given made count received out_is inbox rest requests apart frames texts left value go written tells is_left.0 is_left.1 is_left.2)
+goes law old new message boards told told_after x out gave.Failed result given made count received out_is inbox rest requests apart (frames, texts, left, value, go, written, tells, is_left) e =
+    subst (GoesOn old new message boards told told_after) (sym e)
+    (left, goes_partly old new message boards told told_after x out given made count received out_is frames texts left value go written tells)
+goes law old new message boards told told_after x out gave.Memory result given made count received out_is inbox rest requests apart (frames, texts, left, value, go, written, tells, is_left) e =
+    subst (GoesOn old new message boards told told_after) (sym e)
+    (inl (left, goes_partly old new message boards told told_after x out given made count received out_is frames texts left value go written tells))
 
 -- ---- a message that is answered
 
@@ -120,23 +120,23 @@ put_counted old new message acts after x requests answers puts counted is =
     ∙ ap (λ n. n + old.mux.outbox.requests) (count_puts (old.core.requests + 1) message acts answers ∙ ap requests_among (sym puts))
     ∙ ap (λ n. requests_among x.puts + n) requests ∙ sym counted
 
-made_own : (old new : Session) (met : List (List Entry)) (message : Message) (acts : List Act) (x : Exchange) → Makes old.core message x.looks acts met new.core x → new.looks ≡ old.looks ++ x.looks → IsMade old new met (Some x)
-made_own old new met message acts x made looks = (acts, subst (λ m. Makes old.core m x.looks acts met new.core x) (sym made.message_is) made, looks)
+made_own : (old new : Session) (boards : List BoardState) (message : Message) (acts : List Act) (x : Exchange) → Makes old.core message x.looks acts boards new.core x → new.looks ≡ old.looks ++ x.looks → IsMade old new boards (Some x)
+made_own old new boards message acts x made looks = (acts, subst (λ m. Makes old.core m x.looks acts boards new.core x) (sym made.message_is) made, looks)
 
-pub answered : PutsApart → PicksApart → (old new : Session) (message : Message) (met : List (List Entry)) (told told_after : Option Traffic) (acts : List Act) (after : Mux) (g : Gave) (result : Option End)
+pub answered : PutsApart → PicksApart → (old new : Session) (message : Message) (boards : List BoardState) (told told_after : Option Traffic) (acts : List Act) (after : Mux) (g : Gave) (result : Option End)
     → old.mux.outbox.requests ≡ old.core.requests → AreApart old.mux.inbox old.mux.outbox → (is_request message.kind ≡ true → HasCome old.mux.inbox message.number)
     → Answers message acts
-    → ((x : Exchange) × Makes old.core message x.looks acts met new.core x × (new.looks ≡ old.looks ++ x.looks))
+    → ((x : Exchange) × Makes old.core message x.looks acts boards new.core x × (new.looks ≡ old.looks ++ x.looks))
     → new.frames ≡ old.frames + 1 → new.core.pending ≡ pending.Nothing
     → after ≡ put_all acts old.mux → after.received ≡ old.mux.received → after.sent ≡ old.mux.sent
     → new.mux.inbox ≡ after.inbox → new.mux.received ≡ after.received
     → HaveGone after.outbox after.sent.value told told_after g new.mux.outbox new.mux.sent.value → IsEndOf g result
-    → GoesOn old new (Some message) met told told_after result
-answered puts_law law old new message met told told_after acts after g result requests apart come answers (x, made, looks) count rest is received sent inbox received_after gone e =
+    → GoesOn old new (Some message) boards told told_after result
+answered puts_law law old new message boards told told_after acts after g result requests apart come answers (x, made, looks) count rest is received sent inbox received_after gone e =
     let put : after ≡ put_as old.mux x.puts = put_for old message acts after x requests answers made.puts_are is in
-    goes law old new (Some message) met told told_after (Some x) after.outbox g result
+    goes law old new (Some message) boards told told_after (Some x) after.outbox g result
     (ap Some made.message_is)
-    (made_own old new met message acts x made looks)
+    (made_own old new boards message acts x made looks)
     count
     (received_after ∙ received)
     (ap (λ (m : Mux). m.outbox) put)
@@ -148,13 +148,13 @@ answered puts_law law old new message met told told_after acts after g result re
     e
 
 -- where memory ran out as it was put
-pub not_put : (old new : Session) (message : Message) (met : List (List Entry)) (told : Option Traffic) (acts : List Act)
-    → ((x : Exchange) × Makes old.core message x.looks acts met new.core x × (new.looks ≡ old.looks ++ x.looks))
+pub not_put : (old new : Session) (message : Message) (boards : List BoardState) (told : Option Traffic) (acts : List Act)
+    → ((x : Exchange) × Makes old.core message x.looks acts boards new.core x × (new.looks ≡ old.looks ++ x.looks))
     → new.frames ≡ old.frames + 1 → new.mux.received ≡ old.mux.received
-    → (left : Sending) × Goes old new (Some message) met told told left
-not_put old new message met told acts (x, made, looks) count received = (
+    → (left : Sending) × Goes old new (Some message) boards told told left
+not_put old new message boards told acts (x, made, looks) count received = (
   after_deeds old.mux.outbox (puts_of (Some x)),
-  goes_partly old new (Some message) met told told (Some x) (after_deeds old.mux.outbox (puts_of (Some x))) (ap Some made.message_is) (made_own old new met message acts x made looks) count received refl
+  goes_partly old new (Some message) boards told told (Some x) (after_deeds old.mux.outbox (puts_of (Some x))) (ap Some made.message_is) (made_own old new boards message acts x made looks) count received refl
       [] [] (after_deeds old.mux.outbox (puts_of (Some x))) old.mux.sent.value refl (none_written old.mux.sent.value) (tells_none told),
 )
 
@@ -209,21 +209,21 @@ deeds_on s (deed ∷ first) second = deeds_on (after_deed s deed) first second
 abbrev pub with_mux : Session → Mux → Session
 with_mux old mux = record { core = old.core; mux = mux; looks = old.looks; frames = old.frames }
 
-own_made : (old new : Session) (mux : Mux) (met : List (List Entry)) (x : Option Exchange) → IsMade (with_mux old mux) new met x → IsMade old new met x
-own_made old new mux met None made = made
-own_made old new mux met (Some x) made = made
+own_made : (old new : Session) (mux : Mux) (boards : List BoardState) (x : Option Exchange) → IsMade (with_mux old mux) new boards x → IsMade old new boards x
+own_made old new mux boards None made = made
+own_made old new mux boards (Some x) made = made
 
-abbrev turn_of : (old new : Session) (mux : Mux) (bytes : List ℕ) (met : List (List Entry)) (told told_after : Option Traffic) (given : Taken) (left : Sending)
-    → (gives : Gives old.mux bytes given mux) → mux.sent ≡ old.mux.sent → (went : Goes (with_mux old mux) new (message_in given) met told told_after left)
-    → Turns old new bytes met told told_after (record { frame = gives.frame; given = given; exchange = went.exchange }) left
-turn_of old new mux bytes met told told_after given left gives sent went = record {
+abbrev turn_of : (old new : Session) (mux : Mux) (bytes : List ℕ) (boards : List BoardState) (told told_after : Option Traffic) (given : Taken) (left : Sending)
+    → (gives : Gives old.mux bytes given mux) → mux.sent ≡ old.mux.sent → (went : Goes (with_mux old mux) new (message_in given) boards told told_after left)
+    → Turns old new bytes boards told told_after (record { frame = gives.frame; given = given; exchange = went.exchange }) left
+turn_of old new mux bytes boards told told_after given left gives sent went = record {
   frames = went.frames;
   sent = went.sent;
   value = went.value;
   read = gives.read ∙ ap (λ (c : Crc). Ok (gives.frame, c.value)) (sym went.received);
   answer = gives.answer;
   given = went.given;
-  made = own_made old new mux met went.exchange went.made;
+  made = own_made old new mux boards went.exchange went.made;
   count = went.count;
   heard = gives.heard;
   go = subst (λ s. ArePicked s went.frames left) (ap (λ s. after_deeds s (puts_of went.exchange)) gives.outbox ∙ sym (deeds_on old.mux.outbox (acknowledged_by given) (puts_of went.exchange))) went.go;
@@ -231,41 +231,41 @@ turn_of old new mux bytes met told told_after given left gives sent went = recor
   tells = went.tells;
 }
 
-memory_takes : (old new : Session) (mux : Mux) (bytes : List ℕ) (met : List (List Entry)) (told told_after : Option Traffic) (given : Taken)
-    → Gives old.mux bytes given mux → mux.sent ≡ old.mux.sent → GoesOn (with_mux old mux) new (message_in given) met told told_after (Some end.Memory)
-    → Takes old new bytes met told told_after (Some end.Memory)
-memory_takes old new mux bytes met told told_after given gives sent (inl (left, went)) =
-    inl (record { frame = gives.frame; given = given; exchange = went.exchange }, left, turn_of old new mux bytes met told told_after given left gives sent went)
-memory_takes old new mux bytes met told told_after given gives sent (inr leaves) = inr leaves
+memory_takes : (old new : Session) (mux : Mux) (bytes : List ℕ) (boards : List BoardState) (told told_after : Option Traffic) (given : Taken)
+    → Gives old.mux bytes given mux → mux.sent ≡ old.mux.sent → GoesOn (with_mux old mux) new (message_in given) boards told told_after (Some end.Memory)
+    → Takes old new bytes boards told told_after (Some end.Memory)
+memory_takes old new mux bytes boards told told_after given gives sent (inl (left, went)) =
+    inl (record { frame = gives.frame; given = given; exchange = went.exchange }, left, turn_of old new mux bytes boards told told_after given left gives sent went)
+memory_takes old new mux bytes boards told told_after given gives sent (inr leaves) = inr leaves
 
-pub frame_takes : (old new : Session) (mux : Mux) (bytes : List ℕ) (met : List (List Entry)) (told told_after : Option Traffic) (given : Taken) (result : Option End)
-    → Gives old.mux bytes given mux → mux.sent ≡ old.mux.sent → GoesOn (with_mux old mux) new (message_in given) met told told_after result
-    → Takes old new bytes met told told_after result
-frame_takes old new mux bytes met told told_after given None gives sent (went, value, rest, inbox) = (
+pub frame_takes : (old new : Session) (mux : Mux) (bytes : List ℕ) (boards : List BoardState) (told told_after : Option Traffic) (given : Taken) (result : Option End)
+    → Gives old.mux bytes given mux → mux.sent ≡ old.mux.sent → GoesOn (with_mux old mux) new (message_in given) boards told told_after result
+    → Takes old new bytes boards told told_after result
+frame_takes old new mux bytes boards told told_after given None gives sent (went, value, rest, inbox) = (
   record { frame = gives.frame; given = given; exchange = went.exchange },
-  turn_of old new mux bytes met told told_after given new.mux.outbox gives sent went,
+  turn_of old new mux bytes boards told told_after given new.mux.outbox gives sent went,
   value,
   rest,
   inbox ∙ ap (expecting_all (puts_in went.exchange)) gives.inbox,
 )
-frame_takes old new mux bytes met told told_after given (Some end.Closed) gives sent goes = absurd goes
-frame_takes old new mux bytes met told told_after given (Some end.WireFault) gives sent (left, went) =
-    (record { frame = gives.frame; given = given; exchange = went.exchange }, left, turn_of old new mux bytes met told told_after given left gives sent went)
-frame_takes old new mux bytes met told told_after given (Some (end.BadFrame index why)) gives sent goes = absurd goes
-frame_takes old new mux bytes met told told_after given (Some end.TurnsFull) gives sent goes = absurd goes
-frame_takes old new mux bytes met told told_after given (Some end.Memory) gives sent goes = memory_takes old new mux bytes met told told_after given gives sent goes
+frame_takes old new mux bytes boards told told_after given (Some end.Closed) gives sent goes = absurd goes
+frame_takes old new mux bytes boards told told_after given (Some end.WireFault) gives sent (left, went) =
+    (record { frame = gives.frame; given = given; exchange = went.exchange }, left, turn_of old new mux bytes boards told told_after given left gives sent went)
+frame_takes old new mux bytes boards told told_after given (Some (end.BadFrame index why)) gives sent goes = absurd goes
+frame_takes old new mux bytes boards told told_after given (Some end.TurnsFull) gives sent goes = absurd goes
+frame_takes old new mux bytes boards told told_after given (Some end.Memory) gives sent goes = memory_takes old new mux bytes boards told told_after given gives sent goes
 
-rest_in : (old new : Session) (message : Option Message) (met : List (List Entry)) (told told_after : Option Traffic) → GoesOn old new message met told told_after None → IsAtRest new
-rest_in old new message met told told_after (went, value, rest, inbox) = rest
+rest_in : (old new : Session) (message : Option Message) (boards : List BoardState) (told told_after : Option Traffic) → GoesOn old new message boards told told_after None → IsAtRest new
+rest_in old new message boards told told_after (went, value, rest, inbox) = rest
 
-count_in : (old new : Session) (message : Option Message) (met : List (List Entry)) (told told_after : Option Traffic) → GoesOn old new message met told told_after None → new.frames ≡ old.frames + 1
-count_in old new message met told told_after (went, value, rest, inbox) = went.count
+count_in : (old new : Session) (message : Option Message) (boards : List BoardState) (told told_after : Option Traffic) → GoesOn old new message boards told told_after None → new.frames ≡ old.frames + 1
+count_in old new message boards told told_after (went, value, rest, inbox) = went.count
 
-pub rest_after : (old new : Session) (message : Option Message) (met : List (List Entry)) (told told_after : Option Traffic) (result : Option End) → GoesOn old new message met told told_after result → result ≡ None → IsAtRest new
-rest_after old new message met told told_after result goes e = rest_in old new message met told told_after (subst (GoesOn old new message met told told_after) e goes)
+pub rest_after : (old new : Session) (message : Option Message) (boards : List BoardState) (told told_after : Option Traffic) (result : Option End) → GoesOn old new message boards told told_after result → result ≡ None → IsAtRest new
+rest_after old new message boards told told_after result goes e = rest_in old new message boards told told_after (subst (GoesOn old new message boards told told_after) e goes)
 
-pub count_after : (old new : Session) (message : Option Message) (met : List (List Entry)) (told told_after : Option Traffic) (result : Option End) → GoesOn old new message met told told_after result → result ≡ None → new.frames ≡ old.frames + 1
-count_after old new message met told told_after result goes e = count_in old new message met told told_after (subst (GoesOn old new message met told told_after) e goes)
+pub count_after : (old new : Session) (message : Option Message) (boards : List BoardState) (told told_after : Option Traffic) (result : Option End) → GoesOn old new message boards told told_after result → result ≡ None → new.frames ≡ old.frames + 1
+count_after old new message boards told told_after result goes e = count_in old new message boards told told_after (subst (GoesOn old new message boards told told_after) e goes)
 
 -- ---- a frame that gave no message
 
@@ -278,19 +278,19 @@ part_none (takens.Ack kind number bytes) part = refl
 part_none (takens.Owed kind number bytes) part = refl
 part_none (takens.Whole message) part = absurd part
 
-pub part_takes : (old new : Session) (mux : Mux) (bytes : List ℕ) (met : List (List Entry)) (told told_after : Option Traffic) (result : Option End)
-    → ((given : Taken) × IsPart given × Gives old.mux bytes given mux) → mux.sent ≡ old.mux.sent → GoesOn (with_mux old mux) new None met told told_after result
-    → Takes old new bytes met told told_after result
-part_takes old new mux bytes met told told_after result (given, part, gives) sent goes =
-    frame_takes old new mux bytes met told told_after given result gives sent (subst (λ m. GoesOn (with_mux old mux) new m met told told_after result) (part_none given part) goes)
+pub part_takes : (old new : Session) (mux : Mux) (bytes : List ℕ) (boards : List BoardState) (told told_after : Option Traffic) (result : Option End)
+    → ((given : Taken) × IsPart given × Gives old.mux bytes given mux) → mux.sent ≡ old.mux.sent → GoesOn (with_mux old mux) new None boards told told_after result
+    → Takes old new bytes boards told told_after result
+part_takes old new mux bytes boards told told_after result (given, part, gives) sent goes =
+    frame_takes old new mux bytes boards told told_after given result gives sent (subst (λ m. GoesOn (with_mux old mux) new m boards told told_after result) (part_none given part) goes)
 
 -- ---- room for what is put
 
-pub room_for : (old new : Session) (mux : Mux) (message : Message) (met : List (List Entry)) (acts : List Act) → mux ≡ old.mux → old.mux.outbox.requests ≡ old.core.requests → Answers message acts
-    → ((x : Exchange) × Makes old.core message x.looks acts met new.core x × (new.looks ≡ old.looks ++ x.looks))
+pub room_for : (old new : Session) (mux : Mux) (message : Message) (boards : List BoardState) (acts : List Act) → mux ≡ old.mux → old.mux.outbox.requests ≡ old.core.requests → Answers message acts
+    → ((x : Exchange) × Makes old.core message x.looks acts boards new.core x × (new.looks ≡ old.looks ++ x.looks))
     → new.core.requests ≤ old.core.requests + 10001 → old.core.requests ≤ 9223372036854775808
     → mux.outbox.requests + requests_in acts < 18446744073709551615
-room_for old new mux message met acts same requests answers (x, made, looks) few room =
+room_for old new mux message boards acts same requests answers (x, made, looks) few room =
     let count : requests_in acts ≡ requests_among x.puts = count_puts (old.core.requests + 1) message acts answers ∙ ap requests_among (sym made.puts_are) in
     let equal : mux.outbox.requests ≡ old.core.requests = ap (λ (m : Mux). m.outbox.requests) same ∙ requests in
     omega (arith, equal, few, room, made.requests, count)

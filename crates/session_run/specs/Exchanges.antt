@@ -1,9 +1,10 @@
 -- What is done for one message.
-use Rattle.std.specs.Prelude.{◌≡◌, ℕ, ◌+◌, Bool, true, false, List, [], ◌∷◌, length, Option, Some, None}
+use Rattle.std.specs.Prelude.{◌≡◌, ℕ, ◌+◌, Bool, true, false, List, [], ◌∷◌, Option, Some, None}
 use Rattle.blip_mux.specs.declared.message.Message.{Message}
 use Rattle.sg_history.specs.declared.entries.Entry.{Entry}
 use Rattle.sg_names.specs.declared.key.Key.{Key}
 use Rattle.sg_history.specs.declared.row.Options.{Options}
+use Rattle.sg_history.specs.Board.{BoardState}
 use Rattle.session_core.specs.declared.machine.Pending.{Pending}
 use Rattle.session_core.specs.declared.machine.Pending.TheVariants as pending
 use Rattle.repl_messages.specs.declared.request.Version.{Version}
@@ -15,7 +16,7 @@ use Rattle.session_core.specs.Session.{Exchanged}
 use Rattle.session_core.specs.Machine.{Machine}
 use Rattle.blip_mux.specs.Joining.{is_request, is_reply}
 use Rattle.session_core.specs.Conduct.{messages_from, led_to, are_requests}
-use Rattle.write_path.specs.Looks.{IsLaterThanAll}
+use Rattle.write_path.specs.Reads.{IsLaterThanAll}
 use Rattle.session_run.specs.declared.exchange.Todo.{Todo}
 use Rattle.session_run.specs.declared.exchange.Todo.TheVariants as todo
 
@@ -32,22 +33,22 @@ abbrev pub Does : List Act → Todo → Type 0
 Does acts (todo.Put put) = (put ≡ acts) × (is_look acts ≡ false)
 Does acts (todo.Look want) = acts ≡ act.Want want ∷ []
 
--- each look is at the length of the history that is told, if one is
-abbrev pub AreAtTold : Option (List Entry) → List Look → Type 0
-AreAtTold None looks = Unit {0}
-AreAtTold (Some h) [] = Unit {0}
-AreAtTold (Some h) (look ∷ looks) = (look.front ≡ length h) × AreAtTold (Some h) looks
+-- each look is at the recorded length of the log, where one is recorded
+abbrev pub AreAtLength : Option ℕ → List Look → Type 0
+AreAtLength None looks = Unit {0}
+AreAtLength (Some n) [] = Unit {0}
+AreAtLength (Some n) (look ∷ looks) = (look.front ≡ n) × AreAtLength (Some n) looks
 
--- An exchange for the message took these looks and puts what the acts put; it is the session's over every history that goes on from all
--- that were met.
-pub record Makes (m : Machine) (message : Message) (taken : List Look) (acts : List Act) (met : List (List Entry)) (after : Machine) (x : Exchange) : Type 0 where
+-- An exchange for the message took these looks and puts what the acts put; it is the session's over every history that is later
+-- than all boards read.
+pub record Makes (m : Machine) (message : Message) (taken : List Look) (acts : List Act) (boards : List BoardState) (after : Machine) (x : Exchange) : Type 0 where
   pub message_is : x.message ≡ message
   pub looks_are : x.looks ≡ taken
   pub puts_are : x.puts ≡ messages_from (m.requests + 1) acts
   pub user : after.user ≡ m.user
   pub version : after.version ≡ m.version
   pub requests : after.requests ≡ requests_among x.puts + m.requests
-  pub leads : (h : List Entry) (user : List ℕ) (version : Version) (earlier : List Exchange) → IsLaterThanAll met h → m ≡ led_to h user version earlier
+  pub leads : (h : List Entry) (user : List ℕ) (version : Version) (earlier : List Exchange) → IsLaterThanAll boards h → m ≡ led_to h user version earlier
       → Exchanged h user version earlier x × (after ≡ led_to h user version (x ∷ earlier))
 
 -- the answer to the look for the feed after this key is awaited

@@ -8,9 +8,10 @@ use Rattle.blip_frame.specs.declared.frame.FrameFault.{FrameFault}
 use Rattle.blip_mux.specs.Joining.{answer_in}
 use Rattle.blip_mux.specs.Sending.{Sending, picked}
 use Rattle.sg_history.specs.declared.entries.Entry.{Entry}
+use Rattle.sg_history.specs.Board.{BoardState}
 use Rattle.repl_messages.specs.declared.request.Version.{Version}
 use Rattle.session_core.specs.Session.{AreExchanged, looks_of}
-use Rattle.write_path.specs.Looks.{IsLaterThanAll}
+use Rattle.write_path.specs.Reads.{IsLaterThanAll}
 use Rattle.session_run.specs.declared.ended.End.{End}
 use Rattle.session_run.specs.declared.ended.End.TheVariants as end
 use Rattle.session_run.specs.declared.ended.Ended.{Ended}
@@ -83,9 +84,9 @@ IsSentAt end.Memory left = Unit {0}
 -- ---- the whole
 
 -- A session of this user: of the results that were received those before the last are the frames of turns; each message that they gave was
--- exchanged as a session over every history calls for that goes on from all that were met; what was sent are the frames of what was put,
+-- exchanged as a session over every history calls for that is later than all boards read; what was sent are the frames of what was put,
 -- after each turn as many as may be sent; the looks are those that the exchanges took.
-pub record IsSession (user : List ℕ) (version : Version) (met : List (List Entry)) (ended : Ended) (results : List Got) (sent : List (List ℕ)) : Type 0 where
+pub record IsSession (user : List ℕ) (version : Version) (boards : List BoardState) (ended : Ended) (results : List Got) (sent : List (List ℕ)) : Type 0 where
   pub turns : List Turn
   pub taken : List Got
   pub last : List Got
@@ -95,7 +96,7 @@ pub record IsSession (user : List ℕ) (version : Version) (met : List (List Ent
   pub taken_are : are_frames taken ≡ true
   pub read : frames_at 0 (bytes_of taken) ≡ Ok (frames_of turns)
   pub joined : AreJoined turns
-  pub exchanged : (h : List Entry) → IsLaterThanAll met h → AreExchanged h user version (exchanges_of turns)
+  pub exchanged : (h : List Entry) → IsLaterThanAll boards h → AreExchanged h user version (exchanges_of turns)
   pub looks : ended.looks ≡ looks_of (exchanges_of turns)
   pub put : AreSent turns frames left
   pub written : AreWrittenAfter [] sent frames
@@ -103,7 +104,7 @@ pub record IsSession (user : List ℕ) (version : Version) (met : List (List Ent
   pub ends : EndsBy turns left ended.end taken last
 
 -- The wire, as far as it tells, was served with a session of this user, in which no body was put that is not shown to the user.
-abbrev pub IsServed : List ℕ → Version → List (List Entry) → Option Traffic → Ended → Option Traffic → Type 0
-IsServed user version met told ended told_after =
-    (results : List Got) × (sent : List (List ℕ)) × (session : IsSession user version met ended results sent) × Tells told results sent told_after
-    × ((h : List Entry) → IsLaterThanAll met h → HaveOwnBodies h user (exchanges_of session.turns))
+abbrev pub IsServed : List ℕ → Version → List BoardState → Option Traffic → Ended → Option Traffic → Type 0
+IsServed user version boards told ended told_after =
+    (results : List Got) × (sent : List (List ℕ)) × (session : IsSession user version boards ended results sent) × Tells told results sent told_after
+    × ((h : List Entry) → IsLaterThanAll boards h → HaveOwnBodies h user (exchanges_of session.turns))

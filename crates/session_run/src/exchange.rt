@@ -10,8 +10,8 @@ ghost use Rattle.session_core.specs.Session.{RiseBetween};
 ghost use Rattle.sg_history.specs.declared.entries.Entry.{Entry};
 ghost use Rattle.repl_messages.specs.Looks as looked;
 ghost use Rattle.repl_messages.specs.Looks.{IsFed, AreBodies};
-ghost use Rattle.write_path.specs.Looks.{Looks, IsLaterThanAll};
-ghost use Rattle.session_run.specs.Exchanges.{Makes, Does, is_look, WantsFeed, AreAtTold, Answers};
+ghost use Rattle.write_path.specs.Reads.{Reads, IsLaterThanAll};
+ghost use Rattle.session_run.specs.Exchanges.{Makes, Does, is_look, WantsFeed, AreAtLength, Answers};
 
 use blip_mux::Message;
 use repl_messages::{Bodies, Fed};
@@ -52,7 +52,7 @@ fn to_do(acts: Acts) -> Todo
     }
 }
 
-/// The length of the history that a look for a feed was at.
+/// The length of the log that a look for a feed was at.
 fn front_of(fed: &Fed) -> u64
     ensures { result ≡ looked.front_of fed.now }
 {
@@ -72,19 +72,19 @@ fn look_for_feed<G: Ground>(
 ) -> Result<(Acts, Look), Memory>
     requires wanted { WantsFeed core.old.pending since.now options.now }
     requires room { core.old.requests ≤ 9223372036854775808 }
-    ensures looks { Looks (G.met ground.old) (G.met ground.new) (G.floor ground.old) (G.floor ground.new) }
-    ensures told { G.told ground.new ≡ G.told ground.old }
+    ensures reads { Reads (G.read ground.old) (G.read ground.new) (G.floor ground.old) (G.floor ground.new) }
+    ensures recorded { G.recorded ground.new ≡ G.recorded ground.old }
     ensures answer { IfOk result (λ done. (fed : Fed) × Steps core.old (Event.Fed fed) core.new done.0
         × (done.1 ≡ record { front = looked.front_of fed; purpose = Purpose.Feed })
-        × ((h : List Entry) → IsLaterThanAll (G.met ground.new) h → IsFed h core.old.user since.now options.now fed)) }
+        × ((h : List Entry) → IsLaterThanAll (G.read ground.new) h → IsFed h core.old.user since.now options.now fed)) }
     ensures within { IfOk result (λ done. RiseBetween (G.floor ground.old) (done.1 ∷ []) (G.floor ground.new)) }
-    ensures at_told { IfOk result (λ done. AreAtTold (G.told ground.old) (done.1 ∷ [])) }
+    ensures at_length { IfOk result (λ done. AreAtLength (G.recorded ground.old) (done.1 ∷ [])) }
     ensures rest { OnOk result (core.new.pending ≡ Pending.Nothing) }
     ensures keeps { IfOk result (λ done. Keeps core.old done.0 core.new) }
     ensures few { OnOk result (core.new.requests ≤ core.old.requests + 10001) }
 {
     write_path::laws::later();
-    write_path::laws::looked_at();
+    write_path::laws::was_read();
     let fed = ground.feed(alloc, core.user(), since, options)?;
     let look = Look {
         front: front_of(&fed),
@@ -105,19 +105,19 @@ fn look_for_bodies<G: Ground>(
 ) -> Result<(Acts, Look), Memory>
     requires wanted { core.old.pending ≡ Pending.Bodies rows.now }
     requires room { core.old.requests ≤ 9223372036854775808 }
-    ensures looks { Looks (G.met ground.old) (G.met ground.new) (G.floor ground.old) (G.floor ground.new) }
-    ensures told { G.told ground.new ≡ G.told ground.old }
+    ensures reads { Reads (G.read ground.old) (G.read ground.new) (G.floor ground.old) (G.floor ground.new) }
+    ensures recorded { G.recorded ground.new ≡ G.recorded ground.old }
     ensures answer { IfOk result (λ done. (bodies : Bodies) × Steps core.old (Event.Bodies bodies) core.new done.0
         × (done.1 ≡ record { front = bodies.front; purpose = Purpose.Bodies })
-        × ((h : List Entry) → IsLaterThanAll (G.met ground.new) h → AreBodies h core.old.user options.now rows.now most bodies)) }
+        × ((h : List Entry) → IsLaterThanAll (G.read ground.new) h → AreBodies h core.old.user options.now rows.now most bodies)) }
     ensures within { IfOk result (λ done. RiseBetween (G.floor ground.old) (done.1 ∷ []) (G.floor ground.new)) }
-    ensures at_told { IfOk result (λ done. AreAtTold (G.told ground.old) (done.1 ∷ [])) }
+    ensures at_length { IfOk result (λ done. AreAtLength (G.recorded ground.old) (done.1 ∷ [])) }
     ensures rest { OnOk result (core.new.pending ≡ Pending.Nothing) }
     ensures keeps { IfOk result (λ done. Keeps core.old done.0 core.new) }
     ensures few { OnOk result (core.new.requests ≤ core.old.requests + 10001) }
 {
     write_path::laws::later();
-    write_path::laws::looked_at();
+    write_path::laws::was_read();
     let bodies = ground.bodies(alloc, core.user(), options, rows, most)?;
     let look = Look {
         front: bodies.front,
@@ -136,17 +136,17 @@ pub(crate) fn exchange<G: Ground>(
 ) -> Result<(Acts, Option<Look>), Memory>
     requires rest { core.old.pending ≡ Pending.Nothing }
     requires room { core.old.requests ≤ 9223372036854775808 }
-    ensures looks { Looks (G.met ground.old) (G.met ground.new) (G.floor ground.old) (G.floor ground.new) }
-    ensures told { G.told ground.new ≡ G.told ground.old }
-    ensures made { IfOk result (λ done. (x : Exchange) × Makes core.old message (option_to_list done.1) done.0 (G.met ground.new) core.new x) }
+    ensures reads { Reads (G.read ground.old) (G.read ground.new) (G.floor ground.old) (G.floor ground.new) }
+    ensures recorded { G.recorded ground.new ≡ G.recorded ground.old }
+    ensures made { IfOk result (λ done. (x : Exchange) × Makes core.old message (option_to_list done.1) done.0 (G.read ground.new) core.new x) }
     ensures within { IfOk result (λ done. RiseBetween (G.floor ground.old) (option_to_list done.1) (G.floor ground.new)) }
-    ensures at_told { IfOk result (λ done. AreAtTold (G.told ground.old) (option_to_list done.1)) }
+    ensures at_length { IfOk result (λ done. AreAtLength (G.recorded ground.old) (option_to_list done.1)) }
     ensures rest { OnOk result (core.new.pending ≡ Pending.Nothing) }
     ensures answers { IfOk result (λ done. Answers message done.0) }
     ensures few { OnOk result (core.new.requests ≤ core.old.requests + 10001) }
 {
     session_core::laws::exchanges();
-    write_path::laws::looks();
+    write_path::laws::reads();
     match to_do(core.step(alloc, Event::Whole(message))?) {
         Todo::Put(acts) => Ok((acts, None)),
         Todo::Look(Want::Feed { since, options }) => {

@@ -3,9 +3,9 @@
 ghost use Rattle.std.specs.Prelude.{◌≡◌, ◌<◌, List, ℕ};
 ghost use Rattle.sg_outside.specs.declared.wire.Got.{Got};
 ghost use Rattle.session_core.specs.Session.{RiseBetween};
-ghost use Rattle.write_path.specs.Looks as met;
+ghost use Rattle.write_path.specs.Reads as reads;
 ghost use Rattle.session_run.specs.declared.ended.End.{End};
-ghost use Rattle.session_run.specs.Exchanges.{AreAtTold};
+ghost use Rattle.session_run.specs.Exchanges.{AreAtLength};
 ghost use Rattle.session_run.specs.Served.{IsServed};
 
 use crate::ended::{End, Ended};
@@ -37,23 +37,24 @@ pub fn serve_session<W: Wire, G: Ground>(
     setup: Setup,
     wire: &mut W,
 ) -> (G, Ended)
-    // What was received and sent, as far as the wire tells, is a session of this user over every history that goes on
-    // from all that the ground has met; no body was put that is not shown to the user at the look for it, and the end
+    // What was received and sent, as far as the wire tells, is a session of this user over every history that is later
+    // than all boards that the ground has read; no body was put that is not shown to the user at the look for it, and the end
     // has its cause.
-    ensures session { IsServed setup.user setup.version (G.met result.0) (W.told wire.old) result.1 (W.told wire.new) }
+    ensures session { IsServed setup.user setup.version (G.read result.0) (W.told wire.old) result.1 (W.told wire.new) }
 
-    // The looks: what the ground has met since, its history where nobody else changes it, and fronts that don't fall.
-    ensures ground { met.Looks (G.met ground) (G.met result.0) (G.floor ground) (G.floor result.0) }
-    ensures told { G.told result.0 ≡ G.told ground }
+    // The looks: what the ground has read since, the length of its log where nobody else changes it, and fronts that
+    // don't fall.
+    ensures ground { reads.Reads (G.read ground) (G.read result.0) (G.floor ground) (G.floor result.0) }
+    ensures recorded { G.recorded result.0 ≡ G.recorded ground }
     ensures rise { RiseBetween (G.floor ground) result.1.looks (G.floor result.0) }
-    ensures at_told { AreAtTold (G.told ground) result.1.looks }
+    ensures at_length { AreAtLength (G.recorded ground) result.1.looks }
 
     // The wire is said to have failed only where it did.
     ensures fault { result.1.end ≡ End.WireFault → W.faults wire.old < W.faults wire.new }
 {
     let mut ground = ground;
     let mut session = Session::new(alloc, setup.user, setup.version);
-    write_path::laws::looks();
+    write_path::laws::reads();
     write_path::laws::no_foreign_body();
     write_path::laws::removals();
     if session.reserve().is_err() {

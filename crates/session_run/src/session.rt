@@ -12,9 +12,10 @@ ghost use Rattle.repl_messages.specs.declared.request.Version.{Version};
 ghost use Rattle.session_core.specs.declared.machine.Pending.{Pending};
 ghost use Rattle.session_core.specs.Exchange.{Exchange};
 ghost use Rattle.session_core.specs.Session.{RiseBetween};
-ghost use Rattle.write_path.specs.Looks as met;
+ghost use Rattle.sg_history.specs.Board.{BoardState};
+ghost use Rattle.write_path.specs.Reads as reads;
 ghost use Rattle.session_run.specs.declared.ended.End.{End};
-ghost use Rattle.session_run.specs.Exchanges.{Makes, AreAtTold, Answers};
+ghost use Rattle.session_run.specs.Exchanges.{Makes, AreAtLength, Answers};
 ghost use Rattle.session_run.specs.Held.{IsAtRest, IsEndOf, Holds, GoesOn, Takes, Runs, RunsOn};
 
 use crate::ended::{End, Ended, FrameWhy};
@@ -40,7 +41,7 @@ pub(crate) struct Session {
 impl Session {
     /// A session to which nothing has come. Takes no memory.
     pub(crate) fn new(alloc: Global, user: Name, version: Version) -> Session
-        ensures new { (history : List (List Entry)) → Holds user version history result [] [] [] [] }
+        ensures new { (history : List BoardState) → Holds user version history result [] [] [] [] }
         ensures looks { result.looks ≡ [] }
         ensures requests { result.core.requests ≡ 0 }
         ensures frames { result.frames ≡ 0 }
@@ -94,11 +95,11 @@ impl Session {
         requires rest { self.old.core.pending ≡ Pending.Nothing }
         requires room { self.old.core.requests ≤ 9223372036854775808 }
         requires count { self.old.frames < 18446744073709551615 }
-        ensures looks { met.Looks (G.met ground.old) (G.met ground.new) (G.floor ground.old) (G.floor ground.new) }
-        ensures told { G.told ground.new ≡ G.told ground.old }
-        ensures made { IfOk result (λ acts. (x : Exchange) × Makes self.old.core message x.looks acts (G.met ground.new) self.new.core x × (self.new.looks ≡ self.old.looks ++ x.looks)) }
+        ensures reads { reads.Reads (G.read ground.old) (G.read ground.new) (G.floor ground.old) (G.floor ground.new) }
+        ensures recorded { G.recorded ground.new ≡ G.recorded ground.old }
+        ensures made { IfOk result (λ acts. (x : Exchange) × Makes self.old.core message x.looks acts (G.read ground.new) self.new.core x × (self.new.looks ≡ self.old.looks ++ x.looks)) }
         ensures rises { (low : ℕ) → RiseBetween low self.old.looks (G.floor ground.old) → RiseBetween low self.new.looks (G.floor ground.new) }
-        ensures at_told { AreAtTold (G.told ground.old) self.old.looks → AreAtTold (G.told ground.old) self.new.looks }
+        ensures at_length { AreAtLength (G.recorded ground.old) self.old.looks → AreAtLength (G.recorded ground.old) self.new.looks }
         ensures rest { OnOk result (self.new.core.pending ≡ Pending.Nothing) }
         ensures answers { IfOk result (λ acts. Answers message acts) }
         ensures few { OnOk result (self.new.core.requests ≤ self.old.core.requests + 10001) }
@@ -126,11 +127,11 @@ impl Session {
         requires reply { is_request message.kind ≡ true → (list_any (is_reply_to message.number) self.old.mux.outbox.waiting ≡ false) × HasCome self.old.mux.inbox message.number }
         requires room { self.old.core.requests ≤ 9223372036854775808 }
         requires count { self.old.frames < 18446744073709551615 }
-        ensures looks { met.Looks (G.met ground.old) (G.met ground.new) (G.floor ground.old) (G.floor ground.new) }
-        ensures told { G.told ground.new ≡ G.told ground.old }
-        ensures goes { GoesOn self.old self.new (Some message) (G.met ground.new) (W.told wire.old) (W.told wire.new) result }
+        ensures reads { reads.Reads (G.read ground.old) (G.read ground.new) (G.floor ground.old) (G.floor ground.new) }
+        ensures recorded { G.recorded ground.new ≡ G.recorded ground.old }
+        ensures goes { GoesOn self.old self.new (Some message) (G.read ground.new) (W.told wire.old) (W.told wire.new) result }
         ensures rises { (low : ℕ) → RiseBetween low self.old.looks (G.floor ground.old) → RiseBetween low self.new.looks (G.floor ground.new) }
-        ensures at_told { AreAtTold (G.told ground.old) self.old.looks → AreAtTold (G.told ground.old) self.new.looks }
+        ensures at_length { AreAtLength (G.recorded ground.old) self.old.looks → AreAtLength (G.recorded ground.old) self.new.looks }
         ensures faults { W.faults wire.old ≤ W.faults wire.new }
         ensures fault { result ≡ Some End.WireFault → W.faults wire.old < W.faults wire.new }
         ensures few { result ≡ None → self.new.core.requests ≤ self.old.core.requests + 10001 }
@@ -151,7 +152,7 @@ impl Session {
         requires requests { self.old.mux.outbox.requests ≡ self.old.core.requests }
         requires apart { AreApart self.old.mux.inbox self.old.mux.outbox }
         requires count { self.old.frames < 18446744073709551615 }
-        ensures goes { (met : List (List Entry)) → GoesOn self.old self.new None met (W.told wire.old) (W.told wire.new) result }
+        ensures goes { (boards : List BoardState) → GoesOn self.old self.new None boards (W.told wire.old) (W.told wire.new) result }
         ensures faults { W.faults wire.old ≤ W.faults wire.new }
         ensures fault { result ≡ Some End.WireFault → W.faults wire.old < W.faults wire.new }
         ensures core { self.new.core ≡ self.old.core }
@@ -174,11 +175,11 @@ impl Session {
         requires rest { IsAtRest self.old }
         requires room { self.old.core.requests ≤ 9223372036854775808 }
         requires count { self.old.frames < 18446744073709551615 }
-        ensures looks { met.Looks (G.met ground.old) (G.met ground.new) (G.floor ground.old) (G.floor ground.new) }
-        ensures told { G.told ground.new ≡ G.told ground.old }
-        ensures takes { Takes self.old self.new bytes.now (G.met ground.new) (W.told wire.old) (W.told wire.new) result }
+        ensures reads { reads.Reads (G.read ground.old) (G.read ground.new) (G.floor ground.old) (G.floor ground.new) }
+        ensures recorded { G.recorded ground.new ≡ G.recorded ground.old }
+        ensures takes { Takes self.old self.new bytes.now (G.read ground.new) (W.told wire.old) (W.told wire.new) result }
         ensures rises { (low : ℕ) → RiseBetween low self.old.looks (G.floor ground.old) → RiseBetween low self.new.looks (G.floor ground.new) }
-        ensures at_told { AreAtTold (G.told ground.old) self.old.looks → AreAtTold (G.told ground.old) self.new.looks }
+        ensures at_length { AreAtLength (G.recorded ground.old) self.old.looks → AreAtLength (G.recorded ground.old) self.new.looks }
         ensures faults { W.faults wire.old ≤ W.faults wire.new }
         ensures fault { result ≡ Some End.WireFault → W.faults wire.old < W.faults wire.new }
         ensures rest { result ≡ None → IsAtRest self.new }
@@ -186,7 +187,7 @@ impl Session {
         ensures count { result ≡ None → self.new.frames ≡ self.old.frames + 1 }
     {
         blip_mux::laws::replies();
-        write_path::laws::looks();
+        write_path::laws::reads();
         match self.mux.take(bytes) {
             Took::Whole(message) => self.answer(alloc, ground, wire, message),
             Took::Part => self.go_on(wire),
@@ -205,12 +206,12 @@ impl Session {
         requires rest { IsAtRest self.old }
         requires room { self.old.core.requests ≤ 9223372036854775808 }
         requires count { self.old.frames < 18446744073709551615 }
-        ensures looks { met.Looks (G.met ground.old) (G.met ground.new) (G.floor ground.old) (G.floor ground.new) }
-        ensures told { G.told ground.new ≡ G.told ground.old }
-        ensures runs { (user : List ℕ) (version : Version) (told : Option Traffic) (count : ℕ) → Runs user version (G.met ground.old) told self.old (W.told wire.old) count
-            → RunsOn user version (G.met ground.new) told self.new (W.told wire.new) count result }
+        ensures reads { reads.Reads (G.read ground.old) (G.read ground.new) (G.floor ground.old) (G.floor ground.new) }
+        ensures recorded { G.recorded ground.new ≡ G.recorded ground.old }
+        ensures runs { (user : List ℕ) (version : Version) (told : Option Traffic) (count : ℕ) → Runs user version (G.read ground.old) told self.old (W.told wire.old) count
+            → RunsOn user version (G.read ground.new) told self.new (W.told wire.new) count result }
         ensures rises { (low : ℕ) → RiseBetween low self.old.looks (G.floor ground.old) → RiseBetween low self.new.looks (G.floor ground.new) }
-        ensures at_told { AreAtTold (G.told ground.old) self.old.looks → AreAtTold (G.told ground.old) self.new.looks }
+        ensures at_length { AreAtLength (G.recorded ground.old) self.old.looks → AreAtLength (G.recorded ground.old) self.new.looks }
         ensures faults { W.faults wire.old ≤ W.faults wire.new }
         ensures fault { result ≡ Some End.WireFault → W.faults wire.old < W.faults wire.new }
         ensures rest { result ≡ None → IsAtRest self.new }
@@ -218,7 +219,7 @@ impl Session {
         ensures count { result ≡ None → self.new.frames ≤ self.old.frames + 1 }
     {
         blip_mux::laws::standing();
-        write_path::laws::looks();
+        write_path::laws::reads();
         match wire.recv() {
             Got::Frame(bytes) => self.take_frame(alloc, ground, wire, bytes.as_slice()),
             Got::Text => Some(self.bad_frame(FrameWhy::NotBinary)),

@@ -1,8 +1,8 @@
 pub mod AllRows
 pub mod BodyLaws
-pub mod LookLaws
 pub mod Maps
-pub mod OneLook
+pub mod OneRead
+pub mod ReadLaws
 pub mod RowsTell
 pub mod Said
 pub mod Same

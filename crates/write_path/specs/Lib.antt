@@ -1,6 +1,6 @@
 pub mod Bodies
 pub mod ByName
 pub mod Feed
-pub mod Looks
-pub mod Met
+pub mod Reads
 pub mod Solo
+pub mod Trail

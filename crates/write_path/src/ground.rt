@@ -1,8 +1,8 @@
-//! Where a session looks at the history.
+//! Where a session reads the history.
 
-ghost use Rattle.std.specs.Prelude.{◌≡◌, ◌≤◌, ℕ, List, Option, length, IfOk, IfSome};
-ghost use Rattle.sg_history.specs.declared.entries.Entry.{Entry};
-ghost use Rattle.write_path.specs.Looks.{Looks, WasLookedAt, IsTold};
+ghost use Rattle.std.specs.Prelude.{◌≡◌, ◌≤◌, ℕ, List, Option, IfOk, IfSome};
+ghost use Rattle.sg_history.specs.Board.{BoardState};
+ghost use Rattle.write_path.specs.Reads.{Reads, WasRead, HasLength};
 ghost use Rattle.write_path.specs.Feed.{FeedAt};
 ghost use Rattle.write_path.specs.Bodies.{BodiesAt};
 
@@ -11,27 +11,27 @@ use sg_history::{Key, Name, Options, Row};
 use sg_outside::Memory;
 use std::alloc::Global;
 
-/// Where a session looks at the history. Others may change it between two calls: each call that looks adds the
-/// histories that it looked at to those met, and its answer is that of one of them.
+/// Where a session reads the history. Others may change it between two calls: each call that reads
+/// adds the boards that it read to those that were, and its answer is that of the log of one of them.
 pub trait Ground: Drop {
-    /// The histories that it has looked at, the newest first.
-    ghost met: { Self → List (List Entry) };
+    /// The boards that it has read, the newest first.
+    ghost read: { Self → List BoardState };
 
     /// No front that it answers from now on is below this.
     ghost floor: { Self → ℕ };
 
-    /// Its history, where nobody else changes it.
-    ghost told: { Self → Option (List Entry) };
+    /// The length of the log, where nobody else changes it.
+    ghost recorded: { Self → Option ℕ };
 
-    /// The length of the history, without a look at it: no front that it answered before is above it.
+    /// The length of the log, without a read: no front that it answered before is above it.
     fn front(&mut self) -> u64
-        ensures met { met self.new ≡ met self.old }
+        ensures read { read self.new ≡ read self.old }
         ensures rises { floor self.old ≤ result }
         ensures floor { floor self.new ≡ result }
-        ensures told { told self.new ≡ told self.old }
-        ensures length { IfSome (told self.old) (λ h. result ≡ length h) };
+        ensures recorded { recorded self.new ≡ recorded self.old }
+        ensures length { IfSome (recorded self.old) (λ n. result ≡ n) };
 
-    /// Looks at the history for a user's feed after a since key. At want of memory it may have looked, or not.
+    /// Reads the history for a user's feed after a since key. Out of memory it may have read, or not.
     fn feed(
         &mut self,
         alloc: Global,
@@ -39,12 +39,14 @@ pub trait Ground: Drop {
         since: &Key,
         options: &Options,
     ) -> Result<Fed, Memory>
-        ensures looks { Looks (met self.old) (met self.new) (floor self.old) (floor self.new) }
-        ensures told { told self.new ≡ told self.old }
-        ensures answer { IfOk result (λ fed. (h : List Entry) × WasLookedAt (met self.old) (met self.new) h × IsTold (told self.old) h × FeedAt h user.now since.now options.now fed) };
+        ensures reads { Reads (read self.old) (read self.new) (floor self.old) (floor self.new) }
+        ensures recorded { recorded self.new ≡ recorded self.old }
+        ensures answer { IfOk result (λ fed. (b : BoardState)
+            × WasRead (read self.old) (read self.new) b × HasLength (recorded self.old) b
+            × FeedAt b.log user.now since.now options.now fed) };
 
-    /// Looks at the history for the bodies of rows, each with at most `most` ancestors. At want of memory it may have
-    /// looked, or not.
+    /// Reads the history for the bodies of rows, each with at most `most` ancestors. Out of memory it
+    /// may have read, or not.
     fn bodies(
         &mut self,
         alloc: Global,
@@ -53,7 +55,9 @@ pub trait Ground: Drop {
         rows: &[Row],
         most: u64,
     ) -> Result<Bodies, Memory>
-        ensures looks { Looks (met self.old) (met self.new) (floor self.old) (floor self.new) }
-        ensures told { told self.new ≡ told self.old }
-        ensures answer { IfOk result (λ bodies. (h : List Entry) × WasLookedAt (met self.old) (met self.new) h × IsTold (told self.old) h × BodiesAt h user.now options.now rows.now most bodies) };
+        ensures reads { Reads (read self.old) (read self.new) (floor self.old) (floor self.new) }
+        ensures recorded { recorded self.new ≡ recorded self.old }
+        ensures answer { IfOk result (λ bodies. (b : BoardState)
+            × WasRead (read self.old) (read self.new) b × HasLength (recorded self.old) b
+            × BodiesAt b.log user.now options.now rows.now most bodies) };
 }

@@ -1,4 +1,4 @@
-//! Laws of looks. Each is the contract of a function that does nothing.
+//! Laws of reads. Each is the contract of a function that does nothing.
 
 ghost use Rattle.std.specs.Prelude.{◌≡◌, ◌≤◌, ℕ, List, length, take, IsTrue, Option, Some, None};
 ghost use Rattle.sg_names.specs.declared.key.Key.{Key};
@@ -17,7 +17,9 @@ ghost use Rattle.repl_messages.specs.Looks.{IsFed, AreBodies, winning_write, sai
 ghost use Rattle.write_path.specs.Feed.{FeedAt};
 ghost use Rattle.write_path.specs.Bodies.{BodiesAt};
 ghost use Rattle.sg_history.specs.History.{Extends};
-ghost use Rattle.write_path.specs.Looks.{IsLaterThanAll, Looks, WasLookedAt};
+ghost use Rattle.sg_history.specs.Board.{BoardState, board_book};
+ghost use Rattle.sg_history.specs.Book.{Later, book_of};
+ghost use Rattle.write_path.specs.Reads.{IsAfterAll, IsLaterThanAll, Reads, WasRead};
 
 /// A history extends itself, and all that one extends which it extends; and what was answered of a history is said of each
 /// that extends it.
@@ -28,22 +30,33 @@ pub fn later()
     ensures bodies { (earlier later : List Entry) (user : List ℕ) (options : Options) (rows : List Row) (most : ℕ) (bodies : Bodies) → Extends earlier later → BodiesAt earlier user options rows most bodies → AreBodies later user options rows most bodies }
 {}
 
-/// To look no further, or at first and then on, is to look; and what extends all that were met since extends all that
-/// were met before.
-pub fn looks()
-    ensures reflexive { (met : List (List Entry)) (floor : ℕ) → Looks met met floor floor }
-    ensures transitive { (first second third : List (List Entry)) (low middle high : ℕ) → Looks first second low middle → Looks second third middle high → Looks first third low high }
-    ensures before { (before after : List (List Entry)) (low high : ℕ) (h : List Entry) → Looks before after low high → IsLaterThanAll after h → IsLaterThanAll before h }
+/// To read no further, or at first and then on, is to read; and a history that is later than all boards that were read since
+/// is later than all that were read before.
+pub fn reads()
+    ensures reflexive { (read : List BoardState) (lowest : ℕ) → Reads read read lowest lowest }
+    ensures transitive { (first second third : List BoardState) (low middle high : ℕ)
+        → Reads first second low middle → Reads second third middle high
+        → Reads first third low high }
+    ensures before { (before after : List BoardState) (low high : ℕ) (h : List Entry)
+        → Reads before after low high → IsLaterThanAll after h → IsLaterThanAll before h }
 {}
 
-/// What holds of each history that was looked at in between: it extends all that were met before, its length is between the
-/// floors, and each history that extends all that were met since extends it.
-pub fn looked_at()
-    ensures before { (before after : List (List Entry)) (low high : ℕ) (h : List Entry) → Looks before after low high → WasLookedAt before after h → IsLaterThanAll before h }
-    ensures floor { (before after : List (List Entry)) (low high : ℕ) (h : List Entry) → Looks before after low high → WasLookedAt before after h → low ≤ length h }
-    ensures front { (before after : List (List Entry)) (low high : ℕ) (h : List Entry) → Looks before after low high → WasLookedAt before after h → length h ≤ high }
-    ensures since { (before after : List (List Entry)) (h j : List Entry) → WasLookedAt before after h → IsLaterThanAll after j → Extends h j }
-{}
+/// What holds of each board that was read in between: it comes after all that were read before, the length of its log is between
+/// the lowest fronts, and each history that is later than all that were read since is later than it and extends its log.
+pub fn was_read()
+    ensures before { (before after : List BoardState) (low high : ℕ) (b : BoardState)
+        → Reads before after low high → WasRead before after b → IsAfterAll before b }
+    ensures lowest { (before after : List BoardState) (low high : ℕ) (b : BoardState)
+        → Reads before after low high → WasRead before after b → low ≤ length b.log }
+    ensures front { (before after : List BoardState) (low high : ℕ) (b : BoardState)
+        → Reads before after low high → WasRead before after b → length b.log ≤ high }
+    ensures since { (before after : List BoardState) (b : BoardState) (h : List Entry)
+        → WasRead before after b → IsLaterThanAll after h → Later (board_book b) (book_of h) }
+    ensures extended { (before after : List BoardState) (b : BoardState) (h : List Entry)
+        → WasRead before after b → IsLaterThanAll after h → Extends b.log h }
+{
+    sg_history::laws::later();
+}
 
 /// A body is answered exactly for a row that says what is shown to the user, which is of a document of which the user
 /// has a channel; and it is the body of the current revision's write, with that write's first ancestors.

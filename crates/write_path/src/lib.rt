@@ -6,8 +6,8 @@ pub mod by_name;
 pub mod feed;
 pub mod ground;
 pub mod laws;
-pub mod met;
 pub mod solo;
+pub mod trail;
 
 pub use ground::Ground;
 pub use solo::SoloGround;

@@ -2,12 +2,13 @@
 
 ghost use Rattle.std.specs.Prelude.{◌≡◌, [], Some, length};
 ghost use Rattle.sg_history.specs.History.{entries_of};
-ghost use Rattle.write_path.specs.Looks.{IsLaterThanAll};
+ghost use Rattle.write_path.specs.Reads.{IsAfterAll, IsLaterThanAll};
+ghost use Rattle.write_path.specs.Solo.{board_of};
 
 use crate::bodies::bodies_at;
 use crate::feed::feed_at;
 use crate::ground::Ground;
-use crate::met::Met;
+use crate::trail::Trail;
 use repl_messages::{Bodies, Fed};
 use sg_history::{Key, Log, Name, Options, Row};
 use sg_outside::Memory;
@@ -18,37 +19,38 @@ use std::marker::Model;
 #[derive(Drop)]
 pub struct SoloGround {
     log: Log,
-    met: Met,
+    read: Trail,
 }
 
 impl Model for SoloGround {
     ghost use Rattle.sg_history.specs.History.{entries_of};
-    ghost use Rattle.write_path.specs.Looks.{IsLaterThanAll};
-    ghost use Rattle.write_path.specs.Solo.{Solo};
+    ghost use Rattle.write_path.specs.Reads.{IsAfterAll};
+    ghost use Rattle.write_path.specs.Solo.{Solo, board_of};
 
     ghost Value = { Solo };
 
-    ghost view = { λ g. record { log = g.log; met = g.met } };
+    ghost view = { λ g. record { log = g.log; read = g.read } };
 
-    ghost invariant = { λ g. IsLaterThanAll g.met (entries_of g.log) };
+    ghost invariant = { λ g. IsAfterAll g.read (board_of (entries_of g.log)) };
 }
 
 impl SoloGround {
-    /// A ground over a log, which it has not looked at. Takes no memory.
+    /// A ground over a log, which it has not read. Allocates nothing.
     pub fn new(log: Log) -> SoloGround
         ensures log { result.log ≡ log }
-        ensures met { result.met ≡ [] }
+        ensures read { result.read ≡ [] }
     {
         SoloGround {
             log,
-            met: Met::new(),
+            read: Trail::new(),
         }
     }
 
-    /// The log, which goes on from every history that was met.
+    /// The log, whose board comes after all that were read, so that its history counts for them.
     pub fn into_inner(self) -> Log
         ensures log { result ≡ self.log }
-        ensures later { IsLaterThanAll self.met (entries_of result) }
+        ensures after { IsAfterAll self.read (board_of (entries_of result)) }
+        ensures later { IsLaterThanAll self.read (entries_of result) }
     {
         self.log
     }
@@ -58,11 +60,11 @@ impl Ground for SoloGround {
     ghost use Rattle.std.specs.Prelude.{Some, length};
     ghost use Rattle.sg_history.specs.History.{entries_of};
 
-    ghost met = { λ g. g.met };
+    ghost read = { λ g. g.read };
 
     ghost floor = { λ g. length (entries_of g.log) };
 
-    ghost told = { λ g. Some (entries_of g.log) };
+    ghost recorded = { λ g. Some (length (entries_of g.log)) };
 
     fn front(&mut self) -> u64 {
         self.log.entries.len() as u64
@@ -75,7 +77,8 @@ impl Ground for SoloGround {
         since: &Key,
         options: &Options,
     ) -> Result<Fed, Memory> {
-        self.met.add(&self.log);
+        sg_history::laws::boards();
+        self.read.add(&self.log);
         feed_at(alloc, &self.log, user, since, options)
     }
 
@@ -87,7 +90,8 @@ impl Ground for SoloGround {
         rows: &[Row],
         most: u64,
     ) -> Result<Bodies, Memory> {
-        self.met.add(&self.log);
+        sg_history::laws::boards();
+        self.read.add(&self.log);
         bodies_at(alloc, &self.log, user, options, rows, most)
     }
 }

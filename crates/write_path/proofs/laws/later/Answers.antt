@@ -1,4 +1,4 @@
-use Rattle.write_path.proofs.LookLaws.{later_itself, later_than_later}
+use Rattle.write_path.proofs.ReadLaws.{later_itself, later_than_later}
 use Rattle.write_path.proofs.Said.{fed_later, bodies_later}
 use Rattle.write_path.proofs.laws.later.Goals as goal
 

@@ -17,18 +17,18 @@ go_on-requires-clause-apart g c =
 
 pub returns-in-Whole-clause-takes : goal.returns-in-Whole-clause-takes
 returns-in-Whole-clause-takes g c =
-    frame_takes c.args.self.now c.answer.new.self c.take.new.self c.args.bytes.now (g.G.Ground.met c.answer.new.ground) (g.W.Wire.told c.args.wire.now) (g.W.Wire.told c.answer.new.wire) (takens.Whole c.in-Whole.message) c.answer.result
+    frame_takes c.args.self.now c.answer.new.self c.take.new.self c.args.bytes.now (g.G.Ground.read c.answer.new.ground) (g.W.Wire.told c.args.wire.now) (g.W.Wire.told c.answer.new.wire) (takens.Whole c.in-Whole.message) c.answer.result
     c.in-Whole.ensures.taken c.take.ensures.sent c.answer.ensures.goes
 
 pub returns-in-Part-clause-takes : goal.returns-in-Part-clause-takes
 returns-in-Part-clause-takes g c =
-    part_takes c.args.self.now c.go_on.new.self c.take.new.self c.args.bytes.now (g.G.Ground.met c.args.ground.now) (g.W.Wire.told c.args.wire.now) (g.W.Wire.told c.go_on.new.wire) c.go_on.result
-    c.in-Part.ensures.taken c.take.ensures.sent (c.go_on.ensures.goes (g.G.Ground.met c.args.ground.now))
+    part_takes c.args.self.now c.go_on.new.self c.take.new.self c.args.bytes.now (g.G.Ground.read c.args.ground.now) (g.W.Wire.told c.args.wire.now) (g.W.Wire.told c.go_on.new.wire) c.go_on.result
+    c.in-Part.ensures.taken c.take.ensures.sent (c.go_on.ensures.goes (g.G.Ground.read c.args.ground.now))
 
 pub returns-in-Part-clause-rest : goal.returns-in-Part-clause-rest
 returns-in-Part-clause-rest g c =
-    rest_after (with_mux c.args.self.now c.take.new.self) c.go_on.new.self None (g.G.Ground.met c.args.ground.now) (g.W.Wire.told c.args.wire.now) (g.W.Wire.told c.go_on.new.wire) c.go_on.result (c.go_on.ensures.goes (g.G.Ground.met c.args.ground.now))
+    rest_after (with_mux c.args.self.now c.take.new.self) c.go_on.new.self None (g.G.Ground.read c.args.ground.now) (g.W.Wire.told c.args.wire.now) (g.W.Wire.told c.go_on.new.wire) c.go_on.result (c.go_on.ensures.goes (g.G.Ground.read c.args.ground.now))
 
 pub returns-in-Part-clause-count : goal.returns-in-Part-clause-count
 returns-in-Part-clause-count g c =
-    count_after (with_mux c.args.self.now c.take.new.self) c.go_on.new.self None (g.G.Ground.met c.args.ground.now) (g.W.Wire.told c.args.wire.now) (g.W.Wire.told c.go_on.new.wire) c.go_on.result (c.go_on.ensures.goes (g.G.Ground.met c.args.ground.now))
+    count_after (with_mux c.args.self.now c.take.new.self) c.go_on.new.self None (g.G.Ground.read c.args.ground.now) (g.W.Wire.told c.args.wire.now) (g.W.Wire.told c.go_on.new.wire) c.go_on.result (c.go_on.ensures.goes (g.G.Ground.read c.args.ground.now))
