@@ -15,7 +15,8 @@ use Rattle.sg_history.specs.Current.{Sequenced, sequenced_or, with_rev_or, write
 use Rattle.log_index.specs.declared.documents.Document.{Document}
 use Rattle.log_index.specs.declared.index.LogIndex.{LogIndex}
 use Rattle.log_index.specs.Places.{earlier_or, first_seq, first_or, seq_alone, revision_seq, document_by, document_at, put_by, put_or, last_put}
-use Rattle.log_index.specs.Index.{Indexes, seq_in, put_in, winning_seq}
+use Rattle.log_index.specs.Index.{HasPlaces}
+use Rattle.log_index.specs.Representation.{seq_in, put_in, winning_seq}
 use Rattle.log_index.proofs.Firsts.{within, nowhere, somewhere, first_of, first_at, no_revision, one_first, earlier_within}
 
 -- where a document stands, by its first write, its revisions and its last write
@@ -47,7 +48,7 @@ first_after es doc w (Some document) is =
     kept (suc n) pos = refl
 
 -- what is kept of a document's revisions under its first write, or where that is to be
-of_revision : (index : LogIndex) (es : List Entry) (doc : List ℕ) (rev : RevId) (document : Option Document) → document_at es doc ≡ document → Indexes index es → seq_in index.revisions (first_or document (length es + 1)) rev ≡ revision_seq es doc rev
+of_revision : (index : LogIndex) (es : List Entry) (doc : List ℕ) (rev : RevId) (document : Option Document) → document_at es doc ≡ document → HasPlaces index es → seq_in index.revisions (first_or document (length es + 1)) rev ≡ revision_seq es doc rev
 of_revision index es doc rev None at is =
     is.unused (length es + 1) rev (omega arith) ∙ sym (ap (λ (w : Option Sequenced). seq_alone w) (no_revision es doc rev (nowhere es doc at)))
 of_revision index es doc rev (Some document) at is =
@@ -91,7 +92,7 @@ took_write old new w seq first winning before looked first_is winning_is documen
       roles = roles;
     }
 
-module _ (old new : LogIndex) (es : List Entry) (e : Entry) (w : Write) (is : Indexes old es) (writes : e ≡ entry.Write w) (took : Took old new w (length es + 1)) where
+module _ (old new : LogIndex) (es : List Entry) (e : Entry) (w : Write) (is : HasPlaces old es) (writes : e ≡ entry.Write w) (took : Took old new w (length es + 1)) where
   abbrev n : ℕ
   n = length es + 1
 
@@ -190,7 +191,7 @@ module _ (old new : LogIndex) (es : List Entry) (e : Entry) (w : Write) (is : In
   puts_were (User name) = ap (λ users. get_by_text users name) took.users
   puts_were (Role name) = ap (λ roles. get_by_text roles name) took.roles
 
-  pub write_taken : Indexes new (e ∷ es)
+  pub write_taken : HasPlaces new (e ∷ es)
   write_taken = record {
     count = took.count ∙ omega (arith);
     documents = λ doc. documents_are doc (bytes_eq w.doc doc) refl;

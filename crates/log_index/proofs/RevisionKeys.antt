@@ -12,7 +12,7 @@ use Rattle.std.specs.Str.{bytes_eq}
 use Rattle.std.proofs.lemmas.Map.Text.{is_eq-slice_cmp}
 use Rattle.sg_names.specs.RevId.{same_rev}
 use Rattle.sg_names.specs.declared.rev_id.RevId.{RevId}
-use Rattle.log_index.specs.Index.{seq_in}
+use Rattle.log_index.specs.Representation.{seq_in}
 
 -- a key: the first write of a document, a generation and a digest
 abbrev Key : Type 0

@@ -1,38 +1,31 @@
--- What an index of a history has, and when it is that of these entries.
-use Rattle.std.specs.Prelude.{◌≡◌, ◌<◌, ℕ, List, length, Option, None, String, unwrap_or, if◌then◌else◌}
-use Rattle.std.specs.BTreeMap.{BTreeMap, get_by, get_by_text}
-use Rattle.std.specs.Global.{Global}
-use Rattle.std.specs.Ordering.{nat_cmp, ordering_then}
-use Rattle.std.specs.Cmp.Lexicographic.{slice_cmp}
-use Rattle.std.specs.Prelude.{string_bytes}
+-- When an index is that of these entries.
+use Rattle.std.specs.Prelude.{◌≡◌, ◌<◌, ◌≤◌, ℕ, List, length, reverse, None}
+use Rattle.std.specs.BTreeMap.{get_by_text}
 use Rattle.sg_names.specs.declared.grants.Grantee.{Grantee}
-use Rattle.sg_names.specs.declared.grants.Grantee.TheVariants.{User, Role}
 use Rattle.sg_names.specs.declared.rev_id.RevId.{RevId}
-use Rattle.sg_names.specs.RevId.{same_rev}
 use Rattle.sg_history.specs.declared.entries.Entry.{Entry}
-use Rattle.sg_history.specs.declared.entries.Write.{Write}
+use Rattle.sg_history.specs.History.{past}
 use Rattle.log_index.specs.declared.index.LogIndex.{LogIndex}
-use Rattle.log_index.specs.Places.{first_seq, revision_seq, document_at, last_put}
+use Rattle.log_index.specs.Places.{first_seq, revision_seq, document_at, last_put, granting_seqs}
+use Rattle.log_index.specs.Representation.{seq_in, put_in}
 
--- the sequence that is kept of a revision, by the first write of its document
-abbrev pub seq_in : BTreeMap (ℕ × ℕ × String Global) ℕ → ℕ → RevId → Option ℕ
-seq_in revisions first rev =
-    get_by (λ k. ordering_then (ordering_then (nat_cmp first k.0) (nat_cmp rev.generation k.1)) (slice_cmp nat_cmp rev.digest (string_bytes k.2))) revisions
-
--- the sequence that is kept of a user or a role
-abbrev pub put_in : LogIndex → Grantee → Option ℕ
-put_in index (User name) = get_by_text index.users name
-put_in index (Role name) = get_by_text index.roles name
+-- where documents, revisions, users and roles stand in the index is where they stand in these
+-- entries, the newest first
+pub record HasPlaces (index : LogIndex) (es : List Entry) : Type 0 where
+  pub count : index.count ≡ length es
+  pub documents : (doc : List ℕ) → get_by_text index.documents doc ≡ document_at es doc
+  pub revisions : (doc : List ℕ) (rev : RevId) → 0 < first_seq es doc
+      → seq_in index.revisions (first_seq es doc) rev ≡ revision_seq es doc rev
+  pub unused : (first : ℕ) (rev : RevId) → length es < first
+      → seq_in index.revisions first rev ≡ None
+  pub puts : (whom : Grantee) → put_in index whom ≡ last_put es whom
 
 -- the index is that of these entries, the newest first
 pub record Indexes (index : LogIndex) (es : List Entry) : Type 0 where
-  pub count : index.count ≡ length es
-  pub documents : (doc : List ℕ) → get_by_text index.documents doc ≡ document_at es doc
-  pub revisions : (doc : List ℕ) (rev : RevId) → 0 < first_seq es doc → seq_in index.revisions (first_seq es doc) rev ≡ revision_seq es doc rev
-  pub unused : (first : ℕ) (rev : RevId) → length es < first → seq_in index.revisions first rev ≡ None
-  pub puts : (whom : Grantee) → put_in index whom ≡ last_put es whom
+  pub places : HasPlaces index es
+  pub granting : index.granting.items ≡ reverse (granting_seqs es)
 
--- the sequence of the winner's write after a write of this sequence, by the first write of its document: its own where it wins
--- or where the winner that it names is not there
-abbrev pub winning_seq : LogIndex → Write → ℕ → ℕ → ℕ
-winning_seq index w first seq = if same_rev w.rev w.winner then seq else unwrap_or (seq_in index.revisions first w.winner) seq
+-- the index is that of the first of these entries, as many as it has
+pub record IsBehind (index : LogIndex) (entries : List Entry) : Type 0 where
+  pub count : index.count ≤ length entries
+  pub indexes : Indexes index (past entries index.count)

@@ -1,10 +1,13 @@
--- Where documents, revisions, users and roles stand in a history, given its entries, the newest first.
-use Rattle.std.specs.Prelude.{ℕ, ◌+◌, zero, suc, List, [], ◌∷◌, length, Option, Some, None, option_map, if◌then◌else◌}
+-- Where documents, revisions, users and roles stand in a history, given its entries, the newest
+-- first.
+use Rattle.std.specs.Prelude.{ℕ, ◌+◌, zero, suc, Bool, true, false, List, [], ◌∷◌, length, Option, Some, None, option_map, if◌then◌else◌}
 use Rattle.sg_names.specs.declared.grants.Grantee.{Grantee}
+use Rattle.sg_names.specs.declared.grants.Grant.{Grant}
+use Rattle.sg_names.specs.declared.role_grants.RoleGrant.{RoleGrant}
 use Rattle.sg_names.specs.declared.rev_id.RevId.{RevId}
 use Rattle.sg_history.specs.declared.entries.Entry.{Entry}
 use Rattle.sg_history.specs.declared.entries.Write.{Write}
-use Rattle.sg_history.specs.History.{write_to}
+use Rattle.sg_history.specs.History.{as_write, write_to}
 use Rattle.sg_history.specs.Current.{Sequenced, last_write, write_of_rev, winning_of}
 use Rattle.sg_history.specs.Principals.{as_put, same_grantee}
 use Rattle.log_index.specs.declared.documents.Document.{Document}
@@ -32,9 +35,14 @@ revision_seq es doc rev = seq_alone (write_of_rev es doc rev)
 abbrev pub document_by : List Entry → List ℕ → Option Sequenced → Option Document
 document_by es doc None = None
 document_by es doc (Some last) =
-    Some (record { first = first_seq es doc; last = last.seq; winning = (winning_of es doc last).seq })
+    Some (record {
+      first = first_seq es doc;
+      last = last.seq;
+      winning = (winning_of es doc last).seq;
+    })
 
--- where a document stands: its first write, its last one and the write of its winner; none where it was never written
+-- where a document stands: its first write, its last one and the write of its winner; none where it
+-- was never written
 abbrev pub document_at : List Entry → List ℕ → Option Document
 document_at es doc = document_by es doc (last_write es doc)
 
@@ -56,3 +64,21 @@ put_or (Some of) whom seq before = if same_grantee of whom then Some seq else be
 abbrev pub last_put : List Entry → Grantee → Option ℕ
 last_put [] whom = None
 last_put (e ∷ older) whom = put_or (put_by e) whom (length older + 1) (last_put older whom)
+
+-- whether there is a channel that is granted, or a role that is given
+abbrev pub is_any : List Grant → List RoleGrant → Bool
+is_any [] [] = false
+is_any [] (g ∷ roles) = true
+is_any (g ∷ grants) roles = true
+
+-- whether a write grants a channel or gives a role to anybody
+abbrev pub grants_any : Option Write → Bool
+grants_any None = false
+grants_any (Some w) = is_any w.grants w.roles
+
+-- the sequences of the writes that grant a channel or give a role, the last one first
+abbrev pub granting_seqs : List Entry → List ℕ
+granting_seqs [] = []
+granting_seqs (e ∷ older) =
+    if grants_any (as_write e) then (length older + 1) ∷ granting_seqs older
+    else granting_seqs older

@@ -1,16 +1,15 @@
 //! Where documents stand, by their names.
 
-ghost use Rattle.std.specs.Prelude.{◌≡◌, ℕ, List, Some, OnOk, OnErr, if◌then◌else◌};
+ghost use Rattle.std.specs.Prelude.{◌≡◌, ℕ, List, Some, if◌then◌else◌};
 ghost use Rattle.log_index.specs.declared.documents.Document.{Document};
 ghost use Rattle.log_index.specs.Places as places;
 ghost use Rattle.std.specs.BTreeMap.{get_by_text};
 ghost use Rattle.std.specs.Str.{bytes_eq};
 
 use sg_history::DocId;
-use std::alloc::{AllocError, Global};
 use std::collections::BTreeMap;
 
-/// Where a document stands, by sequences: its first write, its last one, and the write of its winner.
+/// Where a document stands, by sequences: its first write, its last one, and that of its winner.
 #[derive(Clone, Copy, Debug, PartialEq, Eq)]
 pub struct Document {
     pub first: u64,
@@ -38,28 +37,11 @@ pub fn first_or(document: Option<Document>, seq: u64) -> u64
     }
 }
 
-/// Keeps where a document stands.
-pub fn put_document(
-    alloc: Global,
-    documents: &mut Documents,
-    doc: &DocId,
-    document: Document,
-) -> Result<(), AllocError>
-    ensures ok { OnOk result ((name : List ℕ) → get_by_text documents.new name ≡ (if bytes_eq doc.now name then Some document else get_by_text documents.old name)) }
-    ensures err { OnErr result ((name : List ℕ) → get_by_text documents.new name ≡ get_by_text documents.old name) }
-{
-    if let Some(kept) = documents.get_mut(doc.as_str()) {
-        *kept = document;
-        return Ok(());
-    }
-    documents.insert(String::from_str(alloc, doc.as_str())?, document)?;
-    Ok(())
-}
-
 /// Keeps of a document that is there what it was before, or nothing. Allocates nothing.
 pub fn put_back(documents: &mut Documents, doc: &DocId, before: Option<Document>)
     requires { (document : Document) × (get_by_text documents.old doc.now ≡ Some document) }
-    ensures { (name : List ℕ) → get_by_text documents.new name ≡ (if bytes_eq doc.now name then before else get_by_text documents.old name) }
+    ensures { (name : List ℕ) → get_by_text documents.new name
+        ≡ (if bytes_eq doc.now name then before else get_by_text documents.old name) }
 {
     match before {
         None => {

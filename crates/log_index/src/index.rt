@@ -1,17 +1,20 @@
 //! The index.
 
-ghost use Rattle.std.specs.Prelude.{◌≡◌, ◌<◌, ◌+◌, List, [], ◌∷◌, length, Some, None, option_map, OnOk, OnErr, IfOk};
+ghost use Rattle.std.specs.Prelude.{◌≡◌, ◌<◌, ◌+◌, List, [], ◌∷◌, length, reverse, Some, None, option_map, OnOk, OnErr, IfOk};
 ghost use Rattle.sg_history.specs.declared.entries.Entry.{Entry};
 ghost use Rattle.sg_history.specs.declared.entries.Entry.TheVariants as kinds;
 ghost use Rattle.sg_history.specs.History.{as_write};
 ghost use Rattle.sg_history.specs.Puts.{grantee_in};
 ghost use Rattle.sg_names.specs.declared.grants.Grantee.TheVariants as grantee;
-ghost use Rattle.log_index.specs.Index.{Indexes, winning_seq};
+ghost use Rattle.log_index.specs.Index.{HasPlaces, Indexes, IsBehind};
 ghost use Rattle.log_index.specs.Places as places;
-ghost use Rattle.log_index.specs.Places.{document_at, revision_seq, last_put};
+ghost use Rattle.log_index.specs.Places.{document_at, revision_seq, last_put, granting_seqs};
+ghost use Rattle.log_index.specs.Representation.{winning_seq};
 
-use crate::documents::{Document, Documents, document_of, first_or, put_back, put_document};
-use crate::principals::{Puts, keep_put, put_by, put_of};
+use crate::by_name::put;
+use crate::documents::{Document, Documents, document_of, first_or, put_back};
+use crate::granting::{grants_any, keep_if};
+use crate::principals::{Puts, put_by, put_of};
 use crate::revisions::{Revisions, put_revision, seq_of};
 use sg_history::{DocId, Entry, Name, Principal, RevId, Write};
 use std::alloc::{AllocError, Global};
@@ -26,6 +29,7 @@ pub struct LogIndex {
     revisions: Revisions,
     users: Puts,
     roles: Puts,
+    granting: Vec<u64>,
 }
 
 impl LogIndex {
@@ -40,6 +44,7 @@ impl LogIndex {
             revisions: BTreeMap::new(alloc),
             users: BTreeMap::new(alloc),
             roles: BTreeMap::new(alloc),
+            granting: Vec::new(alloc),
         }
     }
 
@@ -59,7 +64,8 @@ impl LogIndex {
 
     /// The sequence of the write of a document's revision, if it was written.
     pub fn revision(&self, doc: &DocId, rev: &RevId) -> Result<Option<u64>, AllocError>
-        ensures { IfOk result (λ found. (es : List Entry) → Indexes self.now es → found ≡ revision_seq es doc.now rev.now) }
+        ensures { IfOk result (λ found. (es : List Entry) → Indexes self.now es
+            → found ≡ revision_seq es doc.now rev.now) }
     {
         match document_of(&self.documents, doc) {
             None => Ok(None),
@@ -69,35 +75,64 @@ impl LogIndex {
 
     /// The sequence of a user's last put or drop, if it had one. Allocates nothing.
     pub fn user(&self, name: &Name) -> Option<u64>
-        ensures { (es : List Entry) → Indexes self.now es → result ≡ last_put es (grantee.User name.now) }
+        ensures { (es : List Entry) → Indexes self.now es
+            → result ≡ last_put es (grantee.User name.now) }
     {
         put_of(&self.users, name)
     }
 
     /// The sequence of a role's last put or drop, if it had one. Allocates nothing.
     pub fn role(&self, name: &Name) -> Option<u64>
-        ensures { (es : List Entry) → Indexes self.now es → result ≡ last_put es (grantee.Role name.now) }
+        ensures { (es : List Entry) → Indexes self.now es
+            → result ≡ last_put es (grantee.Role name.now) }
     {
         put_of(&self.roles, name)
+    }
+
+    /// The sequences of the writes that grant a channel or give a role, in their order.
+    pub fn granting(&self) -> &[u64]
+        ensures { (es : List Entry) → Indexes self.now es
+            → result.now ≡ reverse (granting_seqs es) }
+    {
+        self.granting.as_slice()
     }
 
     /// Takes the next entry. Out of memory leaves what the index says as it was.
     pub fn push(&mut self, entry: &Entry) -> Result<(), AllocError>
         requires { self.old.count < 18446744073709551615 }
-        ensures ok { OnOk result ((es : List Entry) → Indexes self.old es → Indexes self.new (entry.now ∷ es)) }
+        ensures ok { OnOk result ((es : List Entry) → Indexes self.old es
+            → Indexes self.new (entry.now ∷ es)) }
         ensures err { OnErr result ((es : List Entry) → Indexes self.old es → Indexes self.new es) }
     {
         let seq = self.count + 1;
+        self.granting.reserve(1)?;
         self.keep(entry, seq)?;
         self.count = seq;
+        keep_if(&mut self.granting, grants_any(entry.as_write()), seq);
+        Ok(())
+    }
+
+    /// Takes the entries that it does not have yet. Out of memory it may have taken some.
+    pub fn catch_up(&mut self, entries: &[Entry]) -> Result<(), AllocError>
+        requires { IsBehind self.old entries.now }
+        ensures ok { OnOk result (Indexes self.new (reverse entries.now)) }
+        ensures behind { IsBehind self.new entries.now }
+    {
+        let from = self.count as usize;
+        for entry in &entries[from..] {
+            self.push(entry)?;
+        }
         Ok(())
     }
 
     /// Keeps what an entry of this sequence says.
     fn keep(&mut self, entry: &Entry, seq: u64) -> Result<(), AllocError>
-        ensures ok { OnOk result ((es : List Entry) → seq ≡ length es + 1 → Indexes self.old es → Indexes (record self.new { count = seq }) (entry.now ∷ es)) }
-        ensures err { OnErr result ((es : List Entry) → Indexes self.old es → Indexes self.new es) }
+        ensures ok { OnOk result ((es : List Entry) → seq ≡ length es + 1 → HasPlaces self.old es
+            → HasPlaces (record self.new { count = seq }) (entry.now ∷ es)) }
+        ensures err { OnErr result ((es : List Entry) → HasPlaces self.old es
+            → HasPlaces self.new es) }
         ensures count { self.new.count ≡ self.old.count }
+        ensures granting { self.new.granting ≡ self.old.granting }
     {
         match entry.as_write() {
             Some(write) => self.keep_write(write, seq),
@@ -110,14 +145,18 @@ impl LogIndex {
         principal: Option<Principal<'_>>,
         seq: u64,
     ) -> Result<(), AllocError>
-        ensures ok { OnOk result ((es : List Entry) (e : Entry) → as_write e ≡ None → places.put_by e ≡ option_map grantee_in principal.entry → seq ≡ length es + 1 → Indexes self.old es → Indexes (record self.new { count = seq }) (e ∷ es)) }
-        ensures err { OnErr result ((es : List Entry) → Indexes self.old es → Indexes self.new es) }
+        ensures ok { OnOk result ((es : List Entry) (e : Entry) → as_write e ≡ None
+            → places.put_by e ≡ option_map grantee_in principal.entry → seq ≡ length es + 1
+            → HasPlaces self.old es → HasPlaces (record self.new { count = seq }) (e ∷ es)) }
+        ensures err { OnErr result ((es : List Entry) → HasPlaces self.old es
+            → HasPlaces self.new es) }
         ensures count { self.new.count ≡ self.old.count }
+        ensures granting { self.new.granting ≡ self.old.granting }
     {
         match principal {
             None => Ok(()),
-            Some(Principal::User(name)) => keep_put(self.alloc, &mut self.users, name, seq),
-            Some(Principal::Role(name)) => keep_put(self.alloc, &mut self.roles, name, seq),
+            Some(Principal::User(name)) => put(self.alloc, &mut self.users, name.as_str(), seq),
+            Some(Principal::Role(name)) => put(self.alloc, &mut self.roles, name.as_str(), seq),
         }
     }
 
@@ -133,9 +172,13 @@ impl LogIndex {
     }
 
     fn keep_write(&mut self, write: &Write, seq: u64) -> Result<(), AllocError>
-        ensures ok { OnOk result ((es : List Entry) (e : Entry) → e ≡ kinds.Write write.now → seq ≡ length es + 1 → Indexes self.old es → Indexes (record self.new { count = seq }) (e ∷ es)) }
-        ensures err { OnErr result ((es : List Entry) → Indexes self.old es → Indexes self.new es) }
+        ensures ok { OnOk result ((es : List Entry) (e : Entry) → e ≡ kinds.Write write.now
+            → seq ≡ length es + 1 → HasPlaces self.old es
+            → HasPlaces (record self.new { count = seq }) (e ∷ es)) }
+        ensures err { OnErr result ((es : List Entry) → HasPlaces self.old es
+            → HasPlaces self.new es) }
         ensures count { self.new.count ≡ self.old.count }
+        ensures granting { self.new.granting ≡ self.old.granting }
     {
         let before = document_of(&self.documents, &write.doc);
         let first = first_or(before, seq);
@@ -144,7 +187,12 @@ impl LogIndex {
             last: seq,
             winning: self.winning(write, first, seq)?,
         };
-        put_document(self.alloc, &mut self.documents, &write.doc, document)?;
+        put(
+            self.alloc,
+            &mut self.documents,
+            write.doc.as_str(),
+            document,
+        )?;
         let kept = put_revision(self.alloc, &mut self.revisions, first, &write.rev, seq);
         if kept.is_err() {
             put_back(&mut self.documents, &write.doc, before);

@@ -3,13 +3,14 @@
 ghost use Rattle.std.specs.Prelude.{◌≡◌, ◌&&◌, ℕ, Some, OnOk, OnErr, IfOk, nat_eq, if◌then◌else◌};
 ghost use Rattle.sg_names.specs.declared.rev_id.RevId.{RevId};
 ghost use Rattle.sg_names.specs.RevId.{same_rev};
-ghost use Rattle.log_index.specs.Index.{seq_in};
+ghost use Rattle.log_index.specs.Representation.{seq_in};
 
 use sg_history::RevId;
 use std::alloc::{AllocError, Global};
 use std::collections::BTreeMap;
 
-/// The sequences of revisions' writes: by the sequence of their document's first write, the generation and the digest.
+/// The sequences of revisions' writes: by the sequence of their document's first write, the
+/// generation and the digest.
 pub type Revisions = BTreeMap<(u64, u32, String), u64>;
 
 /// The sequence that is kept of a revision.
@@ -33,8 +34,11 @@ pub fn put_revision(
     rev: &RevId,
     seq: u64,
 ) -> Result<(), AllocError>
-    ensures ok { OnOk result ((other : ℕ) (r : RevId) → seq_in revisions.new other r ≡ (if nat_eq first other && same_rev rev.now r then Some seq else seq_in revisions.old other r)) }
-    ensures err { OnErr result ((other : ℕ) (r : RevId) → seq_in revisions.new other r ≡ seq_in revisions.old other r) }
+    ensures ok { OnOk result ((other : ℕ) (r : RevId) → seq_in revisions.new other r
+        ≡ (if nat_eq first other && same_rev rev.now r then Some seq
+        else seq_in revisions.old other r)) }
+    ensures err { OnErr result ((other : ℕ) (r : RevId)
+        → seq_in revisions.new other r ≡ seq_in revisions.old other r) }
 {
     let digest = String::from_str(alloc, rev.digest.as_str())?;
     revisions.insert((first, rev.generation, digest), seq)?;
