@@ -1,0 +1,78 @@
+-- What evaluating does: it gives a value and leaves a state, or something stops it.
+use Rattle.std.specs.Prelude.{◌≡◌, ◌≢◌, ℕ, ◌-◌, nat_lt, Bool, if◌then◌else◌, Result, Ok, Err}
+use Rattle.sync_tokens.specs.declared.place.Place.{Place}
+use Rattle.sync_meaning.specs.declared.fault.FaultKind.{FaultKind}
+use Rattle.sync_meaning.specs.declared.fault.FaultKind.TheVariants.{TypeFault}
+use Rattle.sync_meaning.specs.declared.fault.RuleKind.{RuleKind}
+use Rattle.sync_meaning.specs.declared.fault.RuleKind.TheVariants.{Fault, Fuel}
+use Rattle.sync_meaning.specs.declared.fault.Stop.{Stop}
+use Rattle.sync_meaning.specs.declared.fault.Stop.TheVariants.{Deny, Memory}
+use Rattle.sync_meaning.specs.declared.state.State.{State}
+
+-- what is found, or what stops it
+abbrev pub Found : Type 0 → Type 0
+Found A = Result A Stop
+
+-- what is found in a state, and the state after
+abbrev pub Act : Type 0 → Type 0
+Act A = State → Found (A × State)
+
+abbrev pub and_then : {A B : Type 0} → Found (A × State) → (A → Act B) → Found (B × State)
+and_then (Ok p) f = f p.0 p.1
+and_then (Err e) f = Err e
+
+-- one after the other; what stops first stops both
+infixl 10 ◌>>=◌
+abbrev pub ◌>>=◌ : {A B : Type 0} → Act A → (A → Act B) → Act B
+p >>= f = λ s. and_then (p s) f
+
+infixl 10 ◌>>◌
+abbrev pub ◌>>◌ : {A B : Type 0} → Act A → Act B → Act B
+p >> q = p >>= (λ _. q)
+
+abbrev pub pure : {A : Type 0} → A → Act A
+pure a = λ s. Ok (a, s)
+
+abbrev pub in_state : {A : Type 0} → Found A → State → Found (A × State)
+in_state (Ok a) s = Ok (a, s)
+in_state (Err e) s = Err e
+
+-- what needs no state
+abbrev pub lift : {A : Type 0} → Found A → Act A
+lift r = λ s. in_state r s
+
+-- ---- what stops a run
+
+-- a rule denies at this place
+abbrev pub denial : RuleKind → Place → Stop
+denial kind p = Deny (record { kind = kind; place = p })
+
+abbrev pub fault : FaultKind → Place → Stop
+fault kind p = denial (Fault kind) p
+
+abbrev pub fails : {A : Type 0} → FaultKind → Place → Found A
+fails kind p = Err (fault kind p)
+
+abbrev pub type_fault : {A : Type 0} → Place → Found A
+type_fault p = fails TypeFault p
+
+abbrev pub out_of_visits : {A : Type 0} → Place → Act A
+out_of_visits p = λ s. Err (denial Fuel p)
+
+-- so many visits at a place, or as many as there are left
+unfoldable pub visits : ℕ → Place → Act (Unit {0})
+visits n p = λ s. if nat_lt s.visits n then Err (denial Fuel p) else Ok (tt, record s { visits = s.visits - n })
+
+abbrev pub visit : Place → Act (Unit {0})
+visit p = visits 1 p
+
+-- ---- what a function that evaluates ensures: what the meaning says, unless memory fails
+
+abbrev pub Gives : {A : Type 0} → Found A → Found A → Type 0
+Gives outcome (Ok a) = outcome ≡ Ok a
+Gives outcome (Err e) = e ≢ Memory → outcome ≡ Err e
+
+-- the same in a state, with the state after
+abbrev pub Does : {A : Type 0} → Found (A × State) → Found A → State → Type 0
+Does outcome (Ok a) new = outcome ≡ Ok (a, new)
+Does outcome (Err e) new = e ≢ Memory → outcome ≡ Err e

@@ -1,0 +1,219 @@
+-- The functions that are built in: what they take, which effects they have, and whom they let pass.
+use Rattle.std.specs.Prelude.{ℕ, ◌+◌, nat_lt, nat_eq, Bool, true, false, ◌||◌, if◌then◌else◌, codes, List, [], ◌∷◌, ◌++◌, map, drop, length, Option, Some, None, Ok, Err}
+use Rattle.std.specs.List.{list_all, list_any, starts_with}
+use Rattle.std.specs.Ordering.{nat_cmp, match_ordering}
+use Rattle.std.specs.Cmp.Lexicographic.{slice_cmp}
+use Rattle.std.specs.Str.{bytes_eq}
+use Rattle.std.specs.declared.cmp.Ordering.{Ordering}
+use Rattle.sg_names.specs.Grammar.{is_name, is_channel_name}
+use Rattle.sg_names.specs.Grants.{is_grantee, grant_cmp}
+use Rattle.sg_names.specs.RoleGrants.{role_grant_cmp}
+use Rattle.sg_names.specs.declared.grants.Grantee.{Grantee}
+use Rattle.sg_names.specs.declared.grants.Grantee.TheVariants as grantee
+use Rattle.sg_names.specs.declared.grants.Grant.{Grant}
+use Rattle.sg_names.specs.declared.role_grants.RoleGrant.{RoleGrant}
+use Rattle.sync_tokens.specs.declared.place.Place.{Place}
+use Rattle.sync_meaning.specs.declared.callee.Builtin.{Builtin}
+use Rattle.sync_meaning.specs.declared.callee.Builtin.TheVariants as b
+use Rattle.sync_meaning.specs.declared.callee.Method.{Method}
+use Rattle.sync_meaning.specs.declared.callee.Method.TheVariants as m
+use Rattle.sync_meaning.specs.declared.fault.FaultKind.TheVariants.{Argument, BadName, Size}
+use Rattle.sync_meaning.specs.declared.fault.RuleKind.{RuleKind}
+use Rattle.sync_meaning.specs.declared.fault.RuleKind.TheVariants as rules
+use Rattle.sync_meaning.specs.declared.state.Context.{Context}
+use Rattle.sync_meaning.specs.declared.state.Effects.{Effects}
+use Rattle.sync_meaning.specs.declared.state.State.{State}
+use Rattle.sync_meaning.specs.declared.value.Value.{Value, out-Value}
+use Rattle.sync_meaning.specs.declared.value.Value.TheOpen.{Value-F}
+use Rattle.sync_meaning.specs.declared.value.Value.TheVariants as v
+use Rattle.sync_meaning.specs.Acts.{Found, Act, ◌>>=◌, ◌>>◌, pure, lift, denial, fails, type_fault}
+use Rattle.sync_meaning.specs.Values.{Layer, found_then, index_of, concat, begins_with, is_list}
+
+-- ---- arguments
+
+abbrev pub add_text : Layer → Option (List (List ℕ)) → Option (List (List ℕ))
+add_text (Value-F.Text s) (Some ts) = Some (s ∷ ts)
+add_text _ ts = None
+
+-- the texts that items are, if all are texts
+abbrev pub texts_of : List Value → Option (List (List ℕ))
+texts_of [] = Some []
+texts_of (x ∷ xs) = add_text (out-Value x) (texts_of xs)
+
+abbrev pub argument_at : Layer → Option (List (List ℕ))
+argument_at Value-F.Undefined = Some []
+argument_at Value-F.Null = Some []
+argument_at (Value-F.Text s) = Some (s ∷ [])
+argument_at (Value-F.List xs) = texts_of xs
+argument_at _ = None
+
+abbrev pub texts_or : Place → Option (List (List ℕ)) → Found (List (List ℕ))
+texts_or p (Some ts) = Ok ts
+texts_or p None = fails Argument p
+
+-- the texts of an argument: one text, a list of texts, or for null and undefined none
+unfoldable pub texts_in : Place → Value → Found (List (List ℕ))
+texts_in p x = texts_or p (argument_at (out-Value x))
+
+-- texts as what they name, if each is in its grammar
+abbrev pub named : {A : Type 0} → Place → (List ℕ → A) → (A → Bool) → List (List ℕ) → Found (List A)
+named p f is ts = if list_all is (map f ts) then Ok (map f ts) else fails BadName p
+
+abbrev pub names_in : {A : Type 0} → Place → (List ℕ → A) → (A → Bool) → Value → Found (List A)
+names_in p f is x = found_then (texts_in p x) (named p f is)
+
+abbrev pub itself : List ℕ → List ℕ
+itself t = t
+
+unfoldable pub is_role_text : List ℕ → Bool
+is_role_text t = starts_with nat_eq t (codes "role:")
+
+-- a role, which may be written with `role:` before it
+unfoldable pub bare_role : List ℕ → List ℕ
+bare_role t = if is_role_text t then drop 5 t else t
+
+-- a user, or a role, which is written with `role:` before it
+unfoldable pub grantee_of : List ℕ → Grantee
+grantee_of t = if is_role_text t then grantee.Role (drop 5 t) else grantee.User t
+
+unfoldable pub users_in : Place → Value → Found (List (List ℕ))
+users_in p x = names_in p itself is_name x
+
+unfoldable pub roles_in : Place → Value → Found (List (List ℕ))
+roles_in p x = names_in p bare_role is_name x
+
+unfoldable pub channels_in : Place → Value → Found (List (List ℕ))
+channels_in p x = names_in p itself is_channel_name x
+
+unfoldable pub grantees_in : Place → Value → Found (List Grantee)
+grantees_in p x = names_in p grantee_of is_grantee x
+
+-- ---- effects. They are kept in order, each once.
+
+-- an item put at its place, where it isn't there yet
+abbrev pub put : {X : Type 0} → (X → X → Ordering) → X → List X → List X
+put order x [] = x ∷ []
+put order x (y ∷ ys) = match_ordering (order x y) (x ∷ y ∷ ys) (y ∷ ys) (y ∷ put order x ys)
+
+-- how many effects there are
+abbrev pub effect_count : Effects → ℕ
+effect_count e = length e.channels + length e.grants + length e.roles
+
+-- there are at most 1,000
+unfoldable pub within : Place → Effects → Found Effects
+within p e = if nat_lt 1000 (effect_count e) then fails Size p else Ok e
+
+unfoldable pub add_channel : Place → List ℕ → Effects → Found Effects
+add_channel p c e = within p (record e { channels = put (slice_cmp nat_cmp) c e.channels })
+
+unfoldable pub add_grant : Place → Grantee → List ℕ → Effects → Found Effects
+add_grant p to c e = within p (record e { grants = put grant_cmp (record { to = to; channel = c }) e.grants })
+
+unfoldable pub add_role : Place → List ℕ → List ℕ → Effects → Found Effects
+add_role p user role e = within p (record e { roles = put role_grant_cmp (record { user = user; role = role }) e.roles })
+
+-- one after the other
+abbrev pub for_each : {X : Type 0} → (X → Effects → Found Effects) → List X → Effects → Found Effects
+for_each f [] e = Ok e
+for_each f (x ∷ xs) e = found_then (f x e) (for_each f xs)
+
+unfoldable pub add_channels : Place → List (List ℕ) → Effects → Found Effects
+add_channels p cs e = for_each (add_channel p) cs e
+
+unfoldable pub add_grants_to : Place → List (List ℕ) → Grantee → Effects → Found Effects
+add_grants_to p cs to e = for_each (add_grant p to) cs e
+
+-- each channel to each
+unfoldable pub add_grants : Place → List Grantee → List (List ℕ) → Effects → Found Effects
+add_grants p tos cs e = for_each (add_grants_to p cs) tos e
+
+unfoldable pub add_roles_to : Place → List (List ℕ) → List ℕ → Effects → Found Effects
+add_roles_to p roles user e = for_each (add_role p user) roles e
+
+-- each role to each
+unfoldable pub add_roles : Place → List (List ℕ) → List (List ℕ) → Effects → Found Effects
+add_roles p users roles e = for_each (add_roles_to p roles) users e
+
+-- ---- who passes
+
+abbrev pub is_in : List (List ℕ) → List ℕ → Bool
+is_in all name = list_any (bytes_eq name) all
+
+-- whether one of these is one of those
+abbrev pub share_one : List (List ℕ) → List (List ℕ) → Bool
+share_one names all = list_any (is_in all) names
+
+abbrev pub is_user : Option (List ℕ) → List (List ℕ) → Bool
+is_user None names = true
+is_user (Some user) names = is_in names user
+
+abbrev pub is_administrator : Option (List ℕ) → Bool
+is_administrator None = true
+is_administrator (Some user) = false
+
+-- the user is one of these; the administrator passes
+unfoldable pub passes_user : Context → List (List ℕ) → Bool
+passes_user c names = is_user c.user names
+
+-- the user has one of these roles; the administrator passes
+unfoldable pub passes_role : Context → List (List ℕ) → Bool
+passes_role c roles = is_administrator c.user || share_one roles c.roles
+
+-- the user has one of these channels, or all by the channel `*`; the administrator passes
+unfoldable pub passes_access : Context → List (List ℕ) → Bool
+passes_access c channels = is_administrator c.user || is_in c.channels (codes "*") || share_one channels c.channels
+
+unfoldable pub passes_admin : Context → Bool
+passes_admin c = is_administrator c.user
+
+abbrev pub unless_passing : Bool → RuleKind → Place → State → Found (Value × State)
+unless_passing passes kind p s = if passes then Ok (v.Undefined, s) else Err (denial kind p)
+
+-- ---- calls
+
+abbrev pub with_effects : State → Effects → Found (Value × State)
+with_effects s e = Ok (v.Undefined, record s { effects = e })
+
+-- adds one or more arguments' channels
+abbrev pub all_channels : Place → List Value → Found (List (List ℕ))
+all_channels p [] = Ok []
+all_channels p (x ∷ xs) = found_then (channels_in p x) (λ cs. found_then (all_channels p xs) (λ more. Ok (cs ++ more)))
+
+unfoldable pub channel : Place → List Value → Act Value
+channel p xs = λ s. found_then (all_channels p xs) (λ cs. found_then (add_channels p cs s.effects) (with_effects s))
+
+unfoldable pub access : Place → Value → Value → Act Value
+access p x y = λ s. found_then (grantees_in p x) (λ tos. found_then (channels_in p y) (λ cs. found_then (add_grants p tos cs s.effects) (with_effects s)))
+
+unfoldable pub role : Place → Value → Value → Act Value
+role p x y = λ s. found_then (users_in p x) (λ users. found_then (roles_in p y) (λ roles. found_then (add_roles p users roles s.effects) (with_effects s)))
+
+unfoldable pub require_user : Place → Value → Act Value
+require_user p x = λ s. found_then (users_in p x) (λ names. unless_passing (passes_user s.context names) rules.User p s)
+
+unfoldable pub require_role : Place → Value → Act Value
+require_role p x = λ s. found_then (roles_in p x) (λ roles. unless_passing (passes_role s.context roles) rules.Role p s)
+
+unfoldable pub require_access : Place → Value → Act Value
+require_access p x = λ s. found_then (channels_in p x) (λ cs. unless_passing (passes_access s.context cs) rules.Access p s)
+
+unfoldable pub require_admin : Place → Act Value
+require_admin p = λ s. unless_passing (passes_admin s.context) rules.Admin p s
+
+-- A call with another count of arguments is refused where names are resolved; here it is a fault.
+abbrev pub built_in : Place → Builtin → List Value → Act Value
+built_in p b.Channel (x ∷ xs) = channel p (x ∷ xs)
+built_in p b.Access (x ∷ y ∷ []) = access p x y
+built_in p b.Role (x ∷ y ∷ []) = role p x y
+built_in p b.RequireUser (x ∷ []) = require_user p x
+built_in p b.RequireRole (x ∷ []) = require_role p x
+built_in p b.RequireAccess (x ∷ []) = require_access p x
+built_in p b.RequireAdmin [] = require_admin p
+built_in p b.IsArray (x ∷ []) = pure (v.Bool (is_list x))
+built_in p _ _ = lift (type_fault p)
+
+abbrev pub by_method : Place → Method → Value → List Value → Found Value
+by_method p m.IndexOf x (y ∷ []) = index_of p x y
+by_method p m.Concat x (y ∷ []) = concat p x y
+by_method p m.StartsWith x (y ∷ []) = begins_with p x y
+by_method p _ x _ = type_fault p

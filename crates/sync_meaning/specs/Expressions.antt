@@ -1,0 +1,300 @@
+-- What expressions come to.
+use Rattle.std.specs.Prelude.{ℕ, zero, suc, ◌+◌, pos, Bool, true, false, ◌&&◌, if◌then◌else◌, codes, List, [], ◌∷◌, ◌++◌, length, Option, Some, None, Ok, Err}
+use Rattle.std.specs.Str.{bytes_eq}
+use Rattle.sync_tokens.specs.declared.place.Place.{Place}
+use Rattle.sync_syntax.specs.declared.tree.Operator.{Operator}
+use Rattle.sync_syntax.specs.declared.tree.Operator.TheVariants as op
+use Rattle.sync_syntax.specs.declared.tree.Prefix.{Prefix}
+use Rattle.sync_syntax.specs.declared.tree.Expr.{Expr, out-Expr, fold-Expr}
+use Rattle.sync_syntax.specs.declared.tree.Expr.TheOpen.{Expr-F, Suffix-F}
+use Rattle.sync_syntax.specs.declared.tree.Suffix.{Suffix, out-Suffix}
+use Rattle.sync_meaning.specs.declared.callee.Builtin.{Builtin}
+use Rattle.sync_meaning.specs.declared.callee.Builtin.TheVariants as b
+use Rattle.sync_meaning.specs.declared.callee.Method.{Method}
+use Rattle.sync_meaning.specs.declared.callee.Method.TheVariants as m
+use Rattle.sync_meaning.specs.declared.callee.Target.{Target}
+use Rattle.sync_meaning.specs.declared.callee.Target.TheVariants as t
+use Rattle.sync_meaning.specs.declared.state.Scope.{Scope}
+use Rattle.sync_meaning.specs.declared.value.Value.{Value}
+use Rattle.sync_meaning.specs.declared.value.Value.TheVariants as v
+use Rattle.sync_meaning.specs.Acts.{Found, Act, ◌>>=◌, ◌>>◌, pure, lift, type_fault, visit, visits, out_of_visits}
+use Rattle.sync_meaning.specs.Values.{bounded, same_truth, truth, combined, prefixed, member, indexed, listed}
+use Rattle.sync_meaning.specs.Variables.{number_of, value_in}
+use Rattle.sync_meaning.specs.Builtins.{built_in, by_method}
+
+-- an expression as it is seen from outside
+abbrev pub Layer : Type 0
+Layer = Expr-F Expr Suffix
+
+abbrev pub SuffixLayer : Type 0
+SuffixLayer = Suffix-F Expr Suffix
+
+-- ---- places
+
+-- the place of an expression, by those of the expressions in it
+abbrev pub first_place : Expr-F Place (Unit {0}) → Place
+first_place (Expr-F.Undefined p) = p
+first_place (Expr-F.Null p) = p
+first_place (Expr-F.Bool p b) = p
+first_place (Expr-F.Integer p n) = p
+first_place (Expr-F.Text p s) = p
+first_place (Expr-F.Name p n) = p
+first_place (Expr-F.List p es) = p
+first_place (Expr-F.Object p ms) = p
+first_place (Expr-F.Prefix p o e) = p
+first_place (Expr-F.Postfix first ss) = first
+first_place (Expr-F.Chain first ts) = first
+first_place (Expr-F.Choice c x y) = c
+
+-- the place of an expression, which is that of its first character
+abbrev pub place_of : Expr → Place
+place_of = fold-Expr Place (Unit {0}) first_place (λ _. tt)
+
+-- ---- what is called
+
+abbrev pub lookup : {A : Type 0} → List (List ℕ × A) → List ℕ → Option A
+lookup [] name = None
+lookup (f ∷ fs) name = if bytes_eq f.0 name then Some f.1 else lookup fs name
+
+-- the functions that are built in, `Array.isArray` apart
+abbrev pub builtins : List (List ℕ × Builtin)
+builtins =
+    (codes "channel", b.Channel) ∷ (codes "access", b.Access) ∷ (codes "role", b.Role) ∷ (codes "requireUser", b.RequireUser) ∷
+    (codes "requireRole", b.RequireRole) ∷ (codes "requireAccess", b.RequireAccess) ∷ (codes "requireAdmin", b.RequireAdmin) ∷ []
+
+abbrev pub methods : List (List ℕ × Method)
+methods = (codes "indexOf", m.IndexOf) ∷ (codes "concat", m.Concat) ∷ (codes "startsWith", m.StartsWith) ∷ []
+
+abbrev pub target_by : Option Builtin → Target
+target_by (Some f) = t.Builtin f
+target_by None = t.Nothing
+
+-- what a name calls
+unfoldable pub called_by : List ℕ → Target
+called_by name = target_by (lookup builtins name)
+
+abbrev pub method_by : Value → Option Method → Target
+method_by x (Some how) = t.Method x how
+method_by x None = t.Nothing
+
+-- what `.name` behind a value calls
+unfoldable pub method_of : Value → List ℕ → Target
+method_of x name = method_by x (lookup methods name)
+
+abbrev pub is_call_at : SuffixLayer → Bool
+is_call_at (Suffix-F.Call es) = true
+is_call_at _ = false
+
+-- whether a call comes next; behind the last suffix as it is said
+abbrev pub is_called : Bool → List Suffix → Bool
+is_called behind [] = behind
+is_called behind (s ∷ ss) = is_call_at (out-Suffix s)
+
+abbrev pub is_array_name_at : Layer → Bool
+is_array_name_at (Expr-F.Name p n) = bytes_eq n (codes "Array")
+is_array_name_at _ = false
+
+abbrev pub is_array_member_at : SuffixLayer → Bool
+is_array_member_at (Suffix-F.Member n) = bytes_eq n (codes "isArray")
+is_array_member_at _ = false
+
+abbrev pub begins_is_array : Bool → List Suffix → Bool
+begins_is_array behind [] = false
+begins_is_array behind (s ∷ ss) = is_array_member_at (out-Suffix s) && is_called behind ss
+
+-- `Array.isArray(`
+unfoldable pub calls_is_array : Bool → Expr → List Suffix → Bool
+calls_is_array behind first ss = is_array_name_at (out-Expr first) && begins_is_array behind ss
+
+abbrev pub without_first : List Suffix → List Suffix
+without_first [] = []
+without_first (s ∷ ss) = ss
+
+-- The callee of a call is no node, so that `.name` before a call is none.
+abbrev pub node_count_at : Bool → SuffixLayer → ℕ
+node_count_at called (Suffix-F.Member n) = if called then 0 else 1
+node_count_at called _ = 1
+
+-- how many nodes end with these suffixes
+abbrev pub node_count : Bool → List Suffix → ℕ
+node_count behind [] = 0
+node_count behind (s ∷ ss) = node_count_at (is_called behind ss) (out-Suffix s) + node_count behind ss
+
+-- ---- values
+
+abbrev pub as_value : Place → Target → Found Value
+as_value p (t.Value x) = Ok x
+as_value p _ = type_fault p
+
+-- what a variable of the scope holds
+unfoldable pub read : Scope → List ℕ → Act Value
+read scope name = λ s. Ok (value_in name (number_of name scope) s.variables, s)
+
+-- The first argument evaluates an expression inside: where it is given true, as what a call calls.
+module _ (inner : Bool → Scope → Expr → Act Target) where
+  -- the value of an expression inside
+  unfoldable pub value : Scope → Expr → Act Value
+  value scope e = do
+    x ← inner false scope e
+    lift (as_value (place_of e) x)
+
+  -- the values of expressions from left to right, behind those found
+  abbrev pub values_from : Scope → List Value → List Expr → Act (List Value)
+  values_from scope found [] = pure found
+  values_from scope found (e ∷ es) = value scope e >>= (λ x. values_from scope (found ++ x ∷ []) es)
+
+  unfoldable pub values : Scope → List Expr → Act (List Value)
+  values scope es = values_from scope [] es
+
+  -- the members of an object from left to right, behind those found
+  abbrev pub members_from : Scope → List (List ℕ × Value) → List (List ℕ × Expr) → Act (List (List ℕ × Value))
+  members_from scope found [] = pure found
+  members_from scope found (e ∷ es) = value scope e.1 >>= (λ x. members_from scope (found ++ (e.0, x) ∷ []) es)
+
+  unfoldable pub members : Scope → List (List ℕ × Expr) → Act (List (List ℕ × Value))
+  members scope es = members_from scope [] es
+
+  unfoldable pub list : Scope → Place → List Expr → Act Value
+  list scope p es = do
+    visit p
+    xs ← values scope es
+    lift (listed p xs)
+
+  unfoldable pub object : Scope → Place → List (List ℕ × Expr) → Act Value
+  object scope p es = do
+    visit p
+    ms ← members scope es
+    pure (v.Object ms)
+
+  unfoldable pub prefix : Scope → Place → Prefix → Expr → Act Value
+  prefix scope p o e = do
+    visit p
+    x ← value scope e
+    lift (prefixed p o x)
+
+  -- `&&` and `||` give the first operand, or where it doesn't decide the second
+  unfoldable pub decided : Scope → Place → Bool → Value → Expr → Act Value
+  decided scope p deciding x e = do
+    is_true ← lift (truth p x)
+    if same_truth is_true deciding then pure x else value scope e
+
+  unfoldable pub operated : Scope → Place → Operator → Value → Expr → Act Value
+  operated scope p o x e = do
+    y ← value scope e
+    lift (combined p o x y)
+
+  abbrev pub operation : Scope → Place → Operator → Value → Expr → Act Value
+  operation scope p op.Or x e = decided scope p true x e
+  operation scope p op.And x e = decided scope p false x e
+  operation scope p o x e = operated scope p o x e
+
+  abbrev pub operations : Scope → Place → Value → List (Operator × Expr) → Act Value
+  operations scope p x [] = pure x
+  operations scope p x (o ∷ os) = operation scope p o.0 x o.1 >>= (λ y. operations scope p y os)
+
+  -- operators that bind alike: the last is the outermost node, and all have the place of the first operand
+  unfoldable pub chain : Scope → Expr → List (Operator × Expr) → Act Value
+  chain scope first os = do
+    visits (length os) (place_of first)
+    x ← value scope first
+    operations scope (place_of first) x os
+
+  unfoldable pub choice : Scope → Expr → Expr → Expr → Act Value
+  choice scope c first other = do
+    visit (place_of c)
+    x ← value scope c
+    is_true ← lift (truth (place_of c) x)
+    if is_true then value scope first else value scope other
+
+  -- ---- what stands behind an expression
+
+  abbrev pub call_by : Scope → Place → Target → List Value → Act Value
+  call_by scope p (t.Method x how) xs = lift (by_method p how x xs)
+  call_by scope p (t.Builtin f) xs = built_in p f xs
+  call_by scope p _ xs = lift (type_fault p)
+
+  -- a call: the arguments first
+  unfoldable pub call : Scope → Place → Target → List Expr → Act Value
+  call scope p x es = do
+    xs ← values scope es
+    call_by scope p x xs
+
+  unfoldable pub member_or_method : Bool → Place → Target → List ℕ → Act Target
+  member_or_method called p x name = do
+    y ← lift (as_value p x)
+    if called then pure (method_of y name) else (do z ← lift (member p name y); pure (t.Value z))
+
+  unfoldable pub index : Scope → Place → Target → Expr → Act Target
+  index scope p x e = do
+    y ← lift (as_value p x)
+    i ← value scope e
+    z ← lift (indexed p y i)
+    pure (t.Value z)
+
+  abbrev pub suffix_at : Bool → Scope → Place → Target → SuffixLayer → Act Target
+  suffix_at called scope p x (Suffix-F.Member n) = member_or_method called p x n
+  suffix_at called scope p x (Suffix-F.Index e) = index scope p x e
+  suffix_at called scope p x (Suffix-F.Call es) = do
+    y ← call scope p x es
+    pure (t.Value y)
+
+  -- one suffix behind what was found; the first argument says whether a call follows
+  unfoldable pub suffix : Bool → Scope → Place → Target → Suffix → Act Target
+  suffix called scope p x s = suffix_at called scope p x (out-Suffix s)
+
+  abbrev pub suffixes : Bool → Scope → Place → Target → List Suffix → Act Target
+  suffixes behind scope p x [] = pure x
+  suffixes behind scope p x (s ∷ ss) = suffix (is_called behind ss) scope p x s >>= (λ y. suffixes behind scope p y ss)
+
+  -- An expression with suffixes. The last is the outermost node, and all have the place of the first expression.
+  -- The first argument says whether a call follows.
+  unfoldable pub postfix : Bool → Scope → Expr → List Suffix → Act Target
+  postfix behind scope first ss = do
+    visits (node_count behind ss) (place_of first)
+    if calls_is_array behind first ss then suffixes behind scope (place_of first) (t.Builtin b.IsArray) (without_first ss) else (do
+      x ← inner (is_called behind ss) scope first
+      suffixes behind scope (place_of first) x ss)
+
+  -- ---- expressions
+
+  unfoldable pub name : Scope → Place → List ℕ → Act Value
+  name scope p n = do
+    visit p
+    read scope n
+
+  unfoldable pub literal : Place → Found Value → Act Value
+  literal p r = do
+    visit p
+    lift r
+
+  abbrev pub valued : Act Value → Act Target
+  valued act = act >>= (λ x. pure (t.Value x))
+
+  abbrev pub node_at : Scope → Layer → Act Target
+  node_at scope (Expr-F.Undefined p) = valued (literal p (Ok v.Undefined))
+  node_at scope (Expr-F.Null p) = valued (literal p (Ok v.Null))
+  node_at scope (Expr-F.Bool p b) = valued (literal p (Ok (v.Bool b)))
+  node_at scope (Expr-F.Integer p n) = valued (literal p (bounded p (pos n)))
+  node_at scope (Expr-F.Text p s) = valued (literal p (Ok (v.Text s)))
+  node_at scope (Expr-F.Name p n) = valued (name scope p n)
+  node_at scope (Expr-F.List p es) = valued (list scope p es)
+  node_at scope (Expr-F.Object p ms) = valued (object scope p ms)
+  node_at scope (Expr-F.Prefix p o e) = valued (prefix scope p o e)
+  node_at scope (Expr-F.Postfix first ss) = postfix false scope first ss
+  node_at scope (Expr-F.Chain first os) = valued (chain scope first os)
+  node_at scope (Expr-F.Choice c x y) = valued (choice scope c x y)
+
+  -- What a call calls. It is no node.
+  abbrev pub callee_at : Scope → Layer → Act Target
+  callee_at scope (Expr-F.Name p n) = pure (called_by n)
+  callee_at scope (Expr-F.Postfix first ss) = postfix true scope first ss
+  callee_at scope _ = pure t.Nothing
+
+  unfoldable pub opened : Bool → Scope → Expr → Act Target
+  opened called scope e = if called then callee_at scope (out-Expr e) else node_at scope (out-Expr e)
+
+-- To a depth that nothing comes to which has visits left: of two expressions that are open, one directly in the other,
+-- at least one takes a visit.
+unfoldable pub evaluated : ℕ → Bool → Scope → Expr → Act Target
+evaluated zero called scope e = out_of_visits (place_of e)
+evaluated (suc depth) called scope e = opened (evaluated depth) called scope e

@@ -1,0 +1,7 @@
+pub mod Acts
+pub mod Values
+pub mod Variables
+pub mod Builtins
+pub mod Expressions
+pub mod Statements
+pub mod Meaning

@@ -1,0 +1,299 @@
+-- What statements do.
+use Rattle.std.specs.Prelude.{ℕ, zero, suc, ◌+◌, ℤ, pos, negsuc, ◌+ℤ◌, ◌-ℤ◌, Bool, true, false, if◌then◌else◌, codes, List, [], ◌∷◌, Option, Some, None, Ok, Err}
+use Rattle.sync_tokens.specs.declared.place.Place.{Place}
+use Rattle.sync_syntax.specs.declared.tree.Declares.{Declares}
+use Rattle.sync_syntax.specs.declared.tree.Declares.TheVariants.{Var, Let, Const}
+use Rattle.sync_syntax.specs.declared.tree.Declaration.{Declaration}
+use Rattle.sync_syntax.specs.declared.tree.Expr.{Expr}
+use Rattle.sync_syntax.specs.declared.tree.Named.{Named}
+use Rattle.sync_syntax.specs.declared.tree.Simple.{Simple}
+use Rattle.sync_syntax.specs.declared.tree.Simple.TheVariants as simples
+use Rattle.sync_syntax.specs.declared.tree.Start.{Start}
+use Rattle.sync_syntax.specs.declared.tree.Start.TheVariants as starts
+use Rattle.sync_syntax.specs.declared.tree.Statement.{Statement, out-Statement}
+use Rattle.sync_syntax.specs.declared.tree.Statement.TheOpen.{Statement-F}
+use Rattle.sync_syntax.specs.declared.tree.Writes.{Writes}
+use Rattle.sync_syntax.specs.declared.tree.Writes.TheVariants as writes
+use Rattle.sync_meaning.specs.declared.completion.Completion.{Completion}
+use Rattle.sync_meaning.specs.declared.completion.Completion.TheVariants.{Normal, Break, Continue, Return}
+use Rattle.sync_meaning.specs.declared.fault.FaultKind.TheVariants.{Thrown}
+use Rattle.sync_meaning.specs.declared.fault.RuleKind.TheVariants.{Forbidden}
+use Rattle.sync_meaning.specs.declared.fault.Stop.{Stop}
+use Rattle.sync_meaning.specs.declared.state.Scope.{Scope}
+use Rattle.sync_meaning.specs.declared.value.Value.{Value, out-Value}
+use Rattle.sync_meaning.specs.declared.value.Value.TheOpen.{Value-F}
+use Rattle.sync_meaning.specs.declared.value.Value.TheVariants as v
+use Rattle.sync_meaning.specs.Acts.{Found, Act, ◌>>=◌, ◌>>◌, pure, lift, denial, fault, type_fault, visit, out_of_visits}
+use Rattle.sync_meaning.specs.Values.{Layer, found_then, last_named, truth, added, integer_in, bounded, calculated}
+use Rattle.sync_meaning.specs.Variables.{number_of, new_number, declared, started, behind, written}
+use Rattle.sync_meaning.specs.Expressions as expressions
+use Rattle.sync_meaning.specs.Expressions.{evaluated, read, place_of}
+
+-- a statement as it is seen from outside
+abbrev pub StatementLayer : Type 0
+StatementLayer = Statement-F Statement
+
+-- ---- places
+
+abbrev pub place_of_simple : Simple → Place
+place_of_simple (simples.Write n how e) = n.place
+place_of_simple (simples.Increment n) = n.place
+place_of_simple (simples.Decrement n) = n.place
+place_of_simple (simples.Value p e) = p
+
+abbrev pub place_at : StatementLayer → Place
+place_at (Statement-F.Block p ss) = p
+place_at (Statement-F.Empty p) = p
+place_at (Statement-F.Declare d) = d.place
+place_at (Statement-F.If p c s t) = p
+place_at (Statement-F.For p start c last s) = p
+place_at (Statement-F.ForOf p how n e s) = p
+place_at (Statement-F.Return p e) = p
+place_at (Statement-F.Throw p e) = p
+place_at (Statement-F.Break p) = p
+place_at (Statement-F.Continue p) = p
+place_at (Statement-F.Simple s) = place_of_simple s
+
+unfoldable pub statement_place : Statement → Place
+statement_place s = place_at (out-Statement s)
+
+-- ---- variables
+
+-- the variable of this name and number takes a value
+unfoldable pub store : List ℕ → ℕ → Value → Act (Unit {0})
+store name number x = λ s. Ok (tt, record s { variables = written name number x s.variables })
+
+abbrev pub assign : Scope → List ℕ → Value → Act (Unit {0})
+assign scope name x = store name (number_of name scope) x
+
+-- ---- what is thrown
+
+abbrev pub text_at : Layer → Option (List ℕ)
+text_at (Value-F.Text s) = Some s
+text_at _ = None
+
+abbrev pub text_in : Option Value → Option (List ℕ)
+text_in (Some x) = text_at (out-Value x)
+text_in None = None
+
+abbrev pub forbidden_at : Layer → Option (List ℕ)
+forbidden_at (Value-F.Object ms) = text_in (last_named (codes "forbidden") ms)
+forbidden_at _ = None
+
+-- the text that an object has under `forbidden`
+unfoldable pub forbidden_in : Value → Option (List ℕ)
+forbidden_in x = forbidden_at (out-Value x)
+
+abbrev pub thrown_by : Place → Option (List ℕ) → Stop
+thrown_by p (Some s) = denial (Forbidden s) p
+thrown_by p None = fault Thrown p
+
+-- `throw` of an object with a text under `forbidden` denies with it; any other is a fault
+unfoldable pub thrown : Place → Value → Stop
+thrown p x = thrown_by p (forbidden_in x)
+
+-- ---- lists
+
+abbrev pub items_at : Place → Layer → Found (List Value)
+items_at p (Value-F.List xs) = Ok xs
+items_at p _ = type_fault p
+
+unfoldable pub items_in : Place → Value → Found (List Value)
+items_in p x = items_at p (out-Value x)
+
+-- what follows a statement that ends normally
+abbrev pub after_normal : Act Completion → Completion → Act Completion
+after_normal next Normal = next
+after_normal next how = pure how
+
+-- what follows a round of a loop: the next one, unless the body ended the loop
+abbrev pub after_round : Act Completion → Completion → Act Completion
+after_round next Break = pure Normal
+after_round next Return = pure Return
+after_round next _ = next
+
+-- The first argument is the depth of the expressions inside.
+module _ (depth : ℕ) where
+  abbrev pub value : Scope → Expr → Act Value
+  value scope e = expressions.value (evaluated depth) scope e
+
+  -- undefined where there is none
+  abbrev pub value_or_undefined : Scope → Option Expr → Act Value
+  value_or_undefined scope None = pure v.Undefined
+  value_or_undefined scope (Some e) = value scope e
+
+  -- One declaration. A `var` without a value leaves its variable as it is.
+  abbrev pub declare_one : Declares → Scope → List ℕ → Option Expr → Act (Unit {0})
+  declare_one Var scope name None = pure tt
+  declare_one how scope name e = value_or_undefined scope e >>= (λ x. store name (new_number how scope) x)
+
+  -- declarations from left to right; each sees those before it
+  abbrev pub declare_all : Declares → Scope → List (Named × Option Expr) → Act (Unit {0})
+  declare_all how scope [] = pure tt
+  declare_all how scope (n ∷ ns) = declare_one how scope n.0.name n.1 >> declare_all how (declared how n.0.name scope) ns
+
+  unfoldable pub declare : Scope → Declaration → Act (Unit {0})
+  declare scope d = do
+    visit d.place
+    declare_all d.declares scope d.names
+
+  -- a variable and a value, by `+` or by an operation on integers
+  unfoldable pub add_to : Scope → Named → Expr → Act (Unit {0})
+  add_to scope n e = do
+    x ← read scope n.name
+    y ← value scope e
+    z ← lift (added n.place x y)
+    assign scope n.name z
+
+  unfoldable pub subtract_from : Scope → Named → Expr → Act (Unit {0})
+  subtract_from scope n e = do
+    x ← read scope n.name
+    y ← value scope e
+    z ← lift (calculated n.place (λ a b. a -ℤ b) x y)
+    assign scope n.name z
+
+  unfoldable pub set : Scope → Named → Expr → Act (Unit {0})
+  set scope n e = do
+    x ← value scope e
+    assign scope n.name x
+
+  -- an integer more or less
+  unfoldable pub count : Scope → Named → ℤ → Act (Unit {0})
+  count scope n by = do
+    x ← read scope n.name
+    z ← lift (found_then (integer_in n.place x) (λ a. bounded n.place (a +ℤ by)))
+    assign scope n.name z
+
+  unfoldable pub expression : Scope → Expr → Act (Unit {0})
+  expression scope e = do
+    x ← value scope e
+    pure tt
+
+  abbrev pub simple_by : Scope → Simple → Act (Unit {0})
+  simple_by scope (simples.Write n writes.Set e) = set scope n e
+  simple_by scope (simples.Write n writes.Add e) = add_to scope n e
+  simple_by scope (simples.Write n writes.Subtract e) = subtract_from scope n e
+  simple_by scope (simples.Increment n) = count scope n (pos 1)
+  simple_by scope (simples.Decrement n) = count scope n (negsuc 0)
+  simple_by scope (simples.Value p e) = expression scope e
+
+  unfoldable pub simple : Scope → Simple → Act (Unit {0})
+  simple scope s = do
+    visit (place_of_simple s)
+    simple_by scope s
+
+  -- whether a condition holds; one that is absent does
+  abbrev pub holds : Scope → Place → Option Expr → Act Bool
+  holds scope p None = pure true
+  holds scope p (Some c) = do
+    x ← value scope c
+    lift (truth p x)
+
+  abbrev pub start : Scope → Option Start → Act (Unit {0})
+  start scope None = pure tt
+  start scope (Some (starts.Declare d)) = declare scope d
+  start scope (Some (starts.Simple s)) = simple scope s
+
+  abbrev pub step : Scope → Option Simple → Act (Unit {0})
+  step scope None = pure tt
+  step scope (Some s) = simple scope s
+
+  unfoldable pub returned : Scope → Place → Option Expr → Act Completion
+  returned scope p e = do
+    visit p
+    x ← value_or_undefined scope e
+    pure Return
+
+  unfoldable pub throw : Scope → Place → Expr → Act Completion
+  throw scope p e = do
+    visit p
+    x ← value scope e
+    (λ s. Err (thrown p x))
+
+  unfoldable pub jump : Place → Completion → Act Completion
+  jump p how = do
+    visit p
+    pure how
+
+  -- The second argument runs a statement inside.
+  module _ (inner : Scope → Statement → Act Completion) where
+    -- statements in turn, as far as each ends normally; each sees what is declared before it
+    abbrev pub run_all : Scope → List Statement → Act Completion
+    run_all scope [] = pure Normal
+    run_all scope (x ∷ xs) = inner scope x >>= after_normal (run_all (behind x scope) xs)
+
+    unfoldable pub block : Scope → Place → List Statement → Act Completion
+    block scope p xs = do
+      visit p
+      run_all scope xs
+
+    abbrev pub otherwise : Scope → Option Statement → Act Completion
+    otherwise scope None = pure Normal
+    otherwise scope (Some s) = inner scope s
+
+    unfoldable pub choose : Scope → Place → Expr → Statement → Option Statement → Act Completion
+    choose scope p c first other = do
+      visit p
+      goes ← holds scope p (Some c)
+      if goes then inner scope first else otherwise (behind first scope) other
+
+    -- ---- loops
+
+    -- the rounds of a `for`, no more than this many
+    unfoldable pub rounds : ℕ → Scope → Place → Option Expr → Option Simple → Statement → Act Completion
+    rounds zero scope p c last body = out_of_visits p
+    rounds (suc n) scope p c last body = do
+      goes ← holds scope p c
+      if goes then (do
+        how ← inner scope body
+        after_round (step scope last >> rounds n scope p c last body) how) else pure Normal
+
+    -- Each round takes a visit at least, so that the visits that are left bound the rounds.
+    unfoldable pub all_rounds : Scope → Place → Option Expr → Option Simple → Statement → Act Completion
+    all_rounds scope p c last body = λ s. rounds (s.visits + 1) scope p c last body s
+
+    unfoldable pub loop : Scope → Place → Option Start → Option Expr → Option Simple → Statement → Act Completion
+    loop scope p begin c last body = do
+      visit p
+      start scope begin
+      all_rounds (started begin scope) p c last body
+
+    -- a round for each item, which the variable of this name and number takes
+    abbrev pub each : Scope → List ℕ → ℕ → Statement → List Value → Act Completion
+    each scope name number body [] = pure Normal
+    each scope name number body (x ∷ xs) = (do
+      store name number x
+      inner scope body) >>= after_round (each scope name number body xs)
+
+    unfoldable pub loop_of : Scope → Place → Declares → Named → Expr → Statement → Act Completion
+    loop_of scope p how n e body = do
+      visit p
+      x ← value scope e
+      xs ← lift (items_in p x)
+      each (declared how n.name scope) n.name (new_number how scope) body xs
+
+    -- ---- statements
+
+    abbrev pub normally : Act (Unit {0}) → Act Completion
+    normally act = act >> pure Normal
+
+    abbrev pub statement_at : Scope → StatementLayer → Act Completion
+    statement_at scope (Statement-F.Block p ss) = block scope p ss
+    statement_at scope (Statement-F.Empty p) = jump p Normal
+    statement_at scope (Statement-F.Declare d) = normally (declare scope d)
+    statement_at scope (Statement-F.If p c s t) = choose scope p c s t
+    statement_at scope (Statement-F.For p begin c last s) = loop scope p begin c last s
+    statement_at scope (Statement-F.ForOf p how n e s) = loop_of scope p how n e s
+    statement_at scope (Statement-F.Return p e) = returned scope p e
+    statement_at scope (Statement-F.Throw p e) = throw scope p e
+    statement_at scope (Statement-F.Break p) = jump p Break
+    statement_at scope (Statement-F.Continue p) = jump p Continue
+    statement_at scope (Statement-F.Simple s) = normally (simple scope s)
+
+    unfoldable pub opened : Scope → Statement → Act Completion
+    opened scope s = statement_at scope (out-Statement s)
+
+-- To a depth that nothing comes to which has visits left, since each statement takes one.
+unfoldable pub run : ℕ → Scope → Statement → Act Completion
+run zero scope s = out_of_visits (statement_place s)
+run (suc depth) scope s = opened depth (run depth) scope s

@@ -1,0 +1,34 @@
+//! What is called.
+
+use crate::value::Value;
+
+/// A method of values.
+#[derive(Clone, Copy, Debug, PartialEq, Eq)]
+pub enum Method {
+    IndexOf,
+    Concat,
+    StartsWith,
+}
+
+/// A function that is built in.
+#[derive(Clone, Copy, Debug, PartialEq, Eq)]
+pub enum Builtin {
+    Channel,
+    Access,
+    Role,
+    RequireUser,
+    RequireRole,
+    RequireAccess,
+    RequireAdmin,
+    IsArray,
+}
+
+/// What an expression comes to. All but `Value` come where a call follows.
+#[derive(Debug, Drop)]
+pub enum Target {
+    Value(Value),
+    Method(Value, Method),
+    Builtin(Builtin),
+    /// What can't be called.
+    Nothing,
+}

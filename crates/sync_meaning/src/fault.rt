@@ -1,0 +1,78 @@
+//! What ends a run before its end.
+
+use json_doc::DocText;
+use std::alloc::AllocError;
+use sync_tokens::Place;
+
+/// How an operation fails.
+#[derive(Clone, Copy, Debug, PartialEq, Eq)]
+pub enum FaultKind {
+    /// A value of another kind was wanted.
+    TypeFault,
+    /// A member of null or undefined.
+    NullMember,
+    /// An integer outside plus or minus 9007199254740991.
+    Range,
+    /// An argument that holds no texts.
+    Argument,
+    /// A text that is no name of its kind.
+    BadName,
+    /// A text, a list or the effects are too large.
+    Size,
+    /// A value was thrown that refuses nothing.
+    Thrown,
+}
+
+/// By which rule a revision is denied. The text of `Forbidden` is the one that was thrown.
+#[derive(Debug, Drop)]
+pub enum RuleKind {
+    Forbidden(DocText),
+    User,
+    Role,
+    Access,
+    Admin,
+    Fault(FaultKind),
+    /// No visit was left.
+    Fuel,
+}
+
+/// A rule and the place of the node that denies by it.
+#[derive(Debug, Drop)]
+pub struct Rule {
+    pub kind: RuleKind,
+    pub place: Place,
+}
+
+/// What ends a run. `Memory` is want of memory, which may come at any place.
+#[derive(Debug, Drop)]
+pub enum Stop {
+    Deny(Rule),
+    Memory,
+}
+
+impl Stop {
+    ghost use Rattle.std.specs.Prelude.{◌≡◌};
+    ghost use Rattle.sync_meaning.specs.Acts as spec;
+
+    /// A fault of this kind at this place.
+    pub(crate) fn fault(kind: FaultKind, place: Place) -> Stop
+        ensures { result ≡ spec.fault kind place }
+    {
+        Stop::Deny(Rule {
+            kind: RuleKind::Fault(kind),
+            place,
+        })
+    }
+}
+
+impl From<AllocError> for Stop {
+    ghost use Rattle.std.specs.Prelude.{◌≡◌};
+    ghost use Rattle.sync_meaning.specs.declared.fault.Stop.{Stop};
+    ghost use Rattle.sync_meaning.specs.declared.fault.Stop.TheVariants.{Memory};
+
+    ghost from_gives = { λ _ stop. stop ≡ Memory };
+
+    fn from(_error: AllocError) -> Stop {
+        Stop::Memory
+    }
+}

@@ -1,0 +1,128 @@
+//! Values.
+
+ghost use Rattle.std.specs.Prelude.{◌≡◌, IfOk, option_map};
+ghost use Rattle.json_doc.specs.View.{node_tree, row_trees, members_fields};
+ghost use Rattle.sync_meaning.specs.Values.{value_of, values_of, members_of, last_named};
+
+use crate::Memory;
+use json_doc::{DocText, Members, Node};
+use sqlite_items::Items;
+use std::alloc::Global;
+
+/// A value. Of an opaque number nothing is known but that it is a number. Of two members of one name the
+/// later counts.
+#[derive(Debug, Drop)]
+pub enum Value {
+    Undefined,
+    Null,
+    Bool(bool),
+    Integer(i64),
+    Opaque,
+    Text(DocText),
+    List(Items<Value>),
+    Object(Items<(DocText, Value)>),
+}
+
+impl Value {
+    /// The same again.
+    #[cycle(copy)]
+    pub fn copy(&self, alloc: Global) -> Result<Value, Memory>
+        ensures { IfOk result (λ made. made ≡ self.now) }
+    {
+        match self {
+            Value::Undefined => Ok(Value::Undefined),
+            Value::Null => Ok(Value::Null),
+            Value::Bool(truth) => Ok(Value::Bool(*truth)),
+            Value::Integer(n) => Ok(Value::Integer(*n)),
+            Value::Opaque => Ok(Value::Opaque),
+            Value::Text(text) => Ok(Value::Text(text.copy(alloc)?)),
+            Value::List(values) => Ok(Value::List(copy_all(alloc, values.as_slice())?)),
+            Value::Object(members) => Ok(Value::Object(copy_members(alloc, members.as_slice())?)),
+        }
+    }
+}
+
+/// Values, the same again.
+#[cycle(copy)]
+pub(crate) fn copy_all(alloc: Global, values: &[Value]) -> Result<Items<Value>, Memory>
+    ensures { IfOk result (λ made. made ≡ values.now) }
+{
+    let mut made = Items::new(alloc);
+    for value in values {
+        made.push(value.copy(alloc)?)?;
+    }
+    Ok(made)
+}
+
+#[cycle(copy)]
+fn copy_members(
+    alloc: Global,
+    members: &[(DocText, Value)],
+) -> Result<Items<(DocText, Value)>, Memory>
+    ensures { IfOk result (λ made. made ≡ members.now) }
+{
+    let mut made = Items::new(alloc);
+    for member in members {
+        let name = member.0.copy(alloc)?;
+        let value = member.1.copy(alloc)?;
+        made.push((name, value))?;
+    }
+    Ok(made)
+}
+
+/// What a node of a document is as a value.
+#[cycle(convert)]
+pub(crate) fn value_of(alloc: Global, node: &Node) -> Result<Value, Memory>
+    ensures { IfOk result (λ value. value ≡ value_of (node_tree node.now)) }
+{
+    match node {
+        Node::Null => Ok(Value::Null),
+        Node::Bool(truth) => Ok(Value::Bool(*truth)),
+        Node::Int(n) => Ok(Value::Integer(*n)),
+        Node::Opaque => Ok(Value::Opaque),
+        Node::Text(text) => Ok(Value::Text(text.copy(alloc)?)),
+        Node::List(nodes) => Ok(Value::List(values_of(alloc, nodes.as_slice())?)),
+        Node::Object(members) => Ok(Value::Object(members_of(alloc, members)?)),
+    }
+}
+
+#[cycle(convert)]
+fn values_of(alloc: Global, nodes: &[Node]) -> Result<Items<Value>, Memory>
+    ensures { IfOk result (λ values. values ≡ values_of (row_trees nodes.now)) }
+{
+    let mut made = Items::new(alloc);
+    let mut left = nodes;
+    while let [node, rest @ ..] = left {
+        made.push(value_of(alloc, node)?)?;
+        left = rest;
+    }
+    Ok(made)
+}
+
+#[cycle(convert)]
+fn members_of(alloc: Global, members: &Members) -> Result<Items<(DocText, Value)>, Memory>
+    ensures { IfOk result (λ made. made ≡ members_of (members_fields members.now)) }
+{
+    let mut made = Items::new(alloc);
+    for (name, node) in members.iter() {
+        let name = DocText::from_str(alloc, name.as_str())?;
+        made.push((name, value_of(alloc, node)?))?;
+    }
+    Ok(made)
+}
+
+/// What stands last under a name.
+#[tactic(auto, unfolding(crate::specs::Values::last_named))]
+pub(crate) fn last_named<'m, T>(name: &str, members: &'m [(DocText, T)]) -> Option<&'m T>
+    ensures { option_map (λ x. x.now) result ≡ last_named name.now members.now }
+{
+    let mut found = None;
+    let mut left = members;
+    while let [member, rest @ ..] = left {
+        if name == member.0.as_str() {
+            found = Some(&member.1);
+        }
+        left = rest;
+    }
+    found
+}
