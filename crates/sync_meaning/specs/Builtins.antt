@@ -1,6 +1,6 @@
 -- The functions that are built in: what they take, which effects they have, and whom they let pass.
-use Rattle.std.specs.Prelude.{ℕ, ◌+◌, nat_lt, nat_eq, Bool, true, false, ◌||◌, if◌then◌else◌, codes, List, [], ◌∷◌, ◌++◌, map, drop, length, Option, Some, None, Ok, Err}
-use Rattle.std.specs.List.{list_all, list_any, starts_with}
+use Rattle.std.specs.Prelude.{ℕ, ◌+◌, nat_lt, nat_eq, Bool, true, false, ◌||◌, if◌then◌else◌, codes, List, [], ◌∷◌, ◌++◌, length, Option, Some, None, unwrap_or, Ok, Err}
+use Rattle.std.specs.List.{list_any}
 use Rattle.std.specs.Ordering.{nat_cmp, match_ordering}
 use Rattle.std.specs.Cmp.Lexicographic.{slice_cmp}
 use Rattle.std.specs.Str.{bytes_eq}
@@ -21,7 +21,7 @@ use Rattle.sync_meaning.specs.declared.fault.FaultKind.TheVariants.{Argument, Ba
 use Rattle.sync_meaning.specs.declared.fault.RuleKind.{RuleKind}
 use Rattle.sync_meaning.specs.declared.fault.RuleKind.TheVariants as rules
 use Rattle.sync_meaning.specs.declared.state.Context.{Context}
-use Rattle.sync_meaning.specs.declared.state.Effects.{Effects}
+use Rattle.sync_meaning.specs.declared.effects.Effects.{Effects}
 use Rattle.sync_meaning.specs.declared.state.State.{State}
 use Rattle.sync_meaning.specs.declared.value.Value.{Value, out-Value}
 use Rattle.sync_meaning.specs.declared.value.Value.TheOpen.{Value-F}
@@ -31,14 +31,25 @@ use Rattle.sync_meaning.specs.Values.{Layer, found_then, index_of, concat, begin
 
 -- ---- arguments
 
-abbrev pub add_text : Layer → Option (List (List ℕ)) → Option (List (List ℕ))
-add_text (Value-F.Text s) (Some ts) = Some (s ∷ ts)
-add_text _ ts = None
+abbrev pub text_at : Layer → Option (List ℕ)
+text_at (Value-F.Text s) = Some s
+text_at _ = None
 
--- the texts that items are, if all are texts
+-- the text that a value is
+unfoldable pub text_in : Value → Option (List ℕ)
+text_in x = text_at (out-Value x)
+
+abbrev pub with_text : Option (List ℕ) → (List ℕ → Option (List (List ℕ))) → Option (List (List ℕ))
+with_text (Some s) f = f s
+with_text None f = None
+
+-- the texts that items are, if all are texts, behind those found
+abbrev pub texts_from : List (List ℕ) → List Value → Option (List (List ℕ))
+texts_from found [] = Some found
+texts_from found (x ∷ xs) = with_text (text_in x) (λ s. texts_from (found ++ s ∷ []) xs)
+
 abbrev pub texts_of : List Value → Option (List (List ℕ))
-texts_of [] = Some []
-texts_of (x ∷ xs) = add_text (out-Value x) (texts_of xs)
+texts_of xs = texts_from [] xs
 
 abbrev pub argument_at : Layer → Option (List (List ℕ))
 argument_at Value-F.Undefined = Some []
@@ -55,9 +66,17 @@ texts_or p None = fails Argument p
 unfoldable pub texts_in : Place → Value → Found (List (List ℕ))
 texts_in p x = texts_or p (argument_at (out-Value x))
 
--- texts as what they name, if each is in its grammar
+-- a text as what it names, if that is in its grammar
+abbrev pub one : {A : Type 0} → Place → (List ℕ → A) → (A → Bool) → List ℕ → Found A
+one p f is t = if is (f t) then Ok (f t) else fails BadName p
+
+-- the same of texts, behind those found
+abbrev pub named_from : {A : Type 0} → Place → (List ℕ → A) → (A → Bool) → List A → List (List ℕ) → Found (List A)
+named_from p f is found [] = Ok found
+named_from p f is found (t ∷ ts) = found_then (one p f is t) (λ a. named_from p f is (found ++ a ∷ []) ts)
+
 abbrev pub named : {A : Type 0} → Place → (List ℕ → A) → (A → Bool) → List (List ℕ) → Found (List A)
-named p f is ts = if list_all is (map f ts) then Ok (map f ts) else fails BadName p
+named p f is ts = named_from p f is [] ts
 
 abbrev pub names_in : {A : Type 0} → Place → (List ℕ → A) → (A → Bool) → Value → Found (List A)
 names_in p f is x = found_then (texts_in p x) (named p f is)
@@ -65,16 +84,27 @@ names_in p f is x = found_then (texts_in p x) (named p f is)
 abbrev pub itself : List ℕ → List ℕ
 itself t = t
 
-unfoldable pub is_role_text : List ℕ → Bool
-is_role_text t = starts_with nat_eq t (codes "role:")
+-- what stands behind a beginning of a text, where it begins so
+abbrev pub stripped : List ℕ → List ℕ → Option (List ℕ)
+stripped [] t = Some t
+stripped (b ∷ bs) [] = None
+stripped (b ∷ bs) (c ∷ cs) = if nat_eq b c then stripped bs cs else None
+
+-- what stands behind `role:`
+unfoldable pub role_in : List ℕ → Option (List ℕ)
+role_in t = stripped (codes "role:") t
 
 -- a role, which may be written with `role:` before it
-unfoldable pub bare_role : List ℕ → List ℕ
-bare_role t = if is_role_text t then drop 5 t else t
+abbrev pub bare_role : List ℕ → List ℕ
+bare_role t = unwrap_or (role_in t) t
+
+abbrev pub grantee_by : List ℕ → Option (List ℕ) → Grantee
+grantee_by t (Some role) = grantee.Role role
+grantee_by t None = grantee.User t
 
 -- a user, or a role, which is written with `role:` before it
-unfoldable pub grantee_of : List ℕ → Grantee
-grantee_of t = if is_role_text t then grantee.Role (drop 5 t) else grantee.User t
+abbrev pub grantee_of : List ℕ → Grantee
+grantee_of t = grantee_by t (role_in t)
 
 unfoldable pub users_in : Place → Value → Found (List (List ℕ))
 users_in p x = names_in p itself is_name x
@@ -147,9 +177,10 @@ abbrev pub is_user : Option (List ℕ) → List (List ℕ) → Bool
 is_user None names = true
 is_user (Some user) names = is_in names user
 
-abbrev pub is_administrator : Option (List ℕ) → Bool
-is_administrator None = true
-is_administrator (Some user) = false
+-- the administrator passes, and a user where this is so
+abbrev pub or_administrator : Option (List ℕ) → Bool → Bool
+or_administrator None passes = true
+or_administrator (Some user) passes = passes
 
 -- the user is one of these; the administrator passes
 unfoldable pub passes_user : Context → List (List ℕ) → Bool
@@ -157,14 +188,14 @@ passes_user c names = is_user c.user names
 
 -- the user has one of these roles; the administrator passes
 unfoldable pub passes_role : Context → List (List ℕ) → Bool
-passes_role c roles = is_administrator c.user || share_one roles c.roles
+passes_role c roles = or_administrator c.user (share_one roles c.roles)
 
 -- the user has one of these channels, or all by the channel `*`; the administrator passes
 unfoldable pub passes_access : Context → List (List ℕ) → Bool
-passes_access c channels = is_administrator c.user || is_in c.channels (codes "*") || share_one channels c.channels
+passes_access c channels = or_administrator c.user (is_in c.channels (codes "*") || share_one channels c.channels)
 
 unfoldable pub passes_admin : Context → Bool
-passes_admin c = is_administrator c.user
+passes_admin c = or_administrator c.user false
 
 abbrev pub unless_passing : Bool → RuleKind → Place → State → Found (Value × State)
 unless_passing passes kind p s = if passes then Ok (v.Undefined, s) else Err (denial kind p)
@@ -174,13 +205,13 @@ unless_passing passes kind p s = if passes then Ok (v.Undefined, s) else Err (de
 abbrev pub with_effects : State → Effects → Found (Value × State)
 with_effects s e = Ok (v.Undefined, record s { effects = e })
 
--- adds one or more arguments' channels
-abbrev pub all_channels : Place → List Value → Found (List (List ℕ))
-all_channels p [] = Ok []
-all_channels p (x ∷ xs) = found_then (channels_in p x) (λ cs. found_then (all_channels p xs) (λ more. Ok (cs ++ more)))
+-- the channels of arguments from left to right, behind those found
+abbrev pub all_channels : Place → List (List ℕ) → List Value → Found (List (List ℕ))
+all_channels p found [] = Ok found
+all_channels p found (x ∷ xs) = found_then (channels_in p x) (λ cs. all_channels p (found ++ cs) xs)
 
 unfoldable pub channel : Place → List Value → Act Value
-channel p xs = λ s. found_then (all_channels p xs) (λ cs. found_then (add_channels p cs s.effects) (with_effects s))
+channel p xs = λ s. found_then (all_channels p [] xs) (λ cs. found_then (add_channels p cs s.effects) (with_effects s))
 
 unfoldable pub access : Place → Value → Value → Act Value
 access p x y = λ s. found_then (grantees_in p x) (λ tos. found_then (channels_in p y) (λ cs. found_then (add_grants p tos cs s.effects) (with_effects s)))

@@ -14,7 +14,7 @@ use Rattle.sync_meaning.specs.declared.callee.Method.{Method}
 use Rattle.sync_meaning.specs.declared.callee.Method.TheVariants as m
 use Rattle.sync_meaning.specs.declared.callee.Target.{Target}
 use Rattle.sync_meaning.specs.declared.callee.Target.TheVariants as t
-use Rattle.sync_meaning.specs.declared.state.Scope.{Scope}
+use Rattle.sync_meaning.specs.declared.scope.Scope.{Scope}
 use Rattle.sync_meaning.specs.declared.value.Value.{Value}
 use Rattle.sync_meaning.specs.declared.value.Value.TheVariants as v
 use Rattle.sync_meaning.specs.Acts.{Found, Act, ◌>>=◌, ◌>>◌, pure, lift, type_fault, visit, visits, out_of_visits}

@@ -5,9 +5,9 @@ use Rattle.sync_syntax.specs.declared.tree.Named.{Named}
 use Rattle.sync_syntax.specs.declared.tree.Program.{Program}
 use Rattle.sync_meaning.specs.declared.completion.Completion.{Completion}
 use Rattle.sync_meaning.specs.declared.state.Context.{Context}
-use Rattle.sync_meaning.specs.declared.state.Effects.{Effects}
+use Rattle.sync_meaning.specs.declared.effects.Effects.{Effects}
 use Rattle.sync_meaning.specs.declared.state.State.{State}
-use Rattle.sync_meaning.specs.declared.state.Variable.{Variable}
+use Rattle.sync_meaning.specs.declared.variables.Variable.{Variable}
 use Rattle.sync_meaning.specs.declared.value.Value.{Value}
 use Rattle.sync_meaning.specs.declared.value.Value.TheVariants as v
 use Rattle.sync_meaning.specs.Acts.{Found, Act, ◌>>=◌, ◌>>◌, pure, visit}

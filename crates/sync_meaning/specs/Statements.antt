@@ -19,7 +19,7 @@ use Rattle.sync_meaning.specs.declared.completion.Completion.TheVariants.{Normal
 use Rattle.sync_meaning.specs.declared.fault.FaultKind.TheVariants.{Thrown}
 use Rattle.sync_meaning.specs.declared.fault.RuleKind.TheVariants.{Forbidden}
 use Rattle.sync_meaning.specs.declared.fault.Stop.{Stop}
-use Rattle.sync_meaning.specs.declared.state.Scope.{Scope}
+use Rattle.sync_meaning.specs.declared.scope.Scope.{Scope}
 use Rattle.sync_meaning.specs.declared.value.Value.{Value, out-Value}
 use Rattle.sync_meaning.specs.declared.value.Value.TheOpen.{Value-F}
 use Rattle.sync_meaning.specs.declared.value.Value.TheVariants as v

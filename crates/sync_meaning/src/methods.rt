@@ -1,0 +1,231 @@
+//! Members and methods of values.
+
+ghost use Rattle.std.specs.Prelude.{◌≡◌, IfOk, pos, option_map};
+ghost use Rattle.sync_meaning.specs.declared.value.Value as Value;
+ghost use Rattle.sync_meaning.specs.Acts.{Gives};
+ghost use Rattle.sync_meaning.specs.Builtins as builtins;
+ghost use Rattle.sync_meaning.specs.Values as spec;
+
+use crate::Memory;
+use crate::callee::Method;
+use crate::fault::{FaultKind, Stop};
+use crate::operators::same;
+use crate::value::{Value, copy_all, last_named};
+use sqlite_items::Items;
+use std::alloc::{AllocError, Global};
+use sync_tokens::Place;
+
+/// How many items a list that is made may have.
+const MAX_ITEMS: usize = 1024;
+
+/// How many units of UTF-16 the character has that begins with this byte.
+fn units_of(byte: u8) -> usize
+    ensures { result ≡ spec.units_of byte }
+{
+    if byte < 128 {
+        1
+    } else if byte < 192 {
+        0
+    } else if byte < 240 {
+        1
+    } else {
+        2
+    }
+}
+
+/// How many units of UTF-16 a text has.
+fn units(text: &[u8]) -> Result<usize, Memory>
+    ensures { IfOk result (λ n. n ≡ spec.units text.now) }
+{
+    let mut count: usize = 0;
+    for byte in text {
+        let Some(more) = count.checked_add(units_of(*byte)) else {
+            return Err(AllocError);
+        };
+        count = more;
+    }
+    Ok(count)
+}
+
+/// A count as a value.
+fn counted(count: usize) -> Result<Value, Memory>
+    ensures { IfOk result (λ value. value ≡ Value.Integer (pos count)) }
+{
+    match i64::try_from(count) {
+        Ok(n) => Ok(Value::Integer(n)),
+        Err(_) => Err(AllocError),
+    }
+}
+
+/// The value, or undefined where there is none.
+fn or_undefined(alloc: Global, found: Option<&Value>) -> Result<Value, Memory>
+    ensures { IfOk result (λ value. value
+        ≡ spec.or_undefined (option_map (λ x. x.now) found.entry)) }
+{
+    match found {
+        Some(value) => value.copy(alloc),
+        None => Ok(Value::Undefined),
+    }
+}
+
+/// A count under the name `length`, and undefined under any other.
+fn length_or(name: &str, count: usize) -> Result<Value, Memory>
+    ensures { IfOk result (λ value. value ≡ spec.length_or name.now count) }
+{
+    if name == "length" {
+        counted(count)
+    } else {
+        Ok(Value::Undefined)
+    }
+}
+
+/// `.name`
+#[tactic(auto, unfolding(crate::specs::Values::member))]
+pub(crate) fn member(alloc: Global, place: Place, name: &str, value: &Value) -> Result<Value, Stop>
+    ensures { Gives (spec.member place name.now value.now) result }
+{
+    match value {
+        Value::Undefined | Value::Null => Err(Stop::fault(FaultKind::NullMember, place)),
+        Value::Object(members) => { Ok(or_undefined(alloc, last_named(name, members.as_slice()))?) }
+        Value::List(values) => Ok(length_or(name, values.len())?),
+        Value::Text(text) => Ok(length_or(name, units(text.as_str().as_bytes())?)?),
+        _ => Ok(Value::Undefined),
+    }
+}
+
+/// The item at a place, or undefined where there is none.
+fn item_at(alloc: Global, values: &[Value], at: i64) -> Result<Value, Memory>
+    ensures { IfOk result (λ value. value ≡ spec.item_at values.now at) }
+{
+    match usize::try_from(at) {
+        Ok(at) => or_undefined(alloc, values.get(at)),
+        Err(_) => Ok(Value::Undefined),
+    }
+}
+
+/// `[e]`
+#[tactic(auto, unfolding(crate::specs::Values::indexed))]
+pub(crate) fn indexed(
+    alloc: Global,
+    place: Place,
+    value: &Value,
+    index: &Value,
+) -> Result<Value, Stop>
+    ensures { Gives (spec.indexed place value.now index.now) result }
+{
+    match (value, index) {
+        (Value::Undefined | Value::Null, _) => Err(Stop::fault(FaultKind::NullMember, place)),
+        (Value::Object(members), Value::Text(name)) => Ok(or_undefined(
+            alloc,
+            last_named(name.as_str(), members.as_slice()),
+        )?),
+        (Value::List(values), Value::Integer(at)) => Ok(item_at(alloc, values.as_slice(), *at)?),
+        _ => Err(Stop::fault(FaultKind::TypeFault, place)),
+    }
+}
+
+#[tactic(auto, unfolding(crate::specs::Values::can_be_sought))]
+fn can_be_sought(value: &Value) -> bool
+    ensures { result ≡ spec.can_be_sought value.now }
+{
+    !matches!(value, Value::Opaque | Value::List(_) | Value::Object(_))
+}
+
+/// The place of the first item that is the same, else -1.
+fn index_from(value: &Value, values: &[Value]) -> Result<Value, Memory>
+    ensures { IfOk result (λ found. found ≡ Value.Integer (spec.index_from 0 value.now values.now)) }
+{
+    let mut at = 0;
+    let mut left = values;
+    while let [other, rest @ ..] = left {
+        if same(value, other) {
+            return counted(at);
+        }
+        at += 1;
+        left = rest;
+    }
+    Ok(Value::Integer(-1))
+}
+
+/// `list.indexOf(value)`
+#[tactic(auto, unfolding(crate::specs::Values::index_of))]
+fn index_of(place: Place, list: &Value, value: &Value) -> Result<Value, Stop>
+    ensures { Gives (spec.index_of place list.now value.now) result }
+{
+    match list {
+        Value::List(values) => {
+            if can_be_sought(value) {
+                Ok(index_from(value, values.as_slice())?)
+            } else {
+                Err(Stop::fault(FaultKind::TypeFault, place))
+            }
+        }
+        _ => Err(Stop::fault(FaultKind::TypeFault, place)),
+    }
+}
+
+/// A list of these, unless there are too many.
+#[tactic(auto, unfolding(crate::specs::Values::listed))]
+pub(crate) fn listed(place: Place, values: Items<Value>) -> Result<Value, Stop>
+    ensures { result ≡ spec.listed place values }
+{
+    if values.len() > MAX_ITEMS {
+        Err(Stop::fault(FaultKind::Size, place))
+    } else {
+        Ok(Value::List(values))
+    }
+}
+
+/// `list.concat(list)`
+#[tactic(auto, unfolding(crate::specs::Values::concat))]
+fn concat(alloc: Global, place: Place, first: &Value, second: &Value) -> Result<Value, Stop>
+    ensures { Gives (spec.concat place first.now second.now) result }
+{
+    match (first, second) {
+        (Value::List(a), Value::List(b)) => {
+            let mut all = copy_all(alloc, a.as_slice())?;
+            all.append(copy_all(alloc, b.as_slice())?)?;
+            listed(place, all)
+        }
+        _ => Err(Stop::fault(FaultKind::TypeFault, place)),
+    }
+}
+
+/// `text.startsWith(text)`
+#[tactic(auto, unfolding(crate::specs::Values::begins_with))]
+fn begins_with(place: Place, text: &Value, front: &Value) -> Result<Value, Stop>
+    ensures { result ≡ spec.begins_with place text.now front.now }
+{
+    match (text, front) {
+        (Value::Text(a), Value::Text(b)) => Ok(Value::Bool(
+            a.as_str().as_bytes().starts_with(b.as_str().as_bytes()),
+        )),
+        _ => Err(Stop::fault(FaultKind::TypeFault, place)),
+    }
+}
+
+/// `Array.isArray(value)`
+#[tactic(auto, unfolding(crate::specs::Values::is_list))]
+pub(crate) fn is_list(value: &Value) -> bool
+    ensures { result ≡ spec.is_list value.now }
+{
+    matches!(value, Value::List(_))
+}
+
+/// What a method gives.
+pub(crate) fn by_method(
+    alloc: Global,
+    place: Place,
+    method: Method,
+    value: &Value,
+    arguments: &[Value],
+) -> Result<Value, Stop>
+    ensures { Gives (builtins.by_method place method value.now arguments.now) result }
+{
+    match (method, arguments) {
+        (Method::IndexOf, [other]) => index_of(place, value, other),
+        (Method::Concat, [other]) => concat(alloc, place, value, other),
+        (Method::StartsWith, [other]) => begins_with(place, value, other),
+        _ => Err(Stop::fault(FaultKind::TypeFault, place)),
+    }
+}
