@@ -1,5 +1,5 @@
 -- What expressions come to.
-use Rattle.std.specs.Prelude.{ℕ, zero, suc, ◌+◌, pos, Bool, true, false, ◌&&◌, if◌then◌else◌, codes, List, [], ◌∷◌, ◌++◌, length, Option, Some, None, Ok, Err}
+use Rattle.std.specs.Prelude.{ℕ, zero, suc, ◌+◌, pos, Bool, true, false, not, ◌&&◌, if◌then◌else◌, codes, List, [], ◌∷◌, ◌++◌, length, Option, Some, None, Ok, Err}
 use Rattle.std.specs.Str.{bytes_eq}
 use Rattle.sync_tokens.specs.declared.place.Place.{Place}
 use Rattle.sync_syntax.specs.declared.tree.Operator.{Operator}
@@ -54,7 +54,7 @@ place_of = fold-Expr Place (Unit {0}) first_place (λ _. tt)
 
 abbrev pub lookup : {A : Type 0} → List (List ℕ × A) → List ℕ → Option A
 lookup [] name = None
-lookup (f ∷ fs) name = if bytes_eq f.0 name then Some f.1 else lookup fs name
+lookup (f ∷ fs) name = if bytes_eq name f.0 then Some f.1 else lookup fs name
 
 -- the functions that are built in, `Array.isArray` apart
 abbrev pub builtins : List (List ℕ × Builtin)
@@ -85,40 +85,49 @@ abbrev pub is_call_at : SuffixLayer → Bool
 is_call_at (Suffix-F.Call es) = true
 is_call_at _ = false
 
+abbrev pub is_call : Suffix → Bool
+is_call s = is_call_at (out-Suffix s)
+
 -- whether a call comes next; behind the last suffix as it is said
 abbrev pub is_called : Bool → List Suffix → Bool
 is_called behind [] = behind
-is_called behind (s ∷ ss) = is_call_at (out-Suffix s)
+is_called behind (s ∷ ss) = is_call s
 
 abbrev pub is_array_name_at : Layer → Bool
 is_array_name_at (Expr-F.Name p n) = bytes_eq n (codes "Array")
 is_array_name_at _ = false
 
+abbrev pub is_array_name : Expr → Bool
+is_array_name e = is_array_name_at (out-Expr e)
+
 abbrev pub is_array_member_at : SuffixLayer → Bool
 is_array_member_at (Suffix-F.Member n) = bytes_eq n (codes "isArray")
 is_array_member_at _ = false
 
-abbrev pub begins_is_array : Bool → List Suffix → Bool
-begins_is_array behind [] = false
-begins_is_array behind (s ∷ ss) = is_array_member_at (out-Suffix s) && is_called behind ss
+abbrev pub is_array_member : Suffix → Bool
+is_array_member s = is_array_member_at (out-Suffix s)
 
 -- `Array.isArray(`
-unfoldable pub calls_is_array : Bool → Expr → List Suffix → Bool
-calls_is_array behind first ss = is_array_name_at (out-Expr first) && begins_is_array behind ss
+abbrev pub calls_is_array : Bool → Expr → List Suffix → Bool
+calls_is_array behind first [] = false
+calls_is_array behind first (s ∷ ss) = is_array_name first && is_array_member s && is_called behind ss
 
 abbrev pub without_first : List Suffix → List Suffix
 without_first [] = []
 without_first (s ∷ ss) = ss
 
--- The callee of a call is no node, so that `.name` before a call is none.
-abbrev pub node_count_at : Bool → SuffixLayer → ℕ
-node_count_at called (Suffix-F.Member n) = if called then 0 else 1
-node_count_at called _ = 1
+abbrev pub ends_node_at : Bool → SuffixLayer → Bool
+ends_node_at called (Suffix-F.Member n) = not called
+ends_node_at called _ = true
+
+-- The callee of a call is no node, so that `.name` before a call ends none.
+abbrev pub ends_node : Bool → Suffix → Bool
+ends_node called s = ends_node_at called (out-Suffix s)
 
 -- how many nodes end with these suffixes
 abbrev pub node_count : Bool → List Suffix → ℕ
 node_count behind [] = 0
-node_count behind (s ∷ ss) = node_count_at (is_called behind ss) (out-Suffix s) + node_count behind ss
+node_count behind (s ∷ ss) = (if ends_node (is_called behind ss) s then 1 else 0) + node_count behind ss
 
 -- ---- values
 
@@ -129,6 +138,30 @@ as_value p _ = type_fault p
 -- what a variable of the scope holds
 unfoldable pub read : Scope → List ℕ → Act Value
 read scope name = λ s. Ok (value_in name (number_of name scope) s.variables, s)
+
+-- ---- what needs no expression inside
+
+unfoldable pub name : Scope → Place → List ℕ → Act Value
+name scope p n = do
+  visit p
+  read scope n
+
+unfoldable pub literal : Place → Found Value → Act Value
+literal p r = do
+  visit p
+  lift r
+
+-- what is called is called with these arguments
+abbrev pub call_by : Place → Target → List Value → Act Value
+call_by p (t.Method x how) xs = lift (by_method p how x xs)
+call_by p (t.Builtin f) xs = built_in p f xs
+call_by p _ xs = lift (type_fault p)
+
+-- a member, or before a call a method
+unfoldable pub member_or_method : Bool → Place → Target → List ℕ → Act Target
+member_or_method called p x name = do
+  y ← lift (as_value p x)
+  if called then pure (method_of y name) else (do z ← lift (member p name y); pure (t.Value z))
 
 -- The first argument evaluates an expression inside: where it is given true, as what a call calls.
 module _ (inner : Bool → Scope → Expr → Act Target) where
@@ -208,21 +241,11 @@ module _ (inner : Bool → Scope → Expr → Act Target) where
 
   -- ---- what stands behind an expression
 
-  abbrev pub call_by : Scope → Place → Target → List Value → Act Value
-  call_by scope p (t.Method x how) xs = lift (by_method p how x xs)
-  call_by scope p (t.Builtin f) xs = built_in p f xs
-  call_by scope p _ xs = lift (type_fault p)
-
   -- a call: the arguments first
   unfoldable pub call : Scope → Place → Target → List Expr → Act Value
   call scope p x es = do
     xs ← values scope es
-    call_by scope p x xs
-
-  unfoldable pub member_or_method : Bool → Place → Target → List ℕ → Act Target
-  member_or_method called p x name = do
-    y ← lift (as_value p x)
-    if called then pure (method_of y name) else (do z ← lift (member p name y); pure (t.Value z))
+    call_by p x xs
 
   unfoldable pub index : Scope → Place → Target → Expr → Act Target
   index scope p x e = do
@@ -257,44 +280,48 @@ module _ (inner : Bool → Scope → Expr → Act Target) where
 
   -- ---- expressions
 
-  unfoldable pub name : Scope → Place → List ℕ → Act Value
-  name scope p n = do
-    visit p
-    read scope n
+  -- an expression with suffixes as a value
+  unfoldable pub postfix_value : Scope → Expr → List Suffix → Act Value
+  postfix_value scope first ss = do
+    x ← postfix false scope first ss
+    lift (as_value (place_of first) x)
 
-  unfoldable pub literal : Place → Found Value → Act Value
-  literal p r = do
-    visit p
-    lift r
+  abbrev pub node_at : Scope → Layer → Act Value
+  node_at scope (Expr-F.Undefined p) = literal p (Ok v.Undefined)
+  node_at scope (Expr-F.Null p) = literal p (Ok v.Null)
+  node_at scope (Expr-F.Bool p b) = literal p (Ok (v.Bool b))
+  node_at scope (Expr-F.Integer p n) = literal p (bounded p (pos n))
+  node_at scope (Expr-F.Text p s) = literal p (Ok (v.Text s))
+  node_at scope (Expr-F.Name p n) = name scope p n
+  node_at scope (Expr-F.List p es) = list scope p es
+  node_at scope (Expr-F.Object p ms) = object scope p ms
+  node_at scope (Expr-F.Prefix p o e) = prefix scope p o e
+  node_at scope (Expr-F.Postfix first ss) = postfix_value scope first ss
+  node_at scope (Expr-F.Chain first os) = chain scope first os
+  node_at scope (Expr-F.Choice c x y) = choice scope c x y
 
-  abbrev pub valued : Act Value → Act Target
-  valued act = act >>= (λ x. pure (t.Value x))
+  -- the value of an expression
+  unfoldable pub node : Scope → Expr → Act Value
+  node scope e = node_at scope (out-Expr e)
 
-  abbrev pub node_at : Scope → Layer → Act Target
-  node_at scope (Expr-F.Undefined p) = valued (literal p (Ok v.Undefined))
-  node_at scope (Expr-F.Null p) = valued (literal p (Ok v.Null))
-  node_at scope (Expr-F.Bool p b) = valued (literal p (Ok (v.Bool b)))
-  node_at scope (Expr-F.Integer p n) = valued (literal p (bounded p (pos n)))
-  node_at scope (Expr-F.Text p s) = valued (literal p (Ok (v.Text s)))
-  node_at scope (Expr-F.Name p n) = valued (name scope p n)
-  node_at scope (Expr-F.List p es) = valued (list scope p es)
-  node_at scope (Expr-F.Object p ms) = valued (object scope p ms)
-  node_at scope (Expr-F.Prefix p o e) = valued (prefix scope p o e)
-  node_at scope (Expr-F.Postfix first ss) = postfix false scope first ss
-  node_at scope (Expr-F.Chain first os) = valued (chain scope first os)
-  node_at scope (Expr-F.Choice c x y) = valued (choice scope c x y)
-
-  -- What a call calls. It is no node.
   abbrev pub callee_at : Scope → Layer → Act Target
   callee_at scope (Expr-F.Name p n) = pure (called_by n)
   callee_at scope (Expr-F.Postfix first ss) = postfix true scope first ss
   callee_at scope _ = pure t.Nothing
 
+  -- What a call calls. It is no node.
+  unfoldable pub callee : Scope → Expr → Act Target
+  callee scope e = callee_at scope (out-Expr e)
+
   unfoldable pub opened : Bool → Scope → Expr → Act Target
-  opened called scope e = if called then callee_at scope (out-Expr e) else node_at scope (out-Expr e)
+  opened called scope e = if called then callee scope e else (do x ← node scope e; pure (t.Value x))
 
 -- To a depth that nothing comes to which has visits left: of two expressions that are open, one directly in the other,
 -- at least one takes a visit.
 unfoldable pub evaluated : ℕ → Bool → Scope → Expr → Act Target
 evaluated zero called scope e = out_of_visits (place_of e)
 evaluated (suc depth) called scope e = opened (evaluated depth) called scope e
+
+-- the value of an expression, to this depth
+abbrev pub value_to : ℕ → Scope → Expr → Act Value
+value_to depth scope e = value (evaluated depth) scope e

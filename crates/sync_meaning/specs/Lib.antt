@@ -5,3 +5,5 @@ pub mod Builtins
 pub mod Expressions
 pub mod Statements
 pub mod Meaning
+pub mod Nests
+pub mod Texts

@@ -26,8 +26,8 @@ use Rattle.sync_meaning.specs.declared.value.Value.TheVariants as v
 use Rattle.sync_meaning.specs.Acts.{Found, Act, ◌>>=◌, ◌>>◌, pure, lift, denial, fault, type_fault, visit, out_of_visits}
 use Rattle.sync_meaning.specs.Values.{Layer, found_then, last_named, truth, added, integer_in, bounded, calculated}
 use Rattle.sync_meaning.specs.Variables.{number_of, new_number, declared, started, behind, written}
-use Rattle.sync_meaning.specs.Expressions as expressions
-use Rattle.sync_meaning.specs.Expressions.{evaluated, read, place_of}
+use Rattle.sync_meaning.specs.Builtins.{text_in}
+use Rattle.sync_meaning.specs.Expressions.{value_to, read}
 
 -- a statement as it is seen from outside
 abbrev pub StatementLayer : Type 0
@@ -68,16 +68,12 @@ assign scope name x = store name (number_of name scope) x
 
 -- ---- what is thrown
 
-abbrev pub text_at : Layer → Option (List ℕ)
-text_at (Value-F.Text s) = Some s
-text_at _ = None
-
-abbrev pub text_in : Option Value → Option (List ℕ)
-text_in (Some x) = text_at (out-Value x)
-text_in None = None
+abbrev pub text_of : Option Value → Option (List ℕ)
+text_of (Some x) = text_in x
+text_of None = None
 
 abbrev pub forbidden_at : Layer → Option (List ℕ)
-forbidden_at (Value-F.Object ms) = text_in (last_named (codes "forbidden") ms)
+forbidden_at (Value-F.Object ms) = text_of (last_named (codes "forbidden") ms)
 forbidden_at _ = None
 
 -- the text that an object has under `forbidden`
@@ -112,10 +108,25 @@ after_round next Break = pure Normal
 after_round next Return = pure Return
 after_round next _ = next
 
+-- an integer more or less
+abbrev pub one_more : Place → Value → ℤ → Found Value
+one_more p x by = found_then (integer_in p x) (λ a. bounded p (a +ℤ by))
+
+unfoldable pub count : Scope → Named → ℤ → Act (Unit {0})
+count scope n by = do
+  x ← read scope n.name
+  z ← lift (one_more n.place x by)
+  assign scope n.name z
+
+unfoldable pub jump : Place → Completion → Act Completion
+jump p how = do
+  visit p
+  pure how
+
 -- The first argument is the depth of the expressions inside.
 module _ (depth : ℕ) where
   abbrev pub value : Scope → Expr → Act Value
-  value scope e = expressions.value (evaluated depth) scope e
+  value scope e = value_to depth scope e
 
   -- undefined where there is none
   abbrev pub value_or_undefined : Scope → Option Expr → Act Value
@@ -157,13 +168,6 @@ module _ (depth : ℕ) where
     x ← value scope e
     assign scope n.name x
 
-  -- an integer more or less
-  unfoldable pub count : Scope → Named → ℤ → Act (Unit {0})
-  count scope n by = do
-    x ← read scope n.name
-    z ← lift (found_then (integer_in n.place x) (λ a. bounded n.place (a +ℤ by)))
-    assign scope n.name z
-
   unfoldable pub expression : Scope → Expr → Act (Unit {0})
   expression scope e = do
     x ← value scope e
@@ -182,12 +186,16 @@ module _ (depth : ℕ) where
     visit (place_of_simple s)
     simple_by scope s
 
-  -- whether a condition holds; one that is absent does
-  abbrev pub holds : Scope → Place → Option Expr → Act Bool
-  holds scope p None = pure true
-  holds scope p (Some c) = do
+  -- whether a condition is true, by the statement at this place
+  unfoldable pub is_true : Scope → Place → Expr → Act Bool
+  is_true scope p c = do
     x ← value scope c
     lift (truth p x)
+
+  -- the same; a condition that is absent is
+  abbrev pub holds : Scope → Place → Option Expr → Act Bool
+  holds scope p None = pure true
+  holds scope p (Some c) = is_true scope p c
 
   abbrev pub start : Scope → Option Start → Act (Unit {0})
   start scope None = pure tt
@@ -210,11 +218,6 @@ module _ (depth : ℕ) where
     x ← value scope e
     (λ s. Err (thrown p x))
 
-  unfoldable pub jump : Place → Completion → Act Completion
-  jump p how = do
-    visit p
-    pure how
-
   -- The second argument runs a statement inside.
   module _ (inner : Scope → Statement → Act Completion) where
     -- statements in turn, as far as each ends normally; each sees what is declared before it
@@ -227,15 +230,16 @@ module _ (depth : ℕ) where
       visit p
       run_all scope xs
 
-    abbrev pub otherwise : Scope → Option Statement → Act Completion
-    otherwise scope None = pure Normal
-    otherwise scope (Some s) = inner scope s
+    -- the statement behind `else`, which sees what the first one declares
+    abbrev pub otherwise : Scope → Statement → Option Statement → Act Completion
+    otherwise scope first None = pure Normal
+    otherwise scope first (Some s) = inner (behind first scope) s
 
     unfoldable pub choose : Scope → Place → Expr → Statement → Option Statement → Act Completion
     choose scope p c first other = do
       visit p
-      goes ← holds scope p (Some c)
-      if goes then inner scope first else otherwise (behind first scope) other
+      goes ← is_true scope p c
+      if goes then inner scope first else otherwise scope first other
 
     -- ---- loops
 
@@ -252,8 +256,8 @@ module _ (depth : ℕ) where
     unfoldable pub all_rounds : Scope → Place → Option Expr → Option Simple → Statement → Act Completion
     all_rounds scope p c last body = λ s. rounds (s.visits + 1) scope p c last body s
 
-    unfoldable pub loop : Scope → Place → Option Start → Option Expr → Option Simple → Statement → Act Completion
-    loop scope p begin c last body = do
+    unfoldable pub loop_while : Scope → Place → Option Start → Option Expr → Option Simple → Statement → Act Completion
+    loop_while scope p begin c last body = do
       visit p
       start scope begin
       all_rounds (started begin scope) p c last body
@@ -282,7 +286,7 @@ module _ (depth : ℕ) where
     statement_at scope (Statement-F.Empty p) = jump p Normal
     statement_at scope (Statement-F.Declare d) = normally (declare scope d)
     statement_at scope (Statement-F.If p c s t) = choose scope p c s t
-    statement_at scope (Statement-F.For p begin c last s) = loop scope p begin c last s
+    statement_at scope (Statement-F.For p begin c last s) = loop_while scope p begin c last s
     statement_at scope (Statement-F.ForOf p how n e s) = loop_of scope p how n e s
     statement_at scope (Statement-F.Return p e) = returned scope p e
     statement_at scope (Statement-F.Throw p e) = throw scope p e

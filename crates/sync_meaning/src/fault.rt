@@ -1,7 +1,8 @@
 //! What ends a run before its end.
 
+use itoa::Buffer;
 use json_doc::DocText;
-use std::alloc::AllocError;
+use std::alloc::{AllocError, Global};
 use sync_tokens::Place;
 
 /// How an operation fails.
@@ -62,6 +63,67 @@ impl Stop {
             kind: RuleKind::Fault(kind),
             place,
         })
+    }
+}
+
+impl FaultKind {
+    ghost use Rattle.std.specs.Prelude.{◌≡◌};
+    ghost use Rattle.sync_meaning.specs.Texts as spec;
+
+    fn name(self) -> &'static str
+        ensures { result.now ≡ spec.fault_name self }
+    {
+        match self {
+            FaultKind::TypeFault => "type",
+            FaultKind::NullMember => "null member",
+            FaultKind::Range => "range",
+            FaultKind::Argument => "argument",
+            FaultKind::BadName => "bad name",
+            FaultKind::Size => "size",
+            FaultKind::Thrown => "thrown",
+        }
+    }
+}
+
+impl RuleKind {
+    ghost use Rattle.std.specs.Prelude.{◌≡◌};
+    ghost use Rattle.sync_meaning.specs.Texts as spec;
+
+    fn name(&self) -> &'static str
+        ensures { result.now ≡ spec.rule_name self.now }
+    {
+        match self {
+            RuleKind::Forbidden(_) => "forbidden",
+            RuleKind::User => "user",
+            RuleKind::Role => "role",
+            RuleKind::Access => "access",
+            RuleKind::Admin => "admin",
+            RuleKind::Fuel => "fuel",
+            RuleKind::Fault(kind) => kind.name(),
+        }
+    }
+}
+
+impl Rule {
+    ghost use Rattle.std.specs.Prelude.{◌≡◌, IfOk};
+    ghost use Rattle.sync_meaning.specs.Texts as spec;
+
+    /// The rule's name, ` at `, the line, `:` and the column; behind `forbidden` also `: ` and the text.
+    pub fn text(&self, alloc: Global) -> Result<DocText, AllocError>
+        ensures { IfOk result (λ text. text ≡ spec.rule_text self.now) }
+    {
+        let mut line = Buffer::new();
+        let mut column = Buffer::new();
+        let mut text = DocText::from_str(alloc, self.kind.name())?;
+        text.push_str(" at ")?;
+        text.push_str(line.format(self.place.line))?;
+        text.push_str(":")?;
+        text.push_str(column.format(self.place.column))?;
+        if let RuleKind::Forbidden(said) = &self.kind {
+            text.push_str(": ")?;
+            text.push_str(said.as_str())?;
+        }
+        Ok(text)
     }
 }
 

@@ -1,0 +1,17 @@
+use Rattle.std.proofs.Common.{◌≡◌, ◌∙◌, ap, sym, arith, Err}
+use Rattle.sync_meaning.specs.Expressions.{evaluated}
+use Rattle.sync_meaning.specs.declared.fault.RuleKind.TheVariants.{Fuel}
+use Rattle.sync_meaning.specs.Acts.{denial}
+use Rattle.sync_meaning.proofs.Depths.{deeper}
+use Rattle.sync_meaning.proofs.expression.+evaluated.Goals as goal
+
+pub returns-then-depth-eq0 : goal.returns-then-depth-eq0
+unfolding evaluated
+returns-then-depth-eq0 t c _ =
+    let none : c.args.depth ≡ 0 = omega arith in
+    ap (λ n. evaluated n c.args.called c.args.scope.now c.args.expr.now c.args.state.now) none ∙ ap (λ p. Err (denial Fuel p)) (sym c.place_of.ensures)
+
+pub returns : goal.returns
+unfolding evaluated
+returns t c =
+    rw (deeper (λ n. evaluated n c.args.called c.args.scope.now c.args.expr.now c.args.state.now) c.args.depth (omega arith)) c.opened.ensures
