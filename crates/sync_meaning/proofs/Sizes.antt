@@ -1,5 +1,5 @@
 -- How large a tree of a document is, which falls where the tree is gone down.
-use Rattle.std.proofs.Common.{◌≡◌, ℕ, ◌+◌, ◌<◌, ◌≤◌, arith}
+use Rattle.std.proofs.Common.{ℕ, ◌+◌}
 use Rattle.json_doc.specs.Tree.{Tree, null, boolean, integer, opaque, text, list, object, Trees, no_trees, tree, Fields, no_fields, field}
 
 abbrev mutual

@@ -1,5 +1,5 @@
 -- What evaluating does: it gives a value and leaves a state, or something stops it.
-use Rattle.std.specs.Prelude.{◌≡◌, ◌≢◌, ℕ, ◌-◌, nat_lt, Bool, if◌then◌else◌, Result, Ok, Err}
+use Rattle.std.specs.Prelude.{◌≡◌, ◌≢◌, ℕ, ◌-◌, nat_lt, if◌then◌else◌, Result, Ok, Err}
 use Rattle.sync_tokens.specs.declared.place.Place.{Place}
 use Rattle.sync_meaning.specs.declared.fault.FaultKind.{FaultKind}
 use Rattle.sync_meaning.specs.declared.fault.FaultKind.TheVariants.{TypeFault}

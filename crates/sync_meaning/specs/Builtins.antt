@@ -10,8 +10,6 @@ use Rattle.sg_names.specs.Grants.{is_grantee, grant_cmp}
 use Rattle.sg_names.specs.RoleGrants.{role_grant_cmp}
 use Rattle.sg_names.specs.declared.grants.Grantee.{Grantee}
 use Rattle.sg_names.specs.declared.grants.Grantee.TheVariants as grantee
-use Rattle.sg_names.specs.declared.grants.Grant.{Grant}
-use Rattle.sg_names.specs.declared.role_grants.RoleGrant.{RoleGrant}
 use Rattle.sync_tokens.specs.declared.place.Place.{Place}
 use Rattle.sync_meaning.specs.declared.callee.Builtin.{Builtin}
 use Rattle.sync_meaning.specs.declared.callee.Builtin.TheVariants as b
@@ -26,7 +24,7 @@ use Rattle.sync_meaning.specs.declared.state.State.{State}
 use Rattle.sync_meaning.specs.declared.value.Value.{Value, out-Value}
 use Rattle.sync_meaning.specs.declared.value.Value.TheOpen.{Value-F}
 use Rattle.sync_meaning.specs.declared.value.Value.TheVariants as v
-use Rattle.sync_meaning.specs.Acts.{Found, Act, ◌>>=◌, ◌>>◌, pure, lift, denial, fails, type_fault}
+use Rattle.sync_meaning.specs.Acts.{Found, Act, pure, lift, denial, fails, type_fault}
 use Rattle.sync_meaning.specs.Values.{Layer, found_then, index_of, concat, begins_with, is_list}
 
 -- ---- arguments

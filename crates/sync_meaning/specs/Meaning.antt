@@ -1,5 +1,5 @@
 -- What a program says of a document: the effects, or the rule that denies.
-use Rattle.std.specs.Prelude.{ℕ, ◌+◌, ◌*◌, List, [], Option, Some, None, Ok, Err}
+use Rattle.std.specs.Prelude.{ℕ, ◌+◌, ◌*◌, List, [], Option, Some, None, Ok}
 use Rattle.json_doc.specs.Tree.{Tree}
 use Rattle.sync_syntax.specs.declared.tree.Named.{Named}
 use Rattle.sync_syntax.specs.declared.tree.Program.{Program}
@@ -10,7 +10,7 @@ use Rattle.sync_meaning.specs.declared.state.State.{State}
 use Rattle.sync_meaning.specs.declared.variables.Variable.{Variable}
 use Rattle.sync_meaning.specs.declared.value.Value.{Value}
 use Rattle.sync_meaning.specs.declared.value.Value.TheVariants as v
-use Rattle.sync_meaning.specs.Acts.{Found, Act, ◌>>=◌, ◌>>◌, pure, visit}
+use Rattle.sync_meaning.specs.Acts.{Found, Act}
 use Rattle.sync_meaning.specs.Values.{value_of, found_then}
 use Rattle.sync_meaning.specs.Variables.{top, written}
 use Rattle.sync_meaning.specs.Statements.{run, block}

@@ -1,5 +1,5 @@
 -- Function values: one that evaluates an expression inside, to this depth.
-use Rattle.std.specs.Prelude.{ℕ, Bool, Result}
+use Rattle.std.specs.Prelude.{ℕ, Bool}
 use Rattle.std.specs.declared.alloc.Global.{Global}
 use denote.Ref.{Bor, MutBor}
 use Rattle.sync_syntax.specs.declared.tree.Expr.{Expr}

@@ -1,8 +1,8 @@
 -- What statements do.
-use Rattle.std.specs.Prelude.{ℕ, zero, suc, ◌+◌, ℤ, pos, negsuc, ◌+ℤ◌, ◌-ℤ◌, Bool, true, false, if◌then◌else◌, codes, List, [], ◌∷◌, Option, Some, None, Ok, Err}
+use Rattle.std.specs.Prelude.{ℕ, zero, suc, ◌+◌, ℤ, pos, negsuc, ◌+ℤ◌, ◌-ℤ◌, Bool, true, if◌then◌else◌, codes, List, [], ◌∷◌, Option, Some, None, Ok, Err}
 use Rattle.sync_tokens.specs.declared.place.Place.{Place}
 use Rattle.sync_syntax.specs.declared.tree.Declares.{Declares}
-use Rattle.sync_syntax.specs.declared.tree.Declares.TheVariants.{Var, Let, Const}
+use Rattle.sync_syntax.specs.declared.tree.Declares.TheVariants.{Var}
 use Rattle.sync_syntax.specs.declared.tree.Declaration.{Declaration}
 use Rattle.sync_syntax.specs.declared.tree.Expr.{Expr}
 use Rattle.sync_syntax.specs.declared.tree.Named.{Named}
@@ -12,7 +12,6 @@ use Rattle.sync_syntax.specs.declared.tree.Start.{Start}
 use Rattle.sync_syntax.specs.declared.tree.Start.TheVariants as starts
 use Rattle.sync_syntax.specs.declared.tree.Statement.{Statement, out-Statement}
 use Rattle.sync_syntax.specs.declared.tree.Statement.TheOpen.{Statement-F}
-use Rattle.sync_syntax.specs.declared.tree.Writes.{Writes}
 use Rattle.sync_syntax.specs.declared.tree.Writes.TheVariants as writes
 use Rattle.sync_meaning.specs.declared.completion.Completion.{Completion}
 use Rattle.sync_meaning.specs.declared.completion.Completion.TheVariants.{Normal, Break, Continue, Return}

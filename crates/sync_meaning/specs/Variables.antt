@@ -3,7 +3,6 @@ use Rattle.std.specs.Prelude.{ℕ, ◌+◌, ◌==◌, Bool, ◌&&◌, if◌then�
 use Rattle.std.specs.Str.{bytes_eq}
 use Rattle.sync_syntax.specs.declared.tree.Declares.{Declares}
 use Rattle.sync_syntax.specs.declared.tree.Declares.TheVariants.{Var, Let, Const}
-use Rattle.sync_syntax.specs.declared.tree.Declaration.{Declaration}
 use Rattle.sync_syntax.specs.declared.tree.Expr.{Expr}
 use Rattle.sync_syntax.specs.declared.tree.Named.{Named}
 use Rattle.sync_syntax.specs.declared.tree.Start.{Start}

@@ -1,4 +1,4 @@
-use Rattle.std.proofs.Common.{◌≡◌, [], length}
+use Rattle.std.proofs.Common.{◌≡◌, length}
 use Rattle.sg_names.specs.Grammar.{is_channel_name}
 use Rattle.sync_meaning.specs.Builtins.{itself, named_from, channels_in}
 use Rattle.sync_meaning.proofs.arguments.channels_in.Given as goal

@@ -1,4 +1,4 @@
-use Rattle.std.proofs.Common.{◌≡◌, [], length}
+use Rattle.std.proofs.Common.{◌≡◌, length}
 use Rattle.sg_names.specs.Grants.{is_grantee}
 use Rattle.sync_meaning.specs.Builtins.{grantee_of, named_from, grantees_in}
 use Rattle.sync_meaning.proofs.arguments.grantees_in.Given as goal

@@ -1,4 +1,4 @@
-use Rattle.std.proofs.Common.{◌≡◌, [], length}
+use Rattle.std.proofs.Common.{◌≡◌, length}
 use Rattle.sg_names.specs.Grammar.{is_name}
 use Rattle.sync_meaning.specs.Builtins.{bare_role, named_from, roles_in}
 use Rattle.sync_meaning.proofs.arguments.roles_in.Given as goal

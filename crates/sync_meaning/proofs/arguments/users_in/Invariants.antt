@@ -1,4 +1,4 @@
-use Rattle.std.proofs.Common.{◌≡◌, [], length}
+use Rattle.std.proofs.Common.{◌≡◌, length}
 use Rattle.sg_names.specs.Grammar.{is_name}
 use Rattle.sync_meaning.specs.Builtins.{itself, named_from, users_in}
 use Rattle.sync_meaning.proofs.arguments.users_in.Given as goal

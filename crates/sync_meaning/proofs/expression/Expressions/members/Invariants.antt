@@ -1,4 +1,4 @@
-use Rattle.std.proofs.Common.{◌≡◌, ◌+◌, [], length}
+use Rattle.std.proofs.Common.{◌≡◌, [], length}
 use Rattle.sync_meaning.specs.Expressions.{evaluated, members_from}
 use Rattle.sync_meaning.proofs.expression.Expressions.members.Given as goal
 

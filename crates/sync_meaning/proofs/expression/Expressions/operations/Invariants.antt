@@ -1,4 +1,4 @@
-use Rattle.std.proofs.Common.{◌≡◌, ◌+◌, [], length}
+use Rattle.std.proofs.Common.{◌≡◌, length}
 use Rattle.sync_meaning.specs.Expressions.{evaluated, operations}
 use Rattle.sync_meaning.proofs.expression.Expressions.operations.Given as goal
 

@@ -1,4 +1,4 @@
-use Rattle.std.proofs.Common.{◌≡◌, ◌+◌, [], length}
+use Rattle.std.proofs.Common.{◌≡◌, [], length}
 use Rattle.sync_meaning.specs.Expressions.{evaluated, values_from}
 use Rattle.sync_meaning.proofs.expression.Expressions.values.Given as goal
 

@@ -1,7 +1,6 @@
 use Rattle.std.proofs.Common.{rules, arith}
 use Rattle.std.proofs.lemmas.Grind.{common_steps}
 use Rattle.sync_syntax.specs.declared.tree.Statement.{the_lemmas}
-use Rattle.sync_meaning.specs.Variables.{behind, behind_all, through}
 use Rattle.sync_meaning.proofs.Scopes.{through-behind}
 use Rattle.sync_meaning.proofs.scope.Scope.+behind.Goals as goal
 

@@ -1,4 +1,4 @@
-use Rattle.std.proofs.Common.{rules, arith, false}
+use Rattle.std.proofs.Common.{rules, arith}
 use Rattle.std.proofs.lemmas.Grind.{common_steps}
 use Rattle.sync_meaning.specs.Statements.{all_rounds, rounds, run}
 use Rattle.sync_meaning.proofs.Depths.{one_more, no_more}
