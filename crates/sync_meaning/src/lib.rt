@@ -8,6 +8,7 @@ mod completion;
 mod effects;
 mod expression;
 mod fault;
+pub mod laws;
 mod meaning;
 mod methods;
 mod operators;
