@@ -17,6 +17,7 @@ Found A = Result A Stop
 abbrev pub Act : Type 0 → Type 0
 Act A = State → Found (A × State)
 
+-- what was found, and what comes of it in its state
 abbrev pub and_then : {A B : Type 0} → Found (A × State) → (A → Act B) → Found (B × State)
 and_then (Ok p) f = f p.0 p.1
 and_then (Err e) f = Err e
@@ -30,9 +31,11 @@ infixl 10 ◌>>◌
 abbrev pub ◌>>◌ : {A B : Type 0} → Act A → Act B → Act B
 p >> q = p >>= (λ _. q)
 
+-- a value, in any state as it is
 abbrev pub pure : {A : Type 0} → A → Act A
 pure a = λ s. Ok (a, s)
 
+-- what was found, beside a state that stays
 abbrev pub in_state : {A : Type 0} → Found A → State → Found (A × State)
 in_state (Ok a) s = Ok (a, s)
 in_state (Err e) s = Err e
@@ -47,15 +50,19 @@ lift r = λ s. in_state r s
 abbrev pub denial : RuleKind → Place → Stop
 denial kind p = Deny (record { kind = kind; place = p })
 
+-- a fault of this kind at this place
 abbrev pub fault : FaultKind → Place → Stop
 fault kind p = denial (Fault kind) p
 
+-- nothing is found, for a fault
 abbrev pub fails : {A : Type 0} → FaultKind → Place → Found A
 fails kind p = Err (fault kind p)
 
+-- a value of another kind was wanted
 abbrev pub type_fault : {A : Type 0} → Place → Found A
 type_fault p = fails TypeFault p
 
+-- no visit is left
 abbrev pub out_of_visits : {A : Type 0} → Place → Act A
 out_of_visits p = λ s. Err (denial Fuel p)
 
@@ -63,11 +70,13 @@ out_of_visits p = λ s. Err (denial Fuel p)
 unfoldable pub visits : ℕ → Place → Act (Unit {0})
 visits n p = λ s. if nat_lt s.visits n then Err (denial Fuel p) else Ok (tt, record s { visits = s.visits - n })
 
+-- one visit at a place
 abbrev pub visit : Place → Act (Unit {0})
 visit p = visits 1 p
 
 -- ---- what a function that evaluates ensures: what the meaning says, unless memory fails
 
+-- the result is this outcome, or memory failed
 abbrev pub Gives : {A : Type 0} → Found A → Found A → Type 0
 Gives outcome (Ok a) = outcome ≡ Ok a
 Gives outcome (Err e) = e ≢ Memory → outcome ≡ Err e

@@ -29,6 +29,7 @@ use Rattle.sync_meaning.specs.Values.{Layer, found_then, index_of, concat, begin
 
 -- ---- arguments
 
+-- the text that a value is, seen from outside
 abbrev pub text_at : Layer → Option (List ℕ)
 text_at (Value-F.Text s) = Some s
 text_at _ = None
@@ -37,6 +38,7 @@ text_at _ = None
 unfoldable pub text_in : Value → Option (List ℕ)
 text_in x = text_at (out-Value x)
 
+-- what comes of a text, if there is one
 abbrev pub with_text : Option (List ℕ) → (List ℕ → Option (List (List ℕ))) → Option (List (List ℕ))
 with_text (Some s) f = f s
 with_text None f = None
@@ -46,9 +48,11 @@ abbrev pub texts_from : List (List ℕ) → List Value → Option (List (List �
 texts_from found [] = Some found
 texts_from found (x ∷ xs) = with_text (text_in x) (λ s. texts_from (found ++ s ∷ []) xs)
 
+-- the texts that items are, if all are texts
 abbrev pub texts_of : List Value → Option (List (List ℕ))
 texts_of xs = texts_from [] xs
 
+-- the texts of an argument that is seen from outside
 abbrev pub argument_at : Layer → Option (List (List ℕ))
 argument_at Value-F.Undefined = Some []
 argument_at Value-F.Null = Some []
@@ -56,6 +60,7 @@ argument_at (Value-F.Text s) = Some (s ∷ [])
 argument_at (Value-F.List xs) = texts_of xs
 argument_at _ = None
 
+-- the texts, or where there are none an argument fault
 abbrev pub texts_or : Place → Option (List (List ℕ)) → Found (List (List ℕ))
 texts_or p (Some ts) = Ok ts
 texts_or p None = fails Argument p
@@ -73,12 +78,15 @@ abbrev pub named_from : {A : Type 0} → Place → (List ℕ → A) → (A → B
 named_from p f is found [] = Ok found
 named_from p f is found (t ∷ ts) = found_then (one p f is t) (λ a. named_from p f is (found ++ a ∷ []) ts)
 
+-- texts as what they name, if each is in its grammar
 abbrev pub named : {A : Type 0} → Place → (List ℕ → A) → (A → Bool) → List (List ℕ) → Found (List A)
 named p f is ts = named_from p f is [] ts
 
+-- what an argument names
 abbrev pub names_in : {A : Type 0} → Place → (List ℕ → A) → (A → Bool) → Value → Found (List A)
 names_in p f is x = found_then (texts_in p x) (named p f is)
 
+-- a text as it stands
 abbrev pub itself : List ℕ → List ℕ
 itself t = t
 
@@ -96,6 +104,7 @@ role_in t = stripped (codes "role:") t
 abbrev pub bare_role : List ℕ → List ℕ
 bare_role t = unwrap_or (role_in t) t
 
+-- a user, or where there is one this role
 abbrev pub grantee_by : List ℕ → Option (List ℕ) → Grantee
 grantee_by t (Some role) = grantee.Role role
 grantee_by t None = grantee.User t
@@ -104,15 +113,19 @@ grantee_by t None = grantee.User t
 abbrev pub grantee_of : List ℕ → Grantee
 grantee_of t = grantee_by t (role_in t)
 
+-- the users of an argument
 unfoldable pub users_in : Place → Value → Found (List (List ℕ))
 users_in p x = names_in p itself is_name x
 
+-- the roles of an argument
 unfoldable pub roles_in : Place → Value → Found (List (List ℕ))
 roles_in p x = names_in p bare_role is_name x
 
+-- the channels of an argument
 unfoldable pub channels_in : Place → Value → Found (List (List ℕ))
 channels_in p x = names_in p itself is_channel_name x
 
+-- the users and roles of an argument
 unfoldable pub grantees_in : Place → Value → Found (List Grantee)
 grantees_in p x = names_in p grantee_of is_grantee x
 
@@ -131,12 +144,15 @@ effect_count e = length e.channels + length e.grants + length e.roles
 unfoldable pub within : Place → Effects → Found Effects
 within p e = if nat_lt 1000 (effect_count e) then fails Size p else Ok e
 
+-- one channel more
 unfoldable pub add_channel : Place → List ℕ → Effects → Found Effects
 add_channel p c e = within p (record e { channels = put (slice_cmp nat_cmp) c e.channels })
 
+-- a channel for a user or role more
 unfoldable pub add_grant : Place → Grantee → List ℕ → Effects → Found Effects
 add_grant p to c e = within p (record e { grants = put grant_cmp (record { to = to; channel = c }) e.grants })
 
+-- a role for a user more
 unfoldable pub add_role : Place → List ℕ → List ℕ → Effects → Found Effects
 add_role p user role e = within p (record e { roles = put role_grant_cmp (record { user = user; role = role }) e.roles })
 
@@ -145,9 +161,11 @@ abbrev pub for_each : {X : Type 0} → (X → Effects → Found Effects) → Lis
 for_each f [] e = Ok e
 for_each f (x ∷ xs) e = found_then (f x e) (for_each f xs)
 
+-- these channels more
 unfoldable pub add_channels : Place → List (List ℕ) → Effects → Found Effects
 add_channels p cs e = for_each (add_channel p) cs e
 
+-- each of these channels to one user or role
 unfoldable pub add_grants_to : Place → List (List ℕ) → Grantee → Effects → Found Effects
 add_grants_to p cs to e = for_each (add_grant p to) cs e
 
@@ -155,6 +173,7 @@ add_grants_to p cs to e = for_each (add_grant p to) cs e
 unfoldable pub add_grants : Place → List Grantee → List (List ℕ) → Effects → Found Effects
 add_grants p tos cs e = for_each (add_grants_to p cs) tos e
 
+-- each of these roles to one user
 unfoldable pub add_roles_to : Place → List (List ℕ) → List ℕ → Effects → Found Effects
 add_roles_to p roles user e = for_each (add_role p user) roles e
 
@@ -164,6 +183,7 @@ add_roles p users roles e = for_each (add_roles_to p roles) users e
 
 -- ---- who passes
 
+-- whether a name is one of these
 abbrev pub is_in : List (List ℕ) → List ℕ → Bool
 is_in all name = list_any (bytes_eq name) all
 
@@ -171,6 +191,7 @@ is_in all name = list_any (bytes_eq name) all
 abbrev pub share_one : List (List ℕ) → List (List ℕ) → Bool
 share_one names all = list_any (is_in all) names
 
+-- whether the user is one of these; where there is none it is the administrator, who passes
 abbrev pub is_user : Option (List ℕ) → List (List ℕ) → Bool
 is_user None names = true
 is_user (Some user) names = is_in names user
@@ -192,14 +213,17 @@ passes_role c roles = or_administrator c.user (share_one roles c.roles)
 unfoldable pub passes_access : Context → List (List ℕ) → Bool
 passes_access c channels = or_administrator c.user (is_in c.channels (codes "*") || share_one channels c.channels)
 
+-- the administrator alone passes
 unfoldable pub passes_admin : Context → Bool
 passes_admin c = or_administrator c.user false
 
+-- goes on where the rule lets pass, and else denies by it
 abbrev pub unless_passing : Bool → RuleKind → Place → State → Found (Value × State)
 unless_passing passes kind p s = if passes then Ok (v.Undefined, s) else Err (denial kind p)
 
 -- ---- calls
 
+-- a state with these effects
 abbrev pub with_effects : State → Effects → Found (Value × State)
 with_effects s e = Ok (v.Undefined, record s { effects = e })
 
@@ -208,24 +232,31 @@ abbrev pub all_channels : Place → List (List ℕ) → List Value → Found (Li
 all_channels p found [] = Ok found
 all_channels p found (x ∷ xs) = found_then (channels_in p x) (λ cs. all_channels p (found ++ cs) xs)
 
+-- `channel(..)`: puts the document into channels
 unfoldable pub channel : Place → List Value → Act Value
 channel p xs = λ s. found_then (all_channels p [] xs) (λ cs. found_then (add_channels p cs s.effects) (with_effects s))
 
+-- `access(users, channels)`: grants each channel to each
 unfoldable pub access : Place → Value → Value → Act Value
 access p x y = λ s. found_then (grantees_in p x) (λ tos. found_then (channels_in p y) (λ cs. found_then (add_grants p tos cs s.effects) (with_effects s)))
 
+-- `role(users, roles)`: gives each role to each
 unfoldable pub role : Place → Value → Value → Act Value
 role p x y = λ s. found_then (users_in p x) (λ users. found_then (roles_in p y) (λ roles. found_then (add_roles p users roles s.effects) (with_effects s)))
 
+-- `requireUser(users)`: the user is one of these
 unfoldable pub require_user : Place → Value → Act Value
 require_user p x = λ s. found_then (users_in p x) (λ names. unless_passing (passes_user s.context names) rules.User p s)
 
+-- `requireRole(roles)`: the user has one of these roles
 unfoldable pub require_role : Place → Value → Act Value
 require_role p x = λ s. found_then (roles_in p x) (λ roles. unless_passing (passes_role s.context roles) rules.Role p s)
 
+-- `requireAccess(channels)`: the user has one of these channels, or `*`
 unfoldable pub require_access : Place → Value → Act Value
 require_access p x = λ s. found_then (channels_in p x) (λ cs. unless_passing (passes_access s.context cs) rules.Access p s)
 
+-- `requireAdmin()`: there is no user but the administrator
 unfoldable pub require_admin : Place → Act Value
 require_admin p = λ s. unless_passing (passes_admin s.context) rules.Admin p s
 
@@ -241,6 +272,7 @@ built_in p b.RequireAdmin [] = require_admin p
 built_in p b.IsArray (x ∷ []) = pure (v.Bool (is_list x))
 built_in p _ _ = lift (type_fault p)
 
+-- what a method gives; another count of arguments is a fault here
 abbrev pub by_method : Place → Method → Value → List Value → Found Value
 by_method p m.IndexOf x (y ∷ []) = index_of p x y
 by_method p m.Concat x (y ∷ []) = concat p x y

@@ -26,6 +26,7 @@ use Rattle.sync_meaning.specs.Builtins.{built_in, by_method}
 abbrev pub Layer : Type 0
 Layer = Expr-F Expr Suffix
 
+-- what follows an expression, seen from outside
 abbrev pub SuffixLayer : Type 0
 SuffixLayer = Suffix-F Expr Suffix
 
@@ -52,6 +53,7 @@ place_of = fold-Expr Place (Unit {0}) first_place (λ _. tt)
 
 -- ---- what is called
 
+-- what stands first under a name
 abbrev pub lookup : {A : Type 0} → List (List ℕ × A) → List ℕ → Option A
 lookup [] name = None
 lookup (f ∷ fs) name = if bytes_eq name f.0 then Some f.1 else lookup fs name
@@ -62,9 +64,11 @@ builtins =
     (codes "channel", b.Channel) ∷ (codes "access", b.Access) ∷ (codes "role", b.Role) ∷ (codes "requireUser", b.RequireUser) ∷
     (codes "requireRole", b.RequireRole) ∷ (codes "requireAccess", b.RequireAccess) ∷ (codes "requireAdmin", b.RequireAdmin) ∷ []
 
+-- the methods of values
 abbrev pub methods : List (List ℕ × Method)
 methods = (codes "indexOf", m.IndexOf) ∷ (codes "concat", m.Concat) ∷ (codes "startsWith", m.StartsWith) ∷ []
 
+-- a function that is built in, or nothing that can be called
 abbrev pub target_by : Option Builtin → Target
 target_by (Some f) = t.Builtin f
 target_by None = t.Nothing
@@ -73,6 +77,7 @@ target_by None = t.Nothing
 unfoldable pub called_by : List ℕ → Target
 called_by name = target_by (lookup builtins name)
 
+-- a method of a value, or nothing that can be called
 abbrev pub method_by : Value → Option Method → Target
 method_by x (Some how) = t.Method x how
 method_by x None = t.Nothing
@@ -81,10 +86,12 @@ method_by x None = t.Nothing
 unfoldable pub method_of : Value → List ℕ → Target
 method_of x name = method_by x (lookup methods name)
 
+-- a call, seen from outside
 abbrev pub is_call_at : SuffixLayer → Bool
 is_call_at (Suffix-F.Call es) = true
 is_call_at _ = false
 
+-- whether this is a call
 abbrev pub is_call : Suffix → Bool
 is_call s = is_call_at (out-Suffix s)
 
@@ -93,17 +100,21 @@ abbrev pub is_called : Bool → List Suffix → Bool
 is_called behind [] = behind
 is_called behind (s ∷ ss) = is_call s
 
+-- the name `Array`, seen from outside
 abbrev pub is_array_name_at : Layer → Bool
 is_array_name_at (Expr-F.Name p n) = bytes_eq n (codes "Array")
 is_array_name_at _ = false
 
+-- whether this is the name `Array`
 abbrev pub is_array_name : Expr → Bool
 is_array_name e = is_array_name_at (out-Expr e)
 
+-- `.isArray`, seen from outside
 abbrev pub is_array_member_at : SuffixLayer → Bool
 is_array_member_at (Suffix-F.Member n) = bytes_eq n (codes "isArray")
 is_array_member_at _ = false
 
+-- whether this is `.isArray`
 abbrev pub is_array_member : Suffix → Bool
 is_array_member s = is_array_member_at (out-Suffix s)
 
@@ -112,10 +123,12 @@ abbrev pub calls_is_array : Bool → Expr → List Suffix → Bool
 calls_is_array behind first [] = false
 calls_is_array behind first (s ∷ ss) = is_array_name first && is_array_member s && is_called behind ss
 
+-- the suffixes behind the first
 abbrev pub without_first : List Suffix → List Suffix
 without_first [] = []
 without_first (s ∷ ss) = ss
 
+-- whether a suffix ends a node, seen from outside
 abbrev pub ends_node_at : Bool → SuffixLayer → Bool
 ends_node_at called (Suffix-F.Member n) = not called
 ends_node_at called _ = true
@@ -131,6 +144,7 @@ node_count behind (s ∷ ss) = (if ends_node (is_called behind ss) s then 1 else
 
 -- ---- values
 
+-- the value that was found; what can only be called is none
 abbrev pub as_value : Place → Target → Found Value
 as_value p (t.Value x) = Ok x
 as_value p _ = type_fault p
@@ -141,11 +155,13 @@ read scope name = λ s. Ok (value_in name (number_of name scope) s.variables, s)
 
 -- ---- what needs no expression inside
 
+-- what a name stands for
 unfoldable pub name : Scope → Place → List ℕ → Act Value
 name scope p n = do
   visit p
   read scope n
 
+-- what a literal is
 unfoldable pub literal : Place → Found Value → Act Value
 literal p r = do
   visit p
@@ -176,6 +192,7 @@ module _ (inner : Bool → Scope → Expr → Act Target) where
   values_from scope found [] = pure found
   values_from scope found (e ∷ es) = value scope e >>= (λ x. values_from scope (found ++ x ∷ []) es)
 
+  -- the values of expressions from left to right
   unfoldable pub values : Scope → List Expr → Act (List Value)
   values scope es = values_from scope [] es
 
@@ -184,21 +201,25 @@ module _ (inner : Bool → Scope → Expr → Act Target) where
   members_from scope found [] = pure found
   members_from scope found (e ∷ es) = value scope e.1 >>= (λ x. members_from scope (found ++ (e.0, x) ∷ []) es)
 
+  -- the members of an object from left to right
   unfoldable pub members : Scope → List (List ℕ × Expr) → Act (List (List ℕ × Value))
   members scope es = members_from scope [] es
 
+  -- a list of expressions
   unfoldable pub list : Scope → Place → List Expr → Act Value
   list scope p es = do
     visit p
     xs ← values scope es
     lift (listed p xs)
 
+  -- an object of expressions
   unfoldable pub object : Scope → Place → List (List ℕ × Expr) → Act Value
   object scope p es = do
     visit p
     ms ← members scope es
     pure (v.Object ms)
 
+  -- an operator before its operand
   unfoldable pub prefix : Scope → Place → Prefix → Expr → Act Value
   prefix scope p o e = do
     visit p
@@ -211,16 +232,19 @@ module _ (inner : Bool → Scope → Expr → Act Target) where
     is_true ← lift (truth p x)
     if same_truth is_true deciding then pure x else value scope e
 
+  -- an operator that takes both operands
   unfoldable pub operated : Scope → Place → Operator → Value → Expr → Act Value
   operated scope p o x e = do
     y ← value scope e
     lift (combined p o x y)
 
+  -- an operator behind its first operand
   abbrev pub operation : Scope → Place → Operator → Value → Expr → Act Value
   operation scope p op.Or x e = decided scope p true x e
   operation scope p op.And x e = decided scope p false x e
   operation scope p o x e = operated scope p o x e
 
+  -- operators from left to right, behind the first operand
   abbrev pub operations : Scope → Place → Value → List (Operator × Expr) → Act Value
   operations scope p x [] = pure x
   operations scope p x (o ∷ os) = operation scope p o.0 x o.1 >>= (λ y. operations scope p y os)
@@ -232,6 +256,7 @@ module _ (inner : Bool → Scope → Expr → Act Target) where
     x ← value scope first
     operations scope (place_of first) x os
 
+  -- `?:` gives the one operand or the other
   unfoldable pub choice : Scope → Expr → Expr → Expr → Act Value
   choice scope c first other = do
     visit (place_of c)
@@ -247,6 +272,7 @@ module _ (inner : Bool → Scope → Expr → Act Target) where
     xs ← values scope es
     call_by p x xs
 
+  -- `[e]` behind what was found; e is evaluated first
   unfoldable pub index : Scope → Place → Target → Expr → Act Target
   index scope p x e = do
     y ← lift (as_value p x)
@@ -254,6 +280,7 @@ module _ (inner : Bool → Scope → Expr → Act Target) where
     z ← lift (indexed p y i)
     pure (t.Value z)
 
+  -- one suffix that is seen from outside
   abbrev pub suffix_at : Bool → Scope → Place → Target → SuffixLayer → Act Target
   suffix_at called scope p x (Suffix-F.Member n) = member_or_method called p x n
   suffix_at called scope p x (Suffix-F.Index e) = index scope p x e
@@ -265,6 +292,7 @@ module _ (inner : Bool → Scope → Expr → Act Target) where
   unfoldable pub suffix : Bool → Scope → Place → Target → Suffix → Act Target
   suffix called scope p x s = suffix_at called scope p x (out-Suffix s)
 
+  -- suffixes from left to right; the first argument says whether a call follows them
   abbrev pub suffixes : Bool → Scope → Place → Target → List Suffix → Act Target
   suffixes behind scope p x [] = pure x
   suffixes behind scope p x (s ∷ ss) = suffix (is_called behind ss) scope p x s >>= (λ y. suffixes behind scope p y ss)
@@ -286,6 +314,7 @@ module _ (inner : Bool → Scope → Expr → Act Target) where
     x ← postfix false scope first ss
     lift (as_value (place_of first) x)
 
+  -- the value of an expression that is seen from outside
   abbrev pub node_at : Scope → Layer → Act Value
   node_at scope (Expr-F.Undefined p) = literal p (Ok v.Undefined)
   node_at scope (Expr-F.Null p) = literal p (Ok v.Null)
@@ -304,6 +333,7 @@ module _ (inner : Bool → Scope → Expr → Act Target) where
   unfoldable pub node : Scope → Expr → Act Value
   node scope e = node_at scope (out-Expr e)
 
+  -- what a call calls, seen from outside
   abbrev pub callee_at : Scope → Layer → Act Target
   callee_at scope (Expr-F.Name p n) = pure (called_by n)
   callee_at scope (Expr-F.Postfix first ss) = postfix true scope first ss
@@ -313,6 +343,7 @@ module _ (inner : Bool → Scope → Expr → Act Target) where
   unfoldable pub callee : Scope → Expr → Act Target
   callee scope e = callee_at scope (out-Expr e)
 
+  -- an expression, or where it is called what the call calls
   unfoldable pub opened : Bool → Scope → Expr → Act Target
   opened called scope e = if called then callee scope e else (do x ← node scope e; pure (t.Value x))
 

@@ -29,6 +29,7 @@ with_second (Some n) x xs = written n.name 0 x xs
 unfoldable pub parameters : Program → Tree → Option Tree → List Variable
 parameters p doc old = with_second p.second (value_before old) (written p.first.name 0 (value_of doc) [])
 
+-- nothing was done yet
 abbrev pub no_effects : Effects
 no_effects = record { channels = []; grants = []; roles = [] }
 
@@ -44,6 +45,7 @@ depth_for visits = 2 * visits + 2
 unfoldable pub body : ℕ → Program → Act Completion
 body depth p = block depth (run depth) top p.place p.body
 
+-- the effects of a run, however its body ended
 abbrev pub gathered : Completion × State → Found Effects
 gathered end = Ok end.1.effects
 

@@ -35,32 +35,40 @@ module _ (f : Place → Place) where
   move_expr (Expr-F.Chain first os) = e.Chain first os
   move_expr (Expr-F.Choice c x y) = e.Choice c x y
 
+  -- one level of what follows an expression, whose parts are moved already
   abbrev pub move_suffix : Suffix-F Expr Suffix → Suffix
   move_suffix (Suffix-F.Member n) = suffixes.Member n
   move_suffix (Suffix-F.Index x) = suffixes.Index x
   move_suffix (Suffix-F.Call xs) = suffixes.Call xs
 
+  -- an expression with its places moved
   abbrev pub moved_expr : Expr → Expr
   moved_expr = fold-Expr Expr Suffix move_expr move_suffix
 
+  -- what follows an expression, with its places moved
   abbrev pub moved_suffix : Suffix → Suffix
   moved_suffix = fold-Suffix Expr Suffix move_expr move_suffix
 
+  -- a name with its place moved
   abbrev pub moved_named : Named → Named
   moved_named n = record { place = f n.place; name = n.name }
 
+  -- a name and the value that it is given, moved
   abbrev pub moved_given : Named × Option Expr → Named × Option Expr
   moved_given x = (moved_named x.0, option_map moved_expr x.1)
 
+  -- a declaration with its places moved
   abbrev pub moved_declaration : Declaration → Declaration
   moved_declaration d = record { place = f d.place; declares = d.declares; names = map moved_given d.names }
 
+  -- a simple statement with its places moved
   abbrev pub moved_simple : Simple → Simple
   moved_simple (simples.Write n how x) = simples.Write (moved_named n) how (moved_expr x)
   moved_simple (simples.Increment n) = simples.Increment (moved_named n)
   moved_simple (simples.Decrement n) = simples.Decrement (moved_named n)
   moved_simple (simples.Value p x) = simples.Value (f p) (moved_expr x)
 
+  -- the beginning of a `for` with its places moved
   abbrev pub moved_start : Start → Start
   moved_start (starts.Declare d) = starts.Declare (moved_declaration d)
   moved_start (starts.Simple x) = starts.Simple (moved_simple x)
@@ -79,8 +87,10 @@ module _ (f : Place → Place) where
   move_statement (Statement-F.Continue p) = s.Continue (f p)
   move_statement (Statement-F.Simple x) = s.Simple (moved_simple x)
 
+  -- a statement with its places moved
   abbrev pub moved_statement : Statement → Statement
   moved_statement = fold-Statement Statement move_statement
 
+  -- a program with its places moved
   abbrev pub moved : Program → Program
   moved p = record { name = p.name; first = moved_named p.first; second = option_map moved_named p.second; place = f p.place; body = map moved_statement p.body }

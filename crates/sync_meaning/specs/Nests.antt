@@ -1,4 +1,4 @@
--- Function values: one that evaluates an expression inside, to this depth.
+-- Function values that evaluate and run what is inside.
 use Rattle.std.specs.Prelude.{ℕ, Bool}
 use Rattle.std.specs.declared.alloc.Global.{Global}
 use denote.Ref.{Bor, MutBor}
@@ -12,6 +12,7 @@ use Rattle.sync_meaning.specs.Acts.{Found, Does}
 use Rattle.sync_meaning.specs.Expressions.{evaluated}
 use Rattle.sync_meaning.specs.Statements.{run}
 
+-- a function value that evaluates an expression inside, to this depth
 pub record Nests (depth : ℕ) (pre : Global → ℕ → Bor Scope → MutBor State → Bor Expr → Bool → Type 0)
     (post : Global → ℕ → Bor Scope → MutBor State → Bor Expr → Bool → Found Target → MutBor State → Type 0) : Type 0 where
   pub callable : (alloc : Global) (scope : Bor Scope) (old : MutBor State) (e : Bor Expr) (called : Bool) → pre alloc depth scope old e called

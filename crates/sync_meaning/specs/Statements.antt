@@ -34,12 +34,14 @@ StatementLayer = Statement-F Statement
 
 -- ---- places
 
+-- the place of a simple statement
 abbrev pub place_of_simple : Simple → Place
 place_of_simple (simples.Write n how e) = n.place
 place_of_simple (simples.Increment n) = n.place
 place_of_simple (simples.Decrement n) = n.place
 place_of_simple (simples.Value p e) = p
 
+-- the place of a statement that is seen from outside
 abbrev pub place_at : StatementLayer → Place
 place_at (Statement-F.Block p ss) = p
 place_at (Statement-F.Empty p) = p
@@ -53,6 +55,7 @@ place_at (Statement-F.Break p) = p
 place_at (Statement-F.Continue p) = p
 place_at (Statement-F.Simple s) = place_of_simple s
 
+-- the place of a statement
 unfoldable pub statement_place : Statement → Place
 statement_place s = place_at (out-Statement s)
 
@@ -62,15 +65,18 @@ statement_place s = place_at (out-Statement s)
 unfoldable pub store : List ℕ → ℕ → Value → Act (Unit {0})
 store name number x = λ s. Ok (tt, record s { variables = written name number x s.variables })
 
+-- the variable that a name stands for takes a value
 abbrev pub assign : Scope → List ℕ → Value → Act (Unit {0})
 assign scope name x = store name (number_of name scope) x
 
 -- ---- what is thrown
 
+-- the text that a value is, if there is one
 abbrev pub text_of : Option Value → Option (List ℕ)
 text_of (Some x) = text_in x
 text_of None = None
 
+-- the text under `forbidden` of an object that is seen from outside
 abbrev pub forbidden_at : Layer → Option (List ℕ)
 forbidden_at (Value-F.Object ms) = text_of (last_named (codes "forbidden") ms)
 forbidden_at _ = None
@@ -79,6 +85,7 @@ forbidden_at _ = None
 unfoldable pub forbidden_in : Value → Option (List ℕ)
 forbidden_in x = forbidden_at (out-Value x)
 
+-- what throwing comes to, by the text under `forbidden`
 abbrev pub thrown_by : Place → Option (List ℕ) → Stop
 thrown_by p (Some s) = denial (Forbidden s) p
 thrown_by p None = fault Thrown p
@@ -89,10 +96,12 @@ thrown p x = thrown_by p (forbidden_in x)
 
 -- ---- lists
 
+-- the items of a list that is seen from outside
 abbrev pub items_at : Place → Layer → Found (List Value)
 items_at p (Value-F.List xs) = Ok xs
 items_at p _ = type_fault p
 
+-- the items of a list; another value is a fault
 unfoldable pub items_in : Place → Value → Found (List Value)
 items_in p x = items_at p (out-Value x)
 
@@ -111,12 +120,14 @@ after_round next _ = next
 abbrev pub one_more : Place → Value → ℤ → Found Value
 one_more p x by = found_then (integer_in p x) (λ a. bounded p (a +ℤ by))
 
+-- `++` and `--`
 unfoldable pub count : Scope → Named → ℤ → Act (Unit {0})
 count scope n by = do
   x ← read scope n.name
   z ← lift (one_more n.place x by)
   assign scope n.name z
 
+-- a visit, and the end of the statement
 unfoldable pub jump : Place → Completion → Act Completion
 jump p how = do
   visit p
@@ -124,6 +135,7 @@ jump p how = do
 
 -- The first argument is the depth of the expressions inside.
 module _ (depth : ℕ) where
+  -- the value of an expression
   abbrev pub value : Scope → Expr → Act Value
   value scope e = value_to depth scope e
 
@@ -142,6 +154,7 @@ module _ (depth : ℕ) where
   declare_all how scope [] = pure tt
   declare_all how scope (n ∷ ns) = declare_one how scope n.0.name n.1 >> declare_all how (declared how n.0.name scope) ns
 
+  -- a declaration of variables
   unfoldable pub declare : Scope → Declaration → Act (Unit {0})
   declare scope d = do
     visit d.place
@@ -155,6 +168,7 @@ module _ (depth : ℕ) where
     z ← lift (added n.place x y)
     assign scope n.name z
 
+  -- `-=`
   unfoldable pub subtract_from : Scope → Named → Expr → Act (Unit {0})
   subtract_from scope n e = do
     x ← read scope n.name
@@ -162,16 +176,19 @@ module _ (depth : ℕ) where
     z ← lift (calculated n.place (λ a b. a -ℤ b) x y)
     assign scope n.name z
 
+  -- `=`
   unfoldable pub set : Scope → Named → Expr → Act (Unit {0})
   set scope n e = do
     x ← value scope e
     assign scope n.name x
 
+  -- an expression whose value is passed over
   unfoldable pub expression : Scope → Expr → Act (Unit {0})
   expression scope e = do
     x ← value scope e
     pure tt
 
+  -- a simple statement, by its form
   abbrev pub simple_by : Scope → Simple → Act (Unit {0})
   simple_by scope (simples.Write n writes.Set e) = set scope n e
   simple_by scope (simples.Write n writes.Add e) = add_to scope n e
@@ -180,6 +197,7 @@ module _ (depth : ℕ) where
   simple_by scope (simples.Decrement n) = count scope n (negsuc 0)
   simple_by scope (simples.Value p e) = expression scope e
 
+  -- a simple statement, which takes a visit
   unfoldable pub simple : Scope → Simple → Act (Unit {0})
   simple scope s = do
     visit (place_of_simple s)
@@ -196,21 +214,25 @@ module _ (depth : ℕ) where
   holds scope p None = pure true
   holds scope p (Some c) = is_true scope p c
 
+  -- the beginning of a `for`, which may be absent
   abbrev pub start : Scope → Option Start → Act (Unit {0})
   start scope None = pure tt
   start scope (Some (starts.Declare d)) = declare scope d
   start scope (Some (starts.Simple s)) = simple scope s
 
+  -- what a `for` does behind each round, which may be absent
   abbrev pub step : Scope → Option Simple → Act (Unit {0})
   step scope None = pure tt
   step scope (Some s) = simple scope s
 
+  -- `return`; its value is passed over
   unfoldable pub returned : Scope → Place → Option Expr → Act Completion
   returned scope p e = do
     visit p
     x ← value_or_undefined scope e
     pure Return
 
+  -- `throw`
   unfoldable pub throw : Scope → Place → Expr → Act Completion
   throw scope p e = do
     visit p
@@ -224,6 +246,7 @@ module _ (depth : ℕ) where
     run_all scope [] = pure Normal
     run_all scope (x ∷ xs) = inner scope x >>= after_normal (run_all (behind x scope) xs)
 
+    -- a block of statements
     unfoldable pub block : Scope → Place → List Statement → Act Completion
     block scope p xs = do
       visit p
@@ -234,6 +257,7 @@ module _ (depth : ℕ) where
     otherwise scope first None = pure Normal
     otherwise scope first (Some s) = inner (behind first scope) s
 
+    -- `if`, by its condition
     unfoldable pub choose : Scope → Place → Expr → Statement → Option Statement → Act Completion
     choose scope p c first other = do
       visit p
@@ -255,6 +279,7 @@ module _ (depth : ℕ) where
     unfoldable pub all_rounds : Scope → Place → Option Expr → Option Simple → Statement → Act Completion
     all_rounds scope p c last body = λ s. rounds (s.visits + 1) scope p c last body s
 
+    -- `for`, with its beginning, its condition and what it does behind each round
     unfoldable pub loop_while : Scope → Place → Option Start → Option Expr → Option Simple → Statement → Act Completion
     loop_while scope p begin c last body = do
       visit p
@@ -268,6 +293,7 @@ module _ (depth : ℕ) where
       store name number x
       inner scope body) >>= after_round (each scope name number body xs)
 
+    -- `for .. of`: over the items of a list, which is evaluated before its variable is seen
     unfoldable pub loop_of : Scope → Place → Declares → Named → Expr → Statement → Act Completion
     loop_of scope p how n e body = do
       visit p
@@ -277,9 +303,11 @@ module _ (depth : ℕ) where
 
     -- ---- statements
 
+    -- what ends normally
     abbrev pub normally : Act (Unit {0}) → Act Completion
     normally act = act >> pure Normal
 
+    -- a statement that is seen from outside
     abbrev pub statement_at : Scope → StatementLayer → Act Completion
     statement_at scope (Statement-F.Block p ss) = block scope p ss
     statement_at scope (Statement-F.Empty p) = jump p Normal
@@ -293,6 +321,7 @@ module _ (depth : ℕ) where
     statement_at scope (Statement-F.Continue p) = jump p Continue
     statement_at scope (Statement-F.Simple s) = normally (simple scope s)
 
+    -- a statement, one level down
     unfoldable pub opened : Scope → Statement → Act Completion
     opened scope s = statement_at scope (out-Statement s)
 

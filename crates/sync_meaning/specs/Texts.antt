@@ -7,6 +7,7 @@ use Rattle.sync_meaning.specs.declared.fault.RuleKind.{RuleKind}
 use Rattle.sync_meaning.specs.declared.fault.RuleKind.TheVariants as rules
 use Rattle.sync_meaning.specs.declared.fault.Rule.{Rule}
 
+-- the name of a kind of fault
 abbrev pub fault_name : FaultKind → List ℕ
 fault_name faults.TypeFault = codes "type"
 fault_name faults.NullMember = codes "null member"
@@ -16,6 +17,7 @@ fault_name faults.BadName = codes "bad name"
 fault_name faults.Size = codes "size"
 fault_name faults.Thrown = codes "thrown"
 
+-- the name of a kind of rule
 abbrev pub rule_name : RuleKind → List ℕ
 rule_name (rules.Forbidden s) = codes "forbidden"
 rule_name rules.User = codes "user"

@@ -49,6 +49,7 @@ abbrev pub last_from : {A : Type 0} → List ℕ → Option A → List (List ℕ
 last_from name found [] = found
 last_from name found (m ∷ ms) = last_from name (if bytes_eq name m.0 then Some m.1 else found) ms
 
+-- what stands last under a name
 unfoldable pub last_named : {A : Type 0} → List ℕ → List (List ℕ × A) → Option A
 last_named name ms = last_from name None ms
 
@@ -65,6 +66,7 @@ truth_at p (Value-F.Text s) = Ok (nat_lt 0 (length s))
 truth_at p (Value-F.List vs) = Ok true
 truth_at p (Value-F.Object ms) = Ok true
 
+-- whether a value counts as true
 unfoldable pub truth : Place → Value → Found Bool
 truth p x = truth_at p (out-Value x)
 
@@ -86,6 +88,7 @@ added_at p (Value-F.Text a) (Value-F.Integer b) = joined p a (signed_decimal b)
 added_at p (Value-F.Integer a) (Value-F.Text b) = joined p (signed_decimal a) b
 added_at p _ _ = type_fault p
 
+-- what `+` makes of two values
 unfoldable pub added : Place → Value → Value → Found Value
 added p x y = added_at p (out-Value x) (out-Value y)
 
@@ -94,9 +97,11 @@ abbrev pub integer_at : Place → Layer → Found ℤ
 integer_at p (Value-F.Integer z) = Ok z
 integer_at p _ = type_fault p
 
+-- the integer that a value is; another value is a fault
 unfoldable pub integer_in : Place → Value → Found ℤ
 integer_in p x = integer_at p (out-Value x)
 
+-- what was found, and what comes of it
 abbrev pub found_then : {A B : Type 0} → Found A → (A → Found B) → Found B
 found_then (Ok a) f = f a
 found_then (Err e) f = Err e
@@ -105,6 +110,7 @@ found_then (Err e) f = Err e
 unfoldable pub calculated : Place → (ℤ → ℤ → ℤ) → Value → Value → Found Value
 calculated p f x y = found_then (integer_in p x) (λ a. found_then (integer_in p y) (λ b. bounded p (f a b)))
 
+-- the integer below 0 by as much as a value is above it
 unfoldable pub negated : Place → Value → Found Value
 negated p x = found_then (integer_in p x) (λ z. bounded p (neg_ℤ z))
 
@@ -116,9 +122,11 @@ compared_at p (Value-F.Integer a) (Value-F.Integer b) = Ok (int_cmp a b)
 compared_at p (Value-F.Text a) (Value-F.Text b) = Ok (slice_cmp nat_cmp a b)
 compared_at p _ _ = type_fault p
 
+-- which of two values comes first
 unfoldable pub compared : Place → Value → Value → Found Ordering
 compared p x y = compared_at p (out-Value x) (out-Value y)
 
+-- null and undefined, seen from outside
 abbrev pub is_nothing_at : Layer → Bool
 is_nothing_at Value-F.Undefined = true
 is_nothing_at Value-F.Null = true
@@ -141,6 +149,7 @@ same_at (Value-F.Integer a) (Value-F.Integer b) = int_eq a b
 same_at (Value-F.Text a) (Value-F.Text b) = bytes_eq a b
 same_at _ _ = false
 
+-- whether two values are of the same kind and value
 unfoldable pub same : Value → Value → Bool
 same x y = same_at (out-Value x) (out-Value y)
 
@@ -151,6 +160,7 @@ is_alike_at (Value-F.Integer a) (Value-F.Integer b) = true
 is_alike_at (Value-F.Text a) (Value-F.Text b) = true
 is_alike_at _ _ = false
 
+-- whether two values compare by value where neither is null or undefined
 unfoldable pub is_alike : Value → Value → Bool
 is_alike x y = is_alike_at (out-Value x) (out-Value y)
 
@@ -169,6 +179,7 @@ cannot_equal_at Value-F.Opaque (Value-F.Integer b) = true
 cannot_equal_at (Value-F.Integer a) Value-F.Opaque = true
 cannot_equal_at _ _ = false
 
+-- whether two values are of kinds that `===` can't compare
 unfoldable pub cannot_equal : Value → Value → Bool
 cannot_equal x y = cannot_equal_at (out-Value x) (out-Value y)
 
@@ -176,17 +187,21 @@ cannot_equal x y = cannot_equal_at (out-Value x) (out-Value y)
 unfoldable pub strictly_equal : Place → Value → Value → Found Bool
 strictly_equal p x y = if cannot_equal x y then type_fault p else Ok (same x y)
 
+-- a truth as a value
 abbrev pub truth_value : Found Bool → Found Value
 truth_value r = found_then r (λ b. Ok (v.Bool b))
 
+-- the other truth as a value
 abbrev pub not_that : Found Bool → Found Value
 not_that r = found_then r (λ b. Ok (v.Bool (not b)))
 
+-- whether the order of two values is as wanted
 abbrev pub ordered : Place → (Ordering → Bool) → Value → Value → Found Value
 ordered p holds x y = found_then (compared p x y) (λ o. Ok (v.Bool (holds o)))
 
 -- ---- operators, where both operands are evaluated
 
+-- what an operator makes of both operands, of which `||` and `&&` want the second alone
 abbrev pub combined : Place → Operator → Value → Value → Found Value
 combined p op.Add x y = added p x y
 combined p op.Subtract x y = calculated p (λ a b. a -ℤ b) x y
@@ -202,6 +217,7 @@ combined p op.NotSame x y = not_that (strictly_equal p x y)
 combined p op.Or x y = Ok y
 combined p op.And x y = Ok y
 
+-- the name of a value's kind
 abbrev pub kind_name_at : Layer → List ℕ
 kind_name_at Value-F.Undefined = codes "undefined"
 kind_name_at Value-F.Null = codes "object"
@@ -216,6 +232,7 @@ kind_name_at (Value-F.Object ms) = codes "object"
 unfoldable pub kind_name : Value → List ℕ
 kind_name x = kind_name_at (out-Value x)
 
+-- what an operator before its operand makes of it
 abbrev pub prefixed : Place → Prefix → Value → Found Value
 prefixed p prefix.Not x = not_that (truth p x)
 prefixed p prefix.Negate x = negated p x
@@ -227,15 +244,19 @@ prefixed p prefix.Typeof x = Ok (v.Text (kind_name x))
 abbrev pub units_of : ℕ → ℕ
 units_of b = if nat_lt b 128 then 1 else (if nat_lt b 192 then 0 else (if nat_lt b 240 then 1 else 2))
 
+-- how many units of UTF-16 a text has
 abbrev pub units : List ℕ → ℕ
 units s = sum_by units_of s
 
+-- a value, or undefined where there is none
 abbrev pub or_undefined : Option Value → Value
 or_undefined x = unwrap_or x v.Undefined
 
+-- a count under the name `length`, and undefined under any other
 abbrev pub length_or : List ℕ → ℕ → Value
 length_or name n = if bytes_eq name (codes "length") then v.Integer (pos n) else v.Undefined
 
+-- the member of a value that is seen from outside
 abbrev pub member_at : Place → List ℕ → Layer → Found Value
 member_at p name Value-F.Undefined = fails NullMember p
 member_at p name Value-F.Null = fails NullMember p
@@ -248,10 +269,12 @@ member_at p name _ = Ok v.Undefined
 unfoldable pub member : Place → List ℕ → Value → Found Value
 member p name x = member_at p name (out-Value x)
 
+-- the item at a place of a list, from 0 on, or undefined
 abbrev pub item_at : List Value → ℤ → Value
 item_at vs (pos n) = or_undefined (slice_get vs n)
 item_at vs (negsuc n) = v.Undefined
 
+-- what stands at an index, of values that are seen from outside
 abbrev pub indexed_at : Place → Layer → Layer → Found Value
 indexed_at p Value-F.Undefined i = fails NullMember p
 indexed_at p Value-F.Null i = fails NullMember p
@@ -265,6 +288,7 @@ indexed p x i = indexed_at p (out-Value x) (out-Value i)
 
 -- ---- methods
 
+-- what can be sought in a list, seen from outside
 abbrev pub can_be_sought_at : Layer → Bool
 can_be_sought_at Value-F.Opaque = false
 can_be_sought_at (Value-F.List vs) = false
@@ -284,6 +308,7 @@ index_from n x (y ∷ ys) = if same x y then pos n else index_from (n + 1) x ys
 unfoldable pub listed : Place → List Value → Found Value
 listed p vs = if nat_lt 1024 (length vs) then fails Size p else Ok (v.List vs)
 
+-- where a value stands in a list that is seen from outside
 abbrev pub index_at : Place → Layer → Value → Found Value
 index_at p (Value-F.List vs) x = if can_be_sought x then Ok (v.Integer (index_from 0 x vs)) else type_fault p
 index_at p _ x = type_fault p
@@ -292,6 +317,7 @@ index_at p _ x = type_fault p
 unfoldable pub index_of : Place → Value → Value → Found Value
 index_of p x y = index_at p (out-Value x) y
 
+-- two lists in one, seen from outside
 abbrev pub concat_at : Place → Layer → Layer → Found Value
 concat_at p (Value-F.List vs) (Value-F.List ws) = listed p (vs ++ ws)
 concat_at p _ _ = type_fault p
@@ -300,6 +326,7 @@ concat_at p _ _ = type_fault p
 unfoldable pub concat : Place → Value → Value → Found Value
 concat p x y = concat_at p (out-Value x) (out-Value y)
 
+-- whether a text begins with another, seen from outside
 abbrev pub begins_at : Place → Layer → Layer → Found Value
 begins_at p (Value-F.Text s) (Value-F.Text t) = Ok (v.Bool (starts_with nat_eq s t))
 begins_at p _ _ = type_fault p
@@ -308,6 +335,7 @@ begins_at p _ _ = type_fault p
 unfoldable pub begins_with : Place → Value → Value → Found Value
 begins_with p x y = begins_at p (out-Value x) (out-Value y)
 
+-- a list, seen from outside
 abbrev pub is_list_at : Layer → Bool
 is_list_at (Value-F.List vs) = true
 is_list_at _ = false

@@ -37,6 +37,7 @@ declared Var name scope = scope
 declared Let name scope = record { seen = scope.seen ++ (name, scope.next) ∷ []; next = scope.next + 1 }
 declared Const name scope = record { seen = scope.seen ++ (name, scope.next) ∷ []; next = scope.next + 1 }
 
+-- what is seen behind declarations, one after the other
 abbrev pub all_declared : Declares → List (Named × Option Expr) → Scope → Scope
 all_declared how [] scope = scope
 all_declared how (n ∷ ns) scope = all_declared how ns (declared how n.0.name scope)
@@ -51,10 +52,12 @@ started (Some (starts.Declare d)) scope = all_declared d.declares d.names scope
 started (Some (starts.Simple s)) scope = scope
 started None scope = scope
 
+-- what is seen behind statements, by what is seen behind each
 abbrev pub through : List (Scope → Scope) → Scope → Scope
 through [] scope = scope
 through (f ∷ fs) scope = through fs (f scope)
 
+-- what is seen behind a statement that may be absent
 abbrev pub through_other : Option (Scope → Scope) → Scope → Scope
 through_other None scope = scope
 through_other (Some f) scope = f scope
@@ -79,6 +82,7 @@ behind_all (s ∷ ss) scope = behind_all ss (behind s scope)
 
 -- ---- what the variables hold
 
+-- whether this is the variable of a name and a number
 abbrev pub is_variable : List ℕ → ℕ → Variable → Bool
 is_variable name number x = bytes_eq name x.name && number == x.number
 
@@ -87,6 +91,7 @@ abbrev pub value_in : List ℕ → ℕ → List Variable → Value
 value_in name number [] = v.Undefined
 value_in name number (x ∷ xs) = if is_variable name number x then x.value else value_in name number xs
 
+-- the variable of a name and a number, with what it holds
 abbrev pub variable : List ℕ → ℕ → Value → Variable
 variable name number x = record { name = name; number = number; value = x }
 

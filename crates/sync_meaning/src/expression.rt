@@ -253,7 +253,8 @@ impl<F: Fn(Global, u64, &Scope, &mut State, &Expr, bool) -> Result<Target, Stop>
         called: bool,
     ) -> Result<Target, Stop>
         requires { Nests self.now.depth (F.pre self.now.inner) (F.post self.now.inner) }
-        ensures { Does (evaluated self.now.depth called scope.now expr.now state.old) result state.new }
+        ensures { Does (evaluated self.now.depth called scope.now expr.now state.old) result
+            state.new }
     {
         (self.inner)(self.alloc, self.depth, scope, state, expr, called)
     }
@@ -350,8 +351,8 @@ impl<F: Fn(Global, u64, &Scope, &mut State, &Expr, bool) -> Result<Target, Stop>
         expr: &Expr,
     ) -> Result<Value, Stop>
         requires { Nests self.now.depth (F.pre self.now.inner) (F.post self.now.inner) }
-        ensures { Does (spec.prefix (evaluated self.now.depth) scope.now place op expr.now state.old)
-            result state.new }
+        ensures { Does (spec.prefix (evaluated self.now.depth) scope.now place op expr.now
+            state.old) result state.new }
     {
         state.visit(place)?;
         let value = self.value(scope, state, expr)?;
@@ -453,8 +454,8 @@ impl<F: Fn(Global, u64, &Scope, &mut State, &Expr, bool) -> Result<Target, Stop>
         tails: &[(Operator, Expr)],
     ) -> Result<Value, Stop>
         requires { Nests self.now.depth (F.pre self.now.inner) (F.post self.now.inner) }
-        ensures { Does (spec.chain (evaluated self.now.depth) scope.now first.now tails.now state.old)
-            result state.new }
+        ensures { Does (spec.chain (evaluated self.now.depth) scope.now first.now tails.now
+            state.old) result state.new }
     {
         let place = place_of(first);
         state.take_visits(tails.len() as u64, place)?;
@@ -496,8 +497,8 @@ impl<F: Fn(Global, u64, &Scope, &mut State, &Expr, bool) -> Result<Target, Stop>
         exprs: &[Expr],
     ) -> Result<Value, Stop>
         requires { Nests self.now.depth (F.pre self.now.inner) (F.post self.now.inner) }
-        ensures { Does (spec.call (evaluated self.now.depth) scope.now place target exprs.now state.old)
-            result state.new }
+        ensures { Does (spec.call (evaluated self.now.depth) scope.now place target exprs.now
+            state.old) result state.new }
     {
         let values = self.values(scope, state, exprs)?;
         call_by(self.alloc, state, place, target, values.as_slice())
@@ -513,8 +514,8 @@ impl<F: Fn(Global, u64, &Scope, &mut State, &Expr, bool) -> Result<Target, Stop>
         expr: &Expr,
     ) -> Result<Target, Stop>
         requires { Nests self.now.depth (F.pre self.now.inner) (F.post self.now.inner) }
-        ensures { Does (spec.index (evaluated self.now.depth) scope.now place target expr.now state.old)
-            result state.new }
+        ensures { Does (spec.index (evaluated self.now.depth) scope.now place target expr.now
+            state.old) result state.new }
     {
         let value = as_value(place, target)?;
         let index = self.value(scope, state, expr)?;
@@ -533,8 +534,8 @@ impl<F: Fn(Global, u64, &Scope, &mut State, &Expr, bool) -> Result<Target, Stop>
         suffix: &Suffix,
     ) -> Result<Target, Stop>
         requires { Nests self.now.depth (F.pre self.now.inner) (F.post self.now.inner) }
-        ensures { Does (spec.suffix (evaluated self.now.depth) called scope.now place target suffix.now
-            state.old) result state.new }
+        ensures { Does (spec.suffix (evaluated self.now.depth) called scope.now place target
+            suffix.now state.old) result state.new }
     {
         match suffix {
             Suffix::Member(name) => {
@@ -582,8 +583,8 @@ impl<F: Fn(Global, u64, &Scope, &mut State, &Expr, bool) -> Result<Target, Stop>
         suffixes: &[Suffix],
     ) -> Result<Target, Stop>
         requires { Nests self.now.depth (F.pre self.now.inner) (F.post self.now.inner) }
-        ensures { Does (spec.postfix (evaluated self.now.depth) behind scope.now first.now suffixes.now
-            state.old) result state.new }
+        ensures { Does (spec.postfix (evaluated self.now.depth) behind scope.now first.now
+            suffixes.now state.old) result state.new }
     {
         let place = place_of(first);
         state.take_visits(node_count(behind, suffixes), place)?;
@@ -629,8 +630,8 @@ impl<F: Fn(Global, u64, &Scope, &mut State, &Expr, bool) -> Result<Target, Stop>
         suffixes: &[Suffix],
     ) -> Result<Value, Stop>
         requires { Nests self.now.depth (F.pre self.now.inner) (F.post self.now.inner) }
-        ensures { Does (spec.postfix_value (evaluated self.now.depth) scope.now first.now suffixes.now
-            state.old) result state.new }
+        ensures { Does (spec.postfix_value (evaluated self.now.depth) scope.now first.now
+            suffixes.now state.old) result state.new }
     {
         let target = self.postfix(scope, state, false, first, suffixes)?;
         as_value(place_of(first), target)

@@ -108,7 +108,8 @@ impl Rule {
     ghost use Rattle.std.specs.Prelude.{◌≡◌, IfOk};
     ghost use Rattle.sync_meaning.specs.Texts as spec;
 
-    /// The rule's name, ` at `, the line, `:` and the column; behind `forbidden` also `: ` and the text.
+    /// The rule's name, ` at `, the line, `:` and the column; behind `forbidden` also `: ` and the
+    /// text.
     pub fn text(&self, alloc: Global) -> Result<DocText, AllocError>
         ensures { IfOk result (λ text. text ≡ spec.rule_text self.now) }
     {

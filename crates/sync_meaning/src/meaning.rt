@@ -112,9 +112,10 @@ pub fn evaluate_within(
     Ok(state.effects)
 }
 
-/// What a program says of a document, the one before it and who writes: the effects, or the rule that
-/// denies. The program's names are taken to be resolved. Of others a name that nothing declares is
-/// undefined, and a call that means nothing is a fault. `Memory` may come in the place of any answer.
+/// What a program says of a document, the one before it and who writes: the effects, or the rule
+/// that denies. The program's names are taken to be resolved. Of others a name that nothing
+/// declares is undefined, and a call that means nothing is a fault. `Memory` may come in the place
+/// of any answer.
 pub fn evaluate(
     alloc: Global,
     program: &Program,

@@ -13,8 +13,8 @@ use sqlite_items::Items;
 use std::alloc::{AllocError, Global};
 use sync_syntax::tree::{Declares, Expr, Named, Start, Statement};
 
-/// The variables of `let` and `const` that are seen at a place, each with its number, and the number of
-/// the next one.
+/// The variables of `let` and `const` that are seen at a place, each with its number, and the
+/// number of the next one.
 #[derive(Drop)]
 pub struct Scope {
     pub seen: Items<(DocText, u64)>,

@@ -135,8 +135,8 @@ impl Parts {
         name: &DocText,
         expr: &Option<Expr>,
     ) -> Result<(), Stop>
-        ensures { Does (spec.declare_one self.now.depth declares scope.now name.now expr.now state.old)
-            result state.new }
+        ensures { Does (spec.declare_one self.now.depth declares scope.now name.now expr.now
+            state.old) result state.new }
     {
         match (declares, expr) {
             (Declares::Var, None) => Ok(()),
@@ -234,7 +234,8 @@ impl Parts {
 
     #[tactic(auto, unfolding(crate::specs::Statements::expression))]
     fn expression(&self, scope: &Scope, state: &mut State, expr: &Expr) -> Result<(), Stop>
-        ensures { Does (spec.expression self.now.depth scope.now expr.now state.old) result state.new }
+        ensures { Does (spec.expression self.now.depth scope.now expr.now state.old) result
+            state.new }
     {
         drop(self.value(scope, state, expr)?);
         Ok(())

@@ -1,5 +1,5 @@
-//! The statements that hold others, each rule by its own function. They take what runs a statement inside
-//! as a parameter, so that each is proved by itself.
+//! The statements that hold others, each rule by its own function. They take what runs a statement
+//! inside as a parameter, so that each is proved by itself.
 
 ghost use Rattle.std.specs.Prelude.{◌≡◌};
 ghost use Rattle.sync_meaning.specs.Acts.{Does};
@@ -79,8 +79,8 @@ impl<F: Fn(Global, u64, &Scope, &mut State, &Statement) -> Result<Completion, St
         statements: &[Statement],
     ) -> Result<Completion, Stop>
         requires { NestsStatement self.now.depth (F.pre self.now.inner) (F.post self.now.inner) }
-        ensures { Does (spec.run_all self.now.depth (run self.now.depth) first statements.now state.old)
-            result state.new }
+        ensures { Does (spec.run_all self.now.depth (run self.now.depth) first statements.now
+            state.old) result state.new }
     {
         let mut scope = first;
         let mut left = statements;
@@ -104,8 +104,8 @@ impl<F: Fn(Global, u64, &Scope, &mut State, &Statement) -> Result<Completion, St
         statements: &[Statement],
     ) -> Result<Completion, Stop>
         requires { NestsStatement self.now.depth (F.pre self.now.inner) (F.post self.now.inner) }
-        ensures { Does (spec.block self.now.depth (run self.now.depth) scope.now place statements.now state.old)
-            result state.new }
+        ensures { Does (spec.block self.now.depth (run self.now.depth) scope.now place
+            statements.now state.old) result state.new }
     {
         state.visit(place)?;
         self.run_all(scope.copy(self.alloc)?, state, statements)
@@ -120,8 +120,8 @@ impl<F: Fn(Global, u64, &Scope, &mut State, &Statement) -> Result<Completion, St
         other: &Option<Boxed<Statement>>,
     ) -> Result<Completion, Stop>
         requires { NestsStatement self.now.depth (F.pre self.now.inner) (F.post self.now.inner) }
-        ensures { Does (spec.otherwise self.now.depth (run self.now.depth) scope.now first.now other.now state.old)
-            result state.new }
+        ensures { Does (spec.otherwise self.now.depth (run self.now.depth) scope.now first.now
+            other.now state.old) result state.new }
     {
         match other {
             Some(other) => {
@@ -143,8 +143,8 @@ impl<F: Fn(Global, u64, &Scope, &mut State, &Statement) -> Result<Completion, St
         other: &Option<Boxed<Statement>>,
     ) -> Result<Completion, Stop>
         requires { NestsStatement self.now.depth (F.pre self.now.inner) (F.post self.now.inner) }
-        ensures { Does (spec.choose self.now.depth (run self.now.depth) scope.now place condition.now
-            first.now other.now state.old) result state.new }
+        ensures { Does (spec.choose self.now.depth (run self.now.depth) scope.now place
+            condition.now first.now other.now state.old) result state.new }
     {
         state.visit(place)?;
         if self.parts().is_true(scope, state, place, condition)? {
@@ -198,8 +198,8 @@ impl<F: Fn(Global, u64, &Scope, &mut State, &Statement) -> Result<Completion, St
         body: &Statement,
     ) -> Result<Completion, Stop>
         requires { NestsStatement self.now.depth (F.pre self.now.inner) (F.post self.now.inner) }
-        ensures { Does (spec.loop_while self.now.depth (run self.now.depth) scope.now place start.now
-            condition.now step.now body.now state.old) result state.new }
+        ensures { Does (spec.loop_while self.now.depth (run self.now.depth) scope.now place
+            start.now condition.now step.now body.now state.old) result state.new }
     {
         state.visit(place)?;
         self.parts().start(scope, state, start)?;
@@ -218,8 +218,8 @@ impl<F: Fn(Global, u64, &Scope, &mut State, &Statement) -> Result<Completion, St
         items: &[Value],
     ) -> Result<Completion, Stop>
         requires { NestsStatement self.now.depth (F.pre self.now.inner) (F.post self.now.inner) }
-        ensures { Does (spec.each self.now.depth (run self.now.depth) scope.now name.now number body.now items.now
-            state.old) result state.new }
+        ensures { Does (spec.each self.now.depth (run self.now.depth) scope.now name.now number
+            body.now items.now state.old) result state.new }
     {
         let mut left = items;
         while let [item, rest @ ..] = left {

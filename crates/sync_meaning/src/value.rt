@@ -9,8 +9,8 @@ use json_doc::{DocText, Members, Node};
 use sqlite_items::Items;
 use std::alloc::Global;
 
-/// A value. Of an opaque number nothing is known but that it is a number. Of two members of one name the
-/// later counts.
+/// A value. Of an opaque number nothing is known but that it is a number. Of two members of one
+/// name the later counts.
 #[derive(Debug, Drop)]
 pub enum Value {
     Undefined,

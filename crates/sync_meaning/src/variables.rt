@@ -10,8 +10,9 @@ use json_doc::DocText;
 use sqlite_items::Items;
 use std::alloc::Global;
 
-/// A variable that was written: its name, its number and its value. The function's own variables, which
-/// are the parameters and those of `var`, have the number 0, and each `let` and `const` has another.
+/// A variable that was written: its name, its number and its value. The function's own variables,
+/// which are the parameters and those of `var`, have the number 0, and each `let` and `const` has
+/// another.
 #[derive(Drop)]
 pub struct Variable {
     pub name: DocText,
