@@ -19,15 +19,10 @@ mod statement;
 mod value;
 mod variables;
 
-pub use callee::{Builtin, Method, Target};
-pub use completion::Completion;
 pub use effects::Effects;
 pub use fault::{FaultKind, Rule, RuleKind, Stop};
 pub use meaning::{evaluate, evaluate_within};
-pub use scope::Scope;
-pub use state::{Context, State};
-pub use value::Value;
-pub use variables::Variable;
+pub use state::Context;
 
 /// Want of memory.
 pub type Memory = std::alloc::AllocError;
