@@ -1,5 +1,5 @@
 -- Two runs whose places alone are different: what each operator, method and function gives is the same but for the place.
-use Rattle.std.proofs.Common.{◌≡◌, ℕ, zero, suc, ◌+◌, ℤ, Bool, true, false, not, ◌&&◌, ◌||◌, cond, nat_lt, List, [], ◌∷◌, ◌++◌, length, Option, Some, None, Ok, Err, Ordering, refl, sym, subst, ap, ◌∙◌}
+use Rattle.std.proofs.Common.{◌≡◌, ℕ, ◌+◌, ℤ, Bool, true, false, not, ◌&&◌, ◌||◌, cond, nat_lt, List, [], ◌∷◌, ◌++◌, length, Option, Some, None, Ok, Err, Ordering, refl, sym, ap, ◌∙◌}
 use Rattle.std.specs.Ordering.{is_lt, is_gt}
 use Rattle.json_doc.specs.Reading.{is_safe}
 use Rattle.sg_names.specs.Grammar.{is_name, is_channel_name}
@@ -17,7 +17,7 @@ use Rattle.sync_meaning.specs.declared.callee.Method.TheVariants as m
 use Rattle.sync_meaning.specs.declared.callee.Target.{Target}
 use Rattle.sync_meaning.specs.declared.callee.Target.TheVariants as t
 use Rattle.sync_meaning.specs.declared.effects.Effects.{Effects}
-use Rattle.sync_meaning.specs.declared.fault.FaultKind.TheVariants.{Size, BadName, Argument, Range}
+use Rattle.sync_meaning.specs.declared.fault.FaultKind.TheVariants.{Size, BadName, Range}
 use Rattle.sync_meaning.specs.declared.fault.RuleKind.{RuleKind}
 use Rattle.sync_meaning.specs.declared.fault.RuleKind.TheVariants as rules
 use Rattle.sync_meaning.specs.declared.fault.Stop.{Stop}
@@ -25,8 +25,8 @@ use Rattle.sync_meaning.specs.declared.state.State.{State}
 use Rattle.sync_meaning.specs.declared.value.Value.{Value, out-Value}
 use Rattle.sync_meaning.specs.declared.value.Value.TheOpen.{Value-F}
 use Rattle.sync_meaning.specs.declared.value.Value.TheVariants as v
-use Rattle.sync_meaning.specs.Acts.{Found, Act, and_then, in_state, ◌>>=◌, pure, lift, fails, type_fault, denial, visits, out_of_visits}
-use Rattle.sync_meaning.specs.Values.{Layer, found_then, truth_at, truth, bounded, joined, added_at, added, integer_at, integer_in, calculated, negated, compared_at, compared, is_nothing, is_alike, same, loosely_equal, cannot_equal, strictly_equal, truth_value, not_that, ordered, combined, prefixed, member_at, member, indexed_at, indexed, listed, index_at, index_of, concat_at, concat, begins_at, begins_with, is_list, can_be_sought}
+use Rattle.sync_meaning.specs.Acts.{Found, fails, type_fault, denial}
+use Rattle.sync_meaning.specs.Values.{Layer, found_then, truth_at, truth, bounded, joined, added_at, added, integer_at, integer_in, calculated, negated, compared_at, compared, is_nothing, is_alike, same, loosely_equal, cannot_equal, strictly_equal, truth_value, not_that, ordered, combined, prefixed, member_at, member, indexed_at, indexed, listed, index_at, index_of, concat_at, concat, begins_at, begins_with, can_be_sought}
 use Rattle.sync_meaning.specs.Builtins.{texts_or, texts_in, argument_at, one, named_from, named, names_in, itself, bare_role, grantee_of, users_in, roles_in, channels_in, grantees_in, all_channels, within, effect_count, add_channel, add_grant, add_role, for_each, add_channels, add_grants_to, add_grants, add_roles_to, add_roles, with_effects, unless_passing, passes_user, passes_role, passes_access, passes_admin, channel, access, role, require_user, require_role, require_access, require_admin, built_in, by_method}
 use Rattle.sync_meaning.specs.Expressions.{as_value}
 use Rattle.sync_meaning.specs.Statements.{items_at, items_in, one_more, forbidden_in, thrown_by, thrown}

@@ -1,11 +1,10 @@
 -- What a run gathers is in the grammar, in order, and not too much.
-use Rattle.std.proofs.Common.{◌≡◌, ℕ, zero, suc, ◌+◌, ◌-◌, ◌*◌, ◌≤◌, nat_lt, Bool, true, false, ◌&&◌, cond, List, [], ◌∷◌, ◌++◌, Option, Some, None, Ok, Err, Ordering, Less, Equal, Greater, refl, sym, subst, ap, ◌∙◌, ltb-false, arith}
+use Rattle.std.proofs.Common.{◌≡◌, ℕ, ◌+◌, ◌-◌, nat_lt, Bool, true, false, ◌&&◌, cond, List, [], ◌∷◌, ◌++◌, Ok, Err, Ordering, Less, Equal, Greater, refl, subst, ap, ◌∙◌, ltb-false, arith}
 use Rattle.std.proofs.lemmas.Cmp.{nat_list_cmp_total}
 use Rattle.std.proofs.lemmas.List.Folds.{list_all-append}
 use Rattle.std.specs.Cmp.Lexicographic.{slice_cmp}
 use Rattle.std.specs.List.{list_all}
 use Rattle.std.specs.Ordering.{nat_cmp, match_ordering, ordering_reverse, ordering_then, is_lt}
-use Rattle.json_doc.specs.Tree.{Tree}
 use Rattle.sg_names.specs.Channels.{is_channels}
 use Rattle.sg_names.specs.Grammar.{is_name, is_channel_name}
 use Rattle.sg_names.specs.Grants.{grantee_text, is_grantee, is_grant, grant_cmp, is_grants}
@@ -32,7 +31,7 @@ use Rattle.sync_meaning.specs.declared.value.Value.TheVariants as v
 use Rattle.sync_meaning.specs.Acts.{Found, Act, and_then, in_state, ◌>>=◌, lift, denial, fails, type_fault, visits, out_of_visits}
 use Rattle.sync_meaning.specs.Values.{found_then, is_list}
 use Rattle.sync_meaning.specs.Variables.{top}
-use Rattle.sync_meaning.specs.Builtins.{one, named_from, named, names_in, texts_in, itself, bare_role, grantee_of, users_in, roles_in, channels_in, grantees_in, all_channels, put, effect_count, within, add_channel, add_grant, add_role, for_each, add_channels, add_grants_to, add_grants, add_roles_to, add_roles, with_effects, unless_passing, passes_user, passes_role, passes_access, passes_admin, channel, access, role, require_user, require_role, require_access, require_admin, built_in}
+use Rattle.sync_meaning.specs.Builtins.{named_from, named, texts_in, itself, bare_role, grantee_of, users_in, roles_in, channels_in, grantees_in, all_channels, put, effect_count, within, add_channel, add_grant, add_role, for_each, add_channels, add_grants_to, add_grants, add_roles_to, add_roles, with_effects, unless_passing, passes_user, passes_role, passes_access, passes_admin, channel, access, role, require_user, require_role, require_access, require_admin, built_in}
 use Rattle.sync_meaning.specs.Expressions.{read}
 use Rattle.sync_meaning.specs.Statements.{store, run}
 use Rattle.sync_meaning.specs.Meaning.{body, begin, depth_for, gathered, meaning_within}

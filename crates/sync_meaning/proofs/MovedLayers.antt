@@ -1,5 +1,5 @@
 -- What is seen of a program that is moved.
-use Rattle.std.proofs.Common.{◌≡◌, ℕ, List, [], ◌∷◌, map, Option, Some, None, option_map, refl, sym, ap, ◌∙◌, rules}
+use Rattle.std.proofs.Common.{◌≡◌, ℕ, List, map, option_map, rules}
 use Rattle.sync_tokens.specs.declared.place.Place.{Place}
 use Rattle.sync_syntax.specs.declared.tree.Operator.{Operator}
 use Rattle.sync_syntax.specs.declared.tree.Expr.{Expr, out-Expr, the_lemmas}
@@ -10,7 +10,7 @@ use Rattle.sync_syntax.specs.declared.tree.Statement.TheOpen.{Statement-F}
 use Rattle.sync_syntax.specs.declared.tree.Statement as statements
 use Rattle.sync_meaning.specs.Expressions.{Layer, SuffixLayer}
 use Rattle.sync_meaning.specs.Statements.{StatementLayer}
-use Rattle.sync_meaning.specs.Moved.{move_expr, move_suffix, moved_expr, moved_suffix, moved_named, moved_declaration, moved_simple, moved_start, move_statement, moved_statement}
+use Rattle.sync_meaning.specs.Moved.{moved_expr, moved_suffix, moved_named, moved_declaration, moved_simple, moved_start, moved_statement}
 
 module _ (f : Place → Place) where
   abbrev pub moved_member : List ℕ × Expr → List ℕ × Expr

@@ -1,5 +1,5 @@
 -- What is seen behind a statement is seen behind it where its places are moved.
-use Rattle.std.proofs.Common.{◌≡◌, ℕ, List, [], ◌∷◌, map, Option, Some, None, option_map, refl, sym, subst, ap, ◌∙◌, rules}
+use Rattle.std.proofs.Common.{◌≡◌, List, [], ◌∷◌, map, Option, Some, None, option_map, refl, sym, subst, ap, ◌∙◌, rules}
 use Rattle.sync_tokens.specs.declared.place.Place.{Place}
 use Rattle.sync_syntax.specs.declared.tree.Declares.{Declares}
 use Rattle.sync_syntax.specs.declared.tree.Expr.{Expr}
@@ -10,8 +10,8 @@ use Rattle.sync_syntax.specs.declared.tree.Statement.{Statement, out-Statement, 
 use Rattle.sync_syntax.specs.declared.tree.Statement.TheOpen.{Statement-F}
 use Rattle.sync_meaning.specs.declared.scope.Scope.{Scope}
 use Rattle.sync_meaning.specs.Statements.{StatementLayer}
-use Rattle.sync_meaning.specs.Variables.{declared, all_declared, left, started, through, through_other, behind, behind_all}
-use Rattle.sync_meaning.specs.Moved.{moved_expr, moved_named, moved_given, moved_start, moved_statement}
+use Rattle.sync_meaning.specs.Variables.{declared, all_declared, left, started, through_other, behind, behind_all}
+use Rattle.sync_meaning.specs.Moved.{moved_given, moved_start, moved_statement}
 use Rattle.sync_meaning.proofs.Scopes.{through-behind}
 use Rattle.sync_meaning.proofs.MovedLayers.{moved_statement_layer, out-moved_statement}
 

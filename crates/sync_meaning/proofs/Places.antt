@@ -1,5 +1,5 @@
 -- A program whose places are moved says the same, but for the place.
-use Rattle.std.proofs.Common.{◌≡◌, ℕ, zero, suc, ◌+◌, ℤ, pos, negsuc, nat_lt, Bool, true, false, not, ◌&&◌, cond, List, [], ◌∷◌, ◌++◌, map, length, Option, Some, None, option_map, Ok, Err, bytes_eq, refl, sym, subst, ap, ◌∙◌}
+use Rattle.std.proofs.Common.{◌≡◌, ℕ, zero, suc, ◌+◌, ℤ, pos, negsuc, nat_lt, Bool, true, false, cond, List, [], ◌∷◌, ◌++◌, map, length, Option, Some, None, option_map, Ok, Err, refl, sym, subst, ap, ◌∙◌}
 use Rattle.json_doc.specs.Tree.{Tree}
 use Rattle.sync_tokens.specs.declared.place.Place.{Place}
 use Rattle.sync_syntax.specs.declared.tree.Declares.{Declares}
@@ -26,27 +26,24 @@ use Rattle.sync_meaning.specs.declared.callee.Target.{Target}
 use Rattle.sync_meaning.specs.declared.callee.Target.TheVariants as t
 use Rattle.sync_meaning.specs.declared.completion.Completion.{Completion}
 use Rattle.sync_meaning.specs.declared.completion.Completion.TheVariants.{Normal, Break, Continue, Return}
-use Rattle.sync_meaning.specs.declared.effects.Effects.{Effects}
 use Rattle.sync_meaning.specs.declared.fault.RuleKind.TheVariants as rules
-use Rattle.sync_meaning.specs.declared.fault.Stop.{Stop}
 use Rattle.sync_meaning.specs.declared.scope.Scope.{Scope}
-use Rattle.sync_meaning.specs.declared.state.Context.{Context}
 use Rattle.sync_meaning.specs.declared.state.State.{State}
 use Rattle.sync_meaning.specs.declared.value.Value.{Value}
 use Rattle.sync_meaning.specs.declared.value.Value.TheVariants as v
 use Rattle.sync_meaning.specs.Acts.{Found, Act, and_then, in_state, ◌>>=◌, ◌>>◌, pure, lift, type_fault, denial, visits, out_of_visits}
-use Rattle.sync_meaning.specs.Values.{found_then, truth, combined, prefixed, member, indexed, listed, same_truth, bounded, added, calculated}
-use Rattle.sync_meaning.specs.Variables.{top, new_number, declared, all_declared, started, behind}
-use Rattle.sync_meaning.specs.Builtins.{built_in, by_method}
-use Rattle.sync_meaning.specs.Expressions.{place_of, called_by, method_of, is_call, is_call_at, is_called, is_array_name, is_array_name_at, is_array_member, is_array_member_at, calls_is_array, without_first, ends_node, ends_node_at, node_count, as_value, read, name, literal, call_by, member_or_method, Layer, SuffixLayer, value, values, values_from, members, members_from, list, object, prefix, decided, operated, operation, operations, chain, choice, call, index, suffix_at, suffix, suffixes, postfix, postfix_value, node_at, node, callee_at, callee, opened, evaluated, value_to}
+use Rattle.sync_meaning.specs.Values.{truth, combined, prefixed, member, indexed, listed, same_truth}
+use Rattle.sync_meaning.specs.Variables.{top, new_number, declared, started, behind}
+use Rattle.sync_meaning.specs.Builtins.{by_method}
+use Rattle.sync_meaning.specs.Expressions.{place_of, called_by, method_of, is_call_at, is_called, is_array_name, is_array_name_at, is_array_member, is_array_member_at, calls_is_array, without_first, ends_node, ends_node_at, node_count, as_value, read, name, literal, call_by, member_or_method, Layer, SuffixLayer, value, values, values_from, members, members_from, list, object, prefix, decided, operated, operation, operations, chain, choice, call, index, suffix_at, suffix, suffixes, postfix, postfix_value, node_at, node, callee_at, callee, opened, evaluated, value_to}
 use Rattle.sync_meaning.specs.Statements as s
-use Rattle.sync_meaning.specs.Statements.{store, assign, one_more, count, jump, thrown, items_in, place_of_simple, StatementLayer, after_normal, after_round, run}
+use Rattle.sync_meaning.specs.Statements.{store, assign, count, jump, thrown, place_of_simple, StatementLayer, after_normal, after_round, run}
 use Rattle.sync_meaning.specs.Meaning.{body, begin, no_effects, depth_for, gathered, meaning_within, parameters, with_second, value_before}
 use Rattle.sync_meaning.specs.Moved.{moved_expr, moved_suffix, moved_named, moved_given, moved_declaration, moved_simple, moved_start, moved_statement, moved}
 use Rattle.sync_meaning.specs.Laws.{placeless, PlacesChangeNoKind}
 use Rattle.sync_meaning.proofs.Alike.{Alike, same_ok, same_err, no_ok, then_alike, truth-alike, bounded-alike, added-alike, calculated-alike, one_more-alike, combined-alike, prefixed-alike, member-alike, indexed-alike, listed-alike, by_method-alike, as_value-alike, items_in-alike, thrown-alike, built_in-alike}
 use Rattle.sync_meaning.proofs.MovedLayers.{moved_member, moved_tail, moved_layer, moved_suffix_layer, moved_statement_layer, out-moved_expr, out-moved_suffix, out-moved_statement}
-use Rattle.sync_meaning.proofs.MovedScopes.{all_declared-moved, started-moved, behind-moved}
+use Rattle.sync_meaning.proofs.MovedScopes.{started-moved, behind-moved}
 
 -- the same in each state, but for the place
 record Same {A : Type 0} (g h : Act A) : Type 0 where

@@ -1,5 +1,5 @@
 -- Two runs of one program are related, step by step, where their steps are.
-use Rattle.std.proofs.Common.{◌≡◌, ℕ, zero, suc, ◌+◌, ℤ, pos, negsuc, Bool, true, false, cond, List, [], ◌∷◌, ◌++◌, length, Option, Some, None, Ok, Err, refl, sym, subst, ap, arith}
+use Rattle.std.proofs.Common.{◌≡◌, ℕ, zero, suc, ◌+◌, ℤ, pos, negsuc, Bool, true, false, cond, List, [], ◌∷◌, ◌++◌, length, Option, Some, None, Ok, Err, subst, arith}
 use Rattle.sync_tokens.specs.declared.place.Place.{Place}
 use Rattle.sync_syntax.specs.declared.tree.Declares.{Declares}
 use Rattle.sync_syntax.specs.declared.tree.Declares.TheVariants.{Var, Let, Const}
@@ -24,13 +24,11 @@ use Rattle.sync_meaning.specs.declared.callee.Target.{Target}
 use Rattle.sync_meaning.specs.declared.callee.Target.TheVariants as t
 use Rattle.sync_meaning.specs.declared.completion.Completion.{Completion}
 use Rattle.sync_meaning.specs.declared.completion.Completion.TheVariants.{Normal, Break, Continue, Return}
-use Rattle.sync_meaning.specs.declared.fault.Stop.{Stop}
 use Rattle.sync_meaning.specs.declared.scope.Scope.{Scope}
-use Rattle.sync_meaning.specs.declared.state.State.{State}
 use Rattle.sync_meaning.specs.declared.value.Value.{Value}
 use Rattle.sync_meaning.specs.declared.value.Value.TheVariants as v
-use Rattle.sync_meaning.specs.Acts.{Found, Act, ◌>>=◌, ◌>>◌, pure, lift, type_fault, visit, visits, out_of_visits}
-use Rattle.sync_meaning.specs.Values.{truth, combined, prefixed, member, indexed, listed, same_truth, bounded, added, calculated}
+use Rattle.sync_meaning.specs.Acts.{Found, Act, ◌>>=◌, ◌>>◌, pure, lift, type_fault, visits, out_of_visits}
+use Rattle.sync_meaning.specs.Values.{truth, combined, prefixed, member, indexed, listed, same_truth, added}
 use Rattle.sync_meaning.specs.Variables.{new_number, declared, started, behind}
 use Rattle.sync_meaning.specs.Builtins.{built_in, by_method}
 use Rattle.sync_meaning.specs.Expressions.{place_of, called_by, method_of, is_called, calls_is_array, without_first, node_count, as_value, read, name, literal, call_by, member_or_method, Layer, SuffixLayer, value, values, values_from, members, members_from, list, object, prefix, decided, operated, operation, operations, chain, choice, call, index, suffix_at, suffix, suffixes, postfix, postfix_value, node_at, node, callee_at, callee, opened, evaluated, value_to}

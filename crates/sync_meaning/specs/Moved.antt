@@ -1,7 +1,6 @@
 -- A program with each of its places moved.
-use Rattle.std.specs.Prelude.{Option, Some, None, option_map, List, ℕ, map}
+use Rattle.std.specs.Prelude.{Option, option_map, List, map}
 use Rattle.sync_tokens.specs.declared.place.Place.{Place}
-use Rattle.sync_syntax.specs.declared.tree.Operator.{Operator}
 use Rattle.sync_syntax.specs.declared.tree.Expr.{Expr, fold-Expr}
 use Rattle.sync_syntax.specs.declared.tree.Expr.TheOpen.{Expr-F, Suffix-F}
 use Rattle.sync_syntax.specs.declared.tree.Expr.TheVariants as e
