@@ -1,11 +1,11 @@
 //! Effects, which are kept in order, each once.
 
 ghost use Rattle.std.specs.Prelude.{◌≡◌, ◌≤◌, [], length, insert, IfOk, IfSome, IfNone};
+ghost use Rattle.std.specs.declared.cmp.Ordering as ordering;
 ghost use Rattle.sync_meaning.specs.Acts.{Gives};
 ghost use Rattle.sync_meaning.specs.Builtins as spec;
 
 use crate::fault::{FaultKind, Stop};
-use sg_names::item_list::Rising;
 use sg_names::{
     ChannelName, Channels, Grant, Grantee, Grants, List, Name, Names, RoleGrant, RoleGrants,
 };
@@ -24,8 +24,47 @@ pub struct Effects {
     pub roles: RoleGrants,
 }
 
+/// What has an order among others of its kind.
+trait Ordered: Drop {
+    ghost order: { Self → Self → ordering.Ordering };
+
+    fn compare(&self, other: &Self) -> Ordering
+        ensures { result ≡ order self.now other.now };
+}
+
+impl Ordered for ChannelName {
+    ghost use Rattle.std.specs.Cmp.Lexicographic.{slice_cmp};
+    ghost use Rattle.std.specs.Ordering.{nat_cmp};
+
+    ghost order = { slice_cmp nat_cmp };
+
+    fn compare(&self, other: &ChannelName) -> Ordering {
+        self.order(other)
+    }
+}
+
+impl Ordered for Grant {
+    ghost use Rattle.sg_names.specs.Grants.{grant_cmp};
+
+    ghost order = { λ a b. grant_cmp a b };
+
+    fn compare(&self, other: &Grant) -> Ordering {
+        self.order(other)
+    }
+}
+
+impl Ordered for RoleGrant {
+    ghost use Rattle.sg_names.specs.RoleGrants.{role_grant_cmp};
+
+    ghost order = { λ a b. role_grant_cmp a b };
+
+    fn compare(&self, other: &RoleGrant) -> Ordering {
+        self.order(other)
+    }
+}
+
 /// The place among items that rise at which an item goes; none where it is there.
-fn place_for<T: Rising>(item: &T, items: &[T]) -> Option<usize>
+fn place_for<T: Ordered>(item: &T, items: &[T]) -> Option<usize>
     ensures there { IfNone result (spec.put T.order item.now items.now ≡ items.now) }
     ensures within { IfSome result (λ at. at ≤ length items.now) }
     ensures place { IfSome result (λ at. spec.put T.order item.now items.now
@@ -42,7 +81,7 @@ fn place_for<T: Rising>(item: &T, items: &[T]) -> Option<usize>
 }
 
 /// An item put at its place, where it isn't there yet.
-fn put<T: Rising>(item: T, items: List<T>) -> Result<List<T>, AllocError>
+fn put<T: Ordered>(item: T, items: List<T>) -> Result<List<T>, AllocError>
     ensures { IfOk result (λ made. made ≡ spec.put T.order item items) }
 {
     let mut items = items.into_vec();
