@@ -1,0 +1,11 @@
+pub mod Layers
+pub mod Lexing
+pub mod LexingWords
+pub mod Puts
+pub mod Steps
+pub mod Shown
+pub mod PrintsNodes
+pub mod PrintsExpressions
+pub mod PrintsStatements
+pub mod ReadBack
+pub mod LexingAll

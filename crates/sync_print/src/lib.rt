@@ -1,0 +1,14 @@
+//! Programs of the sync language as texts.
+#![tactic(auto)]
+
+mod expression;
+pub mod laws;
+mod printer;
+mod program;
+mod spelling;
+mod statement;
+
+pub use program::print;
+
+/// Want of memory.
+pub type Memory = std::alloc::AllocError;
