@@ -3,7 +3,7 @@ use std::test::Fail;
 use sync_syntax::{ParseFault, SyntaxFault, SyntaxWhy, parse};
 
 /// Programs, with an empty line between each two.
-const PROGRAMS: &str = "\
+pub(crate) const PROGRAMS: &str = "\
 function(doc, oldDoc) { channel(doc.channels); }\n\n\
 function sync(doc) {}\n\n\
 function(doc) {};\n\n\

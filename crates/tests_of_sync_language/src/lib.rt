@@ -5,3 +5,5 @@
 mod faults;
 #[cfg(test)]
 mod meanings;
+#[cfg(test)]
+mod printed;

@@ -11,7 +11,7 @@ use sync_syntax::tree::Program;
 /// an editor with the channels `!` and `A`, and `*` is bob, who has the channel `*`), and what comes of it: the
 /// channels, the grants and the roles, or the rule. A body stands on the second line of its function, whose
 /// parameters are `doc` and `old`.
-const BODIES: &str = "\
+pub(crate) const BODIES: &str = "\
 if (undefined) channel('a'); if (null) channel('b'); if (false) channel('c'); if (0) channel('d'); if ('') channel('e')#{}#-#a#- - -\n\
 if (true) channel('a'); if (1) channel('b'); if ('0') channel('c'); if ([]) channel('d'); if ({}) channel('e')#{}#-#a#a,b,c,d,e - -\n\
 if (doc.n) channel('a')#{\"n\":1.5}#-#a#type at 2:1\n\
