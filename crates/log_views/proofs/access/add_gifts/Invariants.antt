@@ -1,0 +1,11 @@
+use Rattle.std.proofs.Common.{◌≡◌, ◌&&◌, ◌||◌, ℕ, List, drop, map, reverse}
+use Rattle.std.specs.List.{list_any}
+use Rattle.std.specs.Str.{bytes_eq}
+use Rattle.log_views.specs.Has.{is_there, has_by_role}
+use Rattle.log_views.specs.States.{state_of}
+use Rattle.log_views.proofs.access.add_gifts.Given as goal
+
+-- what is there so far with what is left is all
+abbrev pub invariant-loop-gift : goal.invariant-loop-gift
+invariant-loop-gift l =
+    (c : List ℕ) → (list_any (λ g. bytes_eq g.user l.user && has_by_role (reverse l.entries) (map state_of l.documents) c g.role) (drop l.gift-index l.gifts) || is_there l.set c) ≡ (list_any (λ g. bytes_eq g.user l.user && has_by_role (reverse l.entries) (map state_of l.documents) c g.role) l.gifts || is_there l.initial.set c)
