@@ -20,8 +20,9 @@ use crate::candidate::{Candidate, Commit, NoRoom};
 use crate::document::{self, Document, Documents};
 use crate::open::{OpenFault, documents_of};
 use crate::room::{self, Room};
-use crate::snapshot::{Snapshot, base_of, body_of, is_deletion, proposer_exists, step_in};
+use crate::snapshot::{Snapshot, snapshot_of};
 use feed_rows::channels_of;
+use log_index::LogIndex;
 use repl_messages::Revision;
 use rev_tree::Tree;
 use rev_tree::laws::{histories, trees_of_writes};
@@ -31,19 +32,22 @@ use std::alloc::{AllocError, Global};
 use std::collections::BTreeMap;
 use std::marker::Model;
 
-/// The log, with each document's tree of revisions and the rooms that are out. What is stored takes no memory then: a room
-/// has it beforehand.
+/// The log, with each document's tree of revisions, the rooms that are out, and an index of the log. What is
+/// stored takes no memory then: a room has it beforehand. The index is brought up to the log by the calls that
+/// may take memory.
 #[derive(Drop)]
 pub struct Board {
     log: Log,
     documents: Documents,
     rooms: Vec<RoomFor>,
+    index: LogIndex,
 }
 
 impl Model for Board {
     ghost use Rattle.std.specs.Prelude.{◌≤◌, reverse, length, IsTrue};
     ghost use Rattle.std.specs.List.{list_all};
     ghost use Rattle.sg_history.specs.History.{entries_of};
+    ghost use Rattle.log_index.specs.Index.{IsBehind};
     ghost use Rattle.doc_board.specs.Kept.{IsKept};
     ghost use Rattle.doc_board.specs.State.{State};
 
@@ -51,7 +55,8 @@ impl Model for Board {
 
     ghost view = { λ b. record { log = entries_of b.log; rooms = b.rooms.items } };
 
-    ghost invariant = { λ b. IsKept b.log.entries b.documents b.rooms.items };
+    ghost invariant = { λ b. IsKept b.log.entries b.documents b.rooms.items
+        × IsBehind b.index b.log.entries.list };
 }
 
 impl Board {
@@ -64,6 +69,7 @@ impl Board {
             log: Log::new(alloc),
             documents: BTreeMap::new(alloc),
             rooms: Vec::new(alloc),
+            index: LogIndex::new(alloc),
         })
     }
 
@@ -81,6 +87,7 @@ impl Board {
             log,
             documents,
             rooms: Vec::new(alloc),
+            index: LogIndex::new(alloc),
         })
     }
 
@@ -131,38 +138,6 @@ impl Board {
         channels_of(*self.rooms.allocator(), &self.log, self.front(), user)
     }
 
-    fn snapshot_of(
-        &self,
-        revision: &Revision,
-        strict: bool,
-        by: Option<&Name>,
-    ) -> Result<Snapshot, Memory>
-        ensures at { IfOk result (λ s. s.at ≡ length self.now.log) }
-        ensures last { IfOk result (λ s. s.last ≡ last_at
-            (newest_first self.now) revision.now.doc) }
-        ensures step { IfOk result (λ s. IsStep (tree_at
-            (newest_first self.now) revision.now.doc) revision.now strict s.step) }
-        ensures old { IfOk result (λ s. s.old ≡ option_map (λ w. w.body)
-            (base_write (newest_first self.now) revision.now.doc revision.now.ancestors)) }
-        ensures old_deleted { IfOk result (λ s. s.old_deleted ≡ deletes
-            (base_write (newest_first self.now) revision.now.doc revision.now.ancestors)) }
-        ensures user { IfOk result (λ s. s.user_exists ≡ proposer_exists (newest_first self.now)
-            (option_copied by.entry)) }
-    {
-        let alloc = *self.rooms.allocator();
-        let entries = self.log.entries.as_slice();
-        let document = document::document_of(&self.documents, &revision.doc);
-        let base = base_of(entries, &revision.doc, revision.ancestors.as_slice());
-        Ok(Snapshot {
-            at: self.front(),
-            last: document::last_of(document),
-            step: step_in(alloc, document, revision, strict)?,
-            old: body_of(alloc, base)?,
-            old_deleted: is_deletion(base),
-            user_exists: proposer_exists(alloc, &self.log, by)?,
-        })
-    }
-
     /// What is needed to judge a revision that is proposed, by a user or by the administrator.
     pub fn snapshot(
         &mut self,
@@ -183,7 +158,9 @@ impl Board {
             (option_copied by.entry)) }
     {
         histories();
-        self.snapshot_of(revision, strict, by)
+        let alloc = *self.rooms.allocator();
+        self.index.catch_up(self.log.entries.as_slice())?;
+        snapshot_of(alloc, &self.log, &self.documents, &self.index, revision, strict, by)
     }
 
     fn make_room(&mut self, doc: Option<&DocId>, bytes: u64) -> Result<RoomFor, AllocError>
@@ -227,6 +204,7 @@ impl Board {
         ensures log { self.new.log ≡ self.old.log ++ entry ∷ [] }
         ensures rooms { self.new.rooms ≡ without room.made_for self.old.rooms }
     {
+        log_index::laws::behind();
         room.close(&mut self.rooms);
         self.log.entries.put(entry);
     }
@@ -243,6 +221,7 @@ impl Board {
     {
         trees_of_writes();
         histories();
+        log_index::laws::behind();
         let document = Document {
             last: sequence,
             tree,

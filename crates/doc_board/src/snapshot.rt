@@ -1,19 +1,21 @@
 //! What a board tells of a revision that is proposed.
 
-ghost use Rattle.std.specs.Prelude.{◌≡◌, reverse, option_map, IfOk};
+ghost use Rattle.std.specs.Prelude.{◌≡◌, length, reverse, option_map, IfOk};
 ghost use Rattle.std.specs.Option.{option_copied};
 ghost use Rattle.sg_history.specs.History.{entries_of};
 ghost use Rattle.doc_board.specs.Answers as answers;
 ghost use Rattle.doc_board.specs.Answers.{IsStep};
 ghost use Rattle.doc_board.specs.Kept as kept;
-ghost use Rattle.rev_tree.specs.Documents.{base_write, deletes};
+ghost use Rattle.log_index.specs.Index.{Indexes};
+ghost use Rattle.rev_tree.specs.Documents.{tree_at, last_at, base_write, deletes};
 
-use crate::document::Document;
-use feed_rows::{channels_of, write_of_rev};
+use crate::document::{self, Document, Documents};
+use log_index::LogIndex;
+use log_views::{user_exists, write_of_rev};
 use repl_messages::Revision;
 use rev_tree::{Extended, Tree};
 use sg_history::{DocId, Entry, Log, Name, RevId, Write};
-use sg_outside::Bytes;
+use sg_outside::{Bytes, Memory};
 use std::alloc::{AllocError, Global};
 
 /// A board at one moment, for a revision that is proposed.
@@ -34,7 +36,7 @@ pub struct Snapshot {
 }
 
 /// What comes of a revision in a document's tree, or in the tree without revisions where there is no document.
-pub(crate) fn step_in(
+fn step_in(
     alloc: Global,
     document: Option<&Document>,
     revision: &Revision,
@@ -62,18 +64,23 @@ fn step_of(tree: &Tree, revision: &Revision, strict: bool) -> Result<Extended, A
 }
 
 /// The write of the first of these ancestors; none where that one was never written.
-pub(crate) fn base_of<'a>(
+fn base_of<'a>(
+    index: &LogIndex,
     entries: &'a [Entry],
     doc: &DocId,
     ancestors: &[RevId],
-) -> Option<&'a Write>
-    ensures { option_copied result ≡ base_write (reverse entries.now) doc.now ancestors.now }
+) -> Result<Option<&'a Write>, Memory>
+    requires { Indexes index.now (reverse entries.now) }
+    ensures { IfOk result (λ found. option_copied found
+        ≡ base_write (reverse entries.now) doc.now ancestors.now) }
 {
-    let parent = ancestors.first()?;
-    Some(write_of_rev(entries, doc, parent)?.write)
+    match ancestors.first() {
+        None => Ok(None),
+        Some(parent) => write_of_rev(index, entries, doc, parent),
+    }
 }
 
-pub(crate) fn body_of(alloc: Global, write: Option<&Write>) -> Result<Option<Bytes>, AllocError>
+fn body_of(alloc: Global, write: Option<&Write>) -> Result<Option<Bytes>, AllocError>
     ensures { IfOk result (λ body. body ≡ option_map (λ w. w.body) (option_copied write.entry)) }
 {
     match write {
@@ -82,7 +89,7 @@ pub(crate) fn body_of(alloc: Global, write: Option<&Write>) -> Result<Option<Byt
     }
 }
 
-pub(crate) fn is_deletion(write: Option<&Write>) -> bool
+fn is_deletion(write: Option<&Write>) -> bool
     ensures { result ≡ deletes (option_copied write.entry) }
 {
     match write {
@@ -92,19 +99,49 @@ pub(crate) fn is_deletion(write: Option<&Write>) -> bool
 }
 
 /// Whether the one who proposes a revision exists at the end of the log: the user, or the administrator, who does.
-pub(crate) fn proposer_exists(
-    alloc: Global,
-    log: &Log,
-    by: Option<&Name>,
-) -> Result<bool, AllocError>
-    ensures { IfOk result (λ found. found ≡ answers.proposer_exists (reverse (entries_of log.now))
-        (option_copied by.entry)) }
+fn proposer_exists(index: &LogIndex, entries: &[Entry], by: Option<&Name>) -> bool
+    requires { Indexes index.now (reverse entries.now) }
+    ensures { result ≡ answers.proposer_exists (reverse entries.now) (option_copied by.entry) }
 {
     match by {
-        None => Ok(true),
-        Some(user) => {
-            let front = log.entries.len() as u64;
-            Ok(channels_of(alloc, log, front, user)?.is_some())
-        }
+        None => true,
+        Some(user) => user_exists(index, entries, user),
     }
+}
+
+/// What a board with this log, these documents and this index of the log tells of a revision that is proposed.
+pub(crate) fn snapshot_of(
+    alloc: Global,
+    log: &Log,
+    documents: &Documents,
+    index: &LogIndex,
+    revision: &Revision,
+    strict: bool,
+    by: Option<&Name>,
+) -> Result<Snapshot, Memory>
+    requires kept { kept.AreKept (reverse (entries_of log.now)) documents.now }
+    requires indexes { Indexes index.now (reverse (entries_of log.now)) }
+    ensures at { IfOk result (λ s. s.at ≡ length (entries_of log.now)) }
+    ensures last { IfOk result (λ s. s.last ≡ last_at
+        (reverse (entries_of log.now)) revision.now.doc) }
+    ensures step { IfOk result (λ s. IsStep (tree_at
+        (reverse (entries_of log.now)) revision.now.doc) revision.now strict s.step) }
+    ensures old { IfOk result (λ s. s.old ≡ option_map (λ w. w.body)
+        (base_write (reverse (entries_of log.now)) revision.now.doc revision.now.ancestors)) }
+    ensures old_deleted { IfOk result (λ s. s.old_deleted ≡ deletes
+        (base_write (reverse (entries_of log.now)) revision.now.doc revision.now.ancestors)) }
+    ensures user { IfOk result (λ s. s.user_exists ≡ answers.proposer_exists
+        (reverse (entries_of log.now)) (option_copied by.entry)) }
+{
+    let entries = log.entries.as_slice();
+    let document = document::document_of(documents, &revision.doc);
+    let base = base_of(index, entries, &revision.doc, revision.ancestors.as_slice())?;
+    Ok(Snapshot {
+        at: entries.len() as u64,
+        last: document::last_of(document),
+        step: step_in(alloc, document, revision, strict)?,
+        old: body_of(alloc, base)?,
+        old_deleted: is_deletion(base),
+        user_exists: proposer_exists(index, entries, by),
+    })
 }

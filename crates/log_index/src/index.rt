@@ -35,7 +35,8 @@ pub struct LogIndex {
 impl LogIndex {
     /// The index of no entries. Allocates nothing.
     pub fn new(alloc: Global) -> LogIndex
-        ensures { Indexes result [] }
+        ensures empty { Indexes result [] }
+        ensures behind { (entries : List Entry) → IsBehind result entries }
     {
         LogIndex {
             alloc,

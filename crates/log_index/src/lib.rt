@@ -6,6 +6,7 @@ mod by_name;
 mod documents;
 mod granting;
 mod index;
+pub mod laws;
 mod principals;
 mod revisions;
 

@@ -10,9 +10,9 @@ use Rattle.sg_names.specs.declared.rev_id.RevId.{RevId}
 use Rattle.sg_history.specs.declared.entries.Entry.{Entry}
 use Rattle.sg_history.specs.declared.entries.Write.{Write}
 use Rattle.sg_history.specs.History.{as_write, of_document, write_to}
-use Rattle.sg_history.specs.Current.{Sequenced, Current, sequenced_or, with_rev_or, last_write, write_of_rev, write_or, winning_of, current, current_after, current_by}
+use Rattle.sg_history.specs.Current.{Sequenced, Current, sequenced_or, with_rev_or, last_write, write_of_rev, write_or, winning_of, write_alone, current, current_after, current_by}
 use Rattle.log_index.specs.declared.documents.Document.{Document}
-use Rattle.log_index.specs.Places.{document_by, document_at}
+use Rattle.log_index.specs.Places.{document_by, document_at, seq_alone, revision_seq}
 use Rattle.log_views.specs.At.{written, write_at}
 
 got_left : {X : Type 0} (xs ys : List X) (i : ℕ) → i < length xs → slice_get (xs ++ ys) i ≡ slice_get xs i
@@ -134,6 +134,17 @@ winner_read entries doc d f =
     ap (λ (n : ℕ). write_at entries n) f.winning
     ∙ ap (λ (all : List Entry). write_at all (winning_of (reverse entries) doc f.last).seq) (sym (reverse-reverse entries))
     ∙ f.at.there
+
+-- the write of a revision is read where it stands
+pub rev_read : (entries : List Entry) (doc : List ℕ) (rev : RevId) (seq : ℕ) → revision_seq (reverse entries) doc rev ≡ Some seq → write_at entries seq ≡ write_alone (write_of_rev (reverse entries) doc rev)
+rev_read entries doc rev seq h = by (write_of_rev (reverse entries) doc rev) refl h
+  where
+    by : (o : Option Sequenced) → write_of_rev (reverse entries) doc rev ≡ o → seq_alone o ≡ Some seq → write_at entries seq ≡ write_alone o
+    by None is h = absurd (none-some seq h)
+    by (Some s) is h =
+        ap (λ (n : ℕ). write_at entries n) (sym (same_Some s.seq seq h))
+        ∙ ap (λ (all : List Entry). write_at all s.seq) (sym (reverse-reverse entries))
+        ∙ (rev_at (reverse entries) doc rev s is).0.there
 
 -- a document that stands nowhere is nothing
 pub nothing : (es : List Entry) (doc : List ℕ) → document_at es doc ≡ None → last_write es doc ≡ None

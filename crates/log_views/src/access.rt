@@ -130,6 +130,14 @@ fn user<'a>(index: &LogIndex, entries: &'a [Entry], name: &Name) -> Option<Given
     put_at(entries, index.user(name))
 }
 
+/// Whether a user exists. Allocates nothing.
+pub fn user_exists(index: &LogIndex, entries: &[Entry], name: &Name) -> bool
+    requires { Indexes index.now (reverse entries.now) }
+    ensures { result ≡ principals.exists (principals.user_at (reverse entries.now) name.now) }
+{
+    user(index, entries, name).is_some()
+}
+
 /// What a role was given by its last put, unless it was dropped since, or never put.
 fn role<'a>(index: &LogIndex, entries: &'a [Entry], name: &Name) -> Option<Given<'a>>
     requires { Indexes index.now (reverse entries.now) }

@@ -2,8 +2,9 @@
 
 ghost use Rattle.std.specs.Prelude.{◌≡◌, ◌++◌, reverse, map, option_map, IfOk, OnOk};
 ghost use Rattle.std.specs.List.{filter_map};
-ghost use Rattle.std.specs.Option.{option_to_list};
-ghost use Rattle.sg_history.specs.Current.{current, write_alone};
+ghost use Rattle.std.specs.Option.{option_copied, option_to_list};
+ghost use Rattle.sg_history.specs.Current as current;
+ghost use Rattle.sg_history.specs.Current.{write_alone};
 ghost use Rattle.log_index.specs.Index.{Indexes};
 ghost use Rattle.log_index.specs.Places.{granting_seqs};
 ghost use Rattle.log_views.specs.At.{granting_at};
@@ -11,7 +12,7 @@ ghost use Rattle.log_views.specs.States.{state_of, state_in, winning};
 
 use crate::at::write_at;
 use log_index::LogIndex;
-use sg_history::{DocId, Entry, Write};
+use sg_history::{DocId, Entry, RevId, Write};
 use sg_outside::Memory;
 use std::alloc::Global;
 
@@ -25,7 +26,7 @@ pub struct DocState<'a> {
 /// What a document is, if it was written. Allocates nothing.
 pub fn state<'a>(index: &LogIndex, entries: &'a [Entry], doc: &DocId) -> Option<DocState<'a>>
     requires { Indexes index.now (reverse entries.now) }
-    ensures current { state_in result ≡ current (reverse entries.now) doc.now }
+    ensures current { state_in result ≡ current.current (reverse entries.now) doc.now }
     ensures winner { option_map (λ s. s.winner.now) result
         ≡ write_alone (winning (reverse entries.now) doc.now) }
 {
@@ -34,6 +35,23 @@ pub fn state<'a>(index: &LogIndex, entries: &'a [Entry], doc: &DocId) -> Option<
         seq: document.last,
         winner: write_at(entries, document.winning)?,
     })
+}
+
+/// The write of a document that has this revision, if it was written.
+pub fn write_of_rev<'a>(
+    index: &LogIndex,
+    entries: &'a [Entry],
+    doc: &DocId,
+    rev: &RevId,
+) -> Result<Option<&'a Write>, Memory>
+    requires { Indexes index.now (reverse entries.now) }
+    ensures { IfOk result (λ found. option_copied found
+        ≡ write_alone (current.write_of_rev (reverse entries.now) doc.now rev.now)) }
+{
+    match index.revision(doc, rev)? {
+        None => Ok(None),
+        Some(seq) => Ok(write_at(entries, seq)),
+    }
 }
 
 /// What the document of a write is, where this is the write of its winner.

@@ -7,6 +7,6 @@ mod at;
 mod documents;
 mod views;
 
-pub use access::{UserChannels, channels};
-pub use documents::{DocState, state};
+pub use access::{UserChannels, channels, user_exists};
+pub use documents::{DocState, state, write_of_rev};
 pub use views::shown;

@@ -1,5 +1,5 @@
 -- What looks at a history answer: the rows of a feed, or the bodies of rows.
-use Rattle.std.specs.Prelude.{◌≡◌, ◌<◌, ◌≤◌, ℕ, Bool, ◌&&◌, ◌||◌, nat_eq, is_none, List, length, map, take, Option, Some, None, if◌then◌else◌}
+use Rattle.std.specs.Prelude.{◌≡◌, ◌<◌, ◌≤◌, ℕ, Bool, ◌&&◌, ◌||◌, nat_eq, is_none, List, length, map, Option, Some, None, if◌then◌else◌}
 use Rattle.sg_names.specs.declared.key.Key.{Key}
 use Rattle.sg_history.specs.declared.entries.Entry.{Entry}
 use Rattle.sg_history.specs.declared.entries.Write.{Write}
@@ -9,6 +9,10 @@ use Rattle.sg_history.specs.History.{past}
 use Rattle.sg_history.specs.Current.{Sequenced, last_write, winning_of}
 use Rattle.sg_history.specs.View.{Shown, view, same_view}
 use Rattle.sg_history.specs.Feed.{feed, changed, is_deleted}
+use Rattle.sg_history.specs.Book.{book_of}
+use Rattle.rev_tree.specs.declared.tree.Node.{Node}
+use Rattle.rev_tree.specs.Tree.{ancestors_of}
+use Rattle.rev_tree.specs.Documents.{last_at, trees_up_to}
 use Rattle.repl_messages.specs.declared.looks.Body.{Body}
 use Rattle.repl_messages.specs.declared.looks.Body.TheVariants as body
 use Rattle.repl_messages.specs.declared.looks.Bodies.{Bodies}
@@ -55,18 +59,25 @@ abbrev pub is_still_gone : List Entry → List ℕ → Option (List (List ℕ)) 
 is_still_gone es user filter row =
     left_by_write row.bits && is_none (view es user filter row.doc) && nat_eq (length (changed es user filter row.doc)) row.key.by
 
--- the body of a write with its ancestors, the nearest first and at most so many
-abbrev pub body_with : ℕ → Option Write → Body
-body_with most None = body.NoRev
-body_with most (Some w) = body.Rev (take most w.ancestors) w.body
+-- the body of a write with its revision's ancestors in a tree, the nearest first and at most so many
+abbrev pub body_with : List Node → ℕ → Option Write → Body
+body_with tree most None = body.NoRev
+body_with tree most (Some w) = body.Rev (ancestors_of tree w.rev most) w.body
 
--- what is answered for a row: the winner's body where it still is shown, that it was removed where it still is gone, else neither
-abbrev pub body_of : List Entry → List ℕ → Option (List (List ℕ)) → ℕ → Row → Body
-body_of es user filter most row =
+-- what is answered for a row, given each document's tree: the winner's body where it still is shown, that it was removed where
+-- it still is gone, else neither
+abbrev pub body_of : List Entry → (List ℕ → List Node) → List ℕ → Option (List (List ℕ)) → ℕ → Row → Body
+body_of es trees user filter most row =
     if is_still_shown es user filter row
-    then body_with most (winning_write es row.doc)
+    then body_with (trees row.doc) most (winning_write es row.doc)
     else (if is_still_gone es user filter row then body.Removed else body.NoRev)
 
--- each row has its answer by the history at the front, in their order
-abbrev pub AreBodies : List Entry → List ℕ → Options → List Row → ℕ → Bodies → Type 0
-AreBodies h user options rows most bodies = bodies.answers ≡ map (body_of (past h bodies.front) user options.filter most) rows
+-- the numbers up to which documents were seen: each no less than that of the document's last write among these entries
+abbrev pub SeenUpTo : List Entry → (List ℕ → ℕ) → Type 0
+SeenUpTo es numbers = (doc : List ℕ) → last_at es doc ≤ numbers doc
+
+-- each row has its answer by the history at the front, in their order, and by the trees of the documents as they were seen
+pub record AreBodies (h : List Entry) (user : List ℕ) (options : Options) (rows : List Row) (most : ℕ) (bodies : Bodies) : Type 0 where
+  pub numbers : List ℕ → ℕ
+  pub seen : SeenUpTo (past h bodies.front) numbers
+  pub answers : bodies.answers ≡ map (body_of (past h bodies.front) (trees_up_to (book_of h) numbers) user options.filter most) rows

@@ -7,6 +7,8 @@ use Rattle.blip_mux.specs.Joining.{is_request}
 use Rattle.sg_history.specs.declared.entries.Entry.{Entry}
 use Rattle.sg_history.specs.declared.row.Row.{Row}
 use Rattle.sg_history.specs.History.{past}
+use Rattle.sg_history.specs.Book.{book_of}
+use Rattle.rev_tree.specs.Documents.{trees_up_to}
 use Rattle.repl_messages.specs.declared.request.Version.{Version}
 use Rattle.repl_messages.specs.declared.looks.Body.{Body}
 use Rattle.repl_messages.specs.declared.looks.Body.TheVariants as body
@@ -26,63 +28,63 @@ use Rattle.session_core.specs.Conduct.{messages_from, at_rest}
 use Rattle.session_core.proofs.Conducts.{Done, exchange, unread, at_rest_only}
 
 -- an exchange of a message that is no request
-reply_done : (h : List Entry) (user : List ℕ) (version : Version) (r : Option Running) (n : ℕ) (m : Message) (looks : List Look) (front : ℕ) (acts : List Act) (after : Machine)
+reply_done : (h : List Entry) (numbers : List ℕ → ℕ) (user : List ℕ) (version : Version) (r : Option Running) (n : ℕ) (m : Message) (looks : List Look) (front : ℕ) (acts : List Act) (after : Machine)
     → is_request m.kind ≡ false
     → map (λ (look : Look). look.purpose) looks ≡ looks_for_reply m r
-    → messages_from (n + 1) acts ≡ puts_for_reply h user version m r (Rattle.session_core.specs.Session.front_of looks) (n + 1)
+    → messages_from (n + 1) acts ≡ puts_for_reply h numbers user version m r (Rattle.session_core.specs.Session.front_of looks) (n + 1)
     → after ≡ at_rest user version (requests_among (messages_from (n + 1) acts) + n) (running_after h user (exchange m unread looks acts n) (requests_among (messages_from (n + 1) acts) + n) r)
-    → Done h user version r n (exchange m unread looks acts n) after
-reply_done h user version r n m looks front acts after kind looked put leads =
+    → Done h numbers user version r n (exchange m unread looks acts n) after
+reply_done h numbers user version r n m looks front acts after kind looked put leads =
     ((λ is. absurd (false≢true (sym kind ∙ is))), rw kind looked, rw kind put, leads)
 
 -- a message that answers nothing on offer
-passed_over : (h : List Entry) (user : List ℕ) (version : Version) (r : Running) (n : ℕ) (m : Message) (acts : List Act) (after : Machine)
+passed_over : (h : List Entry) (numbers : List ℕ → ℕ) (user : List ℕ) (version : Version) (r : Running) (n : ℕ) (m : Message) (acts : List Act) (after : Machine)
     → is_request m.kind ≡ false → answers r m ≡ false → after ≡ at_rest user version n (Some r) → acts ≡ []
-    → Done h user version (Some r) n (exchange m unread [] acts n) after
-passed_over h user version r n m acts after kind other e is =
-    reply_done h user version (Some r) n m [] 0 acts after kind (rw other refl) (rw (other, is) refl)
+    → Done h numbers user version (Some r) n (exchange m unread [] acts n) after
+passed_over h numbers user version r n m acts after kind other e is =
+    reply_done h numbers user version (Some r) n m [] 0 acts after kind (rw other refl) (rw (other, is) refl)
     (rw (other, is) (e ∙ ap (λ k. at_rest user version k (Some r)) (omega arith)))
 
 -- the rows on offer are answered, and none of them is wanted
-none_wanted : (h : List Entry) (user : List ℕ) (version : Version) (r : Running) (n : ℕ) (m : Message) (acts : List Act) (after : Machine)
+none_wanted : (h : List Entry) (numbers : List ℕ → ℕ) (user : List ℕ) (version : Version) (r : Running) (n : ℕ) (m : Message) (acts : List Act) (after : Machine)
     → is_request m.kind ≡ false → answers r m ≡ true → wanted_of r m ≡ []
     → after ≡ at_rest user version (n + 1) (answered r (n + 1)) → acts ≡ offer_act (drop r.batch r.rows) r.batch version ∷ []
-    → Done h user version (Some r) n (exchange m unread [] acts n) after
-none_wanted h user version r n m acts after kind it none e is =
+    → Done h numbers user version (Some r) n (exchange m unread [] acts n) after
+none_wanted h numbers user version r n m acts after kind it none e is =
     let count : requests_among (messages_from (n + 1) acts) + n ≡ n + 1 = rw is (omega arith) in
-    reply_done h user version (Some r) n m [] 0 acts after kind (rw (it, none) refl) (rw (it, none, is, add-zero (n + 1)) refl)
+    reply_done h numbers user version (Some r) n m [] 0 acts after kind (rw (it, none) refl) (rw (it, none, is, add-zero (n + 1)) refl)
     (rw (it, count) e)
 
-wanted_cases : (h : List Entry) (user : List ℕ) (version : Version) (r : Running) (n : ℕ) (m : Message) (acts : List Act) (after : Machine) (w : List Row)
+wanted_cases : (h : List Entry) (numbers : List ℕ → ℕ) (user : List ℕ) (version : Version) (r : Running) (n : ℕ) (m : Message) (acts : List Act) (after : Machine) (w : List Row)
     → is_request m.kind ≡ false → answers r m ≡ true → wanted_of r m ≡ w
     → ◌≡◌ {A = Stepped} (after, acts) (on_wanted (at_rest user version n (Some r)) m r w)
     → after.pending ≡ pending.Nothing
-    → Done h user version (Some r) n (exchange m unread [] acts n) after
-wanted_cases h user version r n m acts after [] kind it none e rest =
-    none_wanted h user version r n m acts after kind it none (ap (λ (s : Stepped). s.0) e) (ap (λ (s : Stepped). s.1) e)
-wanted_cases h user version r n m acts after (row ∷ rows) kind it some e rest =
+    → Done h numbers user version (Some r) n (exchange m unread [] acts n) after
+wanted_cases h numbers user version r n m acts after [] kind it none e rest =
+    none_wanted h numbers user version r n m acts after kind it none (ap (λ (s : Stepped). s.0) e) (ap (λ (s : Stepped). s.1) e)
+wanted_cases h numbers user version r n m acts after (row ∷ rows) kind it some e rest =
     absurd (at_rest_only _ after _ tt (ap (λ (s : Stepped). s.0) e) refl rest)
 
-answer_cases : (h : List Entry) (user : List ℕ) (version : Version) (r : Running) (n : ℕ) (m : Message) (acts : List Act) (after : Machine) (b : Bool)
+answer_cases : (h : List Entry) (numbers : List ℕ → ℕ) (user : List ℕ) (version : Version) (r : Running) (n : ℕ) (m : Message) (acts : List Act) (after : Machine) (b : Bool)
     → is_request m.kind ≡ false → answers r m ≡ b
     → ◌≡◌ {A = Stepped} (after, acts) (if b then on_wanted (at_rest user version n (Some r)) m r (wanted_of r m) else (at_rest user version n (Some r), []))
     → after.pending ≡ pending.Nothing
-    → Done h user version (Some r) n (exchange m unread [] acts n) after
-answer_cases h user version r n m acts after true kind it e rest = wanted_cases h user version r n m acts after (wanted_of r m) kind it refl e rest
-answer_cases h user version r n m acts after false kind other e rest =
-    passed_over h user version r n m acts after kind other (ap (λ (s : Stepped). s.0) e) (ap (λ (s : Stepped). s.1) e)
+    → Done h numbers user version (Some r) n (exchange m unread [] acts n) after
+answer_cases h numbers user version r n m acts after true kind it e rest = wanted_cases h numbers user version r n m acts after (wanted_of r m) kind it refl e rest
+answer_cases h numbers user version r n m acts after false kind other e rest =
+    passed_over h numbers user version r n m acts after kind other (ap (λ (s : Stepped). s.0) e) (ap (λ (s : Stepped). s.1) e)
 
 -- a message that is no request and leaves the machine at rest
-pub no_look_done : (h : List Entry) (user : List ℕ) (version : Version) (r : Option Running) (n : ℕ) (m : Message) (acts : List Act) (after : Machine)
+pub no_look_done : (h : List Entry) (numbers : List ℕ → ℕ) (user : List ℕ) (version : Version) (r : Option Running) (n : ℕ) (m : Message) (acts : List Act) (after : Machine)
     → is_request m.kind ≡ false
     → ◌≡◌ {A = Stepped} (after, acts) (on_reply (at_rest user version n r) m r)
     → after.pending ≡ pending.Nothing
-    → Done h user version r n (exchange m unread [] acts n) after
-no_look_done h user version None n m acts after kind e rest =
+    → Done h numbers user version r n (exchange m unread [] acts n) after
+no_look_done h numbers user version None n m acts after kind e rest =
     let e0 : after ≡ at_rest user version n None = ap (λ (s : Stepped). s.0) e in
     let is : acts ≡ [] = ap (λ (s : Stepped). s.1) e in
-    reply_done h user version None n m [] 0 acts after kind refl (rw is refl) (rw (kind, is) (e0 ∙ ap (λ k. at_rest user version k None) (omega arith)))
-no_look_done h user version (Some r) n m acts after kind e rest = answer_cases h user version r n m acts after (answers r m) kind refl e rest
+    reply_done h numbers user version None n m [] 0 acts after kind refl (rw is refl) (rw (kind, is) (e0 ∙ ap (λ k. at_rest user version k None) (omega arith)))
+no_look_done h numbers user version (Some r) n m acts after kind e rest = answer_cases h numbers user version r n m acts after (answers r m) kind refl e rest
 
 -- ---- bodies
 
@@ -116,19 +118,19 @@ bodies_looked [] some = absurd (some refl)
 bodies_looked (row ∷ rows) some = refl
 
 -- a reply that wants rows on offer, once the look for their bodies has answered
-pub bodies_done : (h : List Entry) (user : List ℕ) (version : Version) (r : Running) (n : ℕ) (m : Message) (w : List Row) (front : ℕ) (answer : List Body) (acts : List Act) (after : Machine)
+pub bodies_done : (h : List Entry) (numbers : List ℕ → ℕ) (user : List ℕ) (version : Version) (r : Running) (n : ℕ) (m : Message) (w : List Row) (front : ℕ) (answer : List Body) (acts : List Act) (after : Machine)
     → is_request m.kind ≡ false → answers r m ≡ true → wanted_of r m ≡ w → (0 ≡ length w → ⊥)
-    → answer ≡ map (body_of (past h front) user r.options.filter (most_ancestors m)) w
+    → answer ≡ map (body_of (past h front) (trees_up_to (book_of h) numbers) user r.options.filter (most_ancestors m)) w
     → after ≡ at_rest user version (n + length w + 1) (answered r (n + length w + 1))
     → acts ≡ body_acts w answer ++ offer_act (drop r.batch r.rows) r.batch version ∷ []
-    → Done h user version (Some r) n (exchange m unread (record { front = front; purpose = purposes.Bodies } ∷ []) acts n) after
-bodies_done h user version r n m w front answer acts after kind it wanted some by e is =
-    let f : Row → Body = body_of (past h front) user r.options.filter (most_ancestors m) in
+    → Done h numbers user version (Some r) n (exchange m unread (record { front = front; purpose = purposes.Bodies } ∷ []) acts n) after
+bodies_done h numbers user version r n m w front answer acts after kind it wanted some by e is =
+    let f : Row → Body = body_of (past h front) (trees_up_to (book_of h) numbers) user r.options.filter (most_ancestors m) in
     let later : List Row = drop r.batch r.rows in
     let payload : Payload = changes_payload (take r.batch later) version in
     let put : messages_from (n + 1) acts ≡ body_messages (n + 1) w (map f w) ++ request_message (n + 1 + length w) (is_none later) payload ∷ [] =
     rw (is, by) (bodies_put (n + 1) f w payload (is_none later)) in
     let count : requests_among (messages_from (n + 1) acts) + n ≡ n + length w + 1 =
     ap (λ ms. requests_among ms + n) put ∙ ap (λ k. k + n) (bodies_count (n + 1) (n + 1 + length w) f w payload (is_none later)) ∙ omega arith in
-    reply_done h user version (Some r) n m (record { front = front; purpose = purposes.Bodies } ∷ []) front acts after kind
+    reply_done h numbers user version (Some r) n m (record { front = front; purpose = purposes.Bodies } ∷ []) front acts after kind
     (rw (it, wanted) (bodies_looked w some)) (rw (it, wanted) put) (rw (it, count) e)

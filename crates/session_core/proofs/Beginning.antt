@@ -53,7 +53,7 @@ not_past front by h = elim (nat_lt front by) as (λ b. nat_lt front by ≡ b →
 past_front : (front by : ℕ) → front < by → nat_lt front by ≡ true
 past_front front by h = elim (nat_lt front by) as (λ b. nat_lt front by ≡ b → b ≡ true) [ true ↦ λ e. refl | false ↦ λ e. absurd (not-le_of_lt h (ltb-false front by e)) ] refl
 
-feed_begins : (h : List Entry) (user : List ℕ) (version : Version) (n number : ℕ) (urgent no_reply : Bool) (payload : Payload)
+feed_begins : (h : List Entry) (numbers : List ℕ → ℕ) (user : List ℕ) (version : Version) (n number : ℕ) (urgent no_reply : Bool) (payload : Payload)
     (since : Key) (batch : ℕ) (options : Options) (front : ℕ) (rows : List Row) (acts : List Act) (after : Machine)
     → let m : Message = record { number = number; kind = kinds.Msg; urgent = urgent; no_reply = no_reply; payload = payload } in
     let read : Result Served RequestFault = Ok (Feed since batch options) in
@@ -61,8 +61,8 @@ feed_begins : (h : List Entry) (user : List ℕ) (version : Version) (n number :
     → since.by ≤ front → rows ≡ feed (past h front) user since options
     → after ≡ at_rest user version (n + 1) (running_with rows batch options (n + 1))
     → acts ≡ acceptance_act (asker_of m) ++ offer_act rows batch version ∷ []
-    → Done h user version None n (exchange m read (record { front = front; purpose = purposes.Feed } ∷ []) acts n) after
-feed_begins h user version n number urgent no_reply payload since batch options front rows acts after answer reached are e is =
+    → Done h numbers user version None n (exchange m read (record { front = front; purpose = purposes.Feed } ∷ []) acts n) after
+feed_begins h numbers user version n number urgent no_reply payload since batch options front rows acts after answer reached are e is =
     let m : Message = record { number = number; kind = kinds.Msg; urgent = urgent; no_reply = no_reply; payload = payload } in
     let offered : Payload = changes_payload (take batch rows) version in
     let put : messages_from (n + 1) acts ≡ reply_to m kinds.Rpy ok_payload ++ request_message (n + 1) (is_none rows) offered ∷ [] =
@@ -72,7 +72,7 @@ feed_begins h user version n number urgent no_reply payload since batch options 
     ((λ _. answer), refl, rw (not_past front since.by reached, ← are) put, rw (not_past front since.by reached, ← are, count) e)
 
 -- a request for a feed, once the look for it has answered
-pub fed_done : (h : List Entry) (user : List ℕ) (version : Version) (n number : ℕ) (urgent no_reply : Bool) (payload : Payload)
+pub fed_done : (h : List Entry) (numbers : List ℕ → ℕ) (user : List ℕ) (version : Version) (n number : ℕ) (urgent no_reply : Bool) (payload : Payload)
     (since : Key) (batch : ℕ) (options : Options) (answer : Fed) (acts : List Act) (after : Machine)
     → let m : Message = record { number = number; kind = kinds.Msg; urgent = urgent; no_reply = no_reply; payload = payload } in
     let read : Result Served RequestFault = Ok (Feed since batch options) in
@@ -80,9 +80,9 @@ pub fed_done : (h : List Entry) (user : List ℕ) (version : Version) (n number 
     IsRead payload version read
     → IsFed h user since options answer
     → ◌≡◌ {A = Stepped} (after, acts) (on_fed (record { user = user; version = version; requests = n; feed = None; pending = pending.Feed asked }) asked answer)
-    → Done h user version None n (exchange m read (record { front = looks.front_of answer; purpose = purposes.Feed } ∷ []) acts n) after
-fed_done h user version n number urgent no_reply payload since batch options (fed.Rows front rows) acts after answer by e =
-    feed_begins h user version n number urgent no_reply payload since batch options front rows acts after answer by.0 by.1 (ap (λ (s : Stepped). s.0) e) (ap (λ (s : Stepped). s.1) e)
-fed_done h user version n number urgent no_reply payload since batch options (fed.Future front) acts after answer by e =
-    refused_done h user version None n number urgent no_reply payload (Ok (Feed since batch options)) (record { front = front; purpose = purposes.Feed } ∷ []) (errors.SincePast400 front) acts after
+    → Done h numbers user version None n (exchange m read (record { front = looks.front_of answer; purpose = purposes.Feed } ∷ []) acts n) after
+fed_done h numbers user version n number urgent no_reply payload since batch options (fed.Rows front rows) acts after answer by e =
+    feed_begins h numbers user version n number urgent no_reply payload since batch options front rows acts after answer by.0 by.1 (ap (λ (s : Stepped). s.0) e) (ap (λ (s : Stepped). s.1) e)
+fed_done h numbers user version n number urgent no_reply payload since batch options (fed.Future front) acts after answer by e =
+    refused_done h numbers user version None n number urgent no_reply payload (Ok (Feed since batch options)) (record { front = front; purpose = purposes.Feed } ∷ []) (errors.SincePast400 front) acts after
     answer refl (rw (past_front front since.by by) refl) (λ k. rw (past_front front since.by by) refl) (ap (λ (s : Stepped). s.0) e) (ap (λ (s : Stepped). s.1) e)

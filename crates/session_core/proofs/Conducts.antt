@@ -28,11 +28,11 @@ use Rattle.session_core.specs.Session.{looks_for, puts_for, front_of}
 use Rattle.session_core.specs.Conduct.{messages_from, at_rest}
 
 -- what holds of an exchange before which this feed ran and so many requests were put, and of where it leads
-abbrev pub Done : List Entry → List ℕ → Version → Option Running → ℕ → Exchange → Machine → Type 0
-Done h user version r n x after =
+abbrev pub Done : List Entry → (List ℕ → ℕ) → List ℕ → Version → Option Running → ℕ → Exchange → Machine → Type 0
+Done h numbers user version r n x after =
     (is_request x.message.kind ≡ true → IsRead x.message.payload version x.read)
     × (map (λ (look : Look). look.purpose) x.looks ≡ looks_for x.message x.read r)
-    × (x.puts ≡ puts_for h user version x.message x.read r (front_of x.looks) (n + 1))
+    × (x.puts ≡ puts_for h numbers user version x.message x.read r (front_of x.looks) (n + 1))
     × (after ≡ at_rest user version (requests_among x.puts + n) (running_after h user x (requests_among x.puts + n) r))
 
 abbrev pub exchange : Message → Result Served RequestFault → List Look → List Act → ℕ → Exchange
@@ -63,17 +63,17 @@ at_rest_only m after b busy e is rest = subst Busy (sym is ∙ ap (λ (x : Machi
 
 -- ---- a request that is refused
 
-pub refused_done : (h : List Entry) (user : List ℕ) (version : Version) (r : Option Running) (n : ℕ) (number : ℕ) (urgent no_reply : Bool) (payload : Payload)
+pub refused_done : (h : List Entry) (numbers : List ℕ → ℕ) (user : List ℕ) (version : Version) (r : Option Running) (n : ℕ) (number : ℕ) (urgent no_reply : Bool) (payload : Payload)
     (read : Result Served RequestFault) (looks : List Look) (error : ErrorKind) (acts : List Act) (after : Machine)
     → let m : Message = record { number = number; kind = kinds.Msg; urgent = urgent; no_reply = no_reply; payload = payload } in
     IsRead payload version read
     → map (λ (look : Look). look.purpose) looks ≡ looks_for m read r
-    → puts_for h user version m read r (front_of looks) (n + 1) ≡ refusal m error
+    → puts_for h numbers user version m read r (front_of looks) (n + 1) ≡ refusal m error
     → ((k : ℕ) → running_after h user (exchange m read looks acts n) k r ≡ r)
     → after ≡ at_rest user version n r
     → acts ≡ refusal_act (asker_of m) error
-    → Done h user version r n (exchange m read looks acts n) after
-refused_done h user version r n number urgent no_reply payload read looks error acts after answer looked puts stays e is =
+    → Done h numbers user version r n (exchange m read looks acts n) after
+refused_done h numbers user version r n number urgent no_reply payload read looks error acts after answer looked puts stays e is =
     let m : Message = record { number = number; kind = kinds.Msg; urgent = urgent; no_reply = no_reply; payload = payload } in
     let put : messages_from (n + 1) acts ≡ refusal m error = ap (messages_from (n + 1)) is ∙ reply_messages (n + 1) m kinds.Err (error_payload error) in
     let count : requests_among (messages_from (n + 1) acts) + n ≡ n = ap (λ ms. requests_among ms + n) put ∙ ap (λ k. k + n) (no_requests m (error_payload error)) ∙ zero-add n in (
@@ -88,19 +88,19 @@ no_answer : (r : Running) (number : ℕ) (urgent no_reply : Bool) (payload : Pay
 no_answer r number urgent no_reply payload = refl
 
 -- a request, read so, that leaves the machine at rest
-pub request_done : (h : List Entry) (user : List ℕ) (version : Version) (r : Option Running) (n : ℕ) (number : ℕ) (urgent no_reply : Bool) (payload : Payload)
+pub request_done : (h : List Entry) (numbers : List ℕ → ℕ) (user : List ℕ) (version : Version) (r : Option Running) (n : ℕ) (number : ℕ) (urgent no_reply : Bool) (payload : Payload)
     (read : Result Served RequestFault) (acts : List Act) (after : Machine)
     → let m : Message = record { number = number; kind = kinds.Msg; urgent = urgent; no_reply = no_reply; payload = payload } in
     IsRead payload version read
     → ◌≡◌ {A = Stepped} (after, acts) (on_request (at_rest user version n r) m read)
     → after.pending ≡ pending.Nothing
-    → Done h user version r n (exchange m read [] acts n) after
-request_done h user version None n number urgent no_reply payload (Err fault) acts after answer e rest =
-    refused_done h user version None n number urgent no_reply payload (Err fault) [] (error_of fault) acts after answer refl refl (λ _. refl) (ap (λ (s : Stepped). s.0) e) (ap (λ (s : Stepped). s.1) e)
-request_done h user version (Some r) n number urgent no_reply payload (Err fault) acts after answer e rest =
-    refused_done h user version (Some r) n number urgent no_reply payload (Err fault) [] (error_of fault) acts after answer refl refl (λ _. refl) (ap (λ (s : Stepped). s.0) e) (ap (λ (s : Stepped). s.1) e)
-request_done h user version None n number urgent no_reply payload (Ok (Feed since batch options)) acts after answer e rest =
+    → Done h numbers user version r n (exchange m read [] acts n) after
+request_done h numbers user version None n number urgent no_reply payload (Err fault) acts after answer e rest =
+    refused_done h numbers user version None n number urgent no_reply payload (Err fault) [] (error_of fault) acts after answer refl refl (λ _. refl) (ap (λ (s : Stepped). s.0) e) (ap (λ (s : Stepped). s.1) e)
+request_done h numbers user version (Some r) n number urgent no_reply payload (Err fault) acts after answer e rest =
+    refused_done h numbers user version (Some r) n number urgent no_reply payload (Err fault) [] (error_of fault) acts after answer refl refl (λ _. refl) (ap (λ (s : Stepped). s.0) e) (ap (λ (s : Stepped). s.1) e)
+request_done h numbers user version None n number urgent no_reply payload (Ok (Feed since batch options)) acts after answer e rest =
     absurd (at_rest_only _ after _ tt (ap (λ (s : Stepped). s.0) e) refl rest)
-request_done h user version (Some r) n number urgent no_reply payload (Ok (Feed since batch options)) acts after answer e rest =
-    refused_done h user version (Some r) n number urgent no_reply payload (Ok (Feed since batch options)) [] errors.FeedRuns409 acts after answer refl refl (λ _. refl)
+request_done h numbers user version (Some r) n number urgent no_reply payload (Ok (Feed since batch options)) acts after answer e rest =
+    refused_done h numbers user version (Some r) n number urgent no_reply payload (Ok (Feed since batch options)) [] errors.FeedRuns409 acts after answer refl refl (λ _. refl)
     (ap (λ (s : Stepped). s.0) e) (ap (λ (s : Stepped). s.1) e)

@@ -1,5 +1,5 @@
 -- One exchange of a machine, from the message to where it leads.
-use Rattle.std.proofs.Common.{◌≡◌, ℕ, Bool, true, false, List, [], ◌∷◌, length, Option, Some, None, Result, Ok, Err, refl, sym, ◌∙◌, ap, subst, if◌then◌else◌, suc-ne-zero}
+use Rattle.std.proofs.Common.{◌≡◌, ℕ, Bool, true, false, List, [], ◌∷◌, length, Option, Some, None, Result, Ok, Err, refl, sym, ◌∙◌, ap, subst, if◌then◌else◌, suc-ne-zero, le_refl}
 use Rattle.blip_frame.specs.declared.frame.Kind.{Kind}
 use Rattle.blip_frame.specs.declared.frame.Kind.TheVariants as kinds
 use Rattle.blip_frame.specs.declared.payload.Payload.{Payload}
@@ -7,6 +7,8 @@ use Rattle.blip_mux.specs.declared.message.Message.{Message}
 use Rattle.blip_mux.specs.Joining.{is_request}
 use Rattle.sg_history.specs.declared.entries.Entry.{Entry}
 use Rattle.sg_names.specs.declared.key.Key.{Key}
+use Rattle.sg_history.specs.History.{past}
+use Rattle.rev_tree.specs.Documents.{last_at}
 use Rattle.sg_history.specs.declared.row.Row.{Row}
 use Rattle.sg_history.specs.declared.row.Options.{Options}
 use Rattle.repl_messages.specs.declared.request.Version.{Version}
@@ -17,7 +19,7 @@ use Rattle.repl_messages.specs.declared.looks.Fed.{Fed}
 use Rattle.repl_messages.specs.declared.looks.Bodies.{Bodies}
 use Rattle.session_core.specs.Served.{IsRead}
 use Rattle.repl_messages.specs.Looks as looks
-use Rattle.repl_messages.specs.Looks.{IsFed, AreBodies}
+use Rattle.repl_messages.specs.Looks.{IsFed, AreBodies, SeenUpTo}
 use Rattle.session_core.specs.declared.act.Act.{Act}
 use Rattle.session_core.specs.declared.act.Act.TheVariants as act
 use Rattle.session_core.specs.declared.act.Want.TheVariants as want
@@ -30,25 +32,27 @@ use Rattle.session_core.specs.declared.machine.Pending.TheVariants as pending
 use Rattle.session_core.specs.Running.{Running}
 use Rattle.session_core.specs.Exchange.{Exchange, requests_put, running, answers}
 use Rattle.session_core.specs.Machine.{Machine, Stepped, Steps, StepsBy, StepsByMessage, IsFeed, asker_of, ask_for_feed, on_request, on_reply, on_wanted, on_fed, on_bodies}
-use Rattle.session_core.specs.Session.{Exchanged, wanted_of, most_ancestors}
+use Rattle.session_core.specs.Session.{Exchanged, front_of, wanted_of, most_ancestors}
 use Rattle.session_core.specs.Conduct.{led_to, Makes, Always}
 use Rattle.session_core.proofs.Conducts.{Done, exchange, unread, request_done}
 use Rattle.session_core.proofs.Answering.{no_look_done, bodies_done}
 use Rattle.session_core.proofs.Beginning.{fed_done}
 
-exchanged : (h : List Entry) (user : List ℕ) (version : Version) (earlier : List Exchange) (x : Exchange) (after : Machine)
-    → Done h user version (running h user earlier) (requests_put earlier) x after
+exchanged : (h : List Entry) (numbers : List ℕ → ℕ) (user : List ℕ) (version : Version) (earlier : List Exchange) (x : Exchange) (after : Machine)
+    → SeenUpTo (past h (front_of x.looks)) numbers
+    → Done h numbers user version (running h user earlier) (requests_put earlier) x after
     → Exchanged h user version earlier x × (after ≡ led_to h user version (x ∷ earlier))
-exchanged h user version earlier x after d = (record { read = d.0; looks = d.1; puts = d.2 }, d.3)
+exchanged h numbers user version earlier x after seen d = (record { read = d.0; looks = d.1; numbers = numbers; seen = seen; puts = d.2 }, d.3)
 
 -- the same, where the machine's own count of requests is put in
-counted : (h : List Entry) (user : List ℕ) (version : Version) (earlier : List Exchange) (m : Machine) (message : Message) (read : Result Served RequestFault) (taken : List Look) (acts : List Act) (after : Machine)
+counted : (h : List Entry) (numbers : List ℕ → ℕ) (user : List ℕ) (version : Version) (earlier : List Exchange) (m : Machine) (message : Message) (read : Result Served RequestFault) (taken : List Look) (acts : List Act) (after : Machine)
     → m ≡ led_to h user version earlier
-    → Done h user version (running h user earlier) (requests_put earlier) (exchange message read taken acts (requests_put earlier)) after
+    → SeenUpTo (past h (front_of taken)) numbers
+    → Done h numbers user version (running h user earlier) (requests_put earlier) (exchange message read taken acts (requests_put earlier)) after
     → Exchanged h user version earlier (exchange message read taken acts m.requests) × (after ≡ led_to h user version (exchange message read taken acts m.requests ∷ earlier))
-counted h user version earlier m message read taken acts after e d =
+counted h numbers user version earlier m message read taken acts after e seen d =
     let P : ℕ → Type 0 = λ n. Exchanged h user version earlier (exchange message read taken acts n) × (after ≡ led_to h user version (exchange message read taken acts n ∷ earlier)) in
-    subst P (sym (ap (λ (m : Machine). m.requests) e)) (exchanged h user version earlier (exchange message read taken acts (requests_put earlier)) after d)
+    subst P (sym (ap (λ (m : Machine). m.requests) e)) (exchanged h numbers user version earlier (exchange message read taken acts (requests_put earlier)) after seen d)
 
 step_parts : (m : Machine) (message : Message) (p : Pending) (after : Machine) (acts : List Act) → StepsBy m (event.Whole message) p after acts
     → (p ≡ pending.Nothing) × StepsByMessage (is_request message.kind) m message after acts
@@ -65,8 +69,8 @@ no_look_by_reply m message after acts kind e rest = (
   refl,
   refl,
   λ h user version earlier is _.
-      counted h user version earlier m message unread [] acts after is
-      (no_look_done h user version (running h user earlier) (requests_put earlier) message acts after kind
+      counted h (last_at (past h 0)) user version earlier m message unread [] acts after is (λ doc. le_refl (last_at (past h 0) doc))
+      (no_look_done h (last_at (past h 0)) user version (running h user earlier) (requests_put earlier) message acts after kind
       (e ∙ ap (λ (m : Machine). on_reply m message m.feed) is) rest),
 )
 
@@ -82,8 +86,8 @@ no_look_by_kind m number kinds.Msg urgent no_reply payload after acts s rest =
       refl,
       λ h user version earlier is _.
           let Reads : Version → Type 0 = λ v. IsRead payload v s.0 in
-          counted h user version earlier m message s.0 [] acts after is
-          (request_done h user version (running h user earlier) (requests_put earlier) number urgent no_reply payload s.0 acts after
+          counted h (last_at (past h 0)) user version earlier m message s.0 [] acts after is (λ doc. le_refl (last_at (past h 0) doc))
+          (request_done h (last_at (past h 0)) user version (running h user earlier) (requests_put earlier) number urgent no_reply payload s.0 acts after
           (subst Reads (ap (λ (m : Machine). m.version) is) s.1) (s.2 ∙ ap (λ (m : Machine). on_request m message s.0) is) rest),
     )
 no_look_by_kind m number kinds.Rpy urgent no_reply payload after acts s rest = no_look_by_reply m _ after acts refl s rest
@@ -125,13 +129,13 @@ feed_asked m number urgent no_reply payload since batch options between asked an
           let idle : running h user earlier ≡ None = sym (ap (λ (m : Machine). m.feed) is) ∙ none in
           let Reads : Version → Type 0 = λ v. IsRead payload v read in
           let Fits : Asked → Type 0 = λ a. IsFed h user a.since a.options answer in
-          let Ends : Option Running → Type 0 = λ r. Done h user version r (requests_put earlier) (exchange message read taken acts (requests_put earlier)) after in
+          let Ends : Option Running → Type 0 = λ r. Done h (last_at (past h (looks.front_of answer))) user version r (requests_put earlier) (exchange message read taken acts (requests_put earlier)) after in
           let stands : between ≡ record { user = user; version = version; requests = requests_put earlier; feed = None; pending = pending.Feed own } =
           between_is ∙ ap (λ (m : Machine). record m { pending = pending.Feed own }) is
           ∙ ap (λ (r : Option Running). record { user = user; version = version; requests = requests_put earlier; feed = r; pending = pending.Feed own }) idle in
-          counted h user version earlier m message read taken acts after is
+          counted h (last_at (past h (looks.front_of answer))) user version earlier m message read taken acts after is (λ doc. le_refl (last_at (past h (looks.front_of answer)) doc))
           (subst Ends (sym idle)
-          (fed_done h user version (requests_put earlier) number urgent no_reply payload since batch options answer acts after
+          (fed_done h (last_at (past h (looks.front_of answer))) user version (requests_put earlier) number urgent no_reply payload since batch options answer acts after
           (subst Reads (ap (λ (m : Machine). m.version) is) reads) (subst Fits same by)
           (e ∙ ap (λ (m : Machine). on_fed m asked answer) stands
           ∙ ap (λ (a : Asked). on_fed (record { user = user; version = version; requests = requests_put earlier; feed = None; pending = pending.Feed own }) a answer) same))),
@@ -233,19 +237,20 @@ bodies_asked m message r w rows between asks options most b after acts kind runs
       refl,
       λ h user version earlier is by.
           let feeds : running h user earlier ≡ Some r = sym (ap (λ (m : Machine). m.feed) is) ∙ runs in
-          let Ends : Option Running → Type 0 = λ r. Done h user version r (requests_put earlier) (exchange message unread taken acts (requests_put earlier)) after in
           let Fits : Options × ℕ → Type 0 = λ p. AreBodies h user p.0 w p.1 b in
           let Rows : List Row → Type 0 = λ rows. AreBodies h user options rows most b in
+          let here : AreBodies h user r.options w (most_ancestors message) b = subst Fits parts (subst Rows same by) in
+          let Ends : Option Running → Type 0 = λ r. Done h here.numbers user version r (requests_put earlier) (exchange message unread taken acts (requests_put earlier)) after in
           let stands : between ≡ record { user = user; version = version; requests = requests_put earlier; feed = Some r; pending = pending.Bodies w } =
           between_is ∙ ap (λ (m : Machine). record m { pending = pending.Bodies w }) is
           ∙ ap (λ (r : Option Running). record { user = user; version = version; requests = requests_put earlier; feed = r; pending = pending.Bodies w }) feeds in
           let step : ◌≡◌ {A = Stepped} (after, acts) (on_bodies (record { user = user; version = version; requests = requests_put earlier; feed = Some r; pending = pending.Bodies w }) w b.answers (Some r)) =
           e ∙ ap (λ (m : Machine). on_bodies m rows b.answers m.feed) stands
           ∙ ap (λ (rows : List Row). on_bodies (record { user = user; version = version; requests = requests_put earlier; feed = Some r; pending = pending.Bodies w }) rows b.answers (Some r)) same in
-          counted h user version earlier m message unread taken acts after is
+          counted h here.numbers user version earlier m message unread taken acts after is here.seen
           (subst Ends (sym feeds)
-          (bodies_done h user version r (requests_put earlier) message w b.front b.answers acts after kind it wanted some
-          (subst Fits parts (subst Rows same by)) (ap (λ (s : Stepped). s.0) step) (ap (λ (s : Stepped). s.1) step))),
+          (bodies_done h here.numbers user version r (requests_put earlier) message w b.front b.answers acts after kind it wanted some
+          here.answers (ap (λ (s : Stepped). s.0) step) (ap (λ (s : Stepped). s.1) step))),
     )
 
 bodies_wanted : (m : Machine) (message : Message) (r : Running) (w rows : List Row) (between : Machine) (asks : List Act) (options : Options) (most : ℕ) (b : Bodies) (after : Machine) (acts : List Act)

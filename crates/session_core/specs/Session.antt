@@ -5,6 +5,8 @@ use Rattle.blip_mux.specs.Joining.{is_request}
 use Rattle.sg_history.specs.declared.entries.Entry.{Entry}
 use Rattle.sg_history.specs.declared.row.Row.{Row}
 use Rattle.sg_history.specs.History.{past}
+use Rattle.sg_history.specs.Book.{book_of}
+use Rattle.rev_tree.specs.Documents.{trees_up_to}
 use Rattle.sg_history.specs.Feed.{feed}
 use Rattle.repl_messages.specs.declared.request.Version.{Version}
 use Rattle.session_core.specs.declared.served.Served.{Served}
@@ -12,7 +14,7 @@ use Rattle.session_core.specs.declared.served.Served.TheVariants.{Feed}
 use Rattle.repl_messages.specs.declared.request.RequestFault.{RequestFault}
 use Rattle.repl_messages.specs.declared.error.ErrorKind.TheVariants as errors
 use Rattle.session_core.specs.Served.{IsRead}
-use Rattle.repl_messages.specs.Looks.{body_of}
+use Rattle.repl_messages.specs.Looks.{body_of, SeenUpTo}
 use Rattle.repl_messages.specs.Wanted.{wanted_rows, reply_items, max_history_of}
 use Rattle.blip_frame.specs.Props.{value_at}
 use Rattle.session_core.specs.declared.look.Look.{Look}
@@ -69,22 +71,24 @@ puts_for_request h user version m (Err fault) r front number = refusal m (error_
 puts_for_request h user version m (Ok request) (Some r) front number = refusal m errors.FeedRuns409
 puts_for_request h user version m (Ok request) None front number = puts_for_feed h user version m request front number
 
--- the bodies of the wanted rows by the history at the front, and then the next offer
-abbrev pub puts_for_answer : List Entry → List ℕ → Version → Message → Running → ℕ → ℕ → List Message
-puts_for_answer h user version m r front number =
+-- the bodies of the wanted rows by the history at the front, with their ancestors by the documents' trees up to these numbers, and
+-- then the next offer
+abbrev pub puts_for_answer : List Entry → (List ℕ → ℕ) → List ℕ → Version → Message → Running → ℕ → ℕ → List Message
+puts_for_answer h numbers user version m r front number =
     let wanted : List Row = wanted_of r m in
-    body_messages number wanted (map (λ row. body_of (past h front) user r.options.filter (most_ancestors m) row) wanted)
+    body_messages number wanted (map (body_of (past h front) (trees_up_to (book_of h) numbers) user r.options.filter (most_ancestors m)) wanted)
     ++ offer (drop r.batch r.rows) r.batch version (number + length wanted) ∷ []
 
 -- a reply to what is on offer is answered; every other one is passed over
-abbrev pub puts_for_reply : List Entry → List ℕ → Version → Message → Option Running → ℕ → ℕ → List Message
-puts_for_reply h user version m None front number = []
-puts_for_reply h user version m (Some r) front number = if answers r m then puts_for_answer h user version m r front number else []
+abbrev pub puts_for_reply : List Entry → (List ℕ → ℕ) → List ℕ → Version → Message → Option Running → ℕ → ℕ → List Message
+puts_for_reply h numbers user version m None front number = []
+puts_for_reply h numbers user version m (Some r) front number = if answers r m then puts_for_answer h numbers user version m r front number else []
 
--- the messages that are put for a message, by the history at the front of the look that was taken, requests numbered from this one on
-abbrev pub puts_for : List Entry → List ℕ → Version → Message → Result Served RequestFault → Option Running → ℕ → ℕ → List Message
-puts_for h user version m read r front number =
-    if is_request m.kind then puts_for_request h user version m read r front number else puts_for_reply h user version m r front number
+-- the messages that are put for a message, by the history at the front of the look that was taken, with the numbers up to which
+-- it saw the documents, requests numbered from this one on
+abbrev pub puts_for : List Entry → (List ℕ → ℕ) → List ℕ → Version → Message → Result Served RequestFault → Option Running → ℕ → ℕ → List Message
+puts_for h numbers user version m read r front number =
+    if is_request m.kind then puts_for_request h user version m read r front number else puts_for_reply h numbers user version m r front number
 
 -- ---- one exchange, and all of them
 
@@ -92,7 +96,9 @@ puts_for h user version m read r front number =
 pub record Exchanged (h : List Entry) (user : List ℕ) (version : Version) (earlier : List Exchange) (x : Exchange) : Type 0 where
   pub read : is_request x.message.kind ≡ true → IsRead x.message.payload version x.read
   pub looks : map (λ look. look.purpose) x.looks ≡ looks_for x.message x.read (running h user earlier)
-  pub puts : x.puts ≡ puts_for h user version x.message x.read (running h user earlier) (front_of x.looks) (requests_put earlier + 1)
+  pub numbers : List ℕ → ℕ
+  pub seen : SeenUpTo (past h (front_of x.looks)) numbers
+  pub puts : x.puts ≡ puts_for h numbers user version x.message x.read (running h user earlier) (front_of x.looks) (requests_put earlier + 1)
 
 -- a session of this user over this history: every exchange, the last of which is the first of the list
 abbrev pub AreExchanged : List Entry → List ℕ → Version → List Exchange → Type 0

@@ -1,10 +1,18 @@
 -- The answers by the rows that documents have now are those of the definition.
-use Rattle.std.proofs.Common.{◌≡◌, ◌<◌, ℕ, ◌+◌, refl, sym, ◌∙◌, ap, inl, inr, ◌⊎◌, arith, Bool, true, false, ◌&&◌, nat_eq, if◌then◌else◌, List, [], ◌∷◌, length, map, reverse, Option, Some, None}
-use Rattle.std.specs.Prelude.{is_none, ◌↔◌}
+use Rattle.std.proofs.Common.{◌≡◌, ◌<◌, ℕ, ◌+◌, refl, sym, ◌∙◌, ap, subst, inl, inr, ◌⊎◌, arith, Bool, true, false, ◌&&◌, nat_eq, if◌then◌else◌, List, [], ◌∷◌, length, map, reverse, Option, Some, None}
+use Rattle.std.specs.Prelude.{is_none, option_map, ◌||◌, ◌↔◌}
 use Rattle.std.proofs.Math.Path.{fun_ext}
 use Rattle.std.proofs.lemmas.Bool.{false≢true}
 use Rattle.std.proofs.Math.Seq.{take-length}
 use Rattle.std.proofs.lemmas.Option.{none-some, same_Some}
+use Rattle.std.specs.List.{list_any}
+use Rattle.rev_tree.specs.declared.tree.Node.{Node}
+use Rattle.sg_history.specs.Current.{Current, Sequenced, winning_of, last_write}
+use Rattle.sg_history.specs.Principals.{has_channel}
+use Rattle.sg_history.specs.View.{every, passes, view_of}
+use Rattle.log_views.specs.States.{winning, view_by}
+use Rattle.repl_messages.specs.Looks.{winner_after}
+use Rattle.write_path.specs.ByLook.{answer}
 use Rattle.std.specs.Cmp.{nat_cmp_is}
 use Rattle.std.specs.Ordering.{nat_cmp}
 use Rattle.std.specs.Str.{bytes_eq}
@@ -23,7 +31,7 @@ use Rattle.feed_rows.specs.Laws.{HasRow, IsAskedFor}
 use Rattle.repl_messages.specs.declared.looks.Body.{Body}
 use Rattle.repl_messages.specs.declared.looks.Body.TheVariants as body
 use Rattle.repl_messages.specs.Looks.{winning_write, said_by, left_by_write, body_with, body_of}
-use Rattle.write_path.specs.ByName.{last_named, before_all, all_rows, shown_by, place_by, body_by}
+use Rattle.write_path.specs.ByName.{last_named, before_all, all_rows, place_by}
 use Rattle.write_path.proofs.Same.{same_bytes, bytes_themselves, same_views}
 use Rattle.write_path.proofs.RowsTell.{seen, shown_now, place_now, row_names, winner_of_rev}
 
@@ -88,44 +96,69 @@ named_row exact es user filter doc = the_named (feed es user before_all (all_row
         let names = row_names es user filter doc r h in
         ((exact es user before_all (all_rows filter) r).1 (doc, h, kept filter r names.1.0 names.1.1), names.0)
 
--- the answer for one row
-module _ (es : List Entry) (user : List ℕ) (filter : Option (List (List ℕ))) (most : ℕ) (row : Row) where
-  abbrev answer : Option Write → Option Shown → ℕ → Body
-  answer winner shown place =
-      if same_view shown (Some (said_by row))
-      then body_with most winner
-      else (if left_by_write row.bits && is_none shown && nat_eq place row.key.by then body.Removed else body.NoRev)
+-- the answer for one row by what is looked up is the definition's, where the place of a document that left is that of its last change
+module _ (es : List Entry) (user : List ℕ) (filter : Option (List (List ℕ))) (most : ℕ) where
+  view_same : (has : List ℕ → Bool) → ((c : List ℕ) → has c ≡ has_channel es user c) → (o : Option Current) → view_by has filter o ≡ view_of es user filter o
+  view_same has same None = refl
+  view_same has same (Some c) =
+      ap (λ (f : List ℕ → Bool). if list_any f (every ∷ c.effects.channels) && passes filter (every ∷ c.effects.channels) then Some (record { seq = c.seq; rev = c.rev; deleted = c.deleted }) else None) (fun_ext same)
 
-  -- where the row still is what is shown, the write of the row's revision is the winner's
-  winner_is : (now : Option Row) (winner : Option Write) → shown_by now ≡ Some (said_by row) → view es user filter row.doc ≡ Some (said_by row) → ((r : Row) → now ≡ Some r → winner ≡ write_alone (write_of_rev es row.doc r.rev)) → winner ≡ winning_write es row.doc
-  winner_is None winner h v found = absurd (none-some _ h)
-  winner_is (Some r) winner h v found =
-      let c = seen es user filter (current es row.doc) (said_by row) v in
-      found r refl ∙ ap (λ (r : RevId). write_alone (write_of_rev es row.doc r)) (go (is_gone r.bits) h ∙ ap (λ (s : Shown). s.rev) c.3) ∙ winner_of_rev es row.doc c.0 c.1
-    where
-      go : (b : Bool) → (if b then None else Some (said_by r)) ≡ Some (said_by row) → r.rev ≡ row.rev
-      go true h = absurd (none-some _ h)
-      go false h = ap (λ (s : Shown). s.rev) (same_Some (said_by r) (said_by row) h)
+  winner_same : (doc : List ℕ) (o : Option Sequenced) → write_alone (option_map (winning_of es doc) o) ≡ winner_after es doc o
+  winner_same doc None = refl
+  winner_same doc (Some last) = refl
 
-  body_is : (now : Option Row) (winner : Option Write) → now ≡ row_of es user filter row.doc → ((r : Row) → now ≡ Some r → winner ≡ write_alone (write_of_rev es row.doc r.rev)) → body_by now winner most row ≡ body_of es user filter most row
-  body_is now winner is found =
-      let shown : shown_by now ≡ view es user filter row.doc = ap shown_by is ∙ shown_now es user filter row.doc in
-      let place : place_by now ≡ length (changed es user filter row.doc) = ap place_by is ∙ place_now es user filter row.doc in
-      ap (λ (s : Option Shown). answer winner s (place_by now)) shown
-      ∙ ap (λ (n : ℕ). answer winner (view es user filter row.doc) n) place
-      ∙ go (same_view (view es user filter row.doc) (Some (said_by row))) refl shown _
-    where
-      go : (b : Bool) → same_view (view es user filter row.doc) (Some (said_by row)) ≡ b → shown_by now ≡ view es user filter row.doc → (other : Body) → (if b then body_with most winner else other) ≡ (if b then body_with most (winning_write es row.doc) else other)
-      go true e shown other =
-          let v : view es user filter row.doc ≡ Some (said_by row) = same_views _ _ e in
-          ap (body_with most) (winner_is now winner (shown ∙ v) v found)
-      go false e shown other = refl
+  -- the place matters only where a row says that its document left
+  placed : (left none : Bool) (a b by : ℕ) → (left ≡ true → a ≡ b) → (left && none && nat_eq a by) ≡ (left && none && nat_eq b by)
+  placed true none a b by same = ap (λ n. true && none && nat_eq n by) (same refl)
+  placed false none a b by same = refl
+
+  pub answered : (trees : List ℕ → List Node) (has : List ℕ → Bool) → ((c : List ℕ) → has c ≡ has_channel es user c) → (place : ℕ) (row : Row) → (left_by_write row.bits ≡ true → place ≡ length (changed es user filter row.doc))
+      → answer (view_by has filter (current es row.doc)) (trees row.doc) (write_alone (winning es row.doc)) place most row ≡ body_of es trees user filter most row
+  answered trees has same place row left =
+      ap (λ (s : Option Shown). answer s (trees row.doc) (write_alone (winning es row.doc)) place most row) (view_same has same (current es row.doc))
+      ∙ ap (λ (w : Option Write). answer (view es user filter row.doc) (trees row.doc) w place most row) (winner_same row.doc (last_write es row.doc))
+      ∙ ap (λ (gone : Bool). if same_view (view es user filter row.doc) (Some (said_by row)) then body_with (trees row.doc) most (winning_write es row.doc) else (if gone then body.Removed else body.NoRev))
+      (placed (left_by_write row.bits) (is_none (view es user filter row.doc)) place (length (changed es user filter row.doc)) row.key.by left)
+
+-- the place of the last change of a document that left, where the rows of all documents are there
+place_of : Exact → (h : List Entry) (user : List ℕ) (filter : Option (List (List ℕ))) (all listed rows : List Row) (gone : List ℕ → Option Row) → listed ≡ all
+    → (list_any (λ row. left_by_write row.bits) rows ≡ true → all ≡ feed (past h (length h)) user before_all (all_rows filter))
+    → ((doc : List ℕ) → gone doc ≡ last_named None listed doc)
+    → list_any (λ row. left_by_write row.bits) rows ≡ true → (doc : List ℕ) → place_by (gone doc) ≡ length (changed (past h (length h)) user filter doc)
+place_of exact h user filter all listed rows gone same is found some doc =
+    ap place_by (found doc ∙ ap (λ (l : List Row). last_named None l doc) (same ∙ is some) ∙ named_row exact (past h (length h)) user filter doc)
+    ∙ place_now (past h (length h)) user filter doc
+
+mapped : (f g : Row → Body) (rows : List Row) → ((row : Row) → HasRow rows row → f row ≡ g row) → map f rows ≡ map g rows
+mapped f g [] same = refl
+mapped f g (row ∷ rows) same =
+    ap (λ (b : Body). b ∷ map f rows) (same row (inl refl))
+    ∙ ap (λ (bodies : List Body). g row ∷ bodies) (mapped f g rows (λ r has. same r (inr has)))
+
+some_left : (rows : List Row) (row : Row) → HasRow rows row → left_by_write row.bits ≡ true → list_any (λ r. left_by_write r.bits) rows ≡ true
+some_left [] row has h = absurd has
+some_left (x ∷ rows) row (inl e) h = ap (λ b. b || list_any (λ r. left_by_write r.bits) rows) (ap (λ (r : Row). left_by_write r.bits) e ∙ h)
+some_left (x ∷ rows) row (inr has) h = or_right (left_by_write x.bits) (list_any (λ r. left_by_write r.bits) rows) (some_left rows row has h)
+  where
+    or_right : (a b : Bool) → b ≡ true → (a || b) ≡ true
+    or_right true b h = refl
+    or_right false b h = h
 
 -- the answers for all rows
-pub bodies_are : Exact → (h entries : List Entry) (user : List ℕ) (filter : Option (List (List ℕ))) (most : ℕ) (all listed rows : List Row) (now : List ℕ → Option Row) (winners : List ℕ → Option Write) → entries ≡ h → all ≡ feed (past h (length h)) user before_all (all_rows filter) → listed ≡ all → ((doc : List ℕ) → now doc ≡ last_named None listed doc) → ((doc : List ℕ) (row : Row) → now doc ≡ Some row → winners doc ≡ write_alone (write_of_rev (reverse entries) doc row.rev)) → map (λ row. body_by (now row.doc) (winners row.doc) most row) rows ≡ map (body_of (past h (length h)) user filter most) rows
-bodies_are exact h entries user filter most all listed rows now winners one is same found written =
-    let es : List Entry = past h (length h) in
-    let whole : reverse entries ≡ es = ap reverse (one ∙ sym (take-length h)) in
-    let named : (doc : List ℕ) → now doc ≡ row_of es user filter doc = λ doc. found doc ∙ ap (λ (l : List Row). last_named None l doc) (same ∙ is) ∙ named_row exact es user filter doc in
-    let of : (doc : List ℕ) (row : Row) → now doc ≡ Some row → winners doc ≡ write_alone (write_of_rev es doc row.rev) = λ doc row k. written doc row k ∙ ap (λ (l : List Entry). write_alone (write_of_rev l doc row.rev)) whole in
-    ap (λ (f : Row → Body). map f rows) (fun_ext (λ row. body_is es user filter most row (now row.doc) (winners row.doc) (named row.doc) (of row.doc)))
+pub bodies_are : Exact → (h entries : List Entry) (trees : List ℕ → List Node) (user : List ℕ) (filter : Option (List (List ℕ))) (most : ℕ) (all listed rows : List Row) (has : List ℕ → Bool) (gone : List ℕ → Option Row) → entries ≡ h
+    → ((c : List ℕ) → has c ≡ has_channel (reverse entries) user c)
+    → listed ≡ all
+    → (list_any (λ row. left_by_write row.bits) rows ≡ true → all ≡ feed (past h (length h)) user before_all (all_rows filter))
+    → ((doc : List ℕ) → gone doc ≡ last_named None listed doc)
+    → map (λ row. answer (view_by has filter (current (reverse entries) row.doc)) (trees row.doc) (write_alone (winning (reverse entries) row.doc)) (place_by (gone row.doc)) most row) rows
+    ≡ map (body_of (reverse h) trees user filter most) rows
+bodies_are exact h entries trees user filter most all listed rows has gone one channels same is found =
+    let es : List Entry = reverse h in
+    let whole : reverse entries ≡ es = ap reverse one in
+    let past_all : past h (length h) ≡ es = ap reverse (take-length h) in
+    let P : List Entry → Type 0 = λ l. list_any (λ row. left_by_write row.bits) rows ≡ true → (doc : List ℕ) → place_by (gone doc) ≡ length (changed l user filter doc) in
+    let places : P es = subst P past_all (place_of exact h user filter all listed rows gone same is found) in
+    mapped _ _ rows (λ row there.
+    ap (λ (l : List Entry). answer (view_by has filter (current l row.doc)) (trees row.doc) (write_alone (winning l row.doc)) (place_by (gone row.doc)) most row) whole
+    ∙ answered es user filter most trees has (λ c. channels c ∙ ap (λ (l : List Entry). has_channel l user c) whole) (place_by (gone row.doc)) row
+    (λ left. places (some_left rows row there left) row.doc))

@@ -1,4 +1,5 @@
 pub mod AllRows
+pub mod BoardBodies
 pub mod BodyLaws
 pub mod Maps
 pub mod OneRead

@@ -1,12 +1,19 @@
 -- What was answered of a history is said of each that goes on from it.
 use Rattle.std.proofs.Common.{◌≡◌, ◌≤◌, ℕ, List, length, map, take, reverse, sym, ◌∙◌, ap, subst, le_refl}
 use Rattle.std.proofs.lemmas.List.{take-append-le}
+use Rattle.std.proofs.Math.Seq.{take-length}
+use Rattle.std.proofs.Math.Path.{fun_ext}
 use Rattle.sg_names.specs.declared.key.Key.{Key}
 use Rattle.sg_history.specs.declared.entries.Entry.{Entry}
 use Rattle.sg_history.specs.declared.row.Row.{Row}
 use Rattle.sg_history.specs.declared.row.Options.{Options}
 use Rattle.sg_history.specs.History.{past, Extends}
 use Rattle.sg_history.specs.Feed.{feed}
+use Rattle.sg_history.specs.declared.book.Waiting.{Waiting}
+use Rattle.sg_history.specs.Board.{BoardState, board_book}
+use Rattle.sg_history.specs.Book.{Book, book_of, book_with, Later}
+use Rattle.rev_tree.specs.declared.tree.Node.{Node}
+use Rattle.rev_tree.specs.Documents.{IsLastNumber, tree_in, last_at, trees_up_to}
 use Rattle.repl_messages.specs.declared.looks.Bodies.{Bodies}
 use Rattle.repl_messages.specs.declared.looks.Fed.{Fed}
 use Rattle.repl_messages.specs.declared.looks.Fed.TheVariants as fed
@@ -24,7 +31,31 @@ fed_later earlier later user since options (fed.Rows front rows) more (is, said)
     (said.0, said.1 ∙ ap (λ es. feed es user since options) (sym (same_past earlier later front more is)))
 fed_later earlier later user since options (fed.Future front) more (is, past) = past
 
-pub bodies_later : (earlier later : List Entry) (user : List ℕ) (options : Options) (rows : List Row) (most : ℕ) (bodies : Bodies) → Extends earlier later → BodiesAt earlier user options rows most bodies
+-- what the laws of later books say
+abbrev pub LogExtends : Type 0
+LogExtends = (log : List Entry) (waiting : List Waiting) (h : List Entry) → Later (book_with log waiting) (book_of h) → Extends log h
+
+abbrev pub SameTrees : Type 0
+SameTrees = (earlier later : Book) (doc : List ℕ) (number : ℕ) → Later earlier later → IsLastNumber earlier doc number → tree_in later number doc ≡ tree_in earlier number doc
+
+abbrev pub LeastOfLog : Type 0
+LeastOfLog = (log : List Entry) (waiting : List Waiting) (doc : List ℕ) (number : ℕ) → IsLastNumber (book_with log waiting) doc number → last_at (reverse log) doc ≤ number
+
+pub bodies_later : LogExtends → SameTrees → LeastOfLog → (board : BoardState) (later : List Entry) (user : List ℕ) (options : Options) (rows : List Row) (most : ℕ) (bodies : Bodies) → Later (board_book board) (book_of later) → BodiesAt board user options rows most bodies
     → AreBodies later user options rows most bodies
-bodies_later earlier later user options rows most bodies more (is, answers) =
-    answers ∙ ap (λ es. map (body_of es user options.filter most) rows) (sym (same_past earlier later bodies.front more is))
+bodies_later log_extends same_trees least board later user options rows most bodies after at =
+    let book : Book = board_book board in
+    let front : ℕ = bodies.front in
+    let more : Extends board.log later = log_extends board.log board.pending later after in
+    let all : past board.log front ≡ reverse board.log = ap (λ n. past board.log n) at.front ∙ ap (λ (es : List Entry). reverse es) (take-length board.log) in
+    let whole : past later front ≡ reverse board.log = same_past board.log later front more at.front ∙ all in
+    let trees : trees_up_to book at.numbers ≡ trees_up_to (book_of later) at.numbers = fun_ext (λ doc. sym (same_trees book (book_of later) doc (at.numbers doc) after (at.last doc))) in
+    let L : List ℕ → List Entry → Type 0 = λ doc es. last_at es doc ≤ at.numbers doc in
+    record {
+      numbers = at.numbers;
+      seen = λ doc. subst (L doc) (sym whole) (least board.log board.pending doc (at.numbers doc) (at.last doc));
+      answers =
+          at.answers
+          ∙ ap (λ es. map (body_of es (trees_up_to book at.numbers) user options.filter most) rows) (sym whole)
+          ∙ ap (λ (t : List ℕ → List Node). map (body_of (past later front) t user options.filter most) rows) trees;
+    }

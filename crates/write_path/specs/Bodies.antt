@@ -1,11 +1,16 @@
 -- What a look for the bodies of rows answers.
-use Rattle.std.specs.Prelude.{◌≡◌, ℕ, List, length}
-use Rattle.sg_history.specs.declared.entries.Entry.{Entry}
+use Rattle.std.specs.Prelude.{◌≡◌, ℕ, List, length, map, reverse}
 use Rattle.sg_history.specs.declared.row.Row.{Row}
 use Rattle.sg_history.specs.declared.row.Options.{Options}
+use Rattle.sg_history.specs.Board.{BoardState, board_book}
+use Rattle.rev_tree.specs.Documents.{AreLastNumbers, trees_up_to}
 use Rattle.repl_messages.specs.declared.looks.Bodies.{Bodies}
-use Rattle.repl_messages.specs.Looks.{AreBodies}
+use Rattle.repl_messages.specs.Looks.{body_of}
 
--- the front is the history's length, and each row has its answer by that history, in their order
-abbrev pub BodiesAt : List Entry → List ℕ → Options → List Row → ℕ → Bodies → Type 0
-BodiesAt h user options rows most bodies = (bodies.front ≡ length h) × AreBodies h user options rows most bodies
+-- the front is the length of the board's log, and each row has its answer by that log, in their order, and by the trees that
+-- the documents have in the board's book
+pub record BodiesAt (board : BoardState) (user : List ℕ) (options : Options) (rows : List Row) (most : ℕ) (bodies : Bodies) : Type 0 where
+  pub front : bodies.front ≡ length board.log
+  pub numbers : List ℕ → ℕ
+  pub last : AreLastNumbers (board_book board) numbers
+  pub answers : bodies.answers ≡ map (body_of (reverse board.log) (trees_up_to (board_book board) numbers) user options.filter most) rows

@@ -42,10 +42,3 @@ shown_by (Some now) = if is_gone now.bits then None else Some (said_by now)
 abbrev pub place_by : Option Row → ℕ
 place_by None = 0
 place_by (Some now) = now.key.by
-
--- what is answered for a row, by the row that its document has now and the write of the winner
-abbrev pub body_by : Option Row → Option Write → ℕ → Row → Body
-body_by now winner most row =
-    if same_view (shown_by now) (Some (said_by row))
-    then body_with most winner
-    else (if left_by_write row.bits && is_none (shown_by now) && nat_eq (place_by now) row.key.by then body.Removed else body.NoRev)

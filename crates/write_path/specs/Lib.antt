@@ -1,4 +1,5 @@
 pub mod Bodies
+pub mod ByLook
 pub mod ByName
 pub mod Feed
 pub mod Reads

@@ -59,5 +59,5 @@ pub trait Ground: Drop {
         ensures recorded { recorded self.new ≡ recorded self.old }
         ensures answer { IfOk result (λ bodies. (b : BoardState)
             × WasRead (read self.old) (read self.new) b × HasLength (recorded self.old) b
-            × BodiesAt b.log user.now options.now rows.now most bodies) };
+            × BodiesAt b user.now options.now rows.now most bodies) };
 }

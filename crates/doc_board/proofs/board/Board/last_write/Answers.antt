@@ -11,6 +11,6 @@ pub returns : goal.returns
 returns c =
     c.last_of.ensures
     ∙ ap (λ (o : Option Document). kept_last o) c.document_of.ensures
-    ∙ last_found (reverse c.self.inside.log.entries.list) c.self.inside.documents c.args.doc.now c.self.invariant.documents
+    ∙ last_found (reverse c.self.inside.log.entries.list) c.self.inside.documents c.args.doc.now c.self.invariant.0.documents
     ∙ ap (λ (s : State). last_at (newest_first s) c.args.doc.now) c.self.view_is
     ∙ sym (c.histories.ensures.last c.args.self.now.log (length c.args.self.now.log) c.args.doc.now ∙ whole (λ es. last_at es c.args.doc.now) c.args.self.now.log)

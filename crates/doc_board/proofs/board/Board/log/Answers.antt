@@ -10,4 +10,4 @@ pub returns-clause-accepted : goal.returns-clause-accepted
 returns-clause-accepted c = λ doc.
     let h = c.args.self.now.log in
     let same = c.histories.ensures.writes h (length h) doc ∙ whole (λ es. writes_of es doc) h in
-    subst (λ (ws : List Recorded). AreAccepted ws) (sym same) (subst (λ (s : State). AreAccepted (writes_of (newest_first s) doc)) c.self.view_is (c.self.invariant.accepted doc))
+    subst (λ (ws : List Recorded). AreAccepted ws) (sym same) (subst (λ (s : State). AreAccepted (writes_of (newest_first s) doc)) c.self.view_is (c.self.invariant.0.accepted doc))

@@ -1,5 +1,7 @@
 use Rattle.std.proofs.Common.{◌≡◌, ◌+◌, ◌++◌, ◌∷◌, [], ◌∙◌, ap, subst, sym, true, List, Option, ℕ, length}
+use Rattle.sg_history.specs.declared.entries.Entry.{Entry}
 use Rattle.sg_history.specs.declared.entries.Entry.TheVariants as kinds
+use Rattle.log_index.specs.Index.{IsBehind}
 use Rattle.doc_board.specs.Candidates.{ExtendsTree}
 use Rattle.doc_board.specs.Kept.{has_place}
 use Rattle.doc_board.specs.Rooms.{is_out}
@@ -15,7 +17,7 @@ pub put-requires : goal.put-requires
 put-requires c =
     let O : State → Type 0 = λ s. is_out s.rooms c.args.room.made_for ≡ true in
     let P : Option (List ℕ) → Type 0 = λ o. has_place c.self.inside.documents o ≡ true in
-    subst P c.requires.doc (out_has_place c.self.inside.documents c.args.room.made_for c.self.inside.rooms.items c.self.invariant.out (subst O (sym c.self.view_is) c.requires.out))
+    subst P c.requires.doc (out_has_place c.self.inside.documents c.args.room.made_for c.self.inside.rooms.items c.self.invariant.0.out (subst O (sym c.self.view_is) c.requires.out))
 
 pub invariant_of-self : goal.invariant_of-self
 invariant_of-self c =
@@ -25,9 +27,13 @@ invariant_of-self c =
     let h = c.args.self.now.log in
     let same = c.histories.ensures.trees h (length h) c.args.entry.doc ∙ whole (λ es. tree_at es c.args.entry.doc) h in
     let extends : E c.args.self.now = subst (λ (t : List Node). ExtendsTree t c.args.entry c.args.tree) same c.requires.extends in
-    rw c.close.ensures
-    (kept_write c.trees_of_writes.ensures.revisions c.trees_of_writes.ensures.leaves c.args.entry c.self.inside.log.entries c.put-2.new.self c.self.inside.documents c.put.new.documents c.self.inside.rooms.items c.args.room.made_for c.args.sequence c.args.tree
-    c.self.invariant (subst O (sym c.self.view_is) c.requires.out) c.requires.entry c.requires.at (subst S (sym c.self.view_is) c.requires.sequence) (subst E (sym c.self.view_is) extends) c.put.ensures c.put-2.ensures.list c.put-2.ensures.spare)
+    let B : List Entry → Type 0 = λ es. IsBehind c.self.inside.index es in
+    (
+      rw c.close.ensures
+      (kept_write c.trees_of_writes.ensures.revisions c.trees_of_writes.ensures.leaves c.args.entry c.self.inside.log.entries c.put-2.new.self c.self.inside.documents c.put.new.documents c.self.inside.rooms.items c.args.room.made_for c.args.sequence c.args.tree
+      c.self.invariant.0 (subst O (sym c.self.view_is) c.requires.out) c.requires.entry c.requires.at (subst S (sym c.self.view_is) c.requires.sequence) (subst E (sym c.self.view_is) extends) c.put.ensures c.put-2.ensures.list c.put-2.ensures.spare),
+      subst B (sym c.put-2.ensures.list) (c.behind.ensures c.self.inside.index c.self.inside.log.entries.list (kinds.Write c.args.entry ∷ []) c.self.invariant.1),
+    )
 
 pub returns-clause-log : goal.returns-clause-log
 returns-clause-log c =

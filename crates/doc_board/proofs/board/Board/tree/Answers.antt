@@ -13,7 +13,7 @@ pub returns-clause-tree : goal.returns-clause-tree
 returns-clause-tree c =
     c.tree_of.ensures
     ∙ ap (λ (o : Option Document). kept_tree o) c.document_of.ensures
-    ∙ tree_found (reverse c.self.inside.log.entries.list) c.self.inside.documents c.args.doc.now c.self.invariant.documents
+    ∙ tree_found (reverse c.self.inside.log.entries.list) c.self.inside.documents c.args.doc.now c.self.invariant.0.documents
     ∙ ap (λ (s : State). tree_when (writes_of (newest_first s) c.args.doc.now)) c.self.view_is
     ∙ ap tree_when (sym (c.histories.ensures.writes c.args.self.now.log (length c.args.self.now.log) c.args.doc.now ∙ whole (λ es. writes_of es c.args.doc.now) c.args.self.now.log))
 
@@ -22,4 +22,4 @@ returns-clause-accepted c =
     let h = c.args.self.now.log in
     let doc = c.args.doc.now in
     let same = c.histories.ensures.writes h (length h) doc ∙ whole (λ es. writes_of es doc) h in
-    subst (λ (ws : List Recorded). AreAccepted ws) (sym same) (subst (λ (s : State). AreAccepted (writes_of (newest_first s) doc)) c.self.view_is (c.self.invariant.accepted doc))
+    subst (λ (ws : List Recorded). AreAccepted ws) (sym same) (subst (λ (s : State). AreAccepted (writes_of (newest_first s) doc)) c.self.view_is (c.self.invariant.0.accepted doc))
