@@ -1,4 +1,6 @@
+pub mod BoardTrees
 pub mod Documents
+pub mod LaterBoards
 pub mod Lawful
 pub mod OutRooms
 pub mod Stored

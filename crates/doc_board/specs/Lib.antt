@@ -1,7 +1,10 @@
 pub mod Answers
+pub mod Boards
 pub mod Candidates
 pub mod Kept
 pub mod Lawful
+pub mod Offers
+pub mod Outcomes
 pub mod Recorded
 pub mod Rooms
 pub mod State

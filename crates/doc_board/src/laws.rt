@@ -1,17 +1,22 @@
 //! Laws of boards' logs. Each is the contract of a function that does nothing.
 
-ghost use Rattle.std.specs.Prelude.{List, IsTrue};
+ghost use Rattle.std.specs.Prelude.{◌≡◌, ℕ, List, IsTrue};
 ghost use Rattle.sg_history.specs.declared.entries.Entry.{Entry};
+ghost use Rattle.sg_history.specs.Board.{BoardState, board_book};
+ghost use Rattle.sg_history.specs.Book.{Book, Later};
 ghost use Rattle.sg_history.specs.Journal.{IsRecord};
 ghost use Rattle.sg_history.specs.declared.entries.Write.{Write};
 ghost use Rattle.sg_names.specs.RevId.{is_rev};
 ghost use Rattle.rev_tree.specs.declared.tree.Node.{Node};
+ghost use Rattle.rev_tree.specs.Documents.{tree_in, tree_when};
 ghost use Rattle.rev_tree.specs.Writes.{AreAccepted};
 ghost use Rattle.doc_board.specs.Candidates.{ExtendsTree};
 ghost use Rattle.doc_board.specs.Lawful.{AreLawful};
-ghost use Rattle.rev_tree.specs.Documents.{writes_of, tree_at};
+ghost use Rattle.doc_board.specs.Boards.{board_of, board_last, board_tree};
+ghost use Rattle.doc_board.specs.Offers.{nodes_or_none};
+ghost use Rattle.doc_board.specs.State.{State, newest_first, writes_on, tree_on, last_on};
 
-use rev_tree::laws::trees_of_writes;
+use rev_tree::laws::{histories, later_books, trees_of_writes};
 
 /// The entries of a journal are lawful.
 pub fn recorded()
@@ -20,9 +25,27 @@ pub fn recorded()
 
 /// The winner that a write names is a revision in its grammar, where the write's own is one.
 pub fn winners()
-    ensures { (es : List Entry) (w : Write) (after : List Node) → AreLawful es → AreAccepted
-        (writes_of es w.doc) → ExtendsTree (tree_at es w.doc) w after → IsTrue (is_rev w.rev)
-        → IsTrue (is_rev w.winner) }
+    ensures { (s : State) (w : Write) (after : List Node) → AreLawful (newest_first s)
+        → AreAccepted (writes_on s w.doc) → ExtendsTree (tree_on s w.doc) w after
+        → IsTrue (is_rev w.rev) → IsTrue (is_rev w.winner) }
 {
     trees_of_writes();
+    histories();
+}
+
+/// The board of a log and its outstanding rooms says of a document what the log says: its last write, and its tree, which has no
+/// revisions where the document was never written.
+pub fn boards()
+    ensures last { (s : State) (doc : List ℕ) → board_last (board_of s) doc ≡ last_on s doc }
+    ensures trees { (s : State) (doc : List ℕ) → board_tree (board_of s) doc ≡ tree_on s doc }
+    ensures written { (s : State) (doc : List ℕ)
+        → board_tree (board_of s) doc ≡ nodes_or_none (tree_when (writes_on s doc)) }
+{}
+
+/// Each book that is later than a board's says of a document, up to the number of its last write there, what the board says.
+pub fn later_boards()
+    ensures { (board : BoardState) (later : Book) (doc : List ℕ) → Later (board_book board) later
+        → tree_in later (board_last board doc) doc ≡ board_tree board doc }
+{
+    later_books();
 }

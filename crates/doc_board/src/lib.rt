@@ -5,13 +5,17 @@ pub mod board;
 pub mod candidate;
 pub mod document;
 pub mod laws;
+pub mod offers;
 pub mod open;
+pub mod outcome;
 pub mod room;
 pub mod snapshot;
 
 pub use board::Board;
 pub use candidate::{Candidate, Commit, NoRoom};
-pub use open::OpenFault;
+pub use offers::answer_offer;
+pub use open::{OpenFault, is_document};
+pub use outcome::{MOST_BODY_BYTES, Outcome};
 pub use room::Room;
 pub use sg_history::RoomFor;
 pub use snapshot::Snapshot;

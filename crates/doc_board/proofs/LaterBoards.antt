@@ -1,0 +1,96 @@
+-- what a board says of a document, later books say up to the same number
+use Rattle.std.proofs.Common.{◌≡◌, ◌≤◌, ◌∙◌, ℕ, zero, suc, Bool, true, false, List, [], ◌∷◌, length, refl, ap, sym, subst, arith, Option, Some, None, nat_eq, if◌then◌else◌}
+use Rattle.std.proofs.lemmas.Bool.{eqb-true, eqb-false}
+use Rattle.std.proofs.lemmas.Option.{none-some, same_Some, slice_get_within}
+use Rattle.sg_history.specs.declared.book.Waiting.{Waiting}
+use Rattle.sg_history.specs.declared.entries.Entry.{Entry}
+use Rattle.sg_history.specs.declared.entries.Write.{Write}
+use Rattle.sg_history.specs.Board.{BoardState, board_book}
+use Rattle.sg_history.specs.Book.{Book, Later, IsLastWrite, book_of, waiting_at, entry_or, write_at, written_in, writes_up_to, first_write}
+use Rattle.sg_history.specs.Current.{Sequenced, sequenced_before}
+use Rattle.rev_tree.specs.Documents.{sequence_of, tree_in}
+use Rattle.doc_board.specs.Boards.{board_top, board_last, board_tree, highest}
+
+-- ---- the last write up to a number
+
+-- the first of the writes up to a number stands there, and none up to that number stands above it
+record IsFirstWrite (book : Book) (number : ℕ) (doc : List ℕ) (last : Sequenced) : Type 0 where
+  positive : 1 ≤ last.seq
+  there : write_at book doc last.seq ≡ Some last.write
+  above : (n : ℕ) (w : Write) → n ≤ number → write_at book doc n ≡ Some w → n ≤ last.seq
+
+not_last : (n number : ℕ) → n ≤ suc number → (n ≡ suc number → ⊥) → n ≤ number
+not_last n number low h = omega arith
+
+above_more : (book : Book) (number : ℕ) (doc : List ℕ) (last : Sequenced) → IsFirstWrite book number doc last → None ≡ write_at book doc (suc number) → (n : ℕ) (w : Write) → n ≤ suc number → write_at book doc n ≡ Some w → n ≤ last.seq
+above_more book number doc last older none n w low is = go (nat_eq n (suc number)) refl
+  where
+    go : (b : Bool) → nat_eq n (suc number) ≡ b → n ≤ last.seq
+    go true e = absurd (none-some w (none ∙ ap (λ (k : ℕ). write_at book doc k) (sym (eqb-true n (suc number) e)) ∙ is))
+    go false e = older.above n w (not_last n number low (eqb-false n (suc number) e)) is
+
+first_case : (book : Book) (number : ℕ) (doc : List ℕ) (last : Sequenced) (found : Option Write) → found ≡ write_at book doc (suc number) → (first_write (writes_up_to book number doc) ≡ Some last → IsFirstWrite book number doc last) → first_write (sequenced_before found (suc number) (writes_up_to book number doc)) ≡ Some last → IsFirstWrite book (suc number) doc last
+first_case book number doc last None is before h =
+    let older = before h in record { positive = older.positive; there = older.there; above = above_more book number doc last older is }
+first_case book number doc last (Some w) is before h =
+    let same = same_Some _ last h in
+    subst (λ (l : Sequenced). IsFirstWrite book (suc number) doc l) same
+    (record { positive = omega arith; there = sym is; above = λ n v low at. low })
+
+first_is : (book : Book) (number : ℕ) (doc : List ℕ) (last : Sequenced) → first_write (writes_up_to book number doc) ≡ Some last → IsFirstWrite book number doc last
+first_is book zero doc last h = absurd (none-some last h)
+first_is book (suc number) doc last h =
+    first_case book number doc last (write_at book doc (suc number)) refl (λ e. first_is book number doc last e) h
+
+-- ---- no entry stands above the top
+
+waits_case : (first : Waiting) (others : List Waiting) (number : ℕ) (e : Entry) (b : Bool) → nat_eq first.number number ≡ b → (waiting_at others number ≡ Some e → number ≤ highest others) → (if b then Some first.entry else waiting_at others number) ≡ Some e → number ≤ highest (first ∷ others)
+waits_case first others number e true is rest h = let same : first.number ≡ number = eqb-true first.number number is in omega arith
+waits_case first others number e false is rest h = let low : number ≤ highest others = rest h in omega arith
+
+none_waits : (waiting : List Waiting) (number : ℕ) (e : Entry) → waiting_at waiting number ≡ Some e → number ≤ highest waiting
+none_waits [] number e h = absurd (none-some e h)
+none_waits (first ∷ others) number e h =
+    waits_case first others number e (nat_eq first.number number) refl (λ g. none_waits others number e g) h
+
+within : (log : List Entry) (number : ℕ) (e : Entry) → book_of log number ≡ Some e → number ≤ length log
+within log zero e h = absurd (none-some e h)
+within log (suc place) e h = omega (arith, slice_get_within log place e h)
+
+none_above_top : (board : BoardState) (number : ℕ) (e : Entry) → board_book board number ≡ Some e → number ≤ board_top board
+none_above_top board number e h = go (book_of board.log number) refl h
+  where
+    go : (o : Option Entry) → book_of board.log number ≡ o → entry_or o (waiting_at board.pending number) ≡ Some e → number ≤ board_top board
+    go None is g = let low : number ≤ highest board.pending = none_waits board.pending number e g in omega arith
+    go (Some x) is g = let low : number ≤ length board.log = within board.log number x is in omega arith
+
+no_write_above : (board : BoardState) (doc : List ℕ) (number : ℕ) (w : Write) → write_at (board_book board) doc number ≡ Some w → number ≤ board_top board
+no_write_above board doc number w h = go (board_book board number) refl h
+  where
+    go : (o : Option Entry) → board_book board number ≡ o → written_in o doc ≡ Some w → number ≤ board_top board
+    go None is g = absurd (none-some w g)
+    go (Some e) is g = none_above_top board number e is
+
+last_is : (board : BoardState) (doc : List ℕ) (last : Sequenced) → first_write (writes_up_to (board_book board) (board_top board) doc) ≡ Some last → IsLastWrite (board_book board) doc last
+last_is board doc last h =
+    let first = first_is (board_book board) (board_top board) doc last h in
+    record {
+      number = first.positive;
+      there = first.there;
+      none_above = λ number w is. first.above number w (no_write_above board doc number w is) is;
+    }
+
+-- ---- later books
+
+abbrev pub SameTrees : Type 0
+SameTrees = (earlier later : Book) (doc : List ℕ) (last : Sequenced) (number : ℕ) → Later earlier later → IsLastWrite earlier doc last → number ≤ last.seq → tree_in later number doc ≡ tree_in earlier number doc
+
+pub later_tree : SameTrees → (board : BoardState) (later : Book) (doc : List ℕ) → Later (board_book board) later → tree_in later (board_last board doc) doc ≡ board_tree board doc
+later_tree same board later doc on = go (first_write (writes_up_to (board_book board) (board_top board) doc)) refl
+  where
+    same_at : (number : ℕ) → board_last board doc ≡ number → tree_in later number doc ≡ tree_in (board_book board) number doc → tree_in later (board_last board doc) doc ≡ tree_in (board_book board) (board_last board doc) doc
+    same_at number is h = subst (λ (n : ℕ). tree_in later n doc ≡ tree_in (board_book board) n doc) (sym is) h
+
+    go : (o : Option Sequenced) → first_write (writes_up_to (board_book board) (board_top board) doc) ≡ o → tree_in later (board_last board doc) doc ≡ tree_in (board_book board) (board_last board doc) doc
+    go None is = same_at 0 (ap (λ (o : Option Sequenced). sequence_of o) is) refl
+    go (Some last) is = same_at last.seq (ap (λ (o : Option Sequenced). sequence_of o) is) (same (board_book board) later doc last last.seq on (last_is board doc last is) (omega arith))

@@ -1,0 +1,28 @@
+//! What comes of a revision that is proposed.
+
+use repl_messages::Field;
+use sg_history::RevId;
+
+/// The most bytes that a document's body may have.
+pub const MOST_BODY_BYTES: u64 = 20_971_520;
+
+/// What came of a revision that was proposed. `at` is the length of the log of the board by which it was judged.
+#[derive(Drop)]
+pub enum Outcome {
+    /// This part of it is outside its grammar, or the body is no document.
+    Bad400 { field: Field },
+    /// The body has more bytes than one may have.
+    TooLarge413 { bytes: u64 },
+    /// The user who proposes it does not exist.
+    UserGone401 { at: u64 },
+    /// The document has it.
+    Known { at: u64 },
+    /// The generations of the revision and its ancestors don't fall strictly, or there are more than 1,000 ancestors.
+    BadHistory400 { at: u64 },
+    /// It would make a conflict, where none is allowed, with the document's winner.
+    Conflict409 { at: u64, leaf: RevId },
+    /// It is stored at this sequence.
+    Stored { sequence: u64, at: u64 },
+    /// Out of memory.
+    Memory507,
+}
