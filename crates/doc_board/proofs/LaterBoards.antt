@@ -1,14 +1,16 @@
 -- what a board says of a document, later books say up to the same number
-use Rattle.std.proofs.Common.{◌≡◌, ◌≤◌, ◌∙◌, ℕ, zero, suc, Bool, true, false, List, [], ◌∷◌, length, refl, ap, sym, subst, arith, Option, Some, None, nat_eq, if◌then◌else◌}
+use Rattle.std.proofs.Common.{◌≡◌, ◌≤◌, ◌∙◌, ℕ, zero, suc, Bool, true, false, List, [], ◌∷◌, length, reverse, refl, ap, sym, subst, arith, Option, Some, None, nat_eq, if◌then◌else◌}
 use Rattle.std.proofs.lemmas.Bool.{eqb-true, eqb-false}
+use Rattle.std.proofs.Math.Seq.{take-length}
 use Rattle.std.proofs.lemmas.Option.{none-some, same_Some, slice_get_within}
 use Rattle.sg_history.specs.declared.book.Waiting.{Waiting}
 use Rattle.sg_history.specs.declared.entries.Entry.{Entry}
 use Rattle.sg_history.specs.declared.entries.Write.{Write}
 use Rattle.sg_history.specs.Board.{BoardState, board_book}
-use Rattle.sg_history.specs.Book.{Book, Later, IsLastWrite, book_of, waiting_at, entry_or, write_at, written_in, writes_up_to, first_write}
-use Rattle.sg_history.specs.Current.{Sequenced, sequenced_before}
-use Rattle.rev_tree.specs.Documents.{sequence_of, tree_in}
+use Rattle.sg_history.specs.Book.{Book, Later, IsLastWrite, book_of, waiting_at, entry_or, write_at, written_in, writes_up_to, first_write, last_write_up_to}
+use Rattle.sg_history.specs.History.{past}
+use Rattle.sg_history.specs.Current.{Sequenced, sequenced_before, last_write}
+use Rattle.rev_tree.specs.Documents.{sequence_of, tree_in, last_at}
 use Rattle.doc_board.specs.Boards.{board_top, board_last, board_tree, highest}
 
 -- ---- the last write up to a number
@@ -94,3 +96,49 @@ later_tree same board later doc on = go (first_write (writes_up_to (board_book b
     go : (o : Option Sequenced) → first_write (writes_up_to (board_book board) (board_top board) doc) ≡ o → tree_in later (board_last board doc) doc ≡ tree_in (board_book board) (board_last board doc) doc
     go None is = same_at 0 (ap (λ (o : Option Sequenced). sequence_of o) is) refl
     go (Some last) is = same_at last.seq (ap (λ (o : Option Sequenced). sequence_of o) is) (same (board_book board) later doc last last.seq on (last_is board doc last is) (omega arith))
+
+-- ---- the last write of the log
+
+-- a write that stands up to a number is among those up to it
+none_of_some : (book : Book) (number : ℕ) (doc : List ℕ) (other : ℕ) (w : Write) → 1 ≤ other → other ≤ number → write_at book doc other ≡ Some w → first_write (writes_up_to book number doc) ≡ None → ⊥
+none_of_some book zero doc other w first low at none = omega (arith, first, low)
+none_of_some book (suc number) doc other w first low at none = go (λ lower none. none_of_some book number doc other w first lower at none) (write_at book doc (suc number)) refl none
+  where
+    go : (other ≤ number → first_write (writes_up_to book number doc) ≡ None → ⊥) → (o : Option Write) → write_at book doc (suc number) ≡ o → first_write (sequenced_before o (suc number) (writes_up_to book number doc)) ≡ None → ⊥
+    go rest (Some v) is found = none-some _ (sym found)
+    go rest None is found =
+        let apart : other ≡ suc number → ⊥ = λ e. none-some w (sym is ∙ ap (λ (k : ℕ). write_at book doc k) (sym e) ∙ at) in
+        rest (not_last other number low apart) found
+
+-- what stands in the log stands in the board's book
+in_board : (board : BoardState) (doc : List ℕ) (number : ℕ) (w : Write) → write_at (book_of board.log) doc number ≡ Some w → write_at (board_book board) doc number ≡ Some w
+in_board board doc number w at = go (book_of board.log number) at
+  where
+    go : (o : Option Entry) → written_in o doc ≡ Some w → written_in (entry_or o (waiting_at board.pending number)) doc ≡ Some w
+    go None h = absurd (none-some w h)
+    go (Some e) h = h
+
+no_later_write : (board : BoardState) (doc : List ℕ) (number : ℕ) (w : Write) → 1 ≤ number → write_at (board_book board) doc number ≡ Some w → number ≤ board_last board doc
+no_later_write board doc number w first at = go (first_write (writes_up_to (board_book board) (board_top board) doc)) refl
+  where
+    go : (o : Option Sequenced) → first_write (writes_up_to (board_book board) (board_top board) doc) ≡ o → number ≤ sequence_of o
+    go None is = absurd (none_of_some (board_book board) (board_top board) doc number w first (no_write_above board doc number w at) at is)
+    go (Some last) is = (first_is (board_book board) (board_top board) doc last is).above number w (no_write_above board doc number w at) at
+
+-- what the law of books says
+abbrev pub SameLast : Type 0
+SameLast = (h : List Entry) (number : ℕ) (doc : List ℕ) → last_write_up_to (book_of h) number doc ≡ last_write (past h number) doc
+
+pub least_of_log : SameLast → (board : BoardState) (doc : List ℕ) → last_at (reverse board.log) doc ≤ board_last board doc
+least_of_log same board doc =
+    let log : List Entry = board.log in
+    let whole : last_write_up_to (book_of log) (length log) doc ≡ last_write (reverse log) doc =
+    same log (length log) doc ∙ ap (λ (es : List Entry). last_write (reverse es) doc) (take-length log) in
+    let P : Option Sequenced → Type 0 = λ o. sequence_of o ≤ board_last board doc in
+    subst P whole (go (last_write_up_to (book_of log) (length log) doc) refl)
+  where
+    go : (o : Option Sequenced) → last_write_up_to (book_of board.log) (length board.log) doc ≡ o → sequence_of o ≤ board_last board doc
+    go None is = omega arith
+    go (Some last) is =
+        let first = first_is (book_of board.log) (length board.log) doc last is in
+        no_later_write board doc last.seq last.write first.positive (in_board board doc last.seq last.write first.there)

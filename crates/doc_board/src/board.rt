@@ -91,6 +91,11 @@ impl Board {
         })
     }
 
+    /// Where the board takes its memory.
+    pub fn allocator(&self) -> Global {
+        *self.rooms.allocator()
+    }
+
     /// The log's length. Takes no memory.
     pub fn front(&self) -> u64
         ensures front { result ≡ length self.now.log }

@@ -1,6 +1,6 @@
 //! Laws of boards' logs. Each is the contract of a function that does nothing.
 
-ghost use Rattle.std.specs.Prelude.{◌≡◌, ℕ, List, IsTrue};
+ghost use Rattle.std.specs.Prelude.{◌≡◌, ◌≤◌, ℕ, reverse, List, IsTrue};
 ghost use Rattle.sg_history.specs.declared.entries.Entry.{Entry};
 ghost use Rattle.sg_history.specs.Board.{BoardState, board_book};
 ghost use Rattle.sg_history.specs.Book.{Book, Later};
@@ -8,7 +8,7 @@ ghost use Rattle.sg_history.specs.Journal.{IsRecord};
 ghost use Rattle.sg_history.specs.declared.entries.Write.{Write};
 ghost use Rattle.sg_names.specs.RevId.{is_rev};
 ghost use Rattle.rev_tree.specs.declared.tree.Node.{Node};
-ghost use Rattle.rev_tree.specs.Documents.{tree_in, tree_when};
+ghost use Rattle.rev_tree.specs.Documents.{tree_in, tree_when, last_at};
 ghost use Rattle.rev_tree.specs.Writes.{AreAccepted};
 ghost use Rattle.doc_board.specs.Candidates.{ExtendsTree};
 ghost use Rattle.doc_board.specs.Lawful.{AreLawful};
@@ -42,10 +42,15 @@ pub fn boards()
         → board_tree (board_of s) doc ≡ nodes_or_none (tree_when (writes_on s doc)) }
 {}
 
-/// Each book that is later than a board's says of a document, up to the number of its last write there, what the board says.
+/// Each book that is later than a board's says of a document, up to the number of its last write there, what the board says;
+/// and that number is no less than the sequence of the document's last write in the board's log.
 pub fn later_boards()
-    ensures { (board : BoardState) (later : Book) (doc : List ℕ) → Later (board_book board) later
+    ensures trees { (board : BoardState) (later : Book) (doc : List ℕ)
+        → Later (board_book board) later
         → tree_in later (board_last board doc) doc ≡ board_tree board doc }
+    ensures least { (board : BoardState) (doc : List ℕ)
+        → last_at (reverse board.log) doc ≤ board_last board doc }
 {
     later_books();
+    sg_history::laws::books();
 }

@@ -9,4 +9,3 @@ pub mod OfWrites
 pub mod Firsts
 pub mod Parents
 mod DocumentTrees
-mod LastNumbers

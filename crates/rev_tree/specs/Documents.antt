@@ -1,11 +1,11 @@
 -- What the writes of a document make: its tree of revisions, in a book up to a number and among entries given the newest first.
-use Rattle.std.specs.Prelude.{◌≡◌, ◌≤◌, ◌⊎◌, ℕ, Bool, false, List, [], ◌∷◌, map, Option, Some, None}
+use Rattle.std.specs.Prelude.{ℕ, Bool, false, List, [], ◌∷◌, map, Option, Some, None}
 use Rattle.sg_names.specs.declared.rev_id.RevId.{RevId}
 use Rattle.sg_history.specs.declared.entries.Entry.{Entry}
 use Rattle.sg_history.specs.declared.entries.Write.{Write}
 use Rattle.sg_history.specs.History.{write_to}
 use Rattle.sg_history.specs.Current.{Sequenced, last_write, write_of_rev, write_alone}
-use Rattle.sg_history.specs.Book.{Book, write_at, writes_up_to, last_write_up_to, write_of_rev_up_to}
+use Rattle.sg_history.specs.Book.{Book, writes_up_to, last_write_up_to, write_of_rev_up_to}
 use Rattle.rev_tree.specs.declared.tree.Node.{Node}
 use Rattle.rev_tree.specs.Extension.{Recorded, first_of}
 use Rattle.rev_tree.specs.Writes.{tree_of}
@@ -30,15 +30,6 @@ sequence_of (Some last) = last.seq
 -- the number of the last write of a document in a book up to this number, 0 where there is none
 abbrev pub last_in : Book → ℕ → List ℕ → ℕ
 last_in book number doc = sequence_of (last_write_up_to book number doc)
-
--- a document's last number in a book: no write of it stands above, and one stands there unless the number is 0
-pub record IsLastNumber (book : Book) (doc : List ℕ) (number : ℕ) : Type 0 where
-  pub above : (other : ℕ) (w : Write) → write_at book doc other ≡ Some w → other ≤ number
-  pub there : (number ≡ 0) ⊎ ((w : Write) × (write_at book doc number ≡ Some w))
-
--- the last numbers of all documents in a book
-abbrev pub AreLastNumbers : Book → (List ℕ → ℕ) → Type 0
-AreLastNumbers book numbers = (doc : List ℕ) → IsLastNumber book doc (numbers doc)
 
 -- the tree of each document in a book, up to a number of its own
 abbrev pub trees_up_to : Book → (List ℕ → ℕ) → List ℕ → List Node

@@ -1,20 +1,19 @@
 //! Laws of trees: what holds of them by the definitions alone.
 
-ghost use Rattle.std.specs.Prelude.{◌≡◌, ◌≤◌, ◌&&◌, ◌||◌, not, ℕ, length, reverse, List, Some, None, ◌↔◌, [], IsTrue};
+ghost use Rattle.std.specs.Prelude.{◌≡◌, ◌≤◌, ◌&&◌, ◌||◌, not, ℕ, List, Some, None, ◌↔◌, [], IsTrue};
 ghost use Rattle.std.specs.List.{list_any};
 ghost use Rattle.std.specs.List.Sorted.{IsPermutation};
 ghost use Rattle.sg_names.specs.declared.rev_id.RevId.{RevId};
 ghost use Rattle.sg_names.specs.RevId.{same_rev};
 ghost use Rattle.sg_history.specs.declared.entries.Entry.{Entry};
-ghost use Rattle.sg_history.specs.declared.book.Waiting.{Waiting};
-ghost use Rattle.sg_history.specs.Book.{Book, book_of, book_with, Later, IsLastWrite};
+ghost use Rattle.sg_history.specs.Book.{Book, book_of, Later, IsLastWrite};
 ghost use Rattle.sg_history.specs.Current.{Sequenced};
 ghost use Rattle.sg_history.specs.History.{past};
 ghost use Rattle.rev_tree.specs.declared.leaf.Leaf.{Leaf};
 ghost use Rattle.rev_tree.specs.declared.tree.Node.{Node};
 ghost use Rattle.rev_tree.specs.Order as order;
 ghost use Rattle.rev_tree.specs.Tree as trees;
-ghost use Rattle.rev_tree.specs.Documents.{writes_in, tree_in, last_in, base_in, IsLastNumber, writes_of, tree_at, last_at, base_write};
+ghost use Rattle.rev_tree.specs.Documents.{writes_in, tree_in, last_in, base_in, writes_of, tree_at, last_at, base_write};
 ghost use Rattle.rev_tree.specs.Extension.{Recorded, with_write};
 ghost use Rattle.rev_tree.specs.Writes as writes;
 
@@ -87,25 +86,4 @@ pub fn histories()
         → base_in (book_of h) number doc ancestors ≡ base_write (past h number) doc ancestors }
 {
     sg_history::laws::books();
-}
-
-/// The last number that a book has of a document: the tree up to it is that up to each greater number, and is the
-/// same in each later book; in the book of a history it is the sequence of its last write there; and where entries
-/// wait beside a log it is no less than the sequence of its last write in that log.
-pub fn last_numbers()
-    ensures whole { (book : Book) (doc : List ℕ) (number other : ℕ)
-        → IsLastNumber book doc number → number ≤ other
-        → tree_in book other doc ≡ tree_in book number doc }
-    ensures trees { (earlier later : Book) (doc : List ℕ) (number : ℕ) → Later earlier later
-        → IsLastNumber earlier doc number
-        → tree_in later number doc ≡ tree_in earlier number doc }
-    ensures history { (h : List Entry) (doc : List ℕ)
-        → IsLastNumber (book_of h) doc (last_at (reverse h) doc) }
-    ensures within { (h : List Entry) (doc : List ℕ) → last_at (reverse h) doc ≤ length h }
-    ensures least { (log : List Entry) (waiting : List Waiting) (doc : List ℕ) (number : ℕ)
-        → IsLastNumber (book_with log waiting) doc number
-        → last_at (reverse log) doc ≤ number }
-{
-    sg_history::laws::books();
-    later_books();
 }

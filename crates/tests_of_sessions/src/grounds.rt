@@ -1,15 +1,18 @@
 //! Worked journals, looked at through a ground.
 
 use crate::journals::log_of;
+use doc_board::Board;
 use repl_messages::{Body, Fed};
 use sg_history::{Channels, Key, Name, Options, Rows, read_decimal, write_decimal};
 use sg_outside::Bytes;
 use std::alloc::Global;
 use std::test::Fail;
-use write_path::{Ground, SoloGround};
+use write_path::{Ground, Shelf, SoloGround};
 
-fn ground_of(alloc: Global, lines: &str) -> Result<SoloGround, Fail> {
-    Ok(SoloGround::new(log_of(alloc, lines)?))
+/// A ground over the board of a journal.
+pub fn ground_of(alloc: Global, lines: &str) -> Result<SoloGround, Fail> {
+    let board = Board::open(alloc, log_of(alloc, lines)?)?;
+    Ok(SoloGround::new(Shelf::new(board)?))
 }
 
 const EVERYTHING: Options = Options {
@@ -109,7 +112,7 @@ fn a_ground_gives_its_log_back(rt: HostRuntime) -> Result<(), Fail> {
     assert!(rt; ground.front() == 4);
     let again = feed_text(alloc, &mut ground, "ann", "2")?;
     assert!(rt; again.as_slice() == b"4:4 d3 1-c 0;".as_slice());
-    assert!(rt; ground.into_inner().entries.len() == 4);
+    assert!(rt; ground.into_inner().board.front() == 4);
     Ok(())
 }
 

@@ -10,4 +10,6 @@ mod journals;
 #[cfg(test)]
 mod machine;
 #[cfg(test)]
+mod proposals;
+#[cfg(test)]
 mod sessions;

@@ -1,6 +1,6 @@
 //! Worked sessions, frame by frame. The frames were made by another program, with the CRC-32 of zlib.
 
-use crate::journals::log_of;
+use crate::grounds::ground_of;
 use repl_messages::Version;
 use session_core::Purpose;
 use session_run::{End, Ended, FrameWhy, Setup, serve_session};
@@ -9,7 +9,6 @@ use sg_outside::{Bytes, Got, Input, MemWire, ScriptedWire, Wire};
 use std::alloc::{AllocError, Global};
 use std::process::Abort;
 use std::test::Fail;
-use write_path::SoloGround;
 
 /// A user's channel, three writes of which the user sees two, and no more.
 const JOURNAL: &str =
@@ -27,7 +26,7 @@ fn serve<W: Wire>(alloc: Global, journal: &str, wire: &mut W) -> Result<Ended, F
         user: Name::parse(alloc, "ann")?,
         version: Version::Three,
     };
-    let ground = SoloGround::new(log_of(alloc, journal)?);
+    let ground = ground_of(alloc, journal)?;
     let (_ground, ended) = serve_session(alloc, ground, setup, wire);
     Ok(ended)
 }

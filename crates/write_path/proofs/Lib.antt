@@ -1,8 +1,13 @@
 pub mod AllRows
+pub mod Alone
 pub mod BoardBodies
 pub mod BodyLaws
+pub mod Braces
+pub mod Entries
+pub mod Grown
 pub mod Maps
 pub mod OneRead
+pub mod Proposed
 pub mod ReadLaws
 pub mod RowsTell
 pub mod Said

@@ -13,7 +13,8 @@ use Rattle.sg_history.specs.declared.book.Waiting.{Waiting}
 use Rattle.sg_history.specs.Board.{BoardState, board_book}
 use Rattle.sg_history.specs.Book.{Book, book_of, book_with, Later}
 use Rattle.rev_tree.specs.declared.tree.Node.{Node}
-use Rattle.rev_tree.specs.Documents.{IsLastNumber, tree_in, last_at, trees_up_to}
+use Rattle.rev_tree.specs.Documents.{tree_in, last_at, trees_up_to}
+use Rattle.doc_board.specs.Boards.{board_last, board_tree}
 use Rattle.repl_messages.specs.declared.looks.Bodies.{Bodies}
 use Rattle.repl_messages.specs.declared.looks.Fed.{Fed}
 use Rattle.repl_messages.specs.declared.looks.Fed.TheVariants as fed
@@ -36,26 +37,25 @@ abbrev pub LogExtends : Type 0
 LogExtends = (log : List Entry) (waiting : List Waiting) (h : List Entry) → Later (book_with log waiting) (book_of h) → Extends log h
 
 abbrev pub SameTrees : Type 0
-SameTrees = (earlier later : Book) (doc : List ℕ) (number : ℕ) → Later earlier later → IsLastNumber earlier doc number → tree_in later number doc ≡ tree_in earlier number doc
+SameTrees = (board : BoardState) (later : Book) (doc : List ℕ) → Later (board_book board) later → tree_in later (board_last board doc) doc ≡ board_tree board doc
 
 abbrev pub LeastOfLog : Type 0
-LeastOfLog = (log : List Entry) (waiting : List Waiting) (doc : List ℕ) (number : ℕ) → IsLastNumber (book_with log waiting) doc number → last_at (reverse log) doc ≤ number
+LeastOfLog = (board : BoardState) (doc : List ℕ) → last_at (reverse board.log) doc ≤ board_last board doc
 
 pub bodies_later : LogExtends → SameTrees → LeastOfLog → (board : BoardState) (later : List Entry) (user : List ℕ) (options : Options) (rows : List Row) (most : ℕ) (bodies : Bodies) → Later (board_book board) (book_of later) → BodiesAt board user options rows most bodies
     → AreBodies later user options rows most bodies
 bodies_later log_extends same_trees least board later user options rows most bodies after at =
-    let book : Book = board_book board in
     let front : ℕ = bodies.front in
     let more : Extends board.log later = log_extends board.log board.pending later after in
     let all : past board.log front ≡ reverse board.log = ap (λ n. past board.log n) at.front ∙ ap (λ (es : List Entry). reverse es) (take-length board.log) in
     let whole : past later front ≡ reverse board.log = same_past board.log later front more at.front ∙ all in
-    let trees : trees_up_to book at.numbers ≡ trees_up_to (book_of later) at.numbers = fun_ext (λ doc. sym (same_trees book (book_of later) doc (at.numbers doc) after (at.last doc))) in
-    let L : List ℕ → List Entry → Type 0 = λ doc es. last_at es doc ≤ at.numbers doc in
+    let trees : board_tree board ≡ trees_up_to (book_of later) (board_last board) = fun_ext (λ doc. sym (same_trees board (book_of later) doc after)) in
+    let L : List ℕ → List Entry → Type 0 = λ doc es. last_at es doc ≤ board_last board doc in
     record {
-      numbers = at.numbers;
-      seen = λ doc. subst (L doc) (sym whole) (least board.log board.pending doc (at.numbers doc) (at.last doc));
+      numbers = board_last board;
+      seen = λ doc. subst (L doc) (sym whole) (least board doc);
       answers =
           at.answers
-          ∙ ap (λ es. map (body_of es (trees_up_to book at.numbers) user options.filter most) rows) (sym whole)
+          ∙ ap (λ es. map (body_of es (board_tree board) user options.filter most) rows) (sym whole)
           ∙ ap (λ (t : List ℕ → List Node). map (body_of (past later front) t user options.filter most) rows) trees;
     }

@@ -2,8 +2,8 @@
 use Rattle.std.specs.Prelude.{◌≡◌, ℕ, List, length, map, reverse}
 use Rattle.sg_history.specs.declared.row.Row.{Row}
 use Rattle.sg_history.specs.declared.row.Options.{Options}
-use Rattle.sg_history.specs.Board.{BoardState, board_book}
-use Rattle.rev_tree.specs.Documents.{AreLastNumbers, trees_up_to}
+use Rattle.sg_history.specs.Board.{BoardState}
+use Rattle.doc_board.specs.Boards.{board_tree}
 use Rattle.repl_messages.specs.declared.looks.Bodies.{Bodies}
 use Rattle.repl_messages.specs.Looks.{body_of}
 
@@ -11,6 +11,4 @@ use Rattle.repl_messages.specs.Looks.{body_of}
 -- the documents have in the board's book
 pub record BodiesAt (board : BoardState) (user : List ℕ) (options : Options) (rows : List Row) (most : ℕ) (bodies : Bodies) : Type 0 where
   pub front : bodies.front ≡ length board.log
-  pub numbers : List ℕ → ℕ
-  pub last : AreLastNumbers (board_book board) numbers
-  pub answers : bodies.answers ≡ map (body_of (reverse board.log) (trees_up_to (board_book board) numbers) user options.filter most) rows
+  pub answers : bodies.answers ≡ map (body_of (reverse board.log) (board_tree board) user options.filter most) rows

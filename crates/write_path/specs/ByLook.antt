@@ -15,11 +15,6 @@ use Rattle.log_views.specs.States.{winning, view_by}
 use Rattle.write_path.specs.ByName.{under, place_by}
 use Rattle.write_path.specs.declared.bodies.Look.{Look}
 
--- the revisions of a tree, none where there is no tree
-abbrev pub nodes_in : Option (List Node) → List Node
-nodes_in None = []
-nodes_in (Some tree) = tree
-
 -- what is answered for a row, by what is shown of its document, its tree, the winner's write and the
 -- place of its last change
 abbrev pub answer : Option Shown → List Node → Option Write → ℕ → ℕ → Row → Body

@@ -1,7 +1,10 @@
+pub mod Asks
 pub mod Bodies
 pub mod ByLook
 pub mod ByName
 pub mod Feed
+pub mod Proposals
 pub mod Reads
+pub mod Shape
 pub mod Solo
 pub mod Trail

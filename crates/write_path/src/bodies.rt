@@ -1,14 +1,15 @@
 //! The bodies of rows at the end of a log.
 
-ghost use Rattle.std.specs.Prelude.{◌≡◌, true, [], length, map, reverse, option_map, Some, IfOk};
+ghost use Rattle.std.specs.Prelude.{◌≡◌, true, length, map, reverse, option_map, Some, IfOk};
 ghost use Rattle.std.specs.List.{list_any};
 ghost use Rattle.std.specs.Option.{option_copied};
 ghost use Rattle.sg_history.specs.History.{entries_of, past};
-ghost use Rattle.sg_history.specs.Board.{BoardState};
+ghost use Rattle.doc_board.specs.Boards.{board_of};
 ghost use Rattle.sg_history.specs.View.{same_view};
 ghost use Rattle.sg_history.specs.Feed as feed;
 ghost use Rattle.log_index.specs.Index.{Indexes, IsBehind};
 ghost use Rattle.log_views.specs.States.{shown_in};
+ghost use Rattle.doc_board.specs.Offers.{nodes_or_none};
 ghost use Rattle.doc_board.specs.State.{tree_on};
 ghost use Rattle.repl_messages.specs.Looks as bodies;
 ghost use Rattle.write_path.specs.Bodies.{BodiesAt};
@@ -69,7 +70,7 @@ fn body_with(
     write: Option<&Write>,
 ) -> Result<Body, Memory>
     ensures { IfOk result (λ body. body ≡ bodies.body_with
-        (by_look.nodes_in (option_copied tree.entry)) most (option_copied write.entry)) }
+        (nodes_or_none (option_copied tree.entry)) most (option_copied write.entry)) }
 {
     let Some(write) = write else {
         return Ok(Body::NoRev);
@@ -94,7 +95,7 @@ fn body_by(
     row: &Row,
 ) -> Result<Body, Memory>
     ensures { IfOk result (λ body. body ≡ by_look.answer (shown_in shown.entry)
-        (by_look.nodes_in (option_copied tree.entry)) (option_copied winner.entry) changed most
+        (nodes_or_none (option_copied tree.entry)) (option_copied winner.entry) changed most
         row.now) }
 {
     if is_still_shown(shown, row) {
@@ -236,11 +237,11 @@ pub fn bodies_at(
     most: u64,
 ) -> Result<Bodies, Memory>
     requires { IsBehind index.old board.now.log }
-    ensures answer { (b : BoardState) → b.log ≡ board.now.log → b.pending ≡ []
-        → IfOk result (BodiesAt b user.now options.now rows.now most) }
+    ensures answer { IfOk result
+        (BodiesAt (board_of board.now) user.now options.now rows.now most) }
     ensures behind { IsBehind index.new board.now.log }
 {
-    rev_tree::laws::last_numbers();
+    doc_board::laws::boards();
     index.catch_up(board.log().entries.as_slice())?;
     bodies_by(alloc, index, board, user, options, rows, most)
 }

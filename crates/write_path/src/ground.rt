@@ -1,12 +1,17 @@
 //! Where a session reads the history.
 
-ghost use Rattle.std.specs.Prelude.{◌≡◌, ◌≤◌, ℕ, List, Option, IfOk, IfSome};
+ghost use Rattle.std.specs.Prelude.{◌≡◌, ◌≤◌, ◌||◌, ℕ, List, Option, IfOk, IfSome};
+ghost use Rattle.std.specs.Option.{option_copied};
+ghost use Rattle.sg_history.specs.declared.book.Waiting.{Waiting};
 ghost use Rattle.sg_history.specs.Board.{BoardState};
 ghost use Rattle.write_path.specs.Reads.{Reads, WasRead, HasLength};
 ghost use Rattle.write_path.specs.Feed.{FeedAt};
 ghost use Rattle.write_path.specs.Bodies.{BodiesAt};
+ghost use Rattle.write_path.specs.Asks.{AskedAt};
+ghost use Rattle.write_path.specs.Proposals.{Stores, recorded_after};
 
-use repl_messages::{Bodies, Fed};
+use doc_board::Outcome;
+use repl_messages::{Asked, Bodies, Fed, Offer, Revision};
 use sg_history::{Key, Name, Options, Row};
 use sg_outside::Memory;
 use std::alloc::Global;
@@ -23,12 +28,16 @@ pub trait Ground: Drop {
     /// The length of the log, where nobody else changes it.
     ghost recorded: { Self → Option ℕ };
 
+    /// The entries that it has stored, with their numbers, the newest first.
+    ghost own: { Self → List Waiting };
+
     /// The length of the log, without a read: no front that it answered before is above it.
     fn front(&mut self) -> u64
         ensures read { read self.new ≡ read self.old }
         ensures rises { floor self.old ≤ result }
         ensures floor { floor self.new ≡ result }
         ensures recorded { recorded self.new ≡ recorded self.old }
+        ensures own { own self.new ≡ own self.old }
         ensures length { IfSome (recorded self.old) (λ n. result ≡ n) };
 
     /// Reads the history for a user's feed after a since key. Out of memory it may have read, or not.
@@ -41,6 +50,7 @@ pub trait Ground: Drop {
     ) -> Result<Fed, Memory>
         ensures reads { Reads (read self.old) (read self.new) (floor self.old) (floor self.new) }
         ensures recorded { recorded self.new ≡ recorded self.old }
+        ensures own { own self.new ≡ own self.old }
         ensures answer { IfOk result (λ fed. (b : BoardState)
             × WasRead (read self.old) (read self.new) b × HasLength (recorded self.old) b
             × FeedAt b.log user.now since.now options.now fed) };
@@ -57,7 +67,31 @@ pub trait Ground: Drop {
     ) -> Result<Bodies, Memory>
         ensures reads { Reads (read self.old) (read self.new) (floor self.old) (floor self.new) }
         ensures recorded { recorded self.new ≡ recorded self.old }
+        ensures own { own self.new ≡ own self.old }
         ensures answer { IfOk result (λ bodies. (b : BoardState)
             × WasRead (read self.old) (read self.new) b × HasLength (recorded self.old) b
             × BodiesAt b user.now options.now rows.now most bodies) };
+
+    /// Reads the documents' trees for revisions that a device offers. Out of memory it may have read, or not.
+    fn ask(&mut self, alloc: Global, offers: &[Offer]) -> Result<Asked, Memory>
+        ensures reads { Reads (read self.old) (read self.new) (floor self.old) (floor self.new) }
+        ensures recorded { recorded self.new ≡ recorded self.old }
+        ensures own { own self.new ≡ own self.old }
+        ensures answer { IfOk result (λ asked. (b : BoardState)
+            × WasRead (read self.old) (read self.new) b × HasLength (recorded self.old) b
+            × AskedAt b offers.now asked) };
+
+    /// Proposes a revision, by a user or, where there is none, by the administrator. Under `strict` it may make no conflict, nor
+    /// where the revision says so. Out of memory it may have read, or not.
+    fn propose(
+        &mut self,
+        alloc: Global,
+        by: Option<&Name>,
+        strict: bool,
+        revision: Revision,
+    ) -> Outcome
+        ensures stores { Stores (read self.old) (read self.new) (floor self.old) (floor self.new)
+            (own self.old) (own self.new) (recorded self.old) (strict || revision.noconflicts)
+            (option_copied by.entry) revision result }
+        ensures recorded { recorded self.new ≡ recorded_after (recorded self.old) result };
 }

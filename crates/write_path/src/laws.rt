@@ -40,7 +40,7 @@ pub fn later()
         → AreBodies later user options rows most bodies }
 {
     sg_history::laws::later();
-    rev_tree::laws::last_numbers();
+    doc_board::laws::later_boards();
 }
 
 /// To read no further, or at first and then on, is to read; and a history that is later than all boards that were read since

@@ -1,73 +1,104 @@
-//! A ground that owns its log.
+//! A ground that owns its shelf.
 
-ghost use Rattle.std.specs.Prelude.{◌≡◌, [], Some, length};
-ghost use Rattle.sg_history.specs.History.{entries_of};
+ghost use Rattle.std.specs.Prelude.{◌≡◌, ◌||◌, [], Some, length};
+ghost use Rattle.std.specs.Option.{option_copied};
+ghost use Rattle.doc_board.specs.Boards.{board_of};
+ghost use Rattle.write_path.specs.Proposals.{Stores, IsBoardAfter, recorded_after};
 ghost use Rattle.write_path.specs.Reads.{IsAfterAll, IsLaterThanAll};
-ghost use Rattle.write_path.specs.Solo.{board_of};
+ghost use Rattle.write_path.specs.Shape.{own_after};
 
+use crate::ask::asked_at;
 use crate::bodies::bodies_at;
 use crate::feed::feed_at;
 use crate::ground::Ground;
-use crate::trail::Trail;
-use repl_messages::{Bodies, Fed};
-use sg_history::{Key, Log, Name, Options, Row};
+use crate::propose::propose_to;
+use crate::shelf::Shelf;
+use crate::trail::{OwnEntries, Trail};
+use doc_board::{Board, Outcome};
+use log_index::LogIndex;
+use repl_messages::{Asked, Bodies, Fed, Offer, Revision};
+use sg_history::{Key, Name, Options, Row, entry_at};
 use sg_outside::Memory;
 use std::alloc::Global;
 use std::marker::Model;
 
-/// A ground that owns its log and waits for nobody.
+/// A ground that owns its shelf and waits for nobody. No room is outstanding between its calls. An index of the log
+/// is brought up to it by each look for bodies.
 #[derive(Drop)]
 pub struct SoloGround {
-    log: Log,
+    shelf: Shelf,
+    index: LogIndex,
     read: Trail,
+    own: OwnEntries,
 }
 
 impl Model for SoloGround {
-    ghost use Rattle.sg_history.specs.History.{entries_of};
+    ghost use Rattle.std.specs.Prelude.{◌≡◌, []};
+    ghost use Rattle.log_index.specs.Index.{IsBehind};
+    ghost use Rattle.doc_board.specs.Boards.{board_of};
     ghost use Rattle.write_path.specs.Reads.{IsAfterAll};
-    ghost use Rattle.write_path.specs.Solo.{Solo, board_of};
+    ghost use Rattle.write_path.specs.Solo.{Solo};
 
     ghost Value = { Solo };
 
-    ghost view = { λ g. record { log = g.log; read = g.read } };
+    ghost view = { λ g. record { board = g.shelf.board; read = g.read; own = g.own } };
 
-    ghost invariant = { λ g. IsAfterAll g.read (board_of (entries_of g.log)) };
+    ghost invariant = { λ g. IsAfterAll g.read (board_of g.shelf.board)
+        × (g.shelf.board.rooms ≡ []) × IsBehind g.index g.shelf.board.log };
 }
 
 impl SoloGround {
-    /// A ground over a log, which it has not read. Allocates nothing.
-    pub fn new(log: Log) -> SoloGround
-        ensures log { result.log ≡ log }
+    /// A ground over a shelf, whose board it has not read. Allocates nothing.
+    pub fn new(shelf: Shelf) -> SoloGround
+        requires { shelf.board.rooms ≡ [] }
+        ensures board { result.board ≡ shelf.board }
         ensures read { result.read ≡ [] }
+        ensures own { result.own ≡ [] }
     {
+        let index = LogIndex::new(shelf.board.allocator());
         SoloGround {
-            log,
+            shelf,
+            index,
             read: Trail::new(),
+            own: OwnEntries::new(),
         }
     }
 
-    /// The log, whose board comes after all that were read, so that its history counts for them.
-    pub fn into_inner(self) -> Log
-        ensures log { result ≡ self.log }
-        ensures after { IsAfterAll self.read (board_of (entries_of result)) }
-        ensures later { IsLaterThanAll self.read (entries_of result) }
+    /// The shelf, whose board comes after all that were read, so that its history counts for them; no room is outstanding.
+    pub fn into_inner(self) -> Shelf
+        ensures board { result.board ≡ self.board }
+        ensures rooms { result.board.rooms ≡ [] }
+        ensures after { IsAfterAll self.read (board_of result.board) }
+        ensures later { IsLaterThanAll self.read result.board.log }
     {
-        self.log
+        self.shelf
+    }
+}
+
+/// Records the entry that was stored, where one was.
+fn record_own(own: &mut OwnEntries, board: &Board, outcome: &Outcome)
+    ensures { own.new ≡ own_after own.old board.now.log outcome.now }
+{
+    if let Outcome::Stored { sequence, .. } = outcome {
+        if let Some(entry) = entry_at(board.log().entries.as_slice(), &[], *sequence) {
+            own.add(*sequence, entry);
+        }
     }
 }
 
 impl Ground for SoloGround {
     ghost use Rattle.std.specs.Prelude.{Some, length};
-    ghost use Rattle.sg_history.specs.History.{entries_of};
 
     ghost read = { λ g. g.read };
 
-    ghost floor = { λ g. length (entries_of g.log) };
+    ghost floor = { λ g. length g.board.log };
 
-    ghost recorded = { λ g. Some (length (entries_of g.log)) };
+    ghost recorded = { λ g. Some (length g.board.log) };
+
+    ghost own = { λ g. g.own };
 
     fn front(&mut self) -> u64 {
-        self.log.entries.len() as u64
+        self.shelf.board.front()
     }
 
     fn feed(
@@ -78,8 +109,8 @@ impl Ground for SoloGround {
         options: &Options,
     ) -> Result<Fed, Memory> {
         sg_history::laws::boards();
-        self.read.add(&self.log);
-        feed_at(alloc, &self.log, user, since, options)
+        self.read.add(&self.shelf.board);
+        feed_at(alloc, self.shelf.board.log(), user, since, options)
     }
 
     fn bodies(
@@ -91,7 +122,41 @@ impl Ground for SoloGround {
         most: u64,
     ) -> Result<Bodies, Memory> {
         sg_history::laws::boards();
-        self.read.add(&self.log);
-        bodies_at(alloc, &self.log, user, options, rows, most)
+        self.read.add(&self.shelf.board);
+        let board = &self.shelf.board;
+        bodies_at(alloc, &mut self.index, board, user, options, rows, most)
+    }
+
+    fn ask(&mut self, alloc: Global, offers: &[Offer]) -> Result<Asked, Memory> {
+        sg_history::laws::boards();
+        self.read.add(&self.shelf.board);
+        asked_at(alloc, &self.shelf.board, offers)
+    }
+
+    fn propose(
+        &mut self,
+        alloc: Global,
+        by: Option<&Name>,
+        strict: bool,
+        revision: Revision,
+    ) -> Outcome
+        ensures stores { Stores self.old.read self.new.read (length self.old.board.log)
+            (length self.new.board.log) self.old.own self.new.own
+            (Some (length self.old.board.log)) (strict || revision.noconflicts)
+            (option_copied by.entry) revision result }
+        ensures recorded { Some (length self.new.board.log)
+            ≡ recorded_after (Some (length self.old.board.log)) result }
+        // The board is as before at every answer other than Stored.
+        ensures board { IsBoardAfter self.old.board self.new.board (option_copied by.entry)
+            revision result }
+    {
+        sg_history::laws::boards();
+        sg_history::laws::later();
+        log_index::laws::behind();
+        self.read.add(&self.shelf.board);
+        let outcome = propose_to(alloc, &mut self.shelf.board, by, strict, revision);
+        self.read.add(&self.shelf.board);
+        record_own(&mut self.own, &self.shelf.board, &outcome);
+        outcome
     }
 }

@@ -1,18 +1,18 @@
-//! The boards that were read, which only clauses see.
+//! The boards that were read and the entries that were stored, which only clauses see.
 
 ghost use Rattle.std.specs.Prelude.{◌≡◌, [], ◌∷◌};
-ghost use Rattle.sg_history.specs.History.{entries_of};
-ghost use Rattle.write_path.specs.Solo.{board_of};
+ghost use Rattle.doc_board.specs.Boards.{board_of};
 
-use sg_history::Log;
+use doc_board::Board;
+use sg_history::Entry;
 use std::marker::Model;
 use std::snapshot::Snapshot;
 
-/// Snapshots of logs, the newest first. It has no bytes of them.
+/// Snapshots of boards, the newest first. It has no bytes of them.
 #[derive(Drop)]
 enum Links {
     Nothing,
-    Then(Snapshot<Links>, Snapshot<Log>),
+    Then(Snapshot<Links>, Snapshot<Board>),
 }
 
 /// The boards that were read, the newest first. It keeps nothing of them: only clauses see them.
@@ -41,10 +41,55 @@ impl Trail {
         }
     }
 
-    /// Puts the board of a log in front. Allocates nothing.
-    pub fn add(&mut self, log: &Log)
-        ensures { self.new ≡ board_of (entries_of log.now) ∷ self.old }
+    /// Puts a board in front. Allocates nothing.
+    pub fn add(&mut self, board: &Board)
+        ensures { self.new ≡ board_of board.now ∷ self.old }
     {
-        self.links = Links::Then(Snapshot::of(&self.links), Snapshot::of(log));
+        self.links = Links::Then(Snapshot::of(&self.links), Snapshot::of(board));
+    }
+}
+
+/// Snapshots of entries with their numbers, the newest first. It has no bytes of them.
+#[derive(Drop)]
+enum Stored {
+    Nothing,
+    Then(Snapshot<Stored>, Snapshot<u64>, Snapshot<Entry>),
+}
+
+/// The entries that were stored, with their numbers, the newest first. It keeps nothing of them: only clauses see them.
+#[derive(Drop)]
+pub struct OwnEntries {
+    stored: Stored,
+}
+
+impl Model for OwnEntries {
+    ghost use Rattle.std.specs.Prelude.{List};
+    ghost use Rattle.sg_history.specs.declared.book.Waiting.{Waiting};
+    ghost use Rattle.write_path.specs.Trail.{entries_in};
+
+    ghost Value = { List Waiting };
+
+    ghost view = { λ o. entries_in o.stored };
+}
+
+impl OwnEntries {
+    /// None. Allocates nothing.
+    pub fn new() -> OwnEntries
+        ensures { result ≡ [] }
+    {
+        OwnEntries {
+            stored: Stored::Nothing,
+        }
+    }
+
+    /// Puts an entry with its number in front. Allocates nothing.
+    pub fn add(&mut self, number: u64, entry: &Entry)
+        ensures { self.new ≡ record { number = number; entry = entry.now } ∷ self.old }
+    {
+        self.stored = Stored::Then(
+            Snapshot::of(&self.stored),
+            Snapshot::of(&number),
+            Snapshot::of(entry),
+        );
     }
 }

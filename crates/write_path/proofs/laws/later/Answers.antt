@@ -12,4 +12,4 @@ pub returns-clause-feed : goal.returns-clause-feed
 returns-clause-feed c = fed_later
 
 pub returns-clause-bodies : goal.returns-clause-bodies
-returns-clause-bodies c = bodies_later c.later.ensures.log c.last_numbers.ensures.trees c.last_numbers.ensures.least
+returns-clause-bodies c = bodies_later c.later.ensures.log c.later_boards.ensures.trees c.later_boards.ensures.least

@@ -1,0 +1,76 @@
+-- a board with one write more comes after the board before it
+use Rattle.std.proofs.Common.{◌≡◌, ◌≤◌, ◌+◌, ◌-◌, ◌*◌, ℕ, suc, List, [], ◌∷◌, ◌++◌, length, Some, refl, sym, ap, ◌∙◌, subst, arith}
+use Rattle.std.proofs.lemmas.List.{length-append}
+use Rattle.std.proofs.lemmas.Option.{none-some}
+use Rattle.sg_history.specs.declared.entries.Entry.{Entry}
+use Rattle.sg_history.specs.declared.entries.Entry.TheVariants as entry
+use Rattle.sg_history.specs.declared.entries.Write.{Write}
+use Rattle.sg_history.specs.declared.room.RoomFor.{RoomFor}
+use Rattle.sg_history.specs.Board.{SideValue, After, board_book, board_count, side_at}
+use Rattle.sg_history.specs.Book.{Book, Later, book_of}
+use Rattle.sg_history.specs.History.{Extends, as_write}
+use Rattle.rev_tree.specs.declared.tree.Node.{Node}
+use Rattle.rev_tree.specs.Documents.{tree_in, last_in}
+use Rattle.doc_board.specs.Boards.{board_of, bytes_stored, bytes_asked, body_size}
+use Rattle.doc_board.specs.Outcomes.{body_or_empty}
+use Rattle.doc_board.specs.Candidates.{ExtendsTree}
+use Rattle.doc_board.specs.State.{State, tree_on, last_on}
+use Rattle.write_path.proofs.OneRead.{same_book}
+
+-- a history that extends another has the later book
+abbrev pub Extended : Type 0
+Extended = (g h : List Entry) → Extends g h → Later (book_of g) (book_of h)
+
+stored_more : (es : List Entry) (e : Entry) → bytes_stored (es ++ e ∷ []) ≡ bytes_stored es + body_size (as_write e)
+stored_more [] e = omega arith
+stored_more (x ∷ es) e = omega (arith, stored_more es e)
+
+pub small_body : (body : List ℕ) → length body ≤ 20971520 → length (body_or_empty body) ≤ 20971520
+small_body [] h = omega arith
+small_body (b ∷ bytes) h = h
+
+one_longer : (es : List Entry) (e : Entry) → length (es ++ e ∷ []) ≡ length es + 1
+one_longer es e = omega (arith, length-append es (e ∷ []))
+
+bounded : (stored asked more later_stored later_asked count later_count : ℕ) → later_stored ≡ stored + more → later_asked ≡ asked → later_count ≡ count + 1 → more ≤ 20971520 → later_stored + later_asked ≤ stored + asked + 20971520 * (later_count - count)
+bounded stored asked more later_stored later_asked count later_count a b c d = omega arith
+
+no_side : (text : List ℕ) (old : SideValue) → side_at [] text ≡ Some old → ⊥
+no_side text old h = none-some old h
+
+pub after_write : Extended → (s t : State) (w : Write) → t.log ≡ s.log ++ entry.Write w ∷ [] → t.rooms ≡ s.rooms → length w.body ≤ 20971520 → After (board_of s) (board_of t)
+after_write extended s t w log rooms size =
+    let more : length t.log ≡ length s.log + 1 = ap (λ (es : List Entry). length es) log ∙ one_longer s.log (entry.Write w) in
+    let same : length t.rooms ≡ length s.rooms = ap (λ (rs : List RoomFor). length rs) rooms in
+    let count : board_count (board_of t) ≡ board_count (board_of s) + 1 = omega arith in
+    let stored : bytes_stored t.log ≡ bytes_stored s.log + length w.body = ap (λ (es : List Entry). bytes_stored es) log ∙ stored_more s.log (entry.Write w) in
+    let asked : bytes_asked t.rooms ≡ bytes_asked s.rooms = ap (λ (rs : List RoomFor). bytes_asked rs) rooms in
+    let on : Later (book_of s.log) (book_of t.log) = extended s.log t.log (entry.Write w ∷ [], log) in
+    record {
+      book = subst (λ (book : Book). Later (board_book (board_of s)) book) (sym (same_book t)) (subst (λ (book : Book). Later book (book_of t.log)) (sym (same_book s)) on);
+      log = (entry.Write w ∷ [], log);
+      count = omega arith;
+      bytes = bounded (bytes_stored s.log) (bytes_asked s.rooms) (length w.body) (bytes_stored t.log) (bytes_asked t.rooms) (board_count (board_of s)) (board_count (board_of t)) stored asked count size;
+      side = λ text old h. absurd (no_side text old h);
+      faults = omega arith;
+    }
+
+-- the new entry stands at the number after those before
+suc_of : (n : ℕ) → n + 1 ≡ suc n
+suc_of n = omega arith
+
+at_place : (es : List Entry) (e : Entry) → book_of (es ++ e ∷ []) (suc (length es)) ≡ Some e
+at_place [] e = refl
+at_place (x ∷ es) e = at_place es e
+
+pub at_end : (es : List Entry) (e : Entry) → book_of (es ++ e ∷ []) (length es + 1) ≡ Some e
+at_end es e = ap (λ (n : ℕ). book_of (es ++ e ∷ []) n) (suc_of (length es)) ∙ at_place es e
+
+-- ---- boards with the same log
+
+pub extends_still : (s t : State) (w : Write) (tree : List Node) → t.log ≡ s.log → ExtendsTree (tree_on s w.doc) w tree → ExtendsTree (tree_on t w.doc) w tree
+extends_still s t w tree same h =
+    subst (λ (es : List Entry). ExtendsTree (tree_in (book_of es) (length es) w.doc) w tree) (sym same) h
+
+pub last_still : (s t : State) (doc : List ℕ) → t.log ≡ s.log → last_on s doc ≡ last_on t doc
+last_still s t doc same = ap (λ (es : List Entry). last_in (book_of es) (length es) doc) (sym same)

@@ -1,0 +1,34 @@
+//! What is answered for revisions that a device offers, by the trees of a board.
+
+ghost use Rattle.std.specs.Prelude.{◌≡◌, IfOk};
+ghost use Rattle.doc_board.specs.Boards.{board_of, board_tree};
+ghost use Rattle.doc_board.specs.Offers.{answer_to};
+ghost use Rattle.write_path.specs.Asks.{AskedAt};
+
+use doc_board::laws::boards;
+use doc_board::{Board, answer_offer};
+use repl_messages::{Asked, Offer, OfferAnswer, OfferAnswers};
+use sg_outside::Memory;
+use std::alloc::Global;
+
+fn answer_at(alloc: Global, board: &Board, offer: &Offer) -> Result<OfferAnswer, Memory>
+    ensures { IfOk result (λ answer. answer
+        ≡ answer_to (board_tree (board_of board.now) offer.now.doc) offer.now) }
+{
+    boards();
+    answer_offer(alloc, board.tree(&offer.doc), offer)
+}
+
+/// What a read of a board answers for offers.
+pub fn asked_at(alloc: Global, board: &Board, offers: &[Offer]) -> Result<Asked, Memory>
+    ensures { IfOk result (AskedAt (board_of board.now) offers.now) }
+{
+    let mut answers = OfferAnswers::new(alloc);
+    for offer in offers {
+        answers.push(answer_at(alloc, board, offer)?)?;
+    }
+    Ok(Asked {
+        front: board.front(),
+        answers,
+    })
+}

@@ -1,0 +1,328 @@
+//! Proposals: a revision is read, judged by the board, and stored.
+
+ghost use Rattle.std.specs.Prelude.{◌≡◌, ◌≢◌, ◌≤◌, ◌+◌, ◌++◌, ◌∷◌, ◌||◌, [], true, false, length, take, option_map, Some, IfOk, IfSome, IfNone, IsTrue, IsUtf8};
+ghost use Rattle.std.specs.Option.{option_copied};
+ghost use Rattle.sg_names.specs.Grammar.{is_name, is_doc_id};
+ghost use Rattle.sg_names.specs.RevId as names;
+ghost use Rattle.sg_names.specs.Revs as lists;
+ghost use Rattle.sg_history.specs.declared.entries.Entry.TheVariants as kinds;
+ghost use Rattle.sg_history.specs.Journal.{IsEntry, is_body};
+ghost use Rattle.sg_history.specs.Principals as principals;
+ghost use Rattle.rev_tree.specs.Tree as trees;
+ghost use Rattle.doc_board.specs.Answers.{IsNewTree, IsStep, proposer_exists};
+ghost use Rattle.doc_board.specs.Boards.{board_of, board_tree};
+ghost use Rattle.doc_board.specs.Candidates.{ExtendsTree};
+ghost use Rattle.doc_board.specs.Outcomes.{IsOutcome, IsWellFormed, body_or_empty};
+ghost use Rattle.doc_board.specs.Recorded.{HasDocument};
+ghost use Rattle.doc_board.specs.State.{newest_first, tree_on, last_on};
+ghost use Rattle.write_path.specs.Proposals.{IsBoardAfter};
+ghost use Rattle.write_path.specs.Shape.{IsRefusal, IsWritten, IsStoredOrMemory};
+
+use doc_board::laws::{boards, winners};
+use doc_board::{Board, Candidate, Commit, MOST_BODY_BYTES, Outcome, Snapshot, is_document};
+use repl_messages::{Field, Revision};
+use rev_tree::{Extended, Tree};
+use sg_history::{
+    ChannelName, Channels, Grants, Name, Number, RevId, Revs, RoleGrants, TextFault, Write,
+};
+use sg_outside::{Bytes, Memory};
+use std::alloc::{AllocError, Global};
+
+fn is_rev(rev: &RevId) -> bool
+    ensures { result ≡ names.is_rev rev.now }
+{
+    let _ = rev.digest.as_bytes();
+    rev.generation >= 1
+}
+
+fn are_revs(revs: &[RevId]) -> bool
+    ensures { result ≡ lists.is_revs revs.now }
+{
+    revs.iter().all(|r| is_rev(r))
+}
+
+/// The refusal of a revision that is bad itself: of its names, its size, or its body.
+fn refusal_of(alloc: Global, revision: &Revision) -> Result<Option<Outcome>, AllocError>
+    ensures some { IfOk result (λ found. IfSome found (IsRefusal revision.now)) }
+    ensures none { IfOk result (λ found. IfNone found (IsWellFormed revision.now)) }
+{
+    let _ = revision.doc.as_str();
+    if !is_rev(&revision.rev) {
+        return Ok(Some(Outcome::Bad400 { field: Field::Rev }));
+    }
+    if !are_revs(revision.ancestors.as_slice()) {
+        return Ok(Some(Outcome::Bad400 {
+            field: Field::History,
+        }));
+    }
+    let bytes = revision.body.len() as u64;
+    if bytes > MOST_BODY_BYTES {
+        return Ok(Some(Outcome::TooLarge413 { bytes }));
+    }
+    if !is_document(alloc, revision.body.as_slice())? {
+        return Ok(Some(Outcome::Bad400 { field: Field::Body }));
+    }
+    Ok(None)
+}
+
+/// The list of the channel that every user has.
+fn everyone(alloc: Global) -> Result<Channels, AllocError>
+    ensures { IfOk result (λ channels. channels ≡ principals.everyone ∷ []) }
+{
+    let mut channels = Channels::new(alloc);
+    match ChannelName::parse(alloc, "!") {
+        Ok(channel) => channels.push(channel)?,
+        Err(TextFault::Memory) => return Err(AllocError),
+        Err(TextFault::Bad) => unreachable!(),
+    }
+    Ok(channels)
+}
+
+/// Whether there are bytes, as in each body that is stored.
+fn has_bytes(body: &[u8]) -> bool
+    ensures yes { result ≡ true → IsTrue (is_body body.now) }
+    ensures no { result ≡ false → body.now ≡ [] }
+{
+    !body.is_empty()
+}
+
+/// A body, or `{}` where there are no bytes.
+fn body_of(alloc: Global, body: Bytes) -> Result<Bytes, AllocError>
+    ensures value { IfOk result (λ made. made ≡ body_or_empty body) }
+    ensures bytes { IfOk result (λ made. IsTrue (is_body made)) }
+{
+    if !has_bytes(body.as_slice()) {
+        return Bytes::from_slice(alloc, b"{}");
+    }
+    Ok(body)
+}
+
+/// The first so many of some ancestors.
+fn kept_of(ancestors: Revs, kept: u64) -> Revs
+    ensures { result ≡ take kept ancestors }
+{
+    let mut items = ancestors.into_vec();
+    items.truncate(kept as usize);
+    Revs::from_vec(items)
+}
+
+fn copy_of(alloc: Global, name: Option<&Name>) -> Result<Option<Name>, AllocError>
+    ensures value { IfOk result (λ copy. copy ≡ option_copied name.entry) }
+    ensures name { IfOk result (λ copy. IfSome copy (λ text. IsTrue (is_name text) × IsUtf8 text)) }
+{
+    match name {
+        None => Ok(None),
+        Some(name) => {
+            let _ = name.as_str();
+            Ok(Some(name.copy(alloc)?))
+        }
+    }
+}
+
+/// A copy of the winner's revision of a tree that has one.
+fn winner_of(alloc: Global, tree: &Tree) -> Result<RevId, AllocError>
+    requires { tree.now ≢ [] }
+    ensures { IfOk result (λ rev. option_map (λ l. l.rev) (trees.winner_of tree.now) ≡ Some rev) }
+{
+    match tree.winner() {
+        None => unreachable!(),
+        Some(winner) => winner.rev.copy(alloc),
+    }
+}
+
+/// The write of a revision that was judged at a front, with so many of its ancestors and the tree after it.
+fn write_of(
+    alloc: Global,
+    by: Option<&Name>,
+    revision: Revision,
+    at: u64,
+    tree: &Tree,
+    kept: u64,
+) -> Result<Write, AllocError>
+    requires tree { tree.now ≢ [] }
+    requires formed { IsWellFormed revision }
+    ensures write { IfOk result
+        (λ w. IsWritten (option_copied by.entry) revision at tree.now kept w) }
+    ensures entry { IfOk result (λ w. IsTrue (names.is_rev w.winner) → IsEntry (kinds.Write w)) }
+    ensures body { IfOk result (λ w. HasDocument w.body) }
+    ensures size { IfOk result (λ w. length w.body ≤ 20971520) }
+{
+    let _ = revision.doc.as_str();
+    Ok(Write {
+        winner: winner_of(alloc, tree)?,
+        doc: revision.doc,
+        rev: revision.rev,
+        ancestors: kept_of(revision.ancestors, kept),
+        deleted: revision.deleted,
+        body: body_of(alloc, revision.body)?,
+        by: copy_of(alloc, by)?,
+        at,
+        channels: everyone(alloc)?,
+        grants: Grants::new(alloc),
+        roles: RoleGrants::new(alloc),
+    })
+}
+
+/// What the board said of a revision that it has room for: at which front, after which last write of its document, and with
+/// which tree and so many of its ancestors.
+#[derive(Drop)]
+struct Judged {
+    at: u64,
+    base: u64,
+    tree: Tree,
+    kept: u64,
+}
+
+/// Stores a write that the board judged in this turn: its sequence, or none where memory is short.
+fn store(board: &mut Board, entry: Write, tree: Tree, base: u64) -> Option<u64>
+    requires rooms { board.old.rooms ≡ [] }
+    requires entry { IsEntry (kinds.Write entry) }
+    requires size { length entry.body ≤ 20971520 }
+    requires body { HasDocument entry.body }
+    requires at { entry.at ≡ length board.old.log }
+    requires base { base ≡ last_on board.old entry.doc }
+    requires extends { ExtendsTree (tree_on board.old entry.doc) entry tree }
+    ensures sequence { IfSome result (λ sequence. sequence ≡ length board.old.log + 1) }
+    ensures stored { IfSome result
+        (λ sequence. board.new.log ≡ board.old.log ++ kinds.Write entry ∷ []) }
+    ensures none { IfNone result (board.new.log ≡ board.old.log) }
+    ensures rooms { board.new.rooms ≡ [] }
+{
+    let bytes = entry.body.len() as u64;
+    let Ok(room) = board.room(Some(&entry.doc), bytes) else {
+        return None;
+    };
+    let number = Number::new(board.front() + 1);
+    match board.commit(room, number, Candidate::Write { entry, tree, base }) {
+        Commit::Stored { sequence, at: _at } => Some(sequence),
+        Commit::Stale {
+            room,
+            number,
+            candidate: _candidate,
+            last: _last,
+        } => {
+            board.void(room, number);
+            unreachable!()
+        }
+    }
+}
+
+/// Makes the write of a revision that the board judged in this turn, and stores it.
+fn store_revision(
+    alloc: Global,
+    board: &mut Board,
+    by: Option<&Name>,
+    revision: Revision,
+    judged: Judged,
+) -> Outcome
+    requires rooms { board.old.rooms ≡ [] }
+    requires formed { IsWellFormed revision }
+    requires at { judged.at ≡ length board.old.log }
+    requires base { judged.base ≡ last_on board.old revision.doc }
+    requires tree { IsNewTree (board_tree (board_of board.old) revision.doc) revision
+        judged.tree judged.kept }
+    ensures answer { IsStoredOrMemory result judged.at }
+    ensures board { IsBoardAfter board.old board.new (option_copied by.entry) revision result }
+{
+    let _ = board.log();
+    boards();
+    winners();
+    let Judged {
+        at,
+        base,
+        tree,
+        kept,
+    } = judged;
+    let Ok(entry) = write_of(alloc, by, revision, at, &tree, kept) else {
+        return Outcome::Memory507;
+    };
+    match store(board, entry, tree, base) {
+        None => Outcome::Memory507,
+        Some(sequence) => Outcome::Stored { sequence, at },
+    }
+}
+
+/// What is needed to judge a revision, by the trees of the board.
+fn snapshot_of(
+    board: &mut Board,
+    revision: &Revision,
+    strict: bool,
+    by: Option<&Name>,
+) -> Result<Snapshot, Memory>
+    ensures same { board.new ≡ board.old }
+    ensures at { IfOk result (λ s. s.at ≡ length board.old.log) }
+    ensures last { IfOk result (λ s. s.last ≡ last_on board.old revision.now.doc) }
+    ensures step { IfOk result (λ s. IsStep
+        (board_tree (board_of board.old) revision.now.doc) revision.now strict s.step) }
+    ensures user { IfOk result (λ s. s.user_exists ≡ proposer_exists (newest_first board.old)
+        (option_copied by.entry)) }
+{
+    boards();
+    board.snapshot(revision, strict, by)
+}
+
+/// Has the board judge a revision that is well formed, and stores it where it extends its document's tree.
+fn judge(
+    alloc: Global,
+    board: &mut Board,
+    by: Option<&Name>,
+    strict: bool,
+    revision: Revision,
+) -> Outcome
+    requires rooms { board.old.rooms ≡ [] }
+    requires formed { IsWellFormed revision }
+    ensures outcome { IsOutcome strict (option_copied by.entry) revision
+        (board_of board.old) result }
+    ensures board { IsBoardAfter board.old board.new (option_copied by.entry) revision result }
+{
+    let Ok(snapshot) = snapshot_of(board, &revision, strict, by) else {
+        return Outcome::Memory507;
+    };
+    let Snapshot {
+        at,
+        last: base,
+        step,
+        user_exists,
+        ..
+    } = snapshot;
+    if !user_exists {
+        return Outcome::UserGone401 { at };
+    }
+    match step {
+        Extended::Known => Outcome::Known { at },
+        Extended::BadHistory400 => Outcome::BadHistory400 { at },
+        Extended::Conflict409 { leaf } => Outcome::Conflict409 { at, leaf },
+        Extended::Memory => Outcome::Memory507,
+        Extended::NewTree { tree, kept } => {
+            let judged = Judged {
+                at,
+                base,
+                tree,
+                kept,
+            };
+            store_revision(alloc, board, by, revision, judged)
+        }
+    }
+}
+
+/// Proposes a revision to a board, by a user or by the administrator: it is stored where it is well formed, its proposer
+/// exists, and it extends its document's tree; under `strict` it may make no conflict, nor where the revision says so.
+pub fn propose_to(
+    alloc: Global,
+    board: &mut Board,
+    by: Option<&Name>,
+    strict: bool,
+    revision: Revision,
+) -> Outcome
+    requires { board.old.rooms ≡ [] }
+    ensures outcome { IsOutcome (strict || revision.noconflicts) (option_copied by.entry) revision
+        (board_of board.old) result }
+    ensures board { IsBoardAfter board.old board.new (option_copied by.entry) revision result }
+{
+    let strict = strict || revision.noconflicts;
+    match refusal_of(alloc, &revision) {
+        Err(_) => Outcome::Memory507,
+        Ok(Some(refusal)) => refusal,
+        Ok(None) => judge(alloc, board, by, strict, revision),
+    }
+}
