@@ -165,7 +165,15 @@ impl Board {
         histories();
         let alloc = *self.rooms.allocator();
         self.index.catch_up(self.log.entries.as_slice())?;
-        snapshot_of(alloc, &self.log, &self.documents, &self.index, revision, strict, by)
+        snapshot_of(
+            alloc,
+            &self.log,
+            &self.documents,
+            &self.index,
+            revision,
+            strict,
+            by,
+        )
     }
 
     fn make_room(&mut self, doc: Option<&DocId>, bytes: u64) -> Result<RoomFor, AllocError>

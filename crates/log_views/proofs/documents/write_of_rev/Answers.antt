@@ -6,4 +6,4 @@ pub returns-in-Some : goal.returns-in-Some
 returns-in-Some c =
     c.write_at.ensures
     ∙ rev_read c.args.entries.now c.args.doc.now c.args.rev.now c.in-Some.seq
-      (sym (c.in_ok-revision.ensures (reverse c.args.entries.now) c.requires) ∙ c.in-Some.is)
+    (sym (c.in_ok-revision.ensures (reverse c.args.entries.now) c.requires) ∙ c.in-Some.is)

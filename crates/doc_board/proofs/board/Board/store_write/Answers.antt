@@ -27,11 +27,10 @@ invariant_of-self c =
     let h = c.args.self.now.log in
     let same = c.histories.ensures.trees h (length h) c.args.entry.doc ∙ whole (λ es. tree_at es c.args.entry.doc) h in
     let extends : E c.args.self.now = subst (λ (t : List Node). ExtendsTree t c.args.entry c.args.tree) same c.requires.extends in
-    let B : List Entry → Type 0 = λ es. IsBehind c.self.inside.index es in
-    (
+    let B : List Entry → Type 0 = λ es. IsBehind c.self.inside.index es in (
       rw c.close.ensures
-      (kept_write c.trees_of_writes.ensures.revisions c.trees_of_writes.ensures.leaves c.args.entry c.self.inside.log.entries c.put-2.new.self c.self.inside.documents c.put.new.documents c.self.inside.rooms.items c.args.room.made_for c.args.sequence c.args.tree
-      c.self.invariant.0 (subst O (sym c.self.view_is) c.requires.out) c.requires.entry c.requires.at (subst S (sym c.self.view_is) c.requires.sequence) (subst E (sym c.self.view_is) extends) c.put.ensures c.put-2.ensures.list c.put-2.ensures.spare),
+          (kept_write c.trees_of_writes.ensures.revisions c.trees_of_writes.ensures.leaves c.args.entry c.self.inside.log.entries c.put-2.new.self c.self.inside.documents c.put.new.documents c.self.inside.rooms.items c.args.room.made_for c.args.sequence c.args.tree
+          c.self.invariant.0 (subst O (sym c.self.view_is) c.requires.out) c.requires.entry c.requires.at (subst S (sym c.self.view_is) c.requires.sequence) (subst E (sym c.self.view_is) extends) c.put.ensures c.put-2.ensures.list c.put-2.ensures.spare),
       subst B (sym c.put-2.ensures.list) (c.behind.ensures c.self.inside.index c.self.inside.log.entries.list (kinds.Write c.args.entry ∷ []) c.self.invariant.1),
     )
 
