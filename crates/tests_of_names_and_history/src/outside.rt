@@ -4,38 +4,51 @@ use sg_outside::{
     Bytes, Files, Gave, Got, Input, Loaded, MemFile, MemFiles, MemSink, MemWire, RealFiles,
     ScriptedFiles, ScriptedSink, ScriptedWire, Sink, StdoutSink, Wire,
 };
-use std::alloc::Global;
+use std::alloc::{AllocError, Global};
 use std::fs;
 use std::test::Fail;
 
-fn one_file(alloc: Global) -> Result<Vec<MemFile>, Fail> {
-    let mut files = Vec::new(alloc);
-    files.push(MemFile {
-        name: String::from_str(alloc, "a")?,
-        bytes: Bytes::from_slice(alloc, b"text")?,
-    })?;
-    Ok(files)
+/// The file `a`.
+fn one_file(alloc: Global) -> Result<Vec<MemFile>, AllocError> {
+    let name = String::from_str(alloc, "a")?;
+    let bytes = Bytes::from_slice(alloc, b"text")?;
+    Ok(vec![in alloc; MemFile { name, bytes }]?)
 }
 
-#[test]
-fn files_and_sinks_in_memory(rt: HostRuntime) -> Result<(), Fail> {
-    let alloc = rt.alloc();
+/// Whether a load of a file answers so, and `> ` is so then.
+fn loads<F: Files>(
+    alloc: Global,
+    files: &mut F,
+    name: &str,
+    want: Loaded,
+    bytes: &[u8],
+) -> Result<bool, AllocError> {
+    let mut into = Bytes::from_slice(alloc, b"> ")?;
+    let loaded = files.load(name, &mut into);
+    Ok(loaded == want && into.as_slice() == bytes)
+}
+
+fn loads_in_memory(alloc: Global) -> Result<bool, AllocError> {
     let mut files = MemFiles::new(alloc);
     files.files = one_file(alloc)?;
-    let mut into = Bytes::from_slice(alloc, b"> ")?;
-    assert_eq!(rt; files.load("a", &mut into), Loaded::Whole);
-    assert!(rt; into.as_slice() == b"> text".as_slice());
-    let mut scripted = ScriptedFiles::new(one_file(alloc)?, vec![in alloc; true]?);
-    assert_eq!(rt; scripted.load("a", &mut into), Loaded::Failed);
-    assert_eq!(rt; scripted.faults(), 1);
+    loads(alloc, &mut files, "a", Loaded::Whole, b"> text")
+}
+
+fn load_fails_by_script(alloc: Global) -> Result<bool, AllocError> {
+    let mut files = ScriptedFiles::new(one_file(alloc)?, vec![in alloc; true]?);
+    let failed = loads(alloc, &mut files, "a", Loaded::Failed, b"> ")?;
+    Ok(failed && files.faults() == 1)
+}
+
+fn gives_in_memory(alloc: Global) -> bool {
     let mut sink = MemSink::new(alloc);
-    assert_eq!(rt; sink.give(into.as_slice()), Gave::Done);
-    assert!(rt; sink.bytes.as_slice() == b"> text".as_slice());
-    let mut scripted = ScriptedSink::new(alloc, vec![in alloc; Some(2)]?);
-    assert_eq!(rt; scripted.give(b"two"), Gave::Failed);
-    assert_eq!(rt; scripted.faults(), 1);
-    assert!(rt; scripted.bytes.as_slice() == b"tw".as_slice());
-    Ok(())
+    sink.give(b"> text") == Gave::Done && sink.bytes.as_slice() == b"> text".as_slice()
+}
+
+fn give_fails_by_script(alloc: Global) -> Result<bool, AllocError> {
+    let mut sink = ScriptedSink::new(alloc, vec![in alloc; Some(2)]?);
+    let gave = sink.give(b"two");
+    Ok(gave == Gave::Failed && sink.faults() == 1 && sink.bytes.as_slice() == b"tw".as_slice())
 }
 
 /// What was received, as a word: a frame's bytes, or which other result it is.
@@ -50,41 +63,62 @@ fn word(got: &Got) -> &[u8] {
     }
 }
 
+/// Whether a wire gives this, and takes a frame.
+fn carries<W: Wire>(wire: &mut W, received: &[u8]) -> bool {
+    let got = wire.recv();
+    word(&got) == received && wire.send(b"a frame") == Gave::Done
+}
+
+fn carries_in_memory(alloc: Global) -> Result<bool, AllocError> {
+    let frame = Bytes::from_slice(alloc, b"one")?;
+    let mut wire = MemWire::new(alloc, vec![in alloc; Input::Frame(frame)]?);
+    Ok(carries(&mut wire, b"one"))
+}
+
+fn carries_by_script(alloc: Global) -> Result<bool, AllocError> {
+    let script = vec![in alloc; Got::Failed]?;
+    let mut wire = ScriptedWire::new(alloc, script, vec![in alloc; false]?);
+    Ok(carries(&mut wire, b"failed") && wire.faults() == 1)
+}
+
 #[test]
-fn wires_in_memory(rt: HostRuntime) -> Result<(), Fail> {
+fn files_sinks_and_wires_in_memory(rt: HostRuntime) -> Result<(), Fail> {
     let alloc = rt.alloc();
-    let mut inputs = Vec::new(alloc);
-    inputs.push(Input::Frame(Bytes::from_slice(alloc, b"one")?))?;
-    let mut wire = MemWire::new(alloc, inputs);
-    assert!(rt; word(&wire.recv()) == b"one".as_slice());
-    assert_eq!(rt; wire.send(b"a frame"), Gave::Done);
-    let mut script = Vec::new(alloc);
-    script.push(Got::Failed)?;
-    let mut scripted = ScriptedWire::new(alloc, script, vec![in alloc; false]?);
-    assert!(rt; word(&scripted.recv()) == b"failed".as_slice());
-    assert_eq!(rt; scripted.send(b"a"), Gave::Done);
-    assert_eq!(rt; scripted.faults(), 1);
+    assert!(rt; loads_in_memory(alloc)?);
+    assert!(rt; load_fails_by_script(alloc)?);
+    assert!(rt; gives_in_memory(alloc));
+    assert!(rt; give_fails_by_script(alloc)?);
+    assert!(rt; carries_in_memory(alloc)?);
+    assert!(rt; carries_by_script(alloc)?);
     Ok(())
+}
+
+/// Whether a file of this name that is written here is loaded whole; it is removed again.
+fn loads_its_own_file(rt: &HostRuntime) -> Result<bool, Fail> {
+    let mut path = std::env::temp_dir(rt)?;
+    path.push("sg_outside_real_files_test")?;
+    fs::write(rt, path.as_path(), "whole\n")?;
+    let whole = match path.to_str() {
+        Some(name) => loads(
+            rt.alloc(),
+            &mut RealFiles::new(rt),
+            name,
+            Loaded::Whole,
+            b"> whole\n",
+        )?,
+        None => false,
+    };
+    fs::remove_file(rt, path.as_path())?;
+    Ok(whole)
 }
 
 #[test]
 fn real_files_and_standard_output(rt: HostRuntime) -> Result<(), Fail> {
     let alloc = rt.alloc();
     let mut files = RealFiles::new(&rt);
-    let mut into = Bytes::from_slice(alloc, b"> ")?;
-    assert_eq!(rt; files.load("/dev/absent", &mut into), Loaded::Failed);
-    assert_eq!(rt; files.load("/dev", &mut into), Loaded::Failed);
-    let mut path = std::env::temp_dir(&rt)?;
-    path.push("sg_outside_real_files_test")?;
-    fs::write(&rt, path.as_path(), "whole\n")?;
-    let loaded = match path.to_str() {
-        Some(name) => files.load(name, &mut into),
-        None => Loaded::Failed,
-    };
-    fs::remove_file(&rt, path.as_path())?;
-    assert_eq!(rt; loaded, Loaded::Whole);
-    assert!(rt; into.as_slice() == b"> whole\n".as_slice());
-    let mut out = StdoutSink::new(&rt);
-    assert_eq!(rt; out.give(b""), Gave::Done);
+    assert!(rt; loads(alloc, &mut files, "/dev/absent", Loaded::Failed, b"> ")?);
+    assert!(rt; loads(alloc, &mut files, "/dev", Loaded::Failed, b"> ")?);
+    assert!(rt; loads_its_own_file(&rt)?);
+    assert!(rt; StdoutSink::new(&rt).give(b"") == Gave::Done);
     Ok(())
 }
