@@ -1,8 +1,9 @@
 //! Documents and what they are read as.
 
+use crate::table::{hex_of, parts_of};
 use json_doc::{Doc, DocFault, DocText, Members, Node, Nodes, read_doc};
 use sg_outside::Bytes;
-use std::alloc::Global;
+use std::alloc::{AllocError, Global};
 use std::collections::BTreeMap;
 use std::test::Fail;
 
@@ -33,221 +34,270 @@ fn with_member(alloc: Global, value: &str) -> Result<Doc, DocFault> {
     read_doc(alloc, text.as_bytes())
 }
 
-#[test]
-fn each_refusal_comes_where_it_is_due(rt: HostRuntime) {
-    let cases: [(&[u8], Option<DocFault>); 34] = [
-        (b"", None),
-        (b"{}", None),
-        (b" \t\r\n{ } ", None),
-        (b"{\"\":1}", None),
-        (b"{\"a_\":1}", None),
-        (b"{\"a\":{\"_x\":1},\"b\":[{\"_id\":2}]}", None),
-        (b"{\"_attachments\":{}}", None),
-        (b" ", Some(DocFault::NotJson)),
-        (b"\n\t", Some(DocFault::NotJson)),
-        (b"{", Some(DocFault::NotJson)),
-        (b"{}x", Some(DocFault::NotJson)),
-        (b"{}{}", Some(DocFault::NotJson)),
-        (b"{\"a\":1,}", Some(DocFault::NotJson)),
-        (b"{'a':1}", Some(DocFault::NotJson)),
-        (b"{\"a\":01}", Some(DocFault::NotJson)),
-        (b"{\"a\":NaN}", Some(DocFault::NotJson)),
-        (b"{\"a\":1e999}", Some(DocFault::NotJson)),
-        (b"[1e999]", Some(DocFault::NotJson)),
-        (b"{\"a\":\"\\ud800\"}", Some(DocFault::NotJson)),
-        (b"{\"a\":\"\x01\"}", Some(DocFault::NotJson)),
-        (b"{\"a\":\"\xff\"}", Some(DocFault::NotJson)),
-        (b"\xef\xbb\xbf{}", Some(DocFault::NotJson)),
-        (b"{\"_id\":}", Some(DocFault::NotJson)),
-        (b"[]", Some(DocFault::NotObject)),
-        (b"null", Some(DocFault::NotObject)),
-        (b"true", Some(DocFault::NotObject)),
-        (b"1", Some(DocFault::NotObject)),
-        (b"\"{}\"", Some(DocFault::NotObject)),
-        (b"[{\"_id\":1}]", Some(DocFault::NotObject)),
-        (b"{\"_id\":1}", Some(DocFault::Reserved)),
-        (b"{\"_\":1}", Some(DocFault::Reserved)),
-        (
-            b"{\"_attachments\":{},\"_attachments2\":1}",
-            Some(DocFault::Reserved),
-        ),
-        (b"{\"_Attachments\":1}", Some(DocFault::Reserved)),
-        (b"{\"z\":1,\"\\u005frev\":1}", Some(DocFault::Reserved)),
-    ];
-    for (bytes, want) in cases {
-        assert_eq!(rt; read_doc(rt.alloc(), bytes).err(), want, "at {bytes:?}");
-    }
-}
-
-#[test]
-fn a_number_is_an_integer_or_opaque(rt: HostRuntime) -> Result<(), Fail> {
-    let cases = [
-        ("0", Some(0)),
-        ("-1", Some(-1)),
-        ("9007199254740991", Some(9007199254740991)),
-        ("-9007199254740991", Some(-9007199254740991)),
-        ("9007199254740992", None),
-        ("-9007199254740992", None),
-        ("9223372036854775808", None),
-        ("-9223372036854775808", None),
-        ("18446744073709551616", None),
-        ("-0", None),
-        ("1.0", None),
-        ("1e3", None),
-        ("-0.5E-2", None),
-        ("1e308", None),
-    ];
-    for (text, want) in cases {
-        let doc = with_member(rt.alloc(), text)?;
-        assert_eq!(rt; int_of(doc.get("a")), want, "at {text}");
-        let kind = kind(doc.get("a"));
-        assert_eq!(rt;
-            kind,
-            if want.is_some() { "int" } else { "opaque" },
-            "at {text}"
-        );
-    }
-    Ok(())
-}
-
-/// Texts of JSON, one a line, each with its characters after `|`; in these `/` stands for a line feed and `0` for a NUL.
-const TEXTS: &str = r#"""|
-"plain _id"|plain _id
-"\u00e9\n"|é/
-"\ud83d\ude00"|😀
-"a\u0000b"|a0b"#;
-
-/// The bytes of characters as `TEXTS` has them.
-fn meant(alloc: Global, text: &str) -> Result<Bytes, Fail> {
+/// The bytes of a text in which `/` stands for a line feed and `~` for the byte FF.
+fn meant(alloc: Global, text: &str) -> Result<Bytes, AllocError> {
     let mut bytes = Bytes::new(alloc);
     for byte in text.as_bytes() {
         bytes.push(match *byte {
             b'/' => b'\n',
-            b'0' => 0,
+            b'~' => 0xff,
             byte => byte,
         })?;
     }
     Ok(bytes)
 }
 
+/// Documents, one a line, with why each is refused, and values of members, with their kind and integer, or the bytes of a text.
+const READ: &str = "\
+doc |None\n\
+doc {}|None\n\
+doc  \t\r/{ } |None\n\
+doc {\"\":1}|None\n\
+doc {\"a_\":1}|None\n\
+doc {\"a\":{\"_x\":1},\"b\":[{\"_id\":2}]}|None\n\
+doc {\"_attachments\":{}}|None\n\
+doc  |Some(NotJson)\n\
+doc /\t|Some(NotJson)\n\
+doc {|Some(NotJson)\n\
+doc {}x|Some(NotJson)\n\
+doc {}{}|Some(NotJson)\n\
+doc {\"a\":1,}|Some(NotJson)\n\
+doc {'a':1}|Some(NotJson)\n\
+doc {\"a\":01}|Some(NotJson)\n\
+doc {\"a\":NaN}|Some(NotJson)\n\
+doc {\"a\":1e999}|Some(NotJson)\n\
+doc [1e999]|Some(NotJson)\n\
+doc {\"a\":\"\\ud800\"}|Some(NotJson)\n\
+doc {\"a\":\"\u{1}\"}|Some(NotJson)\n\
+doc {\"a\":\"~\"}|Some(NotJson)\n\
+doc \u{feff}{}|Some(NotJson)\n\
+doc {\"_id\":}|Some(NotJson)\n\
+doc []|Some(NotObject)\n\
+doc null|Some(NotObject)\n\
+doc true|Some(NotObject)\n\
+doc 1|Some(NotObject)\n\
+doc \"{}\"|Some(NotObject)\n\
+doc [{\"_id\":1}]|Some(NotObject)\n\
+doc {\"_id\":1}|Some(Reserved)\n\
+doc {\"_\":1}|Some(Reserved)\n\
+doc {\"_attachments\":{},\"_attachments2\":1}|Some(Reserved)\n\
+doc {\"_Attachments\":1}|Some(Reserved)\n\
+doc {\"z\":1,\"\\u005frev\":1}|Some(Reserved)\n\
+value 0|int Some(0)\n\
+value -1|int Some(-1)\n\
+value 9007199254740991|int Some(9007199254740991)\n\
+value -9007199254740991|int Some(-9007199254740991)\n\
+value 9007199254740992|opaque None\n\
+value -9007199254740992|opaque None\n\
+value 9223372036854775808|opaque None\n\
+value -9223372036854775808|opaque None\n\
+value 18446744073709551616|opaque None\n\
+value -0|opaque None\n\
+value 1.0|opaque None\n\
+value 1e3|opaque None\n\
+value -0.5E-2|opaque None\n\
+value 1e308|opaque None\n\
+value {\"_x\":true,\"_x\":7}|object None\n\
+inner {\"_x\":true,\"_x\":7}|int Some(7)\n\
+text \"\"|\n\
+text \"plain _id\"|706c61696e205f6964\n\
+text \"\\u00e9\\n\"|c3a90a\n\
+text \"\\ud83d\\ude00\"|f09f9880\n\
+text \"a\\u0000b\"|610062\n\
+nested 126|None\n\
+nested 127|Some(NotJson)\n\
+nested 200000|Some(NotJson)";
+
+fn fault_text(alloc: Global, text: &str) -> Result<String, AllocError> {
+    let bytes = meant(alloc, text)?;
+    let fault = read_doc(alloc, bytes.as_slice()).err();
+    format!(in alloc; "{fault:?}")
+}
+
+fn node_text(alloc: Global, node: Option<&Node>) -> Result<String, AllocError> {
+    format!(in alloc; "{} {:?}", kind(node), int_of(node))
+}
+
+fn value_text(alloc: Global, value: &str) -> Result<String, DocFault> {
+    let doc = with_member(alloc, value)?;
+    Ok(node_text(alloc, doc.get("a"))?)
+}
+
+fn inner_text(alloc: Global, value: &str) -> Result<String, DocFault> {
+    let doc = with_member(alloc, value)?;
+    let inner = doc.get("a").and_then(|node| node.get("_x"));
+    Ok(node_text(alloc, inner)?)
+}
+
+/// The bytes of a member that is a text, in hexadecimal.
+fn characters_text(alloc: Global, value: &str) -> Result<String, DocFault> {
+    let doc = with_member(alloc, value)?;
+    match doc.get("a") {
+        Some(Node::Text(found)) => Ok(hex_of(alloc, found.as_str().as_bytes())?),
+        _ => Ok(String::from_str(alloc, "no text")?),
+    }
+}
+
+/// An object that holds as many lists in one another, so that one construct more is open.
+fn nested(alloc: Global, lists: usize) -> Result<Doc, DocFault> {
+    let opened = "[".repeat(alloc, lists)?;
+    let closed = "]".repeat(alloc, lists)?;
+    let text = format!(in alloc; "{opened}{closed}")?;
+    with_member(alloc, text.as_str())
+}
+
+fn nested_text(alloc: Global, lists: &str) -> Result<String, Fail> {
+    let fault = nested(alloc, lists.parse()?).err();
+    Ok(format!(in alloc; "{fault:?}")?)
+}
+
+fn answer(alloc: Global, call: &str, input: &str) -> Result<String, Fail> {
+    match call {
+        "doc" => Ok(fault_text(alloc, input)?),
+        "value" => Ok(value_text(alloc, input)?),
+        "inner" => Ok(inner_text(alloc, input)?),
+        "text" => Ok(characters_text(alloc, input)?),
+        _ => nested_text(alloc, input),
+    }
+}
+
+fn is_right(alloc: Global, line: &str) -> Result<bool, Fail> {
+    let (call, input, want) = parts_of(line).ok_or("no line of the table")?;
+    Ok(answer(alloc, call, input)?.as_str() == want)
+}
+
 #[test]
-fn a_text_is_its_characters(rt: HostRuntime) -> Result<(), Fail> {
-    let alloc = rt.alloc();
-    for line in TEXTS.split('\n') {
-        let (text, want) = line.split_once('|').ok_or("no line of the table")?;
-        let doc = with_member(alloc, text)?;
-        let Some(Node::Text(found)) = doc.get("a") else {
-            return Err(Fail::from("no text"));
-        };
-        assert!(rt;
-            found.as_str().as_bytes() == meant(alloc, want)?.as_slice(),
-            "{line}"
-        );
+fn what_is_read(rt: HostRuntime) -> Result<(), Fail> {
+    for line in READ.split('\n') {
+        assert!(rt; is_right(rt.alloc(), line)?, "{line}");
     }
     Ok(())
 }
 
 /// Each member's name and kind, in order.
-fn members_text(alloc: Global, members: &Members) -> Result<String, Fail> {
+fn members_text(alloc: Global, members: &Members) -> Result<String, AllocError> {
     let mut text = String::new(alloc);
     for (name, node) in members.iter() {
-        text.push_str(name.as_str())?;
-        text.push_str(":")?;
-        text.push_str(kind(Some(node)))?;
-        text.push_str(" ")?;
+        let kind = kind(Some(node));
+        text.push_str(format!(in alloc; "{}:{kind} ", name.as_str())?.as_str())?;
     }
     Ok(text)
 }
 
-/// Each node's kind, in order, where it is a list.
-fn items_text(alloc: Global, list: Option<&Node>) -> Result<String, Fail> {
+/// Each node's kind, in order.
+fn items_text(alloc: Global, items: &Nodes) -> Result<String, AllocError> {
     let mut text = String::new(alloc);
-    if let Some(Node::List(items)) = list {
-        for item in items.as_slice() {
-            text.push_str(kind(Some(item)))?;
-            text.push_str(" ")?;
-        }
+    for item in items.as_slice() {
+        text.push_str(kind(Some(item)))?;
+        text.push_str(" ")?;
     }
     Ok(text)
 }
 
 const ORDERED: &str = r#"{"b":1, "a":[null,true,{"_x":[]},"t",2.5], "":3, "b":2, "B":false}"#;
 
+fn ordered(alloc: Global) -> Result<Doc, DocFault> {
+    read_doc(alloc, ORDERED.as_bytes())
+}
+
+fn members_are_in_order(alloc: Global) -> Result<bool, DocFault> {
+    let doc = ordered(alloc)?.copy(alloc)?;
+    let text = members_text(alloc, doc.members())?;
+    Ok(text.as_str() == ":int B:bool a:list b:int ")
+}
+
+fn items_are_in_order(alloc: Global) -> Result<bool, DocFault> {
+    let doc = ordered(alloc)?.copy(alloc)?;
+    match doc.get("a") {
+        Some(Node::List(items)) => {
+            Ok(items_text(alloc, items)?.as_str() == "null bool object text opaque ")
+        }
+        _ => Ok(false),
+    }
+}
+
+/// Of equal members the last one wins.
+fn last_wins(alloc: Global) -> Result<bool, DocFault> {
+    let doc = ordered(alloc)?;
+    Ok(
+        int_of(doc.get("b")) == Some(2)
+            && int_of(doc.as_node().get("")) == Some(3)
+            && kind(doc.get("c")) == "none"
+            && doc.as_node().is_object(),
+    )
+}
+
+fn deep_is_copied(alloc: Global) -> Result<bool, DocFault> {
+    let deep = nested(alloc, 126)?.copy(alloc)?;
+    Ok(kind(deep.get("a")) == "list")
+}
+
 #[test]
 fn members_and_items_stand_in_order(rt: HostRuntime) -> Result<(), Fail> {
-    let read = read_doc(rt.alloc(), ORDERED.as_bytes())?;
-    let doc = read.copy(rt.alloc())?;
-    let members = members_text(rt.alloc(), doc.members())?;
-    assert_eq!(rt; members.as_str(), ":int B:bool a:list b:int ");
-    let items = items_text(rt.alloc(), doc.get("a"))?;
-    assert_eq!(rt; items.as_str(), "null bool object text opaque ");
+    let alloc = rt.alloc();
+    assert!(rt; members_are_in_order(alloc)?);
+    assert!(rt; items_are_in_order(alloc)?);
+    assert!(rt; last_wins(alloc)?);
+    assert!(rt; deep_is_copied(alloc)?);
     Ok(())
 }
 
-#[test]
-fn the_last_of_equal_members_wins(rt: HostRuntime) -> Result<(), Fail> {
-    let doc = read_doc(rt.alloc(), ORDERED.as_bytes())?;
-    assert_eq!(rt; int_of(doc.get("b")), Some(2));
-    assert_eq!(rt; int_of(doc.as_node().get("")), Some(3));
-    assert_eq!(rt; kind(doc.get("c")), "none");
-    assert!(rt; doc.as_node().is_object());
-    let nested = with_member(rt.alloc(), "{\"_x\":true,\"_x\":7}")?;
-    let inner = nested.get("a").and_then(|node| node.get("_x"));
-    assert_eq!(rt; int_of(inner), Some(7));
-    Ok(())
+fn text_is_made(alloc: Global) -> Result<bool, AllocError> {
+    let mut text = DocText::new(alloc);
+    let empty = text.is_empty();
+    text.push_str("caf\u{e9}")?;
+    Ok(empty && text.len() == 5 && text.copy(alloc)?.as_str() == "caf\u{e9}")
 }
 
-/// An object that holds as many lists in one another, so that one construct more is open.
-fn nested(alloc: Global, lists: usize) -> Result<Doc, DocFault> {
-    let mut text = String::from_str(alloc, "{\"a\":")?;
-    for _ in 0..lists {
-        text.push_str("[")?;
-    }
-    for _ in 0..lists {
-        text.push_str("]")?;
-    }
-    text.push_str("}")?;
-    read_doc(alloc, text.as_bytes())
+fn text_is_given_back(alloc: Global) -> Result<bool, AllocError> {
+    let text = DocText::from_str(alloc, "caf\u{e9}")?;
+    Ok(DocText::from(text.into_string()).as_str() == "caf\u{e9}")
 }
 
-#[test]
-fn nesting_goes_to_127(rt: HostRuntime) -> Result<(), Fail> {
-    let deep = nested(rt.alloc(), 126)?;
-    assert_eq!(rt; kind(deep.copy(rt.alloc())?.get("a")), "list");
-    assert_eq!(rt; nested(rt.alloc(), 127).err(), Some(DocFault::NotJson));
-    assert_eq!(rt; nested(rt.alloc(), 200_000).err(), Some(DocFault::NotJson));
-    Ok(())
+fn list(alloc: Global) -> Result<Nodes, AllocError> {
+    let mut nodes = Nodes::new(alloc);
+    nodes.push(Node::Text(DocText::from_str(alloc, "x")?))?;
+    nodes.push(Node::Int(4))?;
+    Ok(nodes)
+}
+
+fn list_is_made(alloc: Global) -> Result<bool, AllocError> {
+    let nodes = Nodes::from(list(alloc)?.copy(alloc)?.into_vec());
+    let last = int_of(nodes.as_slice().last());
+    Ok(Nodes::new(alloc).is_empty() && nodes.len() == 2 && last == Some(4))
+}
+
+/// Two members, of which the second is put twice.
+fn members(alloc: Global) -> Result<Members, AllocError> {
+    let mut members = Members::new(alloc);
+    members.insert(String::from_str(alloc, "n")?, Node::List(list(alloc)?))?;
+    members.insert(String::from_str(alloc, "m")?, Node::Null)?;
+    members.insert(String::from_str(alloc, "n")?, Node::Bool(true))?;
+    Ok(members)
+}
+
+fn members_are_made(alloc: Global) -> Result<bool, AllocError> {
+    let map: BTreeMap<String, Node> = members(alloc)?.copy(alloc)?.into_map();
+    let members = Members::from(map);
+    Ok(Members::new(alloc).is_empty() && members.len() == 2)
+}
+
+fn object_is_made(alloc: Global) -> Result<bool, AllocError> {
+    let object = Node::Object(members(alloc)?).copy(alloc)?;
+    Ok(
+        kind(object.get("m")) == "null"
+            && kind(object.get("n")) == "bool"
+            && kind(Node::Opaque.get("n")) == "none",
+    )
 }
 
 #[test]
 fn values_are_made_and_given_back(rt: HostRuntime) -> Result<(), Fail> {
     let alloc = rt.alloc();
-    let mut text = DocText::new(alloc);
-    assert!(rt; text.is_empty());
-    text.push_str("caf\u{e9}")?;
-    assert_eq!(rt; text.len(), 5);
-    assert_eq!(rt; text.copy(alloc)?.as_str(), "caf\u{e9}");
-    assert_eq!(rt; DocText::from(text.into_string()).as_str(), "caf\u{e9}");
-
-    let mut nodes = Nodes::new(alloc);
-    assert!(rt; nodes.is_empty());
-    nodes.push(Node::Text(DocText::from_str(alloc, "x")?))?;
-    nodes.push(Node::Int(4))?;
-    let nodes = Nodes::from(nodes.copy(alloc)?.into_vec());
-    assert_eq!(rt; nodes.len(), 2);
-    assert_eq!(rt; int_of(nodes.as_slice().last()), Some(4));
-
-    let mut members = Members::new(alloc);
-    assert!(rt; members.is_empty());
-    members.insert(String::from_str(alloc, "n")?, Node::List(nodes))?;
-    members.insert(String::from_str(alloc, "m")?, Node::Null)?;
-    members.insert(String::from_str(alloc, "n")?, Node::Bool(true))?;
-    let map: BTreeMap<String, Node> = members.copy(alloc)?.into_map();
-    let members = Members::from(map);
-    assert_eq!(rt; members.len(), 2);
-    let object = Node::Object(members).copy(alloc)?;
-    assert_eq!(rt; kind(object.get("m")), "null");
-    assert_eq!(rt; kind(object.get("n")), "bool");
-    assert_eq!(rt; kind(Node::Opaque.get("n")), "none");
+    assert!(rt; text_is_made(alloc)?);
+    assert!(rt; text_is_given_back(alloc)?);
+    assert!(rt; list_is_made(alloc)?);
+    assert!(rt; members_are_made(alloc)?);
+    assert!(rt; object_is_made(alloc)?);
     Ok(())
 }

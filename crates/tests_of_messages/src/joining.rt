@@ -1,10 +1,33 @@
-//! Examples from outside: checksums of zlib, frames of BLIP, and each fault once.
+//! Frames of what waits to be sent, and what frames that come give.
 
-use blip_frame::{Crc, Frame, Kind, Payload, PayloadFault, Props};
-use blip_mux::{BadAck, Inbox, Next, Outbox, TakeFault, Taken};
+use crate::table::{bytes_of, hex_of, parts_of};
+use blip_frame::{Crc, Frame, Kind, Payload, Props};
+use blip_mux::{Inbox, Message, Next, Outbox, Taken};
+use sg_history::read_decimal;
 use sg_outside::Bytes;
 use std::alloc::{AllocError, Global};
 use std::test::Fail;
+
+/// What is sent: of one request of so many bytes each frame's first three and last four bytes; how many frames of it go, whether
+/// the acknowledgement of 131,072 bytes may be true, and how many go then; the numbers of frames of three messages; and the
+/// acknowledgements that can't be true once all frames of request 1 and the reply 5 that may go are sent.
+const SENT: &str = "\
+cut 16385|014000..ab54d286 010000..d6729d4a \n\
+paused 16384|1 true 0\n\
+paused 16385|2 true 0\n\
+paused 131072|8 true 0\n\
+paused 131073|8 true 1\n\
+numbers |3 9 9 1 1 \n\
+first |0334808004\n\
+requests |1\n\
+acked AckMsg 0 0,AckMsg 2 0,AckMsg 1 131073,AckMsg 1 131072,AckMsg 1 0,AckRpy 0 0,AckRpy 6 0,AckRpy 5 1000000,AckRpy 4 7|\
+Some(BadAck { number: 0, bytes: 0, sent: 0 }) \
+Some(BadAck { number: 2, bytes: 0, sent: 0 }) \
+Some(BadAck { number: 1, bytes: 131073, sent: 131072 }) \
+None None \
+Some(BadAck { number: 0, bytes: 0, sent: 0 }) \
+Some(BadAck { number: 6, bytes: 0, sent: 0 }) \
+None None ";
 
 /// A payload of no properties and a body of so many zeros, which is one byte longer than the body.
 fn zeros(alloc: Global, body: usize) -> Result<Payload, AllocError> {
@@ -35,290 +58,312 @@ fn frames(alloc: Global, outbox: &mut Outbox) -> Result<Vec<Bytes>, AllocError> 
     Ok(frames)
 }
 
-/// The first byte of each, which is the number.
-fn numbers(alloc: Global, outbox: &mut Outbox) -> Result<Vec<u8>, AllocError> {
-    let mut numbers = Vec::new(alloc);
-    for frame in &frames(alloc, outbox)? {
-        numbers.push(frame.as_slice().first().copied().unwrap_or(0))?;
-    }
-    Ok(numbers)
+/// The first three and the last four bytes of a frame.
+fn ends_text(alloc: Global, frame: &[u8]) -> Result<String, AllocError> {
+    let first = hex_of(alloc, &frame[..frame.len().min(3)])?;
+    let last = hex_of(alloc, &frame[frame.len().saturating_sub(4)..])?;
+    format!(in alloc; "{first}..{last} ")
 }
 
-#[test]
-fn cut_at_16384_bytes(rt: HostRuntime) -> Result<(), Fail> {
-    // How each frame begins, and its checksum.
-    let want: [([u8; 3], [u8; 4]); 2] = [
-        ([1, 0x40, 0], [0xab, 0x54, 0xd2, 0x86]),
-        ([1, 0, 0], [0xd6, 0x72, 0x9d, 0x4a]),
-    ];
-    let sent = frames(rt.alloc(), &mut with_request(rt.alloc(), 16_385)?)?;
-    assert_eq!(rt; sent.len(), want.len());
-    for (frame, (begins, ends)) in sent.as_slice().iter().zip(&want) {
-        assert!(rt; frame.as_slice().starts_with(begins));
-        assert!(rt; frame.as_slice().ends_with(ends));
+fn cut_text(alloc: Global, bytes: &str) -> Result<String, Fail> {
+    let mut text = String::new(alloc);
+    for frame in &frames(alloc, &mut with_request(alloc, bytes.parse()?)?)? {
+        text.push_str(ends_text(alloc, frame.as_slice())?.as_str())?;
     }
-    Ok(())
+    Ok(text)
 }
 
-#[test]
-fn paused_above_128000_bytes(rt: HostRuntime) -> Result<(), Fail> {
-    // The bytes of a request, how many frames go, and how many more once they are acknowledged.
-    let table: [(usize, usize, usize); 4] = [
-        (16_384, 1, 0),
-        (16_385, 2, 0),
-        (131_072, 8, 0),
-        (131_073, 8, 1),
-    ];
-    for (bytes, first, then) in table {
-        let mut outbox = with_request(rt.alloc(), bytes)?;
-        assert_eq!(rt; frames(rt.alloc(), &mut outbox)?.len(), first);
-        assert!(rt; outbox.acked(Kind::AckMsg, 1, 131_072).is_ok());
-        let rest = frames(rt.alloc(), &mut outbox)?;
-        assert_eq!(rt; rest.len(), then);
+/// How many frames of an outbox go.
+fn count(alloc: Global, outbox: &mut Outbox) -> Result<usize, AllocError> {
+    let frames = frames(alloc, outbox)?;
+    Ok(frames.len())
+}
+
+fn paused(alloc: Global, outbox: &mut Outbox) -> Result<String, AllocError> {
+    let first = count(alloc, outbox)?;
+    let is_true = outbox.acked(Kind::AckMsg, 1, 131_072).is_ok();
+    let then = count(alloc, outbox)?;
+    format!(in alloc; "{first} {is_true} {then}")
+}
+
+fn paused_text(alloc: Global, bytes: &str) -> Result<String, Fail> {
+    let mut outbox = with_request(alloc, bytes.parse()?)?;
+    Ok(paused(alloc, &mut outbox)?)
+}
+
+/// Puts a reply to request 9.
+fn put_reply(outbox: &mut Outbox, payload: Payload) -> Result<(), AllocError> {
+    if outbox.has_reply(9) {
+        return Ok(());
     }
-    Ok(())
+    outbox.put_reply(9, Kind::Rpy, true, payload)
+}
+
+/// Puts an error that answers request 5.
+fn put_error(outbox: &mut Outbox, payload: Payload) -> Result<(), AllocError> {
+    if outbox.has_reply(5) {
+        return Ok(());
+    }
+    outbox.put_reply(5, Kind::Err, false, payload)
 }
 
 /// Three waiting: request 1 of two frames, the urgent reply 9 of two, and an acknowledgement of request 3.
 fn three(alloc: Global) -> Result<Outbox, AllocError> {
     let mut outbox = with_request(alloc, 16_385)?;
     outbox.put_ack(Kind::AckMsg, 3, 65_536)?;
-    if !outbox.has_reply(9) {
-        outbox.put_reply(9, Kind::Rpy, true, zeros(alloc, 16_384)?)?;
-    }
+    put_reply(&mut outbox, zeros(alloc, 16_384)?)?;
     Ok(outbox)
 }
 
-#[test]
-fn acknowledgements_and_urgent_messages_first(rt: HostRuntime) -> Result<(), Fail> {
-    let sent = numbers(rt.alloc(), &mut three(rt.alloc())?)?;
-    assert_eq!(rt; sent.as_slice(), [3, 9, 9, 1, 1].as_slice());
-    let sent = frames(rt.alloc(), &mut three(rt.alloc())?)?;
-    let first = sent.as_slice().first().map(|frame| frame.as_slice());
-    assert_eq!(rt; first, Some(b"\x03\x34\x80\x80\x04".as_slice()));
-    Ok(())
+/// The first byte of a frame, which is the number.
+fn number_text(alloc: Global, frame: &[u8]) -> Result<String, AllocError> {
+    let number = frame.first().copied().unwrap_or(0);
+    format!(in alloc; "{number} ")
 }
 
-#[test]
-fn acknowledgements_that_can_not_be_true(rt: HostRuntime) -> Result<(), Fail> {
-    let mut outbox = with_request(rt.alloc(), 131_073)?;
-    assert_eq!(rt; outbox.requests(), 1);
-    if !outbox.has_reply(5) {
-        outbox.put_reply(5, Kind::Err, false, zeros(rt.alloc(), 0)?)?;
+fn numbers_text(alloc: Global) -> Result<String, AllocError> {
+    let mut text = String::new(alloc);
+    for frame in &frames(alloc, &mut three(alloc)?)? {
+        text.push_str(number_text(alloc, frame.as_slice())?.as_str())?;
     }
-    let _sent = frames(rt.alloc(), &mut outbox)?;
-    // Of the last column's bytes that were sent, where the acknowledgement is refused.
-    let table: [(Kind, u64, u64, Option<u64>); 9] = [
-        (Kind::AckMsg, 0, 0, Some(0)),
-        (Kind::AckMsg, 2, 0, Some(0)),
-        (Kind::AckMsg, 1, 131_073, Some(131_072)),
-        (Kind::AckMsg, 1, 131_072, None),
-        (Kind::AckMsg, 1, 0, None),
-        (Kind::AckRpy, 0, 0, Some(0)),
-        (Kind::AckRpy, 6, 0, Some(0)),
-        (Kind::AckRpy, 5, 1_000_000, None),
-        (Kind::AckRpy, 4, 7, None),
-    ];
-    for (kind, number, bytes, refused) in table {
-        let want = refused.map(|sent| BadAck {
-            number,
-            bytes,
-            sent,
-        });
-        assert_eq!(rt; heard(&mut outbox, kind, number, bytes), want);
-    }
-    Ok(())
+    Ok(text)
 }
 
-fn heard(outbox: &mut Outbox, kind: Kind, number: u64, bytes: u64) -> Option<BadAck> {
+fn first_text(alloc: Global) -> Result<String, AllocError> {
+    let sent = frames(alloc, &mut three(alloc)?)?;
+    match sent.as_slice().first() {
+        Some(frame) => hex_of(alloc, frame.as_slice()),
+        None => String::from_str(alloc, "none"),
+    }
+}
+
+/// Request 1 and the reply 5, of which all frames that may go are sent.
+fn sent(alloc: Global) -> Result<Outbox, AllocError> {
+    let mut outbox = with_request(alloc, 131_073)?;
+    put_error(&mut outbox, zeros(alloc, 0)?)?;
+    let _sent = count(alloc, &mut outbox)?;
+    Ok(outbox)
+}
+
+fn kind_of(word: &str) -> Kind {
+    match word {
+        "Msg" => Kind::Msg,
+        "Rpy" => Kind::Rpy,
+        "Err" => Kind::Err,
+        "AckMsg" => Kind::AckMsg,
+        _ => Kind::AckRpy,
+    }
+}
+
+/// Three words with blanks between, of which the last two may be numbers.
+fn three_words(text: &str) -> Option<(&str, &str, &str)> {
+    let (first, rest) = text.split_once(' ')?;
+    let (second, third) = rest.split_once(' ')?;
+    Some((first, second, third))
+}
+
+fn heard_text(
+    alloc: Global,
+    outbox: &mut Outbox,
+    kind: Kind,
+    number: u64,
+    bytes: u64,
+) -> Result<String, AllocError> {
     if kind.has_checksum() {
-        return None;
+        return String::from_str(alloc, "no acknowledgement");
     }
-    outbox.acked(kind, number, bytes).err()
+    let refused = outbox.acked(kind, number, bytes).err();
+    format!(in alloc; "{refused:?}")
 }
 
-/// What a frame gave, of a message its kind, number, marks and the first byte of the body.
-#[derive(Clone, Copy, Debug, PartialEq, Eq)]
-enum Gave {
-    Nothing,
-    Ack(Kind, u64, u64),
-    Owed(Kind, u64, u64),
-    Whole(Kind, u64, bool, bool, Option<u8>),
-    Refused(TakeFault),
+/// What an outbox answers to an acknowledgement: kind, number and bytes.
+fn heard(alloc: Global, outbox: &mut Outbox, words: &str) -> Result<String, Fail> {
+    let (kind, number, bytes) = three_words(words).ok_or("no acknowledgement")?;
+    let (number, bytes) = (number.parse()?, bytes.parse()?);
+    Ok(heard_text(alloc, outbox, kind_of(kind), number, bytes)?)
 }
 
-fn answer(inbox: &mut Inbox, frame: &Frame<'_>) -> Gave {
+/// What an outbox answers to acknowledgements that come one after another.
+fn all_heard(alloc: Global, list: &str) -> Result<String, Fail> {
+    let mut outbox = sent(alloc)?;
+    let mut text = String::new(alloc);
+    for words in list.split(',') {
+        let heard = heard(alloc, &mut outbox, words)?;
+        text.push_str(format!(in alloc; "{heard} ")?.as_str())?;
+    }
+    Ok(text)
+}
+
+fn requests_text(alloc: Global) -> Result<String, AllocError> {
+    format!(in alloc; "{}", sent(alloc)?.requests())
+}
+
+fn sent_text(alloc: Global, call: &str, input: &str) -> Result<String, Fail> {
+    match call {
+        "cut" => cut_text(alloc, input),
+        "paused" => paused_text(alloc, input),
+        "numbers" => Ok(numbers_text(alloc)?),
+        "first" => Ok(first_text(alloc)?),
+        "requests" => Ok(requests_text(alloc)?),
+        _ => all_heard(alloc, input),
+    }
+}
+
+fn is_sent_so(alloc: Global, line: &str) -> Result<bool, Fail> {
+    let (call, input, want) = parts_of(line).ok_or("no line of the table")?;
+    Ok(sent_text(alloc, call, input)?.as_str() == want)
+}
+
+#[test]
+fn what_is_sent(rt: HostRuntime) -> Result<(), Fail> {
+    for line in SENT.split('\n') {
+        assert!(rt; is_sent_so(rt.alloc(), line)?, "{line}");
+    }
+    Ok(())
+}
+
+/// Inboxes, each with the frames that come, one a line, and what each gives: number, kind, marks (`u` urgent, `n` no reply, `m` more
+/// to come, `-` none) and payload in hexadecimal. Before these the replies that are expected.
+const COME: &str = "\
+expect 5 7\n\
+1 Msg n 00|whole Msg 1 false true \n\
+2 Msg nm 00|nothing\n\
+5 Err nm 00|nothing\n\
+0 Msg n 00|OutOfOrder { number: 0 }\n\
+1 Msg n 00|OutOfOrder { number: 1 }\n\
+1 Msg nm 00|OutOfOrder { number: 1 }\n\
+4 Msg n 00|OutOfOrder { number: 4 }\n\
+4 Msg nm 00|OutOfOrder { number: 4 }\n\
+5 Msg n 00|OutOfOrder { number: 5 }\n\
+7 Msg n 00|OutOfOrder { number: 7 }\n\
+5 Rpy n 00|OutOfOrder { number: 5 }\n\
+5 Rpy nm 00|OutOfOrder { number: 5 }\n\
+2 Rpy n 00|OutOfOrder { number: 2 }\n\
+8 Err nm 00|OutOfOrder { number: 8 }\n\
+0 Rpy n 00|OutOfOrder { number: 0 }\n\
+6 Err n 00|OutOfOrder { number: 6 }\n\
+5 Err u 63|whole Err 5 false true 63\n\
+5 Err u 00|OutOfOrder { number: 5 }\n\n\
+expect \n\
+3 AckRpy um 8001|ack AckRpy 3 128\n\
+3 AckRpy um 8500|ack AckRpy 3 5\n\
+3 AckRpy um |BadAckPayload\n\
+3 AckRpy um 80|BadAckPayload\n\
+3 AckRpy um 0500|BadAckPayload\n\
+3 AckRpy um ffffffffffffffffffff01|BadAckPayload\n\n\
+expect 1\n\
+1 Msg um zeros|nothing\n\
+1 Rpy um zeros|nothing\n\
+1 Msg um zeros|nothing\n\
+1 Msg um zeros|nothing\n\
+1 Msg um zeros|owed AckMsg 1 65536\n\
+1 Rpy um zeros|nothing\n\
+1 Msg um zeros|nothing\n\
+1 Rpy um zeros|nothing\n\
+1 Rpy um zeros|owed AckRpy 1 65536\n\n\
+expect 1\n\
+1 Msg um |nothing\n\
+2 Msg nm 086b007661|nothing\n\
+1 Rpy um 006162|nothing\n\
+1 Msg nm 00|nothing\n\
+2 Msg um 6c756500|nothing\n\
+3 Msg u 05|Payload(Short)\n\
+2 Msg u 626f6479|whole Msg 2 false true 62\n\
+1 Rpy n |whole Rpy 1 true false 61\n\
+1 Msg u |whole Msg 1 true false ";
+
+/// Of a message its kind, number and marks, and the first byte of the body.
+fn message_text(alloc: Global, message: &Message) -> Result<String, AllocError> {
+    let body = message.payload.body.as_slice();
+    let first = hex_of(alloc, &body[..body.len().min(1)])?;
+    format!(in alloc;
+        "whole {:?} {} {} {} {first}",
+        message.kind, message.number, message.urgent, message.no_reply
+    )
+}
+
+/// What a frame gives.
+fn taken_text(alloc: Global, inbox: &mut Inbox, frame: &Frame<'_>) -> Result<String, AllocError> {
     match inbox.take(frame) {
-        Ok(Taken::Nothing) => Gave::Nothing,
+        Ok(Taken::Nothing) => String::from_str(alloc, "nothing"),
         Ok(
             Taken::Ack {
                 kind,
                 number,
                 bytes,
             },
-        ) => Gave::Ack(kind, number, bytes),
+        ) => format!(in alloc; "ack {kind:?} {number} {bytes}"),
         Ok(
             Taken::Owed {
                 kind,
                 number,
                 bytes,
             },
-        ) => Gave::Owed(kind, number, bytes),
-        Ok(Taken::Whole(message)) => Gave::Whole(
-            message.kind,
-            message.number,
-            message.urgent,
-            message.no_reply,
-            message.payload.body.as_slice().first().copied(),
-        ),
-        Err(fault) => Gave::Refused(fault),
+        ) => format!(in alloc; "owed {kind:?} {number} {bytes}"),
+        Ok(Taken::Whole(message)) => message_text(alloc, &message),
+        Err(fault) => format!(in alloc; "{fault:?}"),
     }
 }
 
-/// A frame of request 1 to 4 or so: urgent where it is said to be, and with no reply else.
-fn take(
-    inbox: &mut Inbox,
-    number: u64,
-    kind: Kind,
-    urgent: bool,
-    more: bool,
-    payload: &[u8],
-) -> Gave {
-    let frame = Frame {
+/// The payload of a frame: 16,384 zeros, or bytes in hexadecimal.
+fn payload_of(alloc: Global, payload: &str) -> Result<Bytes, Fail> {
+    if payload == "zeros" {
+        return Ok(Bytes::from_vec(vec![in alloc; 0; 16_384]?));
+    }
+    bytes_of(alloc, payload)
+}
+
+fn frame_of<'a>(number: u64, kind: &str, marks: &str, payload: &'a [u8]) -> Frame<'a> {
+    Frame {
         number,
-        kind,
-        urgent,
-        no_reply: !urgent,
-        more,
+        kind: kind_of(kind),
+        urgent: marks.contains('u'),
+        no_reply: marks.contains('n'),
+        more: marks.contains('m'),
         payload,
-    };
-    answer(inbox, &frame)
-}
-
-#[test]
-fn frames_that_do_not_fit(rt: HostRuntime) -> Result<(), Fail> {
-    let alloc = rt.alloc();
-    let mut inbox = Inbox::new(alloc);
-    inbox.expect(5)?;
-    inbox.expect(7)?;
-    let out_of_order: [(u64, Kind, bool); 16] = [
-        // Request 1 comes whole, request 2 and the error reply 5 begin.
-        (1, Kind::Msg, false),
-        (2, Kind::Msg, true),
-        (5, Kind::Err, true),
-        // Requests of no number, of one that came whole, and of one after the next.
-        (0, Kind::Msg, false),
-        (1, Kind::Msg, false),
-        (1, Kind::Msg, true),
-        (4, Kind::Msg, false),
-        (4, Kind::Msg, true),
-        // Requests of the numbers of expected replies.
-        (5, Kind::Msg, false),
-        (7, Kind::Msg, false),
-        // A reply of another kind than it began with, and replies that are not expected.
-        (5, Kind::Rpy, false),
-        (5, Kind::Rpy, true),
-        (2, Kind::Rpy, false),
-        (8, Kind::Err, true),
-        (0, Kind::Rpy, false),
-        (6, Kind::Err, false),
-    ];
-    for (i, (number, kind, more)) in out_of_order.iter().enumerate() {
-        let gave = take(&mut inbox, *number, *kind, false, *more, b"\x00");
-        let refused = gave == Gave::Refused(TakeFault::OutOfOrder { number: *number });
-        assert_eq!(rt; refused, i >= 3, "{number} {kind:?} {more}");
     }
-    // What was refused left the inbox as it was; the reply has come whole once.
-    let reply = take(&mut inbox, 5, Kind::Err, true, false, b"c");
-    assert_eq!(rt; reply, Gave::Whole(Kind::Err, 5, false, true, Some(b'c')));
-    let again = take(&mut inbox, 5, Kind::Err, true, false, b"\x00");
-    assert_eq!(rt; again, Gave::Refused(TakeFault::OutOfOrder { number: 5 }));
-    Ok(())
 }
 
-#[test]
-fn payloads_of_acknowledgements(rt: HostRuntime) -> Result<(), Fail> {
-    let bad = Gave::Refused(TakeFault::BadAckPayload);
-    let table: [(&[u8], Gave); 6] = [
-        (b"\x80\x01", Gave::Ack(Kind::AckRpy, 3, 128)),
-        (b"\x85\x00", Gave::Ack(Kind::AckRpy, 3, 5)),
-        (b"", bad),
-        (b"\x80", bad),
-        (b"\x05\x00", bad),
-        (b"\xff\xff\xff\xff\xff\xff\xff\xff\xff\xff\x01", bad),
-    ];
-    let mut inbox = Inbox::new(rt.alloc());
-    for (payload, want) in &table {
-        let gave = take(&mut inbox, 3, Kind::AckRpy, true, true, payload);
-        assert_eq!(rt; gave, *want);
+/// What a frame of this number gives: kind, marks and payload.
+fn come(alloc: Global, inbox: &mut Inbox, number: u64, frame: &str) -> Result<String, Fail> {
+    let (kind, marks, payload) = three_words(frame).ok_or("no frame")?;
+    let payload = payload_of(alloc, payload)?;
+    let frame = frame_of(number, kind, marks, payload.as_slice());
+    Ok(taken_text(alloc, inbox, &frame)?)
+}
+
+/// Expects the replies of these numbers.
+fn expect(inbox: &mut Inbox, numbers: &str) -> Result<(), AllocError> {
+    for word in numbers.split(' ') {
+        if let Some(number) = read_decimal(word) {
+            inbox.expect(number)?;
+        }
     }
     Ok(())
 }
 
-#[test]
-fn acknowledgements_owed(rt: HostRuntime) -> Result<(), Fail> {
-    let mut inbox = Inbox::new(rt.alloc());
-    inbox.expect(1)?;
-    let piece = vec![in rt.alloc(); 0; 16_384]?;
-    let table: [(Kind, Gave); 9] = [
-        (Kind::Msg, Gave::Nothing),
-        (Kind::Rpy, Gave::Nothing),
-        (Kind::Msg, Gave::Nothing),
-        (Kind::Msg, Gave::Nothing),
-        (Kind::Msg, Gave::Owed(Kind::AckMsg, 1, 65_536)),
-        (Kind::Rpy, Gave::Nothing),
-        (Kind::Msg, Gave::Nothing),
-        (Kind::Rpy, Gave::Nothing),
-        (Kind::Rpy, Gave::Owed(Kind::AckRpy, 1, 65_536)),
-    ];
-    for (kind, want) in table {
-        let gave = take(&mut inbox, 1, kind, true, true, piece.as_slice());
-        assert_eq!(rt; gave, want);
+fn comes_so(alloc: Global, inbox: &mut Inbox, line: &str) -> Result<bool, Fail> {
+    let (number, frame, want) = parts_of(line).ok_or("no line of the table")?;
+    let gave = come(alloc, inbox, number.parse()?, frame)?;
+    Ok(gave.as_str() == want)
+}
+
+/// Whether a line is right: of a frame that comes, or of replies that are expected.
+fn is_right(alloc: Global, inbox: &mut Inbox, line: &str) -> Result<bool, Fail> {
+    if let Some(numbers) = line.strip_prefix("expect ") {
+        expect(inbox, numbers)?;
+        return Ok(true);
     }
-    Ok(())
+    comes_so(alloc, inbox, line)
 }
 
 #[test]
-fn joined_whatever_comes_between(rt: HostRuntime) -> Result<(), Fail> {
-    let mut inbox = Inbox::new(rt.alloc());
-    inbox.expect(1)?;
-    let short = Gave::Refused(TakeFault::Payload(PayloadFault::Short));
-    // The marks are those of the first frame. A faulty payload leaves the inbox as it was.
-    let table: [(u64, Kind, bool, bool, &[u8], Gave); 9] = [
-        (1, Kind::Msg, true, true, b"", Gave::Nothing),
-        (2, Kind::Msg, false, true, b"\x08k\0va", Gave::Nothing),
-        (1, Kind::Rpy, true, true, b"\x00ab", Gave::Nothing),
-        (1, Kind::Msg, false, true, b"\x00", Gave::Nothing),
-        (2, Kind::Msg, true, true, b"lue\0", Gave::Nothing),
-        (3, Kind::Msg, true, false, b"\x05", short),
-        (
-            2,
-            Kind::Msg,
-            true,
-            false,
-            b"body",
-            Gave::Whole(Kind::Msg, 2, false, true, Some(b'b')),
-        ),
-        (
-            1,
-            Kind::Rpy,
-            false,
-            false,
-            b"",
-            Gave::Whole(Kind::Rpy, 1, true, false, Some(b'a')),
-        ),
-        (
-            1,
-            Kind::Msg,
-            true,
-            false,
-            b"",
-            Gave::Whole(Kind::Msg, 1, true, false, None),
-        ),
-    ];
-    for (number, kind, urgent, more, payload, want) in &table {
-        let gave = take(&mut inbox, *number, *kind, *urgent, *more, payload);
-        assert_eq!(rt; gave, *want);
+fn what_comes(rt: HostRuntime) -> Result<(), Fail> {
+    for lines in COME.split("\n\n") {
+        let mut inbox = Inbox::new(rt.alloc());
+        for line in lines.split('\n') {
+            assert!(rt; is_right(rt.alloc(), &mut inbox, line)?, "{line}");
+        }
     }
     Ok(())
 }

@@ -10,6 +10,8 @@ mod joining;
 #[cfg(test)]
 mod records;
 #[cfg(test)]
+mod table;
+#[cfg(test)]
 mod texts;
 #[cfg(test)]
 mod trees;

@@ -1,144 +1,173 @@
 //! The texts of the replication protocol: what messages of a device are read as, and what the gateway writes.
 
-use blip_frame::{Kind, Payload, Prop, Props};
+use crate::table::{parts_of, props_of};
+use blip_frame::{Kind, Payload};
 use blip_mux::Message;
 use json_doc::DocText;
 use repl_messages::{
-    ErrorKind, Field, OfferAnswer, Offers, Request, RequestFault, Version, read_request,
-    read_wanted, write_answers, write_changes, write_checkpoint, write_error, write_norev,
-    write_ok, write_rev,
+    ErrorKind, Field, Offer, OfferAnswer, OfferAnswers, Offers, Request, RequestFault, Revision,
+    Version, Wanted, read_request, read_wanted, write_answers, write_changes, write_checkpoint,
+    write_error, write_norev, write_ok, write_rev,
 };
 use rev_tree::Leaf;
-use sg_history::{DocId, Key, Options, RevId, Revs, Row, Rows, write_decimal};
+use sg_history::{
+    Channels, Client, DocId, Key, Options, RevId, Revs, Row, Rows, TextFault, write_decimal,
+};
 use sg_outside::Bytes;
-use std::alloc::Global;
+use std::alloc::{AllocError, Global};
 use std::test::Fail;
 
-/// Properties that are given as `KEY=VALUE`, with `&` between each two.
-fn props_of(alloc: Global, text: &str) -> Result<Props, Fail> {
-    let mut props = Vec::new(alloc);
-    for pair in text.split('&') {
-        if let Some((key, value)) = pair.split_once('=') {
-            props.push(Prop {
-                key: String::from_str(alloc, key)?,
-                value: String::from_str(alloc, value)?,
-            })?;
-        }
-    }
-    Ok(Props::from_vec(props))
-}
-
-fn message_of(alloc: Global, kind: Kind, props: &str, body: &[u8]) -> Result<Message, Fail> {
+fn message_of(alloc: Global, kind: Kind, props: &str, body: &[u8]) -> Result<Message, AllocError> {
+    let props = props_of(alloc, props)?;
+    let body = Bytes::from_slice(alloc, body)?;
     Ok(Message {
         number: 1,
         kind,
         urgent: false,
         no_reply: false,
-        payload: Payload {
-            props: props_of(alloc, props)?,
-            body: Bytes::from_slice(alloc, body)?,
-        },
+        payload: Payload { props, body },
     })
 }
 
-fn write_mark(mark: bool, word: &[u8], text: &mut Bytes) -> Result<(), Fail> {
+fn write_all(parts: &[&[u8]], text: &mut Bytes) -> Result<(), AllocError> {
+    for part in parts {
+        text.extend_from_slice(part)?;
+    }
+    Ok(())
+}
+
+fn write_mark(mark: bool, word: &[u8], text: &mut Bytes) -> Result<(), AllocError> {
     if mark {
         text.extend_from_slice(word)?;
     }
     Ok(())
 }
 
-fn write_options(options: &Options, text: &mut Bytes) -> Result<(), Fail> {
+fn write_options(options: &Options, text: &mut Bytes) -> Result<(), AllocError> {
     write_mark(options.active_only, b" active", text)?;
     write_mark(options.revocations, b" revocations", text)?;
-    if let Some(filter) = &options.filter {
-        for channel in filter.as_slice() {
-            text.push(b' ')?;
-            text.extend_from_slice(channel.as_bytes())?;
-        }
+    match &options.filter {
+        Some(filter) => write_filter(filter, text),
+        None => Ok(()),
+    }
+}
+
+fn write_filter(filter: &Channels, text: &mut Bytes) -> Result<(), AllocError> {
+    for channel in filter.as_slice() {
+        write_all(&[b" ", channel.as_bytes()], text)?;
     }
     Ok(())
 }
 
-fn write_offers(offers: &Offers, text: &mut Bytes) -> Result<(), Fail> {
-    for offer in offers.as_slice() {
-        text.push(b' ')?;
-        text.extend_from_slice(offer.doc.as_bytes())?;
-        text.push(b' ')?;
-        offer.rev.write(text)?;
-        if let Some(parent) = &offer.parent {
+fn write_parent(parent: Option<&RevId>, text: &mut Bytes) -> Result<(), AllocError> {
+    match parent {
+        Some(parent) => {
             text.extend_from_slice(b" on ")?;
-            parent.write(text)?;
+            parent.write(text)
         }
+        None => Ok(()),
+    }
+}
+
+fn write_offer(offer: &Offer, text: &mut Bytes) -> Result<(), AllocError> {
+    write_all(&[b" ", offer.doc.as_bytes(), b" "], text)?;
+    offer.rev.write(text)?;
+    write_parent(offer.parent.as_ref(), text)
+}
+
+fn write_offers(offers: &Offers, text: &mut Bytes) -> Result<(), AllocError> {
+    for offer in offers.as_slice() {
+        write_offer(offer, text)?;
         text.push(b';')?;
     }
     Ok(())
 }
 
-fn write_request(request: &Request, text: &mut Bytes) -> Result<(), Fail> {
+fn write_checkpoint_of(
+    client: &Client,
+    rev: u64,
+    body: &Bytes,
+    text: &mut Bytes,
+) -> Result<(), AllocError> {
+    write_all(&[b"set ", client.as_bytes(), b" "], text)?;
+    write_decimal(rev, text)?;
+    write_all(&[b" ", body.as_slice()], text)
+}
+
+fn write_feed(
+    since: &Key,
+    continuous: bool,
+    batch: u64,
+    text: &mut Bytes,
+) -> Result<(), AllocError> {
+    text.extend_from_slice(b"since ")?;
+    since.write(text)?;
+    write_mark(continuous, b" continuous", text)?;
+    text.push(b' ')?;
+    write_decimal(batch, text)
+}
+
+fn write_rev_id(revision: &Revision, text: &mut Bytes) -> Result<(), AllocError> {
+    write_all(&[b"rev ", revision.doc.as_bytes(), b" "], text)?;
+    revision.rev.write(text)?;
+    text.push(b' ')?;
+    revision.ancestors.write(text)
+}
+
+fn write_revision(revision: &Revision, text: &mut Bytes) -> Result<(), AllocError> {
+    write_rev_id(revision, text)?;
+    write_mark(revision.deleted, b" deleted", text)?;
+    write_mark(revision.noconflicts, b" noconflicts", text)?;
+    write_all(&[b" ", revision.body.as_slice()], text)
+}
+
+fn write_listed(word: &[u8], offers: &Offers, text: &mut Bytes) -> Result<(), AllocError> {
+    text.extend_from_slice(word)?;
+    write_offers(offers, text)
+}
+
+fn write_request(request: &Request, text: &mut Bytes) -> Result<(), AllocError> {
     match request {
-        Request::GetCheckpoint { client } => {
-            text.extend_from_slice(b"get ")?;
-            text.extend_from_slice(client.as_bytes())?;
-        }
-        Request::SetCheckpoint { client, rev, body } => {
-            text.extend_from_slice(b"set ")?;
-            text.extend_from_slice(client.as_bytes())?;
-            text.push(b' ')?;
-            write_decimal(*rev, text)?;
-            text.push(b' ')?;
-            text.extend_from_slice(body.as_slice())?;
-        }
+        Request::GetCheckpoint { client } => write_all(&[b"get ", client.as_bytes()], text),
+        Request::SetCheckpoint { client, rev, body } => write_checkpoint_of(
+            client, *rev, body, text,
+        ),
         Request::SubChanges {
             since,
             continuous,
             batch,
             options,
         } => {
-            text.extend_from_slice(b"since ")?;
-            since.write(text)?;
-            write_mark(*continuous, b" continuous", text)?;
-            text.push(b' ')?;
-            write_decimal(*batch, text)?;
-            write_options(options, text)?;
+            write_feed(since, *continuous, *batch, text)?;
+            write_options(options, text)
         }
-        Request::Changes { offers } => {
-            text.extend_from_slice(b"changes")?;
-            write_offers(offers, text)?;
-        }
-        Request::ProposeChanges { offers } => {
-            text.extend_from_slice(b"proposals")?;
-            write_offers(offers, text)?;
-        }
-        Request::Rev(revision) => {
-            text.extend_from_slice(b"rev ")?;
-            text.extend_from_slice(revision.doc.as_bytes())?;
-            text.push(b' ')?;
-            revision.rev.write(text)?;
-            text.push(b' ')?;
-            revision.ancestors.write(text)?;
-            write_mark(revision.deleted, b" deleted", text)?;
-            write_mark(revision.noconflicts, b" noconflicts", text)?;
-            text.push(b' ')?;
-            text.extend_from_slice(revision.body.as_slice())?;
-        }
+        Request::Changes { offers } => write_listed(b"changes", offers, text),
+        Request::ProposeChanges { offers } => write_listed(b"proposals", offers, text),
+        Request::Rev(revision) => write_revision(revision, text),
     }
-    Ok(())
+}
+
+fn write_fault(fault: RequestFault, text: &mut Bytes) -> Result<(), AllocError> {
+    match fault {
+        RequestFault::Bad400 { field } => write_all(&[b"bad ", field.as_str().as_bytes()], text),
+        RequestFault::LowForm400 => text.extend_from_slice(b"low form"),
+        RequestFault::Unknown404 => text.extend_from_slice(b"unknown"),
+        RequestFault::Memory => text.extend_from_slice(b"memory"),
+    }
 }
 
 /// What a message is read as, in words.
-fn answer_text(alloc: Global, props: &str, body: &[u8], version: Version) -> Result<Bytes, Fail> {
+fn answer_text(
+    alloc: Global,
+    props: &str,
+    body: &[u8],
+    version: Version,
+) -> Result<Bytes, AllocError> {
     let message = message_of(alloc, Kind::Msg, props, body)?;
     let mut text = Bytes::new(alloc);
     match read_request(alloc, &message, version) {
         Ok(request) => write_request(&request, &mut text)?,
-        Err(RequestFault::Bad400 { field }) => {
-            text.extend_from_slice(b"bad ")?;
-            text.extend_from_slice(field.as_str().as_bytes())?;
-        }
-        Err(RequestFault::LowForm400) => text.extend_from_slice(b"low form")?,
-        Err(RequestFault::Unknown404) => text.extend_from_slice(b"unknown")?,
-        Err(RequestFault::Memory) => text.extend_from_slice(b"memory")?,
+        Err(fault) => write_fault(fault, &mut text)?,
     }
     Ok(text)
 }
@@ -252,7 +281,7 @@ Profile=rev&id=d1&rev=1-a&history=2-b,,1-a||bad history\n\
 Profile=rev&id=d1&rev=1-a&history=x||bad history";
 
 /// The bytes of a text in which `~` stands for the byte FF.
-fn bytes_of(alloc: Global, text: &str) -> Result<Bytes, Fail> {
+fn meant(alloc: Global, text: &str) -> Result<Bytes, AllocError> {
     let mut bytes = Bytes::new(alloc);
     for byte in text.as_bytes() {
         bytes.push(if *byte == b'~' { 0xff } else { *byte })?;
@@ -260,18 +289,48 @@ fn bytes_of(alloc: Global, text: &str) -> Result<Bytes, Fail> {
     Ok(bytes)
 }
 
+/// Three parts with `|` between.
+fn three_parts(line: &str) -> Option<(&str, &str, &str)> {
+    let (first, rest) = line.split_once('|')?;
+    let (second, third) = rest.split_once('|')?;
+    Some((first, second, third))
+}
+
 /// Whether a line of the table is right.
 fn is_read_so(alloc: Global, line: &str) -> Result<bool, Fail> {
-    let mut parts = line.split('|');
-    let Some(props) = parts.next() else {
-        return Ok(false);
-    };
-    let Some(body) = parts.next() else {
-        return Ok(false);
-    };
-    let body = bytes_of(alloc, body)?;
+    let (props, body, want) = three_parts(line).ok_or("no line of the table")?;
+    let body = meant(alloc, body)?;
     let text = answer_text(alloc, props, body.as_slice(), Version::Three)?;
-    Ok(parts.next().map(|want| want.as_bytes()) == Some(text.as_slice()))
+    Ok(text.as_slice() == want.as_bytes())
+}
+
+fn in_version_two(alloc: Global) -> Result<bool, AllocError> {
+    let text = answer_text(alloc, "Profile=subChanges&revocations=1", b"", Version::Two)?;
+    Ok(text.as_slice() == b"since 0 200".as_slice())
+}
+
+/// So many rows of the shortest names.
+fn rows_of(alloc: Global, count: usize) -> Result<Bytes, AllocError> {
+    let mut body = Bytes::from_slice(alloc, b"[")?;
+    for i in 0..count {
+        write_mark(i > 0, b",", &mut body)?;
+        body.extend_from_slice(b"[1,\"a\",\"1-a\"]")?;
+    }
+    body.push(b']')?;
+    Ok(body)
+}
+
+/// What a changes message of so many rows is read as begins so.
+fn rows_begin(alloc: Global, count: usize, want: &[u8]) -> Result<bool, AllocError> {
+    let body = rows_of(alloc, count)?;
+    let text = answer_text(alloc, "Profile=changes", body.as_slice(), Version::Three)?;
+    Ok(text.as_slice().starts_with(want))
+}
+
+fn rows_are_too_many(alloc: Global, count: usize) -> Result<bool, AllocError> {
+    let body = rows_of(alloc, count)?;
+    let text = answer_text(alloc, "Profile=changes", body.as_slice(), Version::Three)?;
+    Ok(text.as_slice() == b"bad rows".as_slice())
 }
 
 #[test]
@@ -280,263 +339,244 @@ fn requests(rt: HostRuntime) -> Result<(), Fail> {
     for line in REQUESTS.split('\n') {
         assert!(rt; is_read_so(alloc, line)?, "{line}");
     }
-    let text = answer_text(alloc, "Profile=subChanges&revocations=1", b"", Version::Two)?;
-    assert!(rt; text.as_slice() == b"since 0 200".as_slice());
+    assert!(rt; in_version_two(alloc)?);
+    assert!(rt; rows_begin(alloc, 10_000, b"changes a 1-a;")?);
+    assert!(rt; rows_are_too_many(alloc, 10_001)?);
     Ok(())
 }
 
-/// So many rows of the shortest names.
-fn rows_of(alloc: Global, count: usize) -> Result<Bytes, Fail> {
-    let mut body = Bytes::from_slice(alloc, b"[")?;
-    for i in 0..count {
-        if i > 0 {
-            body.push(b',')?;
-        }
-        body.extend_from_slice(b"[1,\"a\",\"1-a\"]")?;
+/// What the gateway writes, one a line: the call, what it is given, and the properties of the payload with `&` after each, and its
+/// body. Rows are a key, a document, a revision and bits.
+const WRITTEN: &str = r#"error bad rows|Error-Domain=HTTP&Error-Code=400&bad rows
+error low form|Error-Domain=HTTP&Error-Code=400&low form
+error since|Error-Domain=HTTP&Error-Code=400&since is past 7
+error history|Error-Domain=HTTP&Error-Code=400&bad history
+error user|Error-Domain=HTTP&Error-Code=401&user is gone
+error denied|Error-Domain=HTTP&Error-Code=403&access at 3:5
+error checkpoint|Error-Domain=HTTP&Error-Code=404&no checkpoint
+error conflict|Error-Domain=HTTP&Error-Code=409&conflict 3-c
+error other checkpoint|Error-Domain=HTTP&Error-Code=409&checkpoint is 0-1
+error feed|Error-Domain=HTTP&Error-Code=409&feed is running
+error propose|Error-Domain=HTTP&Error-Code=409&use proposeChanges
+error large|Error-Domain=HTTP&Error-Code=413&too large
+error pending|Error-Domain=HTTP&Error-Code=503&pending is full
+error checkpoints|Error-Domain=HTTP&Error-Code=503&checkpoints are full
+error memory|Error-Domain=HTTP&Error-Code=507&no memory
+error log|Error-Domain=HTTP&Error-Code=509&log is full
+error handler|Error-Domain=BLIP&Error-Code=404&no handler
+changes |Profile=changes&[]
+changes 2 d1 1-a 0;5:2 a"b\ü/ 7-x"y 1;7 d 1-a 2;8 d 1-a 4;18446744073709551615:9 d 4294967295-a 5|Profile=changes&[[2,"d1","1-a"],["5:2","a\"b\\ü/","7-x\"y",1],[7,"d","1-a",2],[8,"d","1-a",4],["18446744073709551615:9","d","4294967295-a",5]]
+changes_in_version_two 2 d1 1-a 0;5:2 a"b\ü/ 7-x"y 1;7 d 1-a 2;8 d 1-a 4;18446744073709551615:9 d 4294967295-a 5|Profile=changes&[[2,"d1","1-a"],["5:2","a\"b\\ü/","7-x\"y",true],[7,"d","1-a"],[8,"d","1-a"],["18446744073709551615:9","d","4294967295-a",true]]
+rev 2 d1 3-c 0;2-b,1-a|Profile=rev&id=d1&rev=3-c&sequence=2&history=2-b,1-a&{}
+rev 5:4 d2 2-b 5;1-z|Profile=rev&id=d2&rev=2-b&deleted=1&sequence=5:4&history=1-z&{}
+rev 6 d2 2-b 4;-|Profile=rev&id=d2&rev=2-b&sequence=6&{}
+norev 5:4 d2 2-b 5|Profile=norev&id=d2&rev=2-b&sequence=5:4&error=404&reason=not available&
+ok |
+checkpoint {"a":1}|rev=0-1&{"a":1}
+proposed kn;;1-a d;1-a pw;1-a;1-a dp|[304,0,0,0,409,409]
+offered kn;;1-a d;1-a pw;1-a;1-a dp|[0,["2-b","1-a"],["2-b","1-a"],["2-b","1-a"],["2-b","1-a"],["2-b","1-a"]]"#;
+
+/// An error that says more than what it is.
+fn error_of(alloc: Global, name: &str) -> Result<ErrorKind, Fail> {
+    match name {
+        "denied" => Ok(ErrorKind::Denied403 {
+            rule: DocText::from_str(alloc, "access at 3:5")?,
+        }),
+        "conflict" => Ok(ErrorKind::Conflict409 {
+            leaf: RevId::parse(alloc, "3-c")?,
+        }),
+        _ => Ok(plain_error(name)),
     }
-    body.push(b']')?;
-    Ok(body)
 }
 
-#[test]
-fn at_most_ten_thousand_rows(rt: HostRuntime) -> Result<(), Fail> {
-    let alloc = rt.alloc();
-    let most = rows_of(alloc, 10_000)?;
-    let text = answer_text(alloc, "Profile=changes", most.as_slice(), Version::Three)?;
-    assert!(rt; text.as_slice().starts_with(b"changes a 1-a;"));
-    let more = rows_of(alloc, 10_001)?;
-    let text = answer_text(alloc, "Profile=changes", more.as_slice(), Version::Three)?;
-    assert!(rt; text.as_slice() == b"bad rows".as_slice());
-    Ok(())
+fn plain_error(name: &str) -> ErrorKind {
+    match name {
+        "bad rows" => ErrorKind::Bad400 { field: Field::Rows },
+        "low form" => ErrorKind::LowForm400,
+        "since" => ErrorKind::SincePast400 { front: 7 },
+        "history" => ErrorKind::BadHistory400,
+        "user" => ErrorKind::UserGone401,
+        "checkpoint" => ErrorKind::NoCheckpoint404,
+        "other checkpoint" => ErrorKind::Checkpoint409 { current: 1 },
+        "feed" => ErrorKind::FeedRuns409,
+        "propose" => ErrorKind::UsePropose409,
+        "large" => ErrorKind::TooLarge413,
+        "pending" => ErrorKind::PendingFull503,
+        "checkpoints" => ErrorKind::CheckpointsFull503,
+        "memory" => ErrorKind::Memory507,
+        "log" => ErrorKind::LogFull509,
+        _ => ErrorKind::NoHandler404,
+    }
+}
+
+/// A row as its key, document, revision and bits, with a blank between each two.
+fn row_of(alloc: Global, line: &str) -> Result<Row, Fail> {
+    let mut parts = line.split(' ');
+    let key = Key::parse(parts.next().unwrap_or(""))?;
+    let doc = DocId::parse(alloc, parts.next().unwrap_or(""))?;
+    let rev = RevId::parse(alloc, parts.next().unwrap_or(""))?;
+    let bits = parts.next().unwrap_or("").parse()?;
+    Ok(Row {
+        key,
+        doc,
+        rev,
+        bits,
+    })
+}
+
+/// Rows with `;` between each two.
+fn rows_from(alloc: Global, text: &str) -> Result<Rows, Fail> {
+    let mut rows = Rows::new(alloc);
+    for line in text.split(';') {
+        if !line.is_empty() {
+            rows.push(row_of(alloc, line)?)?;
+        }
+    }
+    Ok(rows)
+}
+
+fn changes_of(alloc: Global, rows: &str, version: Version) -> Result<Payload, Fail> {
+    let rows = rows_from(alloc, rows)?;
+    Ok(write_changes(alloc, rows.as_slice(), version)?)
+}
+
+/// The message that carries a row's revision, by the row and its ancestors.
+fn rev_of(alloc: Global, input: &str) -> Result<Payload, Fail> {
+    let (row, ancestors) = input.split_once(';').ok_or("no revision")?;
+    let row = row_of(alloc, row)?;
+    let ancestors = Revs::parse(alloc, ancestors)?;
+    Ok(write_rev(alloc, &row, ancestors.as_slice(), b"{}")?)
+}
+
+fn winner_of(alloc: Global, rev: &str, deleted: bool) -> Result<Option<Leaf>, TextFault> {
+    if rev.is_empty() {
+        return Ok(None);
+    }
+    let rev = RevId::parse(alloc, rev)?;
+    Ok(Some(Leaf { rev, deleted }))
+}
+
+/// The answer to an offer: `kn` where it is known, or the document's winner and marks: `d` deleted, `p` the offer has a parent, `w`
+/// that is the winner.
+fn answer_of(alloc: Global, offer: &str) -> Result<OfferAnswer, TextFault> {
+    let known = offer == "kn";
+    let (winner, marks) = offer.split_once(' ').unwrap_or((offer, ""));
+    let winner = winner_of(
+        alloc,
+        if known { "1-a" } else { winner },
+        marks.contains('d'),
+    )?;
+    Ok(OfferAnswer {
+        known,
+        winner,
+        parent: marks.contains('p'),
+        parent_wins: marks.contains('w'),
+        ancestors: Revs::parse(alloc, if known { "-" } else { "2-b,1-a" })?,
+    })
+}
+
+fn answers_of(alloc: Global, offers: &str, proposed: bool) -> Result<Payload, Fail> {
+    let mut answers = OfferAnswers::new(alloc);
+    for offer in offers.split(';') {
+        answers.push(answer_of(alloc, offer)?)?;
+    }
+    Ok(write_answers(alloc, answers.as_slice(), proposed)?)
+}
+
+/// What a call writes.
+fn payload_of(alloc: Global, call: &str, input: &str) -> Result<Payload, Fail> {
+    match call {
+        "error" => Ok(write_error(alloc, &error_of(alloc, input)?)?),
+        "changes" => changes_of(alloc, input, Version::Three),
+        "changes_in_version_two" => changes_of(alloc, input, Version::Two),
+        "rev" => rev_of(alloc, input),
+        "norev" => Ok(write_norev(alloc, &row_of(alloc, input)?)?),
+        "ok" => Ok(write_ok(alloc)),
+        "checkpoint" => Ok(write_checkpoint(alloc, 1, input.as_bytes())?),
+        _ => answers_of(alloc, input, call == "proposed"),
+    }
 }
 
 /// The properties of a payload as `KEY=VALUE`, with `&` after each, and its body.
-fn payload_text(alloc: Global, payload: &Payload) -> Result<Bytes, Fail> {
+fn payload_text(alloc: Global, payload: &Payload) -> Result<Bytes, AllocError> {
     let mut text = Bytes::new(alloc);
     for prop in payload.props.as_slice() {
-        text.extend_from_slice(prop.key.as_bytes())?;
-        text.push(b'=')?;
-        text.extend_from_slice(prop.value.as_bytes())?;
-        text.push(b'&')?;
+        write_all(
+            &[prop.key.as_bytes(), b"=", prop.value.as_bytes(), b"&"],
+            &mut text,
+        )?;
     }
     text.extend_from_slice(payload.body.as_slice())?;
     Ok(text)
 }
 
-fn error_text(alloc: Global, error: &ErrorKind) -> Result<Bytes, Fail> {
-    payload_text(alloc, &write_error(alloc, error)?)
+fn is_written_so(alloc: Global, line: &str) -> Result<bool, Fail> {
+    let (call, input, want) = parts_of(line).ok_or("no line of the table")?;
+    let text = payload_text(alloc, &payload_of(alloc, call, input)?)?;
+    Ok(text.as_slice() == want.as_bytes())
 }
 
 #[test]
-fn errors(rt: HostRuntime) -> Result<(), Fail> {
-    let alloc = rt.alloc();
-    let rule = DocText::from_str(alloc, "access at 3:5")?;
-    let leaf = RevId::parse(alloc, "3-c")?;
-    let table = vec![in alloc;
-        (ErrorKind::Bad400 { field: Field::Rows }, "400&bad rows"),
-        (ErrorKind::LowForm400, "400&low form"),
-        (ErrorKind::SincePast400 { front: 7 }, "400&since is past 7"),
-        (ErrorKind::BadHistory400, "400&bad history"),
-        (ErrorKind::UserGone401, "401&user is gone"),
-        (ErrorKind::Denied403 { rule }, "403&access at 3:5"),
-        (ErrorKind::NoCheckpoint404, "404&no checkpoint"),
-        (ErrorKind::Conflict409 { leaf }, "409&conflict 3-c"),
-        (
-            ErrorKind::Checkpoint409 { current: 1 },
-            "409&checkpoint is 0-1"
-        ),
-        (ErrorKind::FeedRuns409, "409&feed is running"),
-        (ErrorKind::UsePropose409, "409&use proposeChanges"),
-        (ErrorKind::TooLarge413, "413&too large"),
-        (ErrorKind::PendingFull503, "503&pending is full"),
-        (ErrorKind::CheckpointsFull503, "503&checkpoints are full"),
-        (ErrorKind::Memory507, "507&no memory"),
-        (ErrorKind::LogFull509, "509&log is full"),
-    ]?;
-    for (error, want) in table.iter() {
-        let text = error_text(alloc, error)?;
-        let Some(rest) = text
-            .as_slice()
-            .strip_prefix(b"Error-Domain=HTTP&Error-Code=")
-        else {
-            return Err(Fail::from("another domain"));
-        };
-        assert!(rt; rest == want.as_bytes(), "{want}");
-    }
-    let text = error_text(alloc, &ErrorKind::NoHandler404)?;
-    assert!(rt; text.as_slice() == b"Error-Domain=BLIP&Error-Code=404&no handler".as_slice());
-    Ok(())
-}
-
-/// A row as its key, document, revision and bits, with a space between each two.
-fn row_of(alloc: Global, line: &str) -> Result<Row, Fail> {
-    let mut parts = line.split(' ');
-    Ok(Row {
-        key: Key::parse(parts.next().unwrap_or(""))?,
-        doc: DocId::parse(alloc, parts.next().unwrap_or(""))?,
-        rev: RevId::parse(alloc, parts.next().unwrap_or(""))?,
-        bits: parts.next().unwrap_or("").parse()?,
-    })
-}
-
-const ROWS: &str = "\
-2 d1 1-a 0\n\
-5:2 a\"b\\ü/ 7-x\"y 1\n\
-7 d 1-a 2\n\
-8 d 1-a 4\n\
-18446744073709551615:9 d 4294967295-a 5";
-
-const CHANGES: &str =
-    r#"Profile=changes&[[2,"d1","1-a"],["5:2","a\"b\\ü/","7-x\"y",1],[7,"d","1-a",2],[8,"d","1-a",4],["18446744073709551615:9","d","4294967295-a",5]]"#;
-
-const CHANGES_IN_VERSION_TWO: &str =
-    r#"Profile=changes&[[2,"d1","1-a"],["5:2","a\"b\\ü/","7-x\"y",true],[7,"d","1-a"],[8,"d","1-a"],["18446744073709551615:9","d","4294967295-a",true]]"#;
-
-fn changes_text(alloc: Global, rows: &[Row], version: Version) -> Result<Bytes, Fail> {
-    payload_text(alloc, &write_changes(alloc, rows, version)?)
-}
-
-#[test]
-fn changes(rt: HostRuntime) -> Result<(), Fail> {
-    let alloc = rt.alloc();
-    let mut rows = Rows::new(alloc);
-    let none = changes_text(alloc, rows.as_slice(), Version::Three)?;
-    assert!(rt; none.as_slice() == "Profile=changes&[]".as_bytes());
-    for line in ROWS.split('\n') {
-        rows.push(row_of(alloc, line)?)?;
-    }
-    let text = changes_text(alloc, rows.as_slice(), Version::Three)?;
-    assert!(rt; text.as_slice() == CHANGES.as_bytes());
-    let text = changes_text(alloc, rows.as_slice(), Version::Two)?;
-    assert!(rt; text.as_slice() == CHANGES_IN_VERSION_TWO.as_bytes());
-    Ok(())
-}
-
-/// Rows with their ancestors, one a line, each with the message that carries the revision.
-const REVISIONS: &str = "\
-2 d1 3-c 0|2-b,1-a|Profile=rev&id=d1&rev=3-c&sequence=2&history=2-b,1-a&{}\n\
-5:4 d2 2-b 5|1-z|Profile=rev&id=d2&rev=2-b&deleted=1&sequence=5:4&history=1-z&{}\n\
-6 d2 2-b 4|-|Profile=rev&id=d2&rev=2-b&sequence=6&{}";
-
-/// The message that carries a row's revision, by the row and its ancestors.
-fn revision_text(alloc: Global, row: &str, ancestors: &str) -> Result<Bytes, Fail> {
-    let row = row_of(alloc, row)?;
-    let ancestors = Revs::parse(alloc, ancestors)?;
-    payload_text(alloc, &write_rev(alloc, &row, ancestors.as_slice(), b"{}")?)
-}
-
-#[test]
-fn revisions(rt: HostRuntime) -> Result<(), Fail> {
-    let alloc = rt.alloc();
-    for line in REVISIONS.split('\n') {
-        let (row, rest) = line.split_once('|').ok_or("no line of the table")?;
-        let (ancestors, want) = rest.split_once('|').ok_or("no line of the table")?;
-        let text = revision_text(alloc, row, ancestors)?;
-        assert!(rt; text.as_slice() == want.as_bytes(), "{line}");
-    }
-    let text = payload_text(alloc, &write_norev(alloc, &row_of(alloc, "5:4 d2 2-b 5")?)?)?;
-    let want = "Profile=norev&id=d2&rev=2-b&sequence=5:4&error=404&reason=not available&";
-    assert!(rt; text.as_slice() == want.as_bytes());
-    Ok(())
-}
-
-#[test]
-fn plain_replies(rt: HostRuntime) -> Result<(), Fail> {
-    let alloc = rt.alloc();
-    assert!(rt; payload_text(alloc, &write_ok(alloc))?.is_empty());
-    let text = payload_text(alloc, &write_checkpoint(alloc, 1, b"{\"a\":1}")?)?;
-    assert!(rt; text.as_slice() == b"rev=0-1&{\"a\":1}".as_slice());
-    Ok(())
-}
-
-/// The answer to an offer: whether it is known, the document's winner, and whether it has a parent that is the winner.
-fn answer_of(
-    alloc: Global,
-    known: bool,
-    winner: &str,
-    deleted: bool,
-    parent: bool,
-    wins: bool,
-) -> Result<OfferAnswer, Fail> {
-    let winner = if winner.is_empty() {
-        None
-    } else {
-        Some(Leaf {
-            rev: RevId::parse(alloc, winner)?,
-            deleted,
-        })
-    };
-    Ok(OfferAnswer {
-        known,
-        winner,
-        parent,
-        parent_wins: wins,
-        ancestors: Revs::parse(alloc, if known { "-" } else { "2-b,1-a" })?,
-    })
-}
-
-#[test]
-fn answers(rt: HostRuntime) -> Result<(), Fail> {
-    let alloc = rt.alloc();
-    let answers = vec![in alloc;
-        answer_of(alloc, true, "1-a", false, false, false)?,
-        answer_of(alloc, false, "", false, false, false)?,
-        answer_of(alloc, false, "1-a", true, false, false)?,
-        answer_of(alloc, false, "1-a", false, true, true)?,
-        answer_of(alloc, false, "1-a", false, false, false)?,
-        answer_of(alloc, false, "1-a", true, true, false)?,
-    ]?;
-    for (proposed, want) in [
-        (true, "[304,0,0,0,409,409]"),
-        (
-            false,
-            r#"[0,["2-b","1-a"],["2-b","1-a"],["2-b","1-a"],["2-b","1-a"],["2-b","1-a"]]"#,
-        ),
-    ] {
-        let payload = write_answers(alloc, answers.as_slice(), proposed)?;
-        assert!(rt;
-            payload_text(alloc, &payload)?.as_slice() == want.as_bytes(),
-            "{want}"
-        );
+fn what_is_written(rt: HostRuntime) -> Result<(), Fail> {
+    for line in WRITTEN.split('\n') {
+        assert!(rt; is_written_so(rt.alloc(), line)?, "{line}");
     }
     Ok(())
+}
+
+/// Replies to changes: their kind, how many rows were offered, properties, and body with `~` for the byte FF, with `|` between each
+/// two; and which rows are wanted, and how many ancestors at most.
+const WANTED: &str = r#"Rpy 2|[[],0]|true false 100
+Rpy 2|[0,[]]|false true 100
+Rpy 2| [ [1,[2]] , [] ] |true true 100
+Rpy 2|[]|false false 100
+Rpy 2|[[]]|true false 100
+Rpy 3|[{},"[]",[]]|false false true 100
+Rpy 2|[[],[],[]]|true true 100
+Rpy 0|[[],[]]|100
+Rpy 2|{}|false false 100
+Rpy 1|{"0":[]}|false 100
+Rpy 1|[[1]|false 100
+Rpy 1||false 100
+Rpy 1|[[],"~"]|false 100
+Err 2|[[],[]]|false false 100
+Rpy 0|[]|100
+Rpy 0 maxHistory=0|[]|100
+Rpy 0 maxHistory=1|[]|1
+Rpy 0 maxHistory=1000|[]|1000
+Rpy 0 maxHistory=1001|[]|100
+Rpy 0 maxHistory=07|[]|100"#;
+
+/// A reply by its kind and properties, and how many rows were offered.
+fn reply_of(alloc: Global, head: &str, body: &str) -> Result<(Message, u64), Fail> {
+    let (kind, rest) = head.split_once(' ').ok_or("no reply")?;
+    let (count, props) = rest.split_once(' ').unwrap_or((rest, ""));
+    let kind = if kind == "Err" { Kind::Err } else { Kind::Rpy };
+    let body = meant(alloc, body)?;
+    let message = message_of(alloc, kind, props, body.as_slice())?;
+    Ok((message, count.parse()?))
+}
+
+/// Which rows are wanted, and how many ancestors at most.
+fn wanted_text(alloc: Global, wanted: &Wanted) -> Result<String, AllocError> {
+    let mut text = String::new(alloc);
+    for row in wanted.rows.as_slice() {
+        text.push_str(if *row { "true " } else { "false " })?;
+    }
+    format!(in alloc; "{text}{}", wanted.max_history)
+}
+
+fn is_wanted_so(alloc: Global, line: &str) -> Result<bool, Fail> {
+    let (head, body, want) = three_parts(line).ok_or("no line of the table")?;
+    let (message, rows) = reply_of(alloc, head, body)?;
+    let wanted = read_wanted(alloc, &message, rows)?;
+    Ok(wanted_text(alloc, &wanted)?.as_str() == want)
 }
 
 #[test]
 fn wanted_rows(rt: HostRuntime) -> Result<(), Fail> {
-    let alloc = rt.alloc();
-    let table: [(Kind, &[u8], &[bool]); 14] = [
-        (Kind::Rpy, b"[[],0]", &[true, false]),
-        (Kind::Rpy, b"[0,[]]", &[false, true]),
-        (Kind::Rpy, b" [ [1,[2]] , [] ] ", &[true, true]),
-        (Kind::Rpy, b"[]", &[false, false]),
-        (Kind::Rpy, b"[[]]", &[true, false]),
-        (Kind::Rpy, b"[{},\"[]\",[]]", &[false, false, true]),
-        (Kind::Rpy, b"[[],[],[]]", &[true, true]),
-        (Kind::Rpy, b"[[],[]]", &[]),
-        (Kind::Rpy, b"{}", &[false, false]),
-        (Kind::Rpy, b"{\"0\":[]}", &[false]),
-        (Kind::Rpy, b"[[1]", &[false]),
-        (Kind::Rpy, b"", &[false]),
-        (Kind::Rpy, b"[[],\"\xff\"]", &[false]),
-        (Kind::Err, b"[[],[]]", &[false, false]),
-    ];
-    for (kind, body, want) in table {
-        let message = message_of(alloc, kind, "", body)?;
-        let wanted = read_wanted(alloc, &message, want.len() as u64)?;
-        assert!(rt; wanted.rows.as_slice() == want, "{body:?}");
-    }
-    for (props, want) in [
-        ("", 100),
-        ("maxHistory=0", 100),
-        ("maxHistory=1", 1),
-        ("maxHistory=1000", 1000),
-        ("maxHistory=1001", 100),
-        ("maxHistory=07", 100),
-    ] {
-        let message = message_of(alloc, Kind::Rpy, props, b"[]")?;
-        let wanted = read_wanted(alloc, &message, 0)?;
-        assert_eq!(rt; wanted.max_history, want, "at {props}");
+    for line in WANTED.split('\n') {
+        assert!(rt; is_wanted_so(rt.alloc(), line)?, "{line}");
     }
     Ok(())
 }
