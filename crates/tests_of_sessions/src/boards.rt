@@ -1,12 +1,12 @@
 //! Snapshots, trees and channels of a board, and what it stores.
 
 use crate::journals::log_of;
-use doc_board::{Board, Candidate, Commit, OpenFault};
+use doc_board::{Board, Candidate, Commit, Snapshot};
 use repl_messages::Revision;
 use rev_tree::Extended;
-use sg_history::{DocId, Entry, Name, Number, RevId, Revs};
+use sg_history::{DocId, Entry, Name, Number, RevId, Revs, TextFault};
 use sg_outside::Bytes;
-use std::alloc::Global;
+use std::alloc::{AllocError, Global};
 use std::test::Fail;
 
 /// After a tombstone on one branch the leaf of the other branch wins again.
@@ -17,7 +17,7 @@ fn board_of(alloc: Global) -> Result<Board, Fail> {
     Ok(Board::open(alloc, log_of(alloc, BRANCHES)?)?)
 }
 
-fn revision_of(alloc: Global, rev: &str, ancestors: &str) -> Result<Revision, Fail> {
+fn revision_of(alloc: Global, rev: &str, ancestors: &str) -> Result<Revision, TextFault> {
     Ok(Revision {
         doc: DocId::parse(alloc, "d1")?,
         rev: RevId::parse(alloc, rev)?,
@@ -28,112 +28,137 @@ fn revision_of(alloc: Global, rev: &str, ancestors: &str) -> Result<Revision, Fa
     })
 }
 
-/// What a snapshot says of a revision that ann proposes.
-fn answer_of(alloc: Global, rev: &str, ancestors: &str, strict: bool) -> Result<String, Fail> {
-    let mut board = board_of(alloc)?;
-    let ann = Name::parse(alloc, "ann")?;
-    let revision = revision_of(alloc, rev, ancestors)?;
-    let snapshot = board.snapshot(&revision, strict, Some(&ann))?;
-    let old = match &snapshot.old {
-        None => "none",
-        Some(body) => std::str::from_utf8(body.as_slice()).unwrap_or("no text"),
-    };
-    let step = match &snapshot.step {
-        Extended::NewTree { kept, .. } => format!(in alloc; "kept {kept}")?,
-        Extended::Known => String::from_str(alloc, "known")?,
-        Extended::BadHistory400 => String::from_str(alloc, "bad history")?,
+fn step_text(alloc: Global, step: &Extended) -> Result<String, AllocError> {
+    match step {
+        Extended::NewTree { kept, .. } => format!(in alloc; "kept {kept}"),
+        Extended::Known => String::from_str(alloc, "known"),
+        Extended::BadHistory400 => String::from_str(alloc, "bad history"),
         Extended::Conflict409 { leaf } => {
-            format!(in alloc; "conflict {}-{}", leaf.generation, leaf.digest.as_str())?
+            format!(in alloc; "conflict {}-{}", leaf.generation, leaf.digest.as_str())
         }
-        Extended::Memory => String::from_str(alloc, "memory")?,
-    };
-    Ok(format!(in alloc;
-        "{} {} {step} {old} {}",
-        snapshot.at, snapshot.last, snapshot.old_deleted
-    )?)
+        Extended::Memory => String::from_str(alloc, "memory"),
+    }
 }
 
-#[test]
-fn snapshots(rt: HostRuntime) -> Result<(), Fail> {
-    let alloc = rt.alloc();
-    for (rev, ancestors, strict, want) in [
-        ("2-d", "1-a", true, "4 4 kept 1 {\"a\":1} false"),
-        ("3-d", "2-c,1-b", true, "4 4 conflict 1-a {} true"),
-        ("3-d", "2-c,1-b", false, "4 4 kept 1 {} true"),
-        ("3-d", "2-x,1-b", false, "4 4 kept 2 none false"),
-        ("1-a", "-", true, "4 4 known none false"),
-        ("2-d", "2-c", false, "4 4 bad history {} true"),
-    ] {
-        let text = answer_of(alloc, rev, ancestors, strict)?;
-        assert!(rt; text.as_bytes() == want.as_bytes(), "{rev} {text}");
+fn old_text(snapshot: &Snapshot) -> &str {
+    match &snapshot.old {
+        None => "none",
+        Some(body) => std::str::from_utf8(body.as_slice()).unwrap_or("no text"),
     }
-    Ok(())
+}
+
+fn snapshot_text(alloc: Global, snapshot: &Snapshot) -> Result<String, AllocError> {
+    let step = step_text(alloc, &snapshot.step)?;
+    let old = old_text(snapshot);
+    format!(in alloc;
+        "{} {} {step} {old} {}",
+        snapshot.at, snapshot.last, snapshot.old_deleted
+    )
+}
+
+/// What a snapshot says of a revision that ann proposes.
+fn proposed_text(
+    alloc: Global,
+    board: &mut Board,
+    revision: &Revision,
+    strict: bool,
+) -> Result<String, Fail> {
+    let ann = Name::parse(alloc, "ann")?;
+    let snapshot = board.snapshot(revision, strict, Some(&ann))?;
+    Ok(snapshot_text(alloc, &snapshot)?)
+}
+
+/// The same, by the revision, its ancestors and `strict` where no conflict is allowed.
+fn proposed(alloc: Global, board: &mut Board, rev: &str, words: &str) -> Result<String, Fail> {
+    match words.strip_suffix(" strict") {
+        Some(ancestors) => {
+            proposed_text(alloc, board, &revision_of(alloc, rev, ancestors)?, true)
+        }
+        None => proposed_text(alloc, board, &revision_of(alloc, rev, words)?, false),
+    }
 }
 
 /// How many channels a user has; none where the user does not exist.
-fn channels_count(alloc: Global, board: &mut Board, user: &str) -> Result<Option<usize>, Fail> {
+fn channels_text(alloc: Global, board: &mut Board, user: &str) -> Result<String, Fail> {
     let user = Name::parse(alloc, user)?;
-    match board.channels(&user)? {
-        None => Ok(None),
-        Some(channels) => Ok(Some(channels.as_slice().len())),
-    }
-}
-
-#[test]
-fn channels(rt: HostRuntime) -> Result<(), Fail> {
-    let alloc = rt.alloc();
-    let mut board = board_of(alloc)?;
-    assert!(rt; channels_count(alloc, &mut board, "ann")? == Some(2));
-    assert!(rt; channels_count(alloc, &mut board, "zed")?.is_none());
-    Ok(())
+    let channels = board.channels(&user)?;
+    let count = channels.as_ref().map(|channels| channels.as_slice().len());
+    Ok(format!(in alloc; "{count:?}")?)
 }
 
 /// Whether the one who proposes a revision exists.
-fn proposer_exists(alloc: Global, board: &mut Board, by: Option<&Name>) -> Result<bool, Fail> {
+fn proposer_exists(alloc: Global, board: &mut Board, by: Option<&Name>) -> Result<String, Fail> {
     let revision = revision_of(alloc, "2-d", "1-a")?;
-    Ok(board.snapshot(&revision, true, by)?.user_exists)
+    let exists = board.snapshot(&revision, true, by)?.user_exists;
+    Ok(format!(in alloc; "{exists}")?)
 }
 
-#[test]
-fn proposers(rt: HostRuntime) -> Result<(), Fail> {
-    let alloc = rt.alloc();
-    let mut board = board_of(alloc)?;
-    let zed = Name::parse(alloc, "zed")?;
-    assert!(rt; proposer_exists(alloc, &mut board, None)?);
-    assert!(rt; !proposer_exists(alloc, &mut board, Some(&zed))?);
-    Ok(())
+fn proposer_text(alloc: Global, board: &mut Board, name: &str) -> Result<String, Fail> {
+    if name.is_empty() {
+        return proposer_exists(alloc, board, None);
+    }
+    proposer_exists(alloc, board, Some(&Name::parse(alloc, name)?))
 }
 
 /// The generation of a document's winner.
-fn winner_of(board: &Board, doc: &DocId) -> Option<u32> {
-    let leaf = board.tree(doc)?.winner()?;
-    Some(leaf.rev.generation)
+fn winner_text(alloc: Global, board: &Board, doc: &str) -> Result<String, Fail> {
+    let doc = DocId::parse(alloc, doc)?;
+    let winner = board.tree(&doc).and_then(|tree| tree.winner());
+    let generation = winner.map(|leaf| leaf.rev.generation);
+    Ok(format!(in alloc; "{generation:?}")?)
+}
+
+/// Questions to the board, one a line, and what it answers.
+const ANSWERS: &str = "\
+2-d 1-a strict|4 4 kept 1 {\"a\":1} false\n\
+3-d 2-c,1-b strict|4 4 conflict 1-a {} true\n\
+3-d 2-c,1-b|4 4 kept 1 {} true\n\
+3-d 2-x,1-b|4 4 kept 2 none false\n\
+1-a - strict|4 4 known none false\n\
+2-d 2-c|4 4 bad history {} true\n\
+channels ann|Some(2)\n\
+channels zed|None\n\
+proposer zed|false\n\
+proposer |true\n\
+winner d1|Some(1)\n\
+winner d2|None";
+
+fn answer(alloc: Global, board: &mut Board, call: &str, input: &str) -> Result<String, Fail> {
+    match call {
+        "channels" => channels_text(alloc, board, input),
+        "winner" => winner_text(alloc, board, input),
+        "proposer" => proposer_text(alloc, board, input),
+        rev => proposed(alloc, board, rev, input),
+    }
+}
+
+/// A call, what it is given, and what it answers.
+fn parts_of(line: &str) -> Option<(&str, &str, &str)> {
+    let (asked, want) = line.split_once('|')?;
+    let (call, input) = asked.split_once(' ')?;
+    Some((call, input, want))
+}
+
+fn is_answered_so(alloc: Global, line: &str) -> Result<bool, Fail> {
+    let (call, input, want) = parts_of(line).ok_or("no line of the table")?;
+    let mut board = board_of(alloc)?;
+    Ok(answer(alloc, &mut board, call, input)?.as_str() == want)
 }
 
 #[test]
-fn trees(rt: HostRuntime) -> Result<(), Fail> {
-    let alloc = rt.alloc();
-    let board = board_of(alloc)?;
-    let written = DocId::parse(alloc, "d1")?;
-    let other = DocId::parse(alloc, "d2")?;
-    assert!(rt; winner_of(&board, &written) == Some(1));
-    assert!(rt; winner_of(&board, &other).is_none());
+fn what_a_board_answers(rt: HostRuntime) -> Result<(), Fail> {
+    for line in ANSWERS.split('\n') {
+        assert!(rt; is_answered_so(rt.alloc(), line)?, "{line}");
+    }
     Ok(())
 }
 
-#[test]
-fn an_entry_is_stored(rt: HostRuntime) -> Result<(), Fail> {
-    let alloc = rt.alloc();
-    let mut board = Board::new(alloc)?;
-    let Ok(room) = board.room(None, 0) else {
-        return Err(Fail::from("no room"));
-    };
-    let candidate = Candidate::Plain(Entry::Unused);
-    match board.commit(room, Number::new(1), candidate) {
-        Commit::Stored { sequence, at } => {
-            assert_eq!(rt; (sequence, at, board.front()), (1, 0, 1));
-            Ok(())
-        }
+/// The sequence, the base and the front where an entry is stored on a new board.
+fn stored(alloc: Global) -> Option<(u64, u64, u64)> {
+    let mut board = Board::new(alloc).ok()?;
+    let room = board.room(None, 0).ok()?;
+    match board.commit(room, Number::new(1), Candidate::Plain(Entry::Unused)) {
+        Commit::Stored { sequence, at } => Some((sequence, at, board.front())),
         Commit::Stale {
             room,
             number,
@@ -141,44 +166,58 @@ fn an_entry_is_stored(rt: HostRuntime) -> Result<(), Fail> {
             last: _last,
         } => {
             board.void(room, number);
-            Err(Fail::from("stale"))
+            None
         }
     }
 }
 
-#[test]
-fn a_sequence_is_given_up(rt: HostRuntime) -> Result<(), Fail> {
-    let alloc = rt.alloc();
-    let mut board = Board::new(alloc)?;
-    let doc = DocId::parse(alloc, "d1")?;
-    let Ok(room) = board.room(Some(&doc), 2) else {
-        return Err(Fail::from("no room"));
-    };
+/// A new board that has given up the first sequence.
+fn given_up(alloc: Global, doc: &DocId) -> Option<Board> {
+    let mut board = Board::new(alloc).ok()?;
+    let room = board.room(Some(doc), 2).ok()?;
     board.void(room, Number::new(1));
-    assert_eq!(rt; board.front(), 1);
-    assert!(rt; matches!(board.log().entries.as_slice(), [Entry::Unused]));
-    assert!(rt; board.tree(&doc).is_none());
+    Some(board)
+}
+
+fn has_given_up(board: &Board, doc: &DocId) -> bool {
+    board.front() == 1
+        && matches!(board.log().entries.as_slice(), [Entry::Unused])
+        && board.tree(doc).is_none()
+}
+
+fn gives_up(alloc: Global) -> Result<bool, TextFault> {
+    let doc = DocId::parse(alloc, "d1")?;
+    let board = given_up(alloc, &doc);
+    match board {
+        Some(board) => Ok(has_given_up(&board, &doc)),
+        None => Ok(false),
+    }
+}
+
+#[test]
+fn entries_are_stored_and_sequences_given_up(rt: HostRuntime) -> Result<(), Fail> {
+    assert!(rt; stored(rt.alloc()) == Some((1, 0, 1)));
+    assert!(rt; gives_up(rt.alloc())?);
     Ok(())
 }
 
-/// The first entry that no board has: a body that is no document, a revision that hangs on an ancestor that was not kept,
-/// a winner that another leaf is.
+/// Journals that no board has, one a line, and the first entry that none has: a body that is no document, a revision that hangs
+/// on an ancestor that was not kept, a winner that another leaf is.
+const NO_BOARD: &str = "\
+W|d1|1-a|-|0|5b5d|-|0|1-a|A|-|-;>Some(Bad { sequence: 1 })\n\
+W|d1|2-b|1-a|0|7b7d|-|0|2-b|A|-|-;W|d1|3-c|2-b,1-a|0|7b7d|-|0|3-c|A|-|-;>Some(Bad { sequence: 2 })\n\
+U|ann|A|-;W|d1|1-a|-|0|7b7d|-|0|1-a|A|-|-;W|d1|1-b|-|0|7b7d|-|0|1-a|A|-|-;>Some(Bad { sequence: 3 })";
+
+fn is_no_board(alloc: Global, line: &str) -> Result<bool, Fail> {
+    let (lines, want) = line.split_once('>').ok_or("no line of the table")?;
+    let fault = Board::open(alloc, log_of(alloc, lines)?).err();
+    Ok(format!(in alloc; "{fault:?}")?.as_str() == want)
+}
+
 #[test]
 fn logs_of_no_board(rt: HostRuntime) -> Result<(), Fail> {
-    let alloc = rt.alloc();
-    for (lines, want) in [
-        ("W|d1|1-a|-|0|5b5d|-|0|1-a|A|-|-;", 1),
-        (
-            "W|d1|2-b|1-a|0|7b7d|-|0|2-b|A|-|-;W|d1|3-c|2-b,1-a|0|7b7d|-|0|3-c|A|-|-;",
-            2,
-        ),
-        (
-            "U|ann|A|-;W|d1|1-a|-|0|7b7d|-|0|1-a|A|-|-;W|d1|1-b|-|0|7b7d|-|0|1-a|A|-|-;",
-            3,
-        ),
-    ] {
-        let fault = Board::open(alloc, log_of(alloc, lines)?).err();
-        assert!(rt; fault == Some(OpenFault::Bad { sequence: want }), "{lines}");
+    for line in NO_BOARD.split('\n') {
+        assert!(rt; is_no_board(rt.alloc(), line)?, "{line}");
     }
     Ok(())
 }

@@ -2,10 +2,10 @@
 
 use crate::journals::log_of;
 use doc_board::Board;
-use repl_messages::{Body, Fed};
-use sg_history::{Channels, Key, Name, Options, Rows, read_decimal, write_decimal};
+use repl_messages::{Bodies, Body, Fed};
+use sg_history::{Channels, Key, Name, Options, Revs, Row, Rows, TextFault, write_decimal};
 use sg_outside::Bytes;
-use std::alloc::Global;
+use std::alloc::{AllocError, Global};
 use std::test::Fail;
 use write_path::{Ground, Shelf, SoloGround};
 
@@ -22,42 +22,55 @@ const EVERYTHING: Options = Options {
 };
 
 /// Rows as `KEY DOCUMENT REVISION BITS;`, one after another.
-fn write_rows(found: &Rows, text: &mut Bytes) -> Result<(), Fail> {
+fn write_rows(found: &Rows, text: &mut Bytes) -> Result<(), AllocError> {
     for row in found.as_slice() {
-        row.key.write(text)?;
-        text.push(b' ')?;
-        text.extend_from_slice(row.doc.as_bytes())?;
-        text.push(b' ')?;
-        row.rev.write(text)?;
-        text.push(b' ')?;
-        write_decimal(u64::from(row.bits), text)?;
+        write_row(row, text)?;
         text.push(b';')?;
     }
     Ok(())
 }
 
-/// What a look for a feed answers: `FRONT:` with the rows, or `future FRONT`.
-fn feed_text<G: Ground>(
-    alloc: Global,
-    ground: &mut G,
-    user: &str,
-    since: &str,
-) -> Result<Bytes, Fail> {
-    let user = Name::parse(alloc, user)?;
-    let since = Key::parse(since)?;
+fn write_row(row: &Row, text: &mut Bytes) -> Result<(), AllocError> {
+    row.key.write(text)?;
+    write_word(row.doc.as_bytes(), text)?;
+    row.rev.write(text)?;
+    text.push(b' ')?;
+    write_decimal(u64::from(row.bits), text)
+}
+
+fn write_word(word: &[u8], text: &mut Bytes) -> Result<(), AllocError> {
+    text.push(b' ')?;
+    text.extend_from_slice(word)?;
+    text.push(b' ')
+}
+
+/// What a look for a feed answered: `FRONT:` with the rows, or `future FRONT`.
+fn fed_text(alloc: Global, fed: &Fed) -> Result<Bytes, AllocError> {
     let mut text = Bytes::new(alloc);
-    match ground.feed(alloc, &user, &since, &EVERYTHING)? {
+    match fed {
         Fed::Rows { front, rows } => {
-            write_decimal(front, &mut text)?;
+            write_decimal(*front, &mut text)?;
             text.push(b':')?;
-            write_rows(&rows, &mut text)?;
+            write_rows(rows, &mut text)?;
         }
         Fed::Future { front } => {
             text.extend_from_slice(b"future ")?;
-            write_decimal(front, &mut text)?;
+            write_decimal(*front, &mut text)?;
         }
     }
     Ok(text)
+}
+
+/// What a look for ann's feed answers.
+fn feed<G: Ground>(alloc: Global, ground: &mut G, since: &str) -> Result<Fed, Fail> {
+    let user = Name::parse(alloc, "ann")?;
+    let since = Key::parse(since)?;
+    Ok(ground.feed(alloc, &user, &since, &EVERYTHING)?)
+}
+
+fn feed_text<G: Ground>(alloc: Global, ground: &mut G, since: &str) -> Result<Bytes, Fail> {
+    let fed = feed(alloc, ground, since)?;
+    Ok(fed_text(alloc, &fed)?)
 }
 
 /// Worked journals, one a line, each after its name. In that of the conflict the bodies are `{"a":1}`, `{"b":1}` and `{}`.
@@ -71,16 +84,21 @@ return=U|ann|A|-;W|d1|1-a|-|0|7b7d|-|1|1-a|A|-|-;W|d2|1-b|-|0|7b7d|-|2|1-b|A|-|-
 conflict=U|ann|A|-;W|d1|1-a|-|0|7b2261223a317d|-|1|1-a|A|-|-;W|d1|1-b|-|0|7b2262223a317d|-|2|1-b|B|-|-;W|d1|2-c|1-b|1|7b7d|-|3|1-a|-|-|-;\n\
 long_history=U|ann|A|-;W|d1|4-d|3-c,2-b,1-a|0|7b7d|-|1|4-d|A|-|-;";
 
-/// A ground over a worked journal.
-fn worked(alloc: Global, name: &str) -> Result<SoloGround, Fail> {
+/// A worked journal.
+fn journal_of(name: &str) -> Option<&'static str> {
     for line in JOURNALS.split('\n') {
         if let Some((named, lines)) = line.split_once('=') {
             if named == name {
-                return ground_of(alloc, lines);
+                return Some(lines);
             }
         }
     }
-    Err(Fail::from("no journal of this name"))
+    None
+}
+
+/// A ground over a worked journal.
+fn worked(alloc: Global, name: &str) -> Result<SoloGround, Fail> {
+    ground_of(alloc, journal_of(name).ok_or("no journal of this name")?)
 }
 
 /// Ann's feeds, one a line: the journal, the key after which the feed begins, and what a look answers.
@@ -90,44 +108,76 @@ first 0>4:2 d1 1-a 0;4 d3 1-c 0;\n\
 first 4>4:\n\
 first 5>future 4\n\
 first 9>future 4\n\
+first 2>4:4 d3 1-c 0;\n\
 revocation 2>4:4:2 d1 1-a 2;\n\
 removal 3>5:4 d1 2-a 4;5 d2 2-b 5;";
+
+/// What a look for ann's feed answers of a worked journal.
+fn fed(alloc: Global, asked: &str) -> Result<Bytes, Fail> {
+    let (name, since) = asked.split_once(' ').ok_or("no line of the table")?;
+    feed_text(alloc, &mut worked(alloc, name)?, since)
+}
+
+fn is_fed_so(alloc: Global, line: &str) -> Result<bool, Fail> {
+    let (asked, want) = line.split_once('>').ok_or("no line of the table")?;
+    Ok(fed(alloc, asked)?.as_slice() == want.as_bytes())
+}
+
+/// The front of the board that a ground gives back once it was looked at.
+fn front_given_back(alloc: Global, name: &str) -> Result<u64, Fail> {
+    let mut ground = worked(alloc, name)?;
+    let _fed = feed(alloc, &mut ground, "2")?;
+    Ok(ground.into_inner().board.front())
+}
 
 #[test]
 fn feeds_of_worked_journals(rt: HostRuntime) -> Result<(), Fail> {
     let alloc = rt.alloc();
     for line in FEEDS.split('\n') {
-        let (asked, want) = line.split_once('>').ok_or("no line of the table")?;
-        let (name, since) = asked.split_once(' ').ok_or("no line of the table")?;
-        let text = feed_text(alloc, &mut worked(alloc, name)?, "ann", since)?;
-        assert!(rt; text.as_slice() == want.as_bytes(), "{line}");
+        assert!(rt; is_fed_so(alloc, line)?, "{line}");
     }
-    Ok(())
-}
-
-#[test]
-fn a_ground_gives_its_log_back(rt: HostRuntime) -> Result<(), Fail> {
-    let alloc = rt.alloc();
-    let mut ground = worked(alloc, "first")?;
-    assert!(rt; ground.front() == 4);
-    let again = feed_text(alloc, &mut ground, "ann", "2")?;
-    assert!(rt; again.as_slice() == b"4:4 d3 1-c 0;".as_slice());
-    assert!(rt; ground.into_inner().board.front() == 4);
+    assert!(rt; worked(alloc, "first")?.front() == 4);
+    assert!(rt; front_given_back(alloc, "first")? == 4);
     Ok(())
 }
 
 /// The rows of ann's feed after a since key.
 fn rows_of(alloc: Global, name: &str, since: &str) -> Result<Rows, Fail> {
-    let mut ground = worked(alloc, name)?;
-    let user = Name::parse(alloc, "ann")?;
-    match ground.feed(alloc, &user, &Key::parse(since)?, &EVERYTHING)? {
+    match feed(alloc, &mut worked(alloc, name)?, since)? {
         Fed::Rows { front: _, rows } => Ok(rows),
         Fed::Future { front: _ } => Ok(Rows::new(alloc)),
     }
 }
 
-/// What a look for bodies answers to ann: `FRONT:` with `rev ANCESTORS BYTES;`, `removed;` or `norev;` for each row.
-fn bodies_text<G: Ground>(
+fn write_body(body: &Body, text: &mut Bytes) -> Result<(), AllocError> {
+    match body {
+        Body::Rev { ancestors, bytes } => write_rev(ancestors, bytes, text),
+        Body::Removed => text.extend_from_slice(b"removed;"),
+        Body::NoRev => text.extend_from_slice(b"norev;"),
+    }
+}
+
+fn write_rev(ancestors: &Revs, bytes: &Bytes, text: &mut Bytes) -> Result<(), AllocError> {
+    text.extend_from_slice(b"rev ")?;
+    ancestors.write(text)?;
+    text.push(b' ')?;
+    text.extend_from_slice(bytes.as_slice())?;
+    text.push(b';')
+}
+
+/// `FRONT:` with `rev ANCESTORS BYTES;`, `removed;` or `norev;` for each row.
+fn bodies_text(alloc: Global, bodies: &Bodies) -> Result<Bytes, AllocError> {
+    let mut text = Bytes::new(alloc);
+    write_decimal(bodies.front, &mut text)?;
+    text.push(b':')?;
+    for body in bodies.answers.as_slice() {
+        write_body(body, &mut text)?;
+    }
+    Ok(text)
+}
+
+/// What a look for bodies answers to ann.
+fn bodies<G: Ground>(
     alloc: Global,
     ground: &mut G,
     options: &Options,
@@ -136,89 +186,72 @@ fn bodies_text<G: Ground>(
 ) -> Result<Bytes, Fail> {
     let user = Name::parse(alloc, "ann")?;
     let bodies = ground.bodies(alloc, &user, options, rows.as_slice(), most)?;
-    let mut text = Bytes::new(alloc);
-    write_decimal(bodies.front, &mut text)?;
-    text.push(b':')?;
-    for body in bodies.answers.as_slice() {
-        match body {
-            Body::Rev { ancestors, bytes } => {
-                text.extend_from_slice(b"rev ")?;
-                ancestors.write(&mut text)?;
-                text.push(b' ')?;
-                text.extend_from_slice(bytes.as_slice())?;
-                text.push(b';')?;
-            }
-            Body::Removed => text.extend_from_slice(b"removed;")?,
-            Body::NoRev => text.extend_from_slice(b"norev;")?,
-        }
+    Ok(bodies_text(alloc, &bodies)?)
+}
+
+fn options_of(alloc: Global, filter: &str) -> Result<Options, TextFault> {
+    if filter == "-" {
+        return Ok(EVERYTHING);
     }
-    Ok(text)
+    Ok(Options {
+        filter: Some(Channels::parse(alloc, filter)?),
+        active_only: false,
+        revocations: true,
+    })
 }
 
 /// Bodies of ann's rows, one a line: the journal that the rows are of, the key after which they begin, the journal that is looked
-/// at, and what the look answers.
+/// at, the most ancestors that are asked for, the channels of a filter (`-` none), and what the look answers.
 const BODIES: &str = "\
-first 0 first>4:rev - {};rev - {};\n\
-first 0 none>0:norev;norev;\n\
-removal 3 removal>5:removed;removed;\n\
-removal 3 return>6:norev;removed;\n\
-revocation 2 revocation>4:norev;\n\
-before_removal 0 before_removal>3:rev - {};rev - {};\n\
-before_removal 0 removal>5:norev;norev;\n\
-return 5 return>6:rev 2-a {};\n\
-conflict 2 conflict>4:rev - {\"a\":1};";
+first 0 first 100 ->4:rev - {};rev - {};\n\
+first 0 none 100 ->0:norev;norev;\n\
+removal 3 removal 100 ->5:removed;removed;\n\
+removal 3 return 100 ->6:norev;removed;\n\
+revocation 2 revocation 100 ->4:norev;\n\
+before_removal 0 before_removal 100 ->3:rev - {};rev - {};\n\
+before_removal 0 removal 100 ->5:norev;norev;\n\
+return 5 return 100 ->6:rev 2-a,1-a {};\n\
+conflict 2 conflict 100 ->4:rev - {\"a\":1};\n\
+first 0 first 100 A>4:rev - {};norev;\n\
+first 0 first 100 !>4:norev;rev - {};\n\
+first 0 first 100 *>4:rev - {};rev - {};\n\
+first 0 first 100 B>4:norev;norev;\n\
+long_history 0 long_history 0 ->2:rev - {};\n\
+long_history 0 long_history 2 ->2:rev 3-c,2-b {};\n\
+long_history 0 long_history 3 ->2:rev 3-c,2-b,1-a {};\n\
+long_history 0 long_history 18446744073709551615 ->2:rev 3-c,2-b,1-a {};";
+
+/// What a look answers to words: a journal, the most ancestors, and a filter.
+fn looked(alloc: Global, rows: &Rows, words: &str) -> Result<Bytes, Fail> {
+    let (name, most, filter) = three_words(words).ok_or("no line of the table")?;
+    let options = options_of(alloc, filter)?;
+    bodies(
+        alloc,
+        &mut worked(alloc, name)?,
+        &options,
+        rows,
+        most.parse()?,
+    )
+}
+
+/// Three words with blanks between.
+fn three_words(text: &str) -> Option<(&str, &str, &str)> {
+    let (first, rest) = text.split_once(' ')?;
+    let (second, third) = rest.split_once(' ')?;
+    Some((first, second, third))
+}
+
+fn are_bodies_so(alloc: Global, line: &str) -> Result<bool, Fail> {
+    let (asked, want) = line.split_once('>').ok_or("no line of the table")?;
+    let (name, since, words) = three_words(asked).ok_or("no line of the table")?;
+    let rows = rows_of(alloc, name, since)?;
+    Ok(looked(alloc, &rows, words)?.as_slice() == want.as_bytes())
+}
 
 #[test]
 fn bodies_of_worked_journals(rt: HostRuntime) -> Result<(), Fail> {
-    let alloc = rt.alloc();
     for line in BODIES.split('\n') {
-        let (asked, want) = line.split_once('>').ok_or("no line of the table")?;
-        let mut words = asked.split(' ');
-        let named = words.next().unwrap_or("");
-        let rows = rows_of(alloc, named, words.next().unwrap_or(""))?;
-        let mut ground = worked(alloc, words.next().unwrap_or(""))?;
-        let text = bodies_text(alloc, &mut ground, &EVERYTHING, &rows, 100)?;
-        assert!(rt; text.as_slice() == want.as_bytes(), "{line}");
-    }
-    Ok(())
-}
-
-#[test]
-fn bodies_under_a_filter(rt: HostRuntime) -> Result<(), Fail> {
-    let alloc = rt.alloc();
-    let rows = rows_of(alloc, "first", "0")?;
-    let table = "A>4:rev - {};norev;|!>4:norev;rev - {};|*>4:rev - {};rev - {};|B>4:norev;norev;";
-    for line in table.split('|') {
-        let (filter, want) = line.split_once('>').ok_or("no line of the table")?;
-        let options = Options {
-            filter: Some(Channels::parse(alloc, filter)?),
-            active_only: false,
-            revocations: true,
-        };
-        let mut ground = worked(alloc, "first")?;
-        let text = bodies_text(alloc, &mut ground, &options, &rows, 100)?;
-        assert!(rt; text.as_slice() == want.as_bytes(), "{line}");
-    }
-    Ok(())
-}
-
-/// The most ancestors that are asked for, one a line, and what a look for bodies answers.
-const NEAREST: &str = "\
-0>2:rev - {};\n\
-2>2:rev 3-c,2-b {};\n\
-3>2:rev 3-c,2-b,1-a {};\n\
-18446744073709551615>2:rev 3-c,2-b,1-a {};";
-
-#[test]
-fn the_nearest_ancestors(rt: HostRuntime) -> Result<(), Fail> {
-    let alloc = rt.alloc();
-    let rows = rows_of(alloc, "long_history", "0")?;
-    for line in NEAREST.split('\n') {
-        let (most, want) = line.split_once('>').ok_or("no line of the table")?;
-        let most = read_decimal(most).ok_or("no number")?;
-        let mut ground = worked(alloc, "long_history")?;
-        let text = bodies_text(alloc, &mut ground, &EVERYTHING, &rows, most)?;
-        assert!(rt; text.as_slice() == want.as_bytes(), "{line}");
+        assert!(rt; are_bodies_so(rt.alloc(), line)?, "{line}");
     }
     Ok(())
 }
