@@ -1,0 +1,113 @@
+-- the places of a log, and a history of grants that applied the next one
+use Rattle.std.proofs.Common.{◌≡◌, ◌⊎◌, inl, inr, ◌<◌, ◌≤◌, ◌+◌, ◌-◌, ℕ, zero, suc, refl, sym, ◌∙◌, ap, subst, arith, List, [], ◌∷◌, ◌++◌, length, take, reverse, Option, Some, None}
+use Rattle.std.specs.Prelude.{slice_get}
+use Rattle.std.proofs.lemmas.Bool.{cases_lt}
+use Rattle.std.proofs.lemmas.List.{reverse-reverse, reverse-append, length-reverse, length-take-le}
+use Rattle.std.proofs.lemmas.Option.{none-some, same_Some}
+use Rattle.sg_history.specs.declared.entries.Entry.{Entry}
+use Rattle.sg_history.specs.declared.entries.Entry.TheVariants as entry
+use Rattle.sg_history.specs.declared.entries.Write.{Write}
+use Rattle.sg_history.specs.History.{past, as_write}
+use Rattle.sg_history.specs.Current.{Sequenced, current, current_after, winning_of}
+use Rattle.log_index.specs.declared.documents.Document.{Document}
+use Rattle.log_index.specs.declared.index.LogIndex.{LogIndex}
+use Rattle.log_index.specs.Index.{Indexes}
+use Rattle.log_index.specs.Places.{document_at}
+use Rattle.log_views.specs.At.{written, write_at}
+use Rattle.log_views.proofs.Placed.{found, nothing}
+use Rattle.grant_history.specs.declared.facts.Fact.{Fact}
+use Rattle.grant_history.specs.declared.history.GrantHistory.{GrantHistory}
+use Rattle.grant_history.specs.declared.kept.Kept.{Kept}
+use Rattle.grant_history.specs.Facts.{document_facts}
+use Rattle.grant_history.specs.Holdings.{has_at}
+use Rattle.grant_history.specs.Sources.{is_held}
+use Rattle.grant_history.specs.Kept.{facts_of_write, write_facts, IsKept, Took}
+use Rattle.grant_history.specs.Stands.{IsIndexed, KeptAt, IsNext}
+
+take_next : (entries : List Entry) (n : ℕ) (e : Entry) → slice_get entries n ≡ Some e → take (suc n) entries ≡ take n entries ++ e ∷ []
+take_next [] n e h = absurd (none-some e h)
+take_next (x ∷ xs) zero e h = ap (λ (y : Entry). y ∷ []) (same_Some x e h)
+take_next (x ∷ xs) (suc n) e h = ap (λ (l : List Entry). x ∷ l) (take_next xs n e h)
+
+pub past_next : (entries : List Entry) (n : ℕ) (e : Entry) → slice_get entries n ≡ Some e → past entries (n + 1) ≡ e ∷ past entries n
+past_next entries n e h =
+    let one : ◌≡◌ {A = ℕ} (n + 1) (suc n) = omega arith in
+    ap (λ (m : ℕ). past entries m) one
+    ∙ ap (λ (l : List Entry). reverse l) (take_next entries n e h)
+    ∙ reverse-append (take n entries) (e ∷ [])
+
+pub past_count : (entries : List Entry) (n : ℕ) → n ≤ length entries → length (past entries n) ≡ n
+past_count entries n h = length-reverse (take n entries) ∙ length-take-le n entries h
+
+got_taken : (entries : List Entry) (n i : ℕ) → i < n → slice_get (take n entries) i ≡ slice_get entries i
+got_taken entries zero i h = absurd (omega (arith, h))
+got_taken [] (suc n) i h = refl
+got_taken (x ∷ xs) (suc n) zero h = refl
+got_taken (x ∷ xs) (suc n) (suc i) h = got_taken xs n i (omega (arith, h))
+
+module _ (entries : List Entry) (n : ℕ) (doc : List ℕ) (high : n ≤ length entries) where
+  pub no_document : document_at (past entries n) doc ≡ None → [] ≡ document_facts (current (past entries n) doc)
+  no_document h = sym (ap (λ (o : Option Sequenced). document_facts (current_after (past entries n) doc o)) (nothing (past entries n) doc h))
+
+  module _ (d : Document) (at : document_at (past entries n) doc ≡ Some d) where
+    pub winning_low : 1 ≤ d.winning
+    winning_low = let f = found (past entries n) doc d at in omega (arith, f.winning, f.at.low)
+
+    winning_high : d.winning ≤ n
+    winning_high = let f = found (past entries n) doc d at in omega (arith, f.winning, f.at.high, past_count entries n high)
+
+    pub winning_within : d.winning ≤ length entries
+    winning_within = omega (arith, winning_high, high)
+
+    pub document_read : (e : Entry) → slice_get entries (d.winning - 1) ≡ Some e → write_facts e ≡ document_facts (current (past entries n) doc)
+    document_read e read =
+        let f = found (past entries n) doc d at in
+        let place : d.winning - 1 < n = omega (arith, winning_low, winning_high) in
+        let there : as_write e ≡ Some (winning_of (past entries n) doc f.last).write =
+        ap written (sym read ∙ sym (got_taken entries n (d.winning - 1) place))
+        ∙ ap (λ (l : List Entry). write_at l d.winning) (sym (reverse-reverse (take n entries)))
+        ∙ ap (λ (m : ℕ). write_at (reverse (past entries n)) m) f.winning
+        ∙ f.at.there in
+        ap facts_of_write there ∙ sym (ap (λ (o : Option Sequenced). document_facts (current_after (past entries n) doc o)) f.last_is)
+
+module _ (history : GrantHistory) (entries : List Entry) (e : Entry) (at : ℕ) (next : IsNext history entries e at) where
+  pub next_place : at ≡ length (past entries history.applied) + 1
+  next_place =
+      let low : history.applied ≤ length entries = omega (arith, next.place, next.high) in
+      omega (arith, next.place, past_count entries history.applied low)
+
+  module _ (kept : Kept) (before : (f : Fact) (k : ℕ) → k < at → has_at kept.store f k ≡ has_at history.kept.store f k) where
+    pub taken : Took kept at e (past entries history.applied) → KeptAt kept entries at
+    taken took = record {
+      is_kept = subst (λ (es : List Entry). IsKept kept es) (sym next.newest) took.is_kept;
+      held = λ k f le. elim (cases_lt k at) [
+        | inl below ↦ before f k below ∙ next.kept.held k f (omega (arith, below, next.place))
+        | inr above ↦
+            let here : k ≡ at = omega (arith, above, le) in
+            ap (λ (m : ℕ). has_at kept.store f m) here ∙ took.now f ∙ ap (λ (es : List Entry). is_held es f) (sym next.newest) ∙ ap (λ (m : ℕ). is_held (past entries m) f) (sym here)
+      ];
+    }
+
+    pub left : IsKept kept (past entries history.applied) → KeptAt kept entries history.applied
+    left is = record {
+      is_kept = is;
+      held = λ k f le. before f k (omega (arith, le, next.place)) ∙ next.kept.held k f le;
+    }
+
+-- the index before and after the next entry
+module _ (index : LogIndex) (entries : List Entry) (n : ℕ) (e : Entry) (is : slice_get entries n ≡ Some e) (more : n < length entries) where
+  pub to_either : IsIndexed index entries n → Indexes index (past entries n) ⊎ Indexes index (e ∷ past entries n)
+  to_either (inl h) = inl h
+  to_either (inr h) = inr (subst (λ (es : List Entry). Indexes index es) (past_next entries n e is) h.1)
+
+  pub from_either : Indexes index (past entries n) ⊎ Indexes index (e ∷ past entries n) → IsIndexed index entries n
+  from_either (inl h) = inl h
+  from_either (inr h) = inr (more, subst (λ (es : List Entry). Indexes index es) (sym (past_next entries n e is)) h)
+
+pub no_write : (e : Entry) → ((w : Write) → e ≡ entry.Write w → ⊥) → as_write e ≡ None
+no_write (entry.Write w) not = absurd (not w refl)
+no_write (entry.PutUser name channels roles) not = refl
+no_write (entry.PutRole name channels) not = refl
+no_write (entry.DropUser name) not = refl
+no_write (entry.DropRole name) not = refl
+no_write entry.Unused not = refl

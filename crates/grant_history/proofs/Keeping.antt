@@ -1,0 +1,259 @@
+-- what is kept once a source gives other facts
+use Rattle.std.proofs.Common.{◌≡◌, ◌≤◌, ◌+◌, ◌-◌, ℕ, refl, sym, ◌∙◌, ap, subst, arith, Bool, true, false, ◌&&◌, ◌||◌, if◌then◌else◌, nat_lt, nat_le, List, [], ◌∷◌, length, Option, Some, None, Vec, String}
+use Rattle.std.specs.BTreeMap.{get_by_text, is_at}
+use Rattle.std.specs.Map.{lookup}
+use Rattle.std.specs.Prelude.{string_bytes}
+use Rattle.std.specs.Ordering.{nat_cmp}
+use Rattle.std.specs.Cmp.Lexicographic.{slice_cmp, bytes_decides}
+use Rattle.std.specs.Global.{Global}
+use Rattle.std.specs.Str.{bytes_eq}
+use Rattle.sg_names.specs.declared.grants.Grantee.{Grantee}
+use Rattle.sg_names.specs.declared.grants.Grantee.TheVariants.{User, Role}
+use Rattle.sg_history.specs.declared.entries.Entry.{Entry}
+use Rattle.sg_history.specs.declared.entries.Write.{Write}
+use Rattle.sg_history.specs.History.{as_write}
+use Rattle.sg_history.specs.Current.{current}
+use Rattle.sg_history.specs.Principals.{Standing, Put, as_put, same_grantee}
+use Rattle.grant_history.specs.declared.facts.What.{What}
+use Rattle.grant_history.specs.declared.facts.Fact.{Fact}
+use Rattle.grant_history.specs.declared.held.Held.{Held}
+use Rattle.grant_history.specs.declared.track.Track.{Track}
+use Rattle.grant_history.specs.declared.store.Store.{Store}
+use Rattle.grant_history.specs.declared.kept.Kept.{Kept}
+use Rattle.grant_history.specs.Dated.{Dated}
+use Rattle.grant_history.specs.Tracks.{IsTrack, held_at, is_open}
+use Rattle.grant_history.specs.Facts.{same_what, times, put_facts, document_facts}
+use Rattle.grant_history.specs.Holdings.{count_in, held_in, AreUpTo, Holders, count_by_list, held_by_list, count_of, held_of, AreAllUpTo, count_to, held_to, count_at, has_at, IsStore}
+use Rattle.grant_history.specs.Sources.{standing_of, sources}
+use Rattle.grant_history.specs.Kept.{Source, document, user, role, holder, same_source, given, Lists, facts_of_list, facts_in, facts_from, IsKept, IsStep, Took}
+use Rattle.grant_history.proofs.Holding.{later_all}
+use Rattle.grant_history.proofs.Same.{grantees, texts_swap}
+use Rattle.grant_history.proofs.Steps.{current_same, unwritten, standing_same, standing_put, idle_step, put_step, write_step, apart}
+
+-- a place made for a name changes nothing
+pub placed_empty : (old new : Lists) (name : List ℕ) (v : Vec Fact Global) → v.items ≡ [] → get_by_text old name ≡ None
+    → ((other : List ℕ) → get_by_text new other ≡ (if bytes_eq name other then Some v else get_by_text old other)) → (other : List ℕ) → facts_in new other ≡ facts_in old other
+placed_empty old new name v empty none sets other = ap facts_of_list (sets other) ∙ by (bytes_eq name other) refl
+  where
+    by : (b : Bool) → bytes_eq name other ≡ b → facts_of_list (if b then Some v else get_by_text old other) ≡ facts_in old other
+    by true same = empty ∙ ap facts_of_list (sym none) ∙ ap (λ (n : List ℕ). facts_in old n) ((bytes_decides name other).0 same)
+    by false same = refl
+
+pub swapped : (b : Bool) (v : Vec Fact Global) (o : Option (Vec Fact Global)) → facts_of_list (if b then Some v else o) ≡ (if b then v.items else facts_of_list o)
+swapped true v o = refl
+swapped false v o = refl
+
+-- at the place up to which a track says anything it says what there is now
+settled_track : (t : Track) (n : ℕ) → IsTrack t n → held_at t n ≡ nat_lt 0 t.count
+settled_track t n is = ap (λ (b : Bool). b || is_open t n) (is.past n (omega arith)) ∙ by (nat_lt 0 t.count) refl
+  where
+    by : (b : Bool) → nat_lt 0 t.count ≡ b → (b && nat_le t.opened n) ≡ b
+    by true h = let le : t.opened ≤ n = is.opened (grind (arith, h)) in grind (arith, le)
+    by false h = refl
+
+settled_list : (list : List Held) (n : ℕ) (w : What) → AreUpTo list n → held_in list w n ≡ nat_lt 0 (count_in list w)
+settled_list [] n w up = grind arith
+settled_list (h ∷ hs) n w up =
+    ap (λ (b : Bool). if same_what h.what w then b else held_in hs w n) (settled_track h.track n up.0)
+    ∙ ap (λ (b : Bool). if same_what h.what w then nat_lt 0 h.track.count else b) (settled_list hs n w up.2)
+    ∙ by (same_what h.what w)
+  where
+    by : (b : Bool) → (if b then nat_lt 0 h.track.count else nat_lt 0 (count_in hs w)) ≡ nat_lt 0 (if b then h.track.count else count_in hs w)
+    by true = refl
+    by false = refl
+
+settled_holders : (holders : Holders) (n : ℕ) (name : List ℕ) (w : What) → AreAllUpTo holders n → held_of holders (name, w) n ≡ nat_lt 0 (count_of holders (name, w))
+settled_holders holders n name w up = by (get_by_text holders name) refl
+  where
+    by : (o : Option (Vec Held Global)) → get_by_text holders name ≡ o → held_by_list (get_by_text holders name) w n ≡ nat_lt 0 (count_by_list (get_by_text holders name) w)
+    by None is = ap (λ (o : Option (Vec Held Global)). held_by_list o w n) is ∙ none ∙ ap (λ (o : Option (Vec Held Global)). nat_lt 0 (count_by_list o w)) (sym is)
+      where
+        none : false ≡ nat_lt 0 0
+        none = refl
+    by (Some list) is =
+        ap (λ (o : Option (Vec Held Global)). held_by_list o w n) is ∙ settled_list list.items n w (up name list is)
+        ∙ ap (λ (o : Option (Vec Held Global)). nat_lt 0 (count_by_list o w)) (sym is)
+
+pub settled : (store : Store) (n : ℕ) (f : Fact) → IsStore store n → has_at store f n ≡ nat_lt 0 (count_at store f)
+settled store n f is = by f.of
+  where
+    by : (of : Grantee) → held_to store of f.what n ≡ nat_lt 0 (count_to store of f.what)
+    by (User name) = settled_holders store.users n name f.what is.users
+    by (Role name) = settled_holders store.roles n name f.what is.roles
+
+pub later_store : (store : Store) (n m : ℕ) → n ≤ m → IsStore store n → IsStore store m
+later_store store n m le is = record { users = later_all store.users n m le is.users; roles = later_all store.roles n m le is.roles }
+
+pub still_store : (store : Store) (at : ℕ) → Dated count_at has_at IsStore store store at (count_at store)
+still_store store at = record { counts = λ f. refl; before = λ f k below. refl; up_to = λ n le up. later_store store n at le up }
+
+module _ (old new : Kept) (at : ℕ) where
+  pub took : (source : Source) (facts : List Fact)
+      → Dated count_at has_at IsStore old.store new.store at (λ f. count_at old.store f + times facts f - times (facts_from old source) f)
+      → ((s : Source) → facts_from new s ≡ (if same_source source s then facts else facts_from old s))
+      → (e : Entry) (es : List Entry) → IsStep old at source facts e es → Took new at e es
+  took source facts d lists e es step =
+      let count : (f : Fact) → count_at new.store f ≡ sources (e ∷ es) f = λ f.
+      let gave : times (facts_from old source) f ≡ times (given es source) f = ap (λ (l : List Fact). times l f) (step.is_kept.lists source) in
+      omega (arith, d.counts f, step.is_kept.counts f, step.sums f, gave) in
+      let up : IsStore new.store at = d.up_to (length es + 1) (omega (arith, step.place)) step.is_kept.up_to in
+      record {
+        is_kept = record {
+          lists = λ s.
+              lists s
+              ∙ ap (λ (l : List Fact). if same_source source s then facts else l) (step.is_kept.lists s)
+              ∙ sym (step.others s);
+          counts = count;
+          up_to = later_store new.store at (length (e ∷ es) + 1) (omega (arith, step.place)) up;
+        };
+        now = λ f. settled new.store at f up ∙ ap (λ (n : ℕ). nat_lt 0 n) (count f);
+      }
+
+  pub kept_on : Dated count_at has_at IsStore old.store new.store at (count_at old.store) → ((s : Source) → facts_from new s ≡ facts_from old s) → (es : List Entry) → at ≡ length es + 1 → IsKept old es → IsKept new es
+  kept_on d lists es place is = record {
+    lists = λ s. lists s ∙ is.lists s;
+    counts = λ f. d.counts f ∙ is.counts f;
+    up_to = subst (λ (n : ℕ). IsStore new.store n) place (d.up_to (length es + 1) (omega (arith, place)) is.up_to);
+  }
+
+-- which list a source's is
+module _ (old : Kept) (store : Store) (lists : Lists) (name : List ℕ) (facts : List Fact) where
+  pub of_documents : ((other : List ℕ) → facts_in lists other ≡ (if bytes_eq name other then facts else facts_in old.documents other)) → (s : Source)
+      → facts_from (record { store = store; documents = lists; users = old.users; roles = old.roles }) s ≡ (if same_source (document name) s then facts else facts_from old s)
+  of_documents h (document d) = h d
+  of_documents h (user n) = refl
+  of_documents h (role n) = refl
+
+  pub of_users : ((other : List ℕ) → facts_in lists other ≡ (if bytes_eq name other then facts else facts_in old.users other)) → (s : Source)
+      → facts_from (record { store = store; documents = old.documents; users = lists; roles = old.roles }) s ≡ (if same_source (user name) s then facts else facts_from old s)
+  of_users h (document d) = refl
+  of_users h (user n) = h n
+  of_users h (role n) = refl
+
+  pub of_roles : ((other : List ℕ) → facts_in lists other ≡ (if bytes_eq name other then facts else facts_in old.roles other)) → (s : Source)
+      → facts_from (record { store = store; documents = old.documents; users = old.users; roles = lists }) s ≡ (if same_source (role name) s then facts else facts_from old s)
+  of_roles h (document d) = refl
+  of_roles h (user n) = refl
+  of_roles h (role n) = h n
+
+  pub same_documents : ((other : List ℕ) → facts_in lists other ≡ facts_in old.documents other) → (s : Source) → facts_from (record { store = store; documents = lists; users = old.users; roles = old.roles }) s ≡ facts_from old s
+  same_documents h (document d) = h d
+  same_documents h (user n) = refl
+  same_documents h (role n) = refl
+
+  pub same_users : ((other : List ℕ) → facts_in lists other ≡ facts_in old.users other) → (s : Source) → facts_from (record { store = store; documents = old.documents; users = lists; roles = old.roles }) s ≡ facts_from old s
+  same_users h (document d) = refl
+  same_users h (user n) = h n
+  same_users h (role n) = refl
+
+  pub same_roles : ((other : List ℕ) → facts_in lists other ≡ facts_in old.roles other) → (s : Source) → facts_from (record { store = store; documents = old.documents; users = old.users; roles = lists }) s ≡ facts_from old s
+  same_roles h (document d) = refl
+  same_roles h (user n) = refl
+  same_roles h (role n) = h n
+
+-- what a replacement asks of a step
+pub asked_up_to : (kept : Kept) (at : ℕ) (source : Source) (facts : List Fact) (e : Entry) (es : List Entry) → IsStep kept at source facts e es → IsStore kept.store at
+asked_up_to kept at source facts e es step = subst (λ (n : ℕ). IsStore kept.store n) (sym step.place) step.is_kept.up_to
+
+pub asked_given : (kept : Kept) (at : ℕ) (source : Source) (facts : List Fact) (e : Entry) (es : List Entry) → IsStep kept at source facts e es → (f : Fact) → times (facts_from kept source) f ≤ count_at kept.store f + times facts f
+asked_given kept at source facts e es step f =
+    let gave : times (facts_from kept source) f ≡ times (given es source) f = ap (λ (l : List Fact). times l f) (step.is_kept.lists source) in
+    omega (arith, step.is_kept.counts f, step.sums f, gave)
+
+empty_list : (lists : Lists) (name : List ℕ) → lists.entries ≡ [] → facts_in lists name ≡ []
+empty_list lists name empty = ap (λ (es : List (String Global × Vec Fact Global)). facts_of_list (lookup (is_at (λ k. slice_cmp nat_cmp name (string_bytes k))) es)) empty
+
+nothing_given : (of : Grantee) → standing_of [] of ≡ None
+nothing_given (User name) = refl
+nothing_given (Role name) = refl
+
+pub kept_nothing : (kept : Kept) → kept.documents.entries ≡ [] → kept.users.entries ≡ [] → kept.roles.entries ≡ [] → ((f : Fact) → count_at kept.store f ≡ 0) → ((n : ℕ) → IsStore kept.store n) → IsKept kept []
+kept_nothing kept documents users roles counts up_to = record {
+  lists = by;
+  counts = λ f.
+      let none : times (put_facts f.of (standing_of [] f.of)) f ≡ 0 = ap (λ (s : Option Standing). times (put_facts f.of s) f) (nothing_given f.of) in
+      omega (arith, counts f, none);
+  up_to = up_to 1;
+}
+  where
+    by : (s : Source) → facts_from kept s ≡ given [] s
+    by (document d) = empty_list kept.documents d documents
+    by (user n) = empty_list kept.users n users
+    by (role n) = empty_list kept.roles n roles
+
+module _ (kept : Kept) (e : Entry) (es : List Entry) (at : ℕ) (place : at ≡ length es + 1) (is_kept : IsKept kept es) where
+  pub put_is_step : (p : Put) → as_write e ≡ None → as_put e ≡ Some p → IsStep kept at (holder p.of) (put_facts p.of p.standing) e es
+  put_is_step p written put = record {
+    place = place;
+    is_kept = is_kept;
+    others = others p.of refl;
+    sums = λ f. sums f p.of refl ∙ put_step e es p written put f;
+  }
+    where
+      stands : (of : Grantee) → standing_of (e ∷ es) of ≡ (if same_grantee p.of of then p.standing else standing_of es of)
+      stands of = standing_put e es of p put
+
+      documents : (d : List ℕ) → document_facts (current (e ∷ es) d) ≡ document_facts (current es d)
+      documents d = ap document_facts (current_same e es d (unwritten e es d written))
+
+      chosen : (b : Bool) (of : Grantee) (s : Option Standing) → put_facts of (if b then p.standing else s) ≡ (if b then put_facts of p.standing else put_facts of s)
+      chosen true of s = refl
+      chosen false of s = refl
+
+      here : (of other : Grantee) (b : Bool) → same_grantee of other ≡ b → (if b then put_facts other p.standing else put_facts other (standing_of es other)) ≡ (if b then put_facts of p.standing else put_facts other (standing_of es other))
+      here of other true same = ap (λ (g : Grantee). put_facts g p.standing) (sym (grantees of other same))
+      here of other false same = refl
+
+      holders : (of other : Grantee) → p.of ≡ of → put_facts other (standing_of (e ∷ es) other) ≡ (if same_grantee of other then put_facts of p.standing else put_facts other (standing_of es other))
+      holders of other is =
+          ap (λ (s : Option Standing). put_facts other s) (stands other ∙ ap (λ (g : Grantee). if same_grantee g other then p.standing else standing_of es other) is)
+          ∙ chosen (same_grantee of other) other (standing_of es other)
+          ∙ here of other (same_grantee of other) refl
+
+      others : (of : Grantee) → p.of ≡ of → (s : Source) → given (e ∷ es) s ≡ (if same_source (holder p.of) s then put_facts p.of p.standing else given es s)
+      others (User n) is (document d) = documents d ∙ ap (λ (g : Grantee). if same_source (holder g) (document d) then put_facts g p.standing else given es (document d)) (sym is)
+      others (User n) is (user m) = holders (User n) (User m) is ∙ ap (λ (g : Grantee). if same_source (holder g) (user m) then put_facts g p.standing else given es (user m)) (sym is)
+      others (User n) is (role m) = holders (User n) (Role m) is ∙ ap (λ (g : Grantee). if same_source (holder g) (role m) then put_facts g p.standing else given es (role m)) (sym is)
+      others (Role n) is (document d) = documents d ∙ ap (λ (g : Grantee). if same_source (holder g) (document d) then put_facts g p.standing else given es (document d)) (sym is)
+      others (Role n) is (user m) = holders (Role n) (User m) is ∙ ap (λ (g : Grantee). if same_source (holder g) (user m) then put_facts g p.standing else given es (user m)) (sym is)
+      others (Role n) is (role m) = holders (Role n) (Role m) is ∙ ap (λ (g : Grantee). if same_source (holder g) (role m) then put_facts g p.standing else given es (role m)) (sym is)
+
+      sums : (f : Fact) (of : Grantee) → p.of ≡ of → sources (e ∷ es) f + times (given es (holder p.of)) f ≡ sources (e ∷ es) f + times (put_facts p.of (standing_of es p.of)) f
+      sums f (User n) is = ap (λ (g : Grantee). sources (e ∷ es) f + times (given es (holder g)) f) is ∙ ap (λ (g : Grantee). sources (e ∷ es) f + times (put_facts g (standing_of es g)) f) (sym is)
+      sums f (Role n) is = ap (λ (g : Grantee). sources (e ∷ es) f + times (given es (holder g)) f) is ∙ ap (λ (g : Grantee). sources (e ∷ es) f + times (put_facts g (standing_of es g)) f) (sym is)
+
+  pub write_is_step : (w : Write) → as_write e ≡ Some w → as_put e ≡ None → IsStep kept at (document w.doc) (document_facts (current (e ∷ es) w.doc)) e es
+  write_is_step w is put = record {
+    place = place;
+    is_kept = is_kept;
+    others = others;
+    sums = λ f. write_step e es w is put f;
+  }
+    where
+      documents : (d : List ℕ) (b : Bool) → bytes_eq w.doc d ≡ b → document_facts (current (e ∷ es) d) ≡ (if b then document_facts (current (e ∷ es) w.doc) else document_facts (current es d))
+      documents d true same = ap (λ (x : List ℕ). document_facts (current (e ∷ es) x)) (sym ((bytes_decides w.doc d).0 same))
+      documents d false same = ap document_facts (current_same e es d (apart e es w is d (texts_swap d w.doc ∙ same)))
+
+      others : (s : Source) → given (e ∷ es) s ≡ (if same_source (document w.doc) s then document_facts (current (e ∷ es) w.doc) else given es s)
+      others (document d) = documents d (bytes_eq w.doc d) refl
+      others (user n) = ap (λ (s : Option Standing). put_facts (User n) s) (standing_same e es (User n) put)
+      others (role n) = ap (λ (s : Option Standing). put_facts (Role n) s) (standing_same e es (Role n) put)
+
+  -- an entry that changes nothing
+  pub idle_took : as_write e ≡ None → as_put e ≡ None → Took kept at e es
+  idle_took written put =
+      let up : IsStore kept.store at = subst (λ (n : ℕ). IsStore kept.store n) (sym place) is_kept.up_to in
+      let counts : (f : Fact) → count_at kept.store f ≡ sources (e ∷ es) f = λ f. is_kept.counts f ∙ sym (idle_step e es written put f) in
+      record {
+        is_kept = record {
+          lists = λ s. is_kept.lists s ∙ sym (same s);
+          counts = counts;
+          up_to = later_store kept.store at (length (e ∷ es) + 1) (omega (arith, place)) up;
+        };
+        now = λ f. settled kept.store at f up ∙ ap (λ (n : ℕ). nat_lt 0 n) (counts f);
+      }
+    where
+      same : (s : Source) → given (e ∷ es) s ≡ given es s
+      same (document d) = ap document_facts (current_same e es d (unwritten e es d written))
+      same (user n) = ap (λ (s : Option Standing). put_facts (User n) s) (standing_same e es (User n) put)
+      same (role n) = ap (λ (s : Option Standing). put_facts (Role n) s) (standing_same e es (Role n) put)

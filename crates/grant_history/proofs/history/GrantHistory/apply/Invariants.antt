@@ -1,0 +1,16 @@
+use Rattle.std.proofs.Common.{◌≡◌, ◌≤◌, ◌+◌, ◌*◌, ◌-◌, max}
+use Rattle.grant_history.specs.Stands.{StandsFor}
+use Rattle.grant_history.proofs.history.GrantHistory.apply.Given as goal
+
+-- the log is applied up to here
+abbrev pub invariant-loop-self : goal.invariant-loop-self
+invariant-loop-self l = record {
+  stands : StandsFor l.self l.initial.log.entries;
+  log : l.log.entries ≡ l.initial.log.entries;
+  from : l.initial.self.applied ≤ l.self.applied;
+  up_to : l.self.applied ≤ max l.initial.self.applied l.to;
+  reads : l.log.reads ≤ l.initial.log.reads + 2 * (l.self.applied - l.initial.self.applied);
+}
+
+abbrev pub decreases-loop-self : goal.decreases-loop-self
+decreases-loop-self l = l.to - l.self.applied

@@ -1,0 +1,35 @@
+use Rattle.std.proofs.Common.{ℕ, ◌+◌, ◌∙◌, sym, ap, arith, List, [], ◌∷◌, ◌++◌, take, if◌then◌else◌}
+use Rattle.std.proofs.lemmas.List.{take_more}
+use Rattle.grant_history.specs.declared.facts.Fact.{Fact}
+use Rattle.grant_history.specs.Facts.{times, same_fact}
+use Rattle.grant_history.specs.Holdings.{count_at}
+use Rattle.grant_history.proofs.Holding.{chained, recounted_at, more_step}
+use Rattle.grant_history.proofs.Tracked.{at_ok, at_err}
+use Rattle.grant_history.proofs.Steps.{times_append}
+use Rattle.grant_history.proofs.store.Store.give_all.Goals as goal
+
+pub loop-i-preserved : goal.loop-i-preserved
+loop-i-preserved c =
+    let i = c.loop-i.i in
+    let x = c.index-facts-i.result in
+    let given = at_ok c.give.result _ (sym c.is_err.ensures.value ∙ c.if-is_err.false) c.give.ensures.ok in
+    recounted_at c.args.self.now c.give.new.self c.args.at _ _ (chained c.args.self.now c.loop-i.self c.give.new.self c.args.at _ _ c.loop-i.invariant given)
+    (λ f. ap (λ (n : ℕ). if same_fact x f then n + 1 else n) (c.loop-i.invariant.counts f)
+    ∙ more_step (same_fact x f) (count_at c.args.self.now f) (times (take i c.args.facts.now) f)
+    ∙ ap (λ (n : ℕ). count_at c.args.self.now f + n) (sym (times_append (take i c.args.facts.now) (x ∷ []) f)
+    ∙ ap (λ (l : List Fact). times l f) (ap (λ (y : Fact). take i c.args.facts.now ++ y ∷ []) c.index-facts-i.is ∙ sym (take_more c.args.facts.now i x c.loop-i-test.true))))
+
+pub take_all-requires : goal.take_all-requires
+take_all-requires c =
+    let kept = at_err c.give.result _ (sym c.is_err.ensures.value ∙ c.if-is_err.true) c.give.ensures.err in
+    record {
+      given = λ f. omega (arith, kept.counts f, c.loop-i.invariant.counts f);
+      up_to = kept.up_to c.args.at (omega arith) (c.loop-i.invariant.up_to c.args.at (omega arith) c.requires);
+    }
+
+pub returns-then-is_err-clause-err : goal.returns-then-is_err-clause-err
+returns-then-is_err-clause-err c =
+    let kept = at_err c.give.result _ (sym c.is_err.ensures.value ∙ c.if-is_err.true) c.give.ensures.err in
+    recounted_at c.args.self.now c.take_all.new.self c.args.at _ _
+    (chained c.args.self.now c.give.new.self c.take_all.new.self c.args.at _ _ (chained c.args.self.now c.loop-i.self c.give.new.self c.args.at _ _ c.loop-i.invariant kept) c.take_all.ensures)
+    (λ f. omega (arith, kept.counts f, c.loop-i.invariant.counts f))

@@ -1,0 +1,61 @@
+-- What a user or a role may have, and what puts and documents give.
+use Rattle.std.specs.Prelude.{ℕ, ◌+◌, Bool, true, false, ◌&&◌, List, [], ◌∷◌, ◌++◌, map, Option, Some, None, if◌then◌else◌}
+use Rattle.std.specs.Str.{bytes_eq}
+use Rattle.sg_names.specs.declared.grants.Grantee.{Grantee}
+use Rattle.sg_names.specs.declared.grants.Grantee.TheVariants.{User}
+use Rattle.sg_names.specs.declared.grants.Grant.{Grant}
+use Rattle.sg_names.specs.declared.role_grants.RoleGrant.{RoleGrant}
+use Rattle.sg_history.specs.Current.{Current}
+use Rattle.sg_history.specs.Principals.{Standing, same_grantee}
+use Rattle.grant_history.specs.declared.facts.What.{What}
+use Rattle.grant_history.specs.declared.facts.What.TheVariants as what
+use Rattle.grant_history.specs.declared.facts.Fact.{Fact}
+
+-- whether both are the same
+abbrev pub same_what : What → What → Bool
+same_what what.Exists what.Exists = true
+same_what what.Exists (what.Channel d) = false
+same_what what.Exists (what.Role s) = false
+same_what (what.Channel c) what.Exists = false
+same_what (what.Channel c) (what.Channel d) = bytes_eq c d
+same_what (what.Channel c) (what.Role s) = false
+same_what (what.Role r) what.Exists = false
+same_what (what.Role r) (what.Channel d) = false
+same_what (what.Role r) (what.Role s) = bytes_eq r s
+
+abbrev pub same_fact : Fact → Fact → Bool
+same_fact a b = same_grantee a.of b.of && same_what a.what b.what
+
+-- how often a fact is among these
+abbrev pub times : List Fact → Fact → ℕ
+times [] f = 0
+times (g ∷ gs) f = (if same_fact g f then 1 else 0) + times gs f
+
+abbrev pub fact : Grantee → What → Fact
+fact of w = record { of = of; what = w }
+
+-- channels of a user or role
+abbrev pub channel_facts : Grantee → List (List ℕ) → List Fact
+channel_facts of channels = map (λ c. fact of (what.Channel c)) channels
+
+-- roles of a user
+abbrev pub role_facts : Grantee → List (List ℕ) → List Fact
+role_facts of roles = map (λ r. fact of (what.Role r)) roles
+
+-- what a put gives: that the user or role exists, its channels, and its roles
+abbrev pub put_facts : Grantee → Option Standing → List Fact
+put_facts of None = []
+put_facts of (Some s) = fact of what.Exists ∷ channel_facts of s.channels ++ role_facts of s.roles
+
+-- channels that are granted
+abbrev pub grant_facts : List Grant → List Fact
+grant_facts grants = map (λ g. fact g.to (what.Channel g.channel)) grants
+
+-- roles that are given
+abbrev pub gift_facts : List RoleGrant → List Fact
+gift_facts gifts = map (λ g. fact (User g.user) (what.Role g.role)) gifts
+
+-- what a document gives as it is
+abbrev pub document_facts : Option Current → List Fact
+document_facts None = []
+document_facts (Some c) = grant_facts c.effects.grants ++ gift_facts c.effects.roles

@@ -1,0 +1,167 @@
+//! The history of grants.
+
+ghost use Rattle.std.specs.Prelude.{◌≡◌, ◌⊎◌, ◌<◌, ◌≤◌, ◌+◌, ◌-◌, ◌*◌, ℕ, List, ◌∷◌, length, max, OnOk, OnErr, IfOk};
+ghost use Rattle.log_index.specs.Index.{Indexes};
+ghost use Rattle.sg_history.specs.declared.entries.Entry as entry;
+ghost use Rattle.sg_history.specs.History.{among, past};
+ghost use Rattle.sg_history.specs.Principals.{exists, user_at, has_channel, has_role};
+ghost use Rattle.sg_history.specs.Current.{current};
+ghost use Rattle.grant_history.specs.Facts as facts;
+ghost use Rattle.grant_history.specs.Kept.{Took};
+ghost use Rattle.grant_history.specs.Stands.{KeptAt, StandsFor, IsNext};
+
+use crate::facts::Fact;
+use crate::given::of_entry;
+use crate::kept::{Kept, Source};
+use log_index::LogIndex;
+use sg_history::{Channels, DocId, Entry, LogReads, Name, Names};
+use sg_outside::Memory;
+use std::alloc::Global;
+
+/// Which channels and roles users had at the places of a log, up to the one that was applied last.
+#[derive(Drop)]
+pub struct GrantHistory {
+    alloc: Global,
+    applied: u64,
+    index: LogIndex,
+    kept: Kept,
+}
+
+/// Puts the entry at a place into an index, unless it has it.
+fn index_entry(index: &mut LogIndex, entry: &Entry, at: u64) -> Result<(), Memory>
+    ensures ok { OnOk result ((es : List Entry) → at ≡ length es + 1
+        → Indexes index.old es ⊎ Indexes index.old (entry.now ∷ es)
+        → Indexes index.new (entry.now ∷ es)) }
+    ensures err { OnErr result ((es : List Entry) → at ≡ length es + 1
+        → Indexes index.old es ⊎ Indexes index.old (entry.now ∷ es)
+        → Indexes index.new es ⊎ Indexes index.new (entry.now ∷ es)) }
+{
+    if index.count() < at {
+        index.push(entry)?;
+    }
+    Ok(())
+}
+
+impl GrantHistory {
+    /// A history of which nothing is applied. Allocates nothing.
+    pub fn new(alloc: Global) -> GrantHistory
+        ensures applied { result.applied ≡ 0 }
+        ensures stands { (entries : List entry.Entry) → StandsFor result entries }
+    {
+        GrantHistory {
+            alloc,
+            applied: 0,
+            index: LogIndex::new(alloc),
+            kept: Kept::new(alloc),
+        }
+    }
+
+    /// The place up to which the log is applied.
+    pub fn applied(&self) -> u64
+        ensures { result ≡ self.now.applied }
+    {
+        self.applied
+    }
+
+    /// What a document gives as it is after the entries that the index has.
+    fn document_facts(&self, log: &mut LogReads<'_>, doc: &DocId) -> Result<Vec<Fact>, Memory>
+        requires { (n : ℕ) × (n ≤ length log.old.entries)
+            × Indexes self.now.index (past log.old.entries n) }
+        ensures facts { IfOk result (λ list. (n : ℕ) → n ≤ length log.old.entries
+            → Indexes self.now.index (past log.old.entries n)
+            → list.items ≡ facts.document_facts (current (past log.old.entries n) doc.now)) }
+        ensures log { log.new.entries ≡ log.old.entries }
+        ensures reads { log.new.reads ≤ log.old.reads + 1 }
+    {
+        match self.index.document(doc) {
+            None => Ok(Vec::new(self.alloc)),
+            Some(document) => of_entry(self.alloc, log.entry(document.winning)),
+        }
+    }
+
+    /// Applies the entry at the next place to what is kept.
+    fn take_entry(&mut self, log: &mut LogReads<'_>, entry: &Entry, at: u64) -> Result<(), Memory>
+        requires { IsNext self.old log.old.entries entry.now at }
+        ensures ok { OnOk result (KeptAt self.new.kept log.old.entries at) }
+        ensures err { OnErr result (KeptAt self.new.kept log.old.entries self.old.applied) }
+        ensures applied { self.new.applied ≡ self.old.applied }
+        ensures index { self.new.index ≡ self.old.index }
+        ensures log { log.new.entries ≡ log.old.entries }
+        ensures reads { log.new.reads ≤ log.old.reads + 1 }
+    {
+        match entry {
+            Entry::Write(write) => {
+                let facts = self.document_facts(log, &write.doc)?;
+                let source = Source::Document(&write.doc);
+                self.kept.take(self.alloc, source, facts, at)
+            }
+            _ => self.kept.take_put(self.alloc, entry, at),
+        }
+    }
+
+    /// Applies the entry at the next place, which is one up to `to`.
+    fn step(&mut self, log: &mut LogReads<'_>, to: u64) -> Result<(), Memory>
+        requires stands { StandsFor self.old log.old.entries }
+        requires more { self.old.applied < to }
+        requires within { to ≤ length log.old.entries }
+        ensures stands { StandsFor self.new log.old.entries }
+        ensures ok { OnOk result (self.new.applied ≡ self.old.applied + 1) }
+        ensures err { OnErr result (self.new.applied ≡ self.old.applied) }
+        ensures log { log.new.entries ≡ log.old.entries }
+        ensures reads { log.new.reads ≤ log.old.reads + 2 }
+    {
+        let at = self.applied + 1;
+        let entry = log.entry(at);
+        index_entry(&mut self.index, entry, at)?;
+        self.take_entry(log, entry, at)?;
+        self.applied = at;
+        Ok(())
+    }
+
+    /// Applies the log up to a place. Out of memory it has applied it up to some place before that,
+    /// and may go on from there. Each place takes at most two reads of the log.
+    pub fn apply(&mut self, log: &mut LogReads<'_>, to: u64) -> Result<(), Memory>
+        requires stands { StandsFor self.old log.old.entries }
+        requires within { to ≤ length log.old.entries }
+        ensures stands { StandsFor self.new log.old.entries }
+        ensures ok { OnOk result (self.new.applied ≡ max self.old.applied to) }
+        ensures from { self.old.applied ≤ self.new.applied }
+        ensures up_to { self.new.applied ≤ max self.old.applied to }
+        ensures log { log.new.entries ≡ log.old.entries }
+        ensures reads { log.new.reads ≤ log.old.reads + 2 * (to - self.old.applied) }
+    {
+        while self.applied < to {
+            self.step(log, to)?;
+        }
+        Ok(())
+    }
+
+    /// Whether a user exists after the entries up to a place. Allocates nothing.
+    pub fn exists_at(&self, user: &Name, k: u64) -> bool
+        requires { k ≤ self.now.applied }
+        ensures { (entries : List entry.Entry) → StandsFor self.now entries
+            → result ≡ exists (user_at (past entries k) user.now) }
+    {
+        self.kept.store.user_exists(user, k)
+    }
+
+    /// The channels that a user has after the entries up to a place, each once, in no order.
+    pub fn channels_at(&self, user: &Name, k: u64) -> Result<Channels, Memory>
+        requires { k ≤ self.now.applied }
+        ensures { IfOk result (λ channels. (entries : List entry.Entry) → StandsFor self.now entries
+            → (c : List ℕ) → among channels c ≡ has_channel (past entries k) user.now c) }
+    {
+        let channels = self.kept.store.channels(self.alloc, user, k)?;
+        Ok(Channels::from_vec(channels))
+    }
+
+    /// The roles that a user has after the entries up to a place, each once, in no order.
+    pub fn roles_at(&self, user: &Name, k: u64) -> Result<Names, Memory>
+        requires { k ≤ self.now.applied }
+        ensures { IfOk result (λ roles. (entries : List entry.Entry) → StandsFor self.now entries
+            → (r : List ℕ) → among roles r ≡ has_role (past entries k) user.now r) }
+    {
+        let roles = self.kept.store.roles(self.alloc, user, k)?;
+        Ok(Names::from_vec(roles))
+    }
+}

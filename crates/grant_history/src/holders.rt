@@ -1,0 +1,70 @@
+//! What the users, or the roles, have or had, by their names.
+
+ghost use Rattle.std.specs.Prelude.{◌≡◌, ◌<◌, None, OnOk, OnErr};
+ghost use Rattle.std.specs.BTreeMap.{get_by_text};
+ghost use Rattle.grant_history.specs.Dated.{Dated};
+ghost use Rattle.grant_history.specs.Holdings.{count_of, held_of, AreAllUpTo, more_of, less_of};
+
+use crate::facts::What;
+use crate::held::{self, Held};
+use sg_outside::Memory;
+use std::alloc::Global;
+use std::collections::BTreeMap;
+
+/// What each has or had, by its name.
+pub type Holders = BTreeMap<String, Vec<Held>>;
+
+/// Whether the holder of a name has something at a place.
+pub fn holds(holders: &Holders, name: &str, what: &What, k: u64) -> bool
+    ensures { result ≡ held_of holders.now (name.now, what.now) k }
+{
+    match holders.get(name) {
+        None => false,
+        Some(list) => held::holds(list.as_slice(), what, k),
+    }
+}
+
+/// One source more gives it to the holder of a name from a place on.
+pub fn give(
+    alloc: Global,
+    holders: &mut Holders,
+    name: &str,
+    what: &What,
+    at: u64,
+) -> Result<(), Memory>
+    ensures ok { OnOk result (Dated count_of held_of AreAllUpTo holders.old holders.new at
+        (more_of (count_of holders.old) name.now what.now)) }
+    ensures err { OnErr result (Dated count_of held_of AreAllUpTo holders.old holders.new at
+        (count_of holders.old)) }
+{
+    if let Some(list) = holders.get_mut(name) {
+        return held::give(alloc, list, what, at);
+    }
+    add(alloc, holders, name, what, at)
+}
+
+/// The same where nothing is kept of the name.
+fn add(alloc: Global, holders: &mut Holders, name: &str, what: &What, at: u64) -> Result<(), Memory>
+    requires { get_by_text holders.old name.now ≡ None }
+    ensures ok { OnOk result (Dated count_of held_of AreAllUpTo holders.old holders.new at
+        (more_of (count_of holders.old) name.now what.now)) }
+    ensures err { OnErr result (Dated count_of held_of AreAllUpTo holders.old holders.new at
+        (count_of holders.old)) }
+{
+    let mut list = Vec::new(alloc);
+    held::give(alloc, &mut list, what, at)?;
+    holders.insert(String::from_str(alloc, name)?, list)?;
+    Ok(())
+}
+
+/// One source that gave it to the holder of a name does not from a place on. Allocates nothing.
+pub fn take(holders: &mut Holders, name: &str, what: &What, at: u64)
+    requires given { 0 < count_of holders.old (name.now, what.now) }
+    requires up_to { AreAllUpTo holders.old at }
+    ensures { Dated count_of held_of AreAllUpTo holders.old holders.new at
+        (less_of (count_of holders.old) name.now what.now) }
+{
+    if let Some(list) = holders.get_mut(name) {
+        held::take(list, what, at);
+    }
+}

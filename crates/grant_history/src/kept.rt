@@ -1,0 +1,158 @@
+//! What all sources give, and who has what by that.
+
+ghost use Rattle.std.specs.Prelude.{◌≡◌, ◌<◌, ◌≤◌, ◌+◌, ◌-◌, false, None, ℕ, List, [], length, OnOk, OnErr, if◌then◌else◌};
+ghost use Rattle.std.specs.Str.{bytes_eq};
+ghost use Rattle.grant_history.specs.Dated.{Dated};
+ghost use Rattle.grant_history.specs.Facts.{times};
+ghost use Rattle.grant_history.specs.Holdings.{count_at, has_at, IsStore};
+ghost use Rattle.grant_history.specs.Kept.{facts_in, source_in, holder, IsKept, IsStep, Took};
+ghost use Rattle.grant_history.specs.Stands.{IsBefore};
+ghost use Rattle.sg_history.specs.History.{as_write};
+ghost use Rattle.sg_history.specs.Puts as puts;
+
+use crate::facts::Fact;
+use crate::given::of_put;
+use crate::lists::{Lists, make_place, swap};
+use crate::store::Store;
+use sg_history::{DocId, Entry, Name, Principal};
+use sg_outside::Memory;
+use std::alloc::Global;
+use std::collections::BTreeMap;
+
+/// What gives something: a document as it is, or the last put of a user or a role.
+#[derive(Clone, Copy)]
+pub enum Source<'a> {
+    Document(&'a DocId),
+    User(&'a Name),
+    Role(&'a Name),
+}
+
+/// What each source gives, and who has what by that.
+#[derive(Drop)]
+pub struct Kept {
+    pub store: Store,
+    documents: Lists,
+    users: Lists,
+    roles: Lists,
+}
+
+/// A source gives other facts from a place on. Out of memory nothing changes but room.
+fn replace(
+    alloc: Global,
+    store: &mut Store,
+    lists: &mut Lists,
+    name: &str,
+    facts: Vec<Fact>,
+    at: u64,
+) -> Result<(), Memory>
+    requires up_to { IsStore store.old at }
+    requires given { (f : Fact) → times (facts_in lists.old name.now) f
+        ≤ count_at store.old f + times facts.items f }
+    ensures store { OnOk result (Dated count_at has_at IsStore store.old store.new at
+        (λ f. count_at store.old f + times facts.items f
+        - times (facts_in lists.old name.now) f)) }
+    ensures lists { OnOk result ((other : List ℕ) → facts_in lists.new other
+        ≡ (if bytes_eq name.now other then facts.items else facts_in lists.old other)) }
+    ensures err_store { OnErr result (Dated count_at has_at IsStore store.old store.new at
+        (count_at store.old)) }
+    ensures err_lists { OnErr result ((other : List ℕ)
+        → facts_in lists.new other ≡ facts_in lists.old other) }
+{
+    make_place(alloc, lists, name)?;
+    store.give_all(alloc, facts.as_slice(), at)?;
+    let before = swap(lists, name, facts);
+    store.take_all(before.as_slice(), at);
+    Ok(())
+}
+
+impl Kept {
+    /// Nothing. Allocates nothing.
+    pub fn new(alloc: Global) -> Kept
+        ensures kept { IsKept result [] }
+        ensures held { (f : Fact) (k : ℕ) → has_at result.store f k ≡ false }
+    {
+        Kept {
+            store: Store::new(alloc),
+            documents: BTreeMap::new(alloc),
+            users: BTreeMap::new(alloc),
+            roles: BTreeMap::new(alloc),
+        }
+    }
+
+    /// A source gives other facts from a place on. Out of memory all is as it was before that place.
+    pub fn take(
+        &mut self,
+        alloc: Global,
+        source: Source<'_>,
+        facts: Vec<Fact>,
+        at: u64,
+    ) -> Result<(), Memory>
+        requires { (e : Entry) × (es : List Entry)
+            × IsStep self.old at (source_in source) facts.items e es }
+        ensures ok { OnOk result ((e : Entry) (es : List Entry)
+            → IsStep self.old at (source_in source.entry) facts.items e es
+            → Took self.new at e es) }
+        ensures err { OnErr result ((es : List Entry) → at ≡ length es + 1
+            → IsKept self.old es → IsKept self.new es) }
+        ensures before { (f : Fact) (k : ℕ) → k < at
+            → has_at self.new.store f k ≡ has_at self.old.store f k }
+    {
+        match source {
+            Source::Document(doc) => replace(
+                alloc,
+                &mut self.store,
+                &mut self.documents,
+                doc.as_str(),
+                facts,
+                at,
+            ),
+            Source::User(name) => replace(
+                alloc,
+                &mut self.store,
+                &mut self.users,
+                name.as_str(),
+                facts,
+                at,
+            ),
+            Source::Role(name) => replace(
+                alloc,
+                &mut self.store,
+                &mut self.roles,
+                name.as_str(),
+                facts,
+                at,
+            ),
+        }
+    }
+
+    /// Takes the put or drop that an entry is, if it is one. Out of memory all is as it was before
+    /// that place.
+    pub fn take_put(&mut self, alloc: Global, entry: &Entry, at: u64) -> Result<(), Memory>
+        requires before { IsBefore self.old at }
+        requires no_write { as_write entry.now ≡ None }
+        ensures ok { OnOk result ((es : List Entry) → at ≡ length es + 1 → IsKept self.old es
+            → Took self.new at entry.now es) }
+        ensures err { OnErr result ((es : List Entry) → at ≡ length es + 1
+            → IsKept self.old es → IsKept self.new es) }
+        ensures before { (f : Fact) (k : ℕ) → k < at
+            → has_at self.new.store f k ≡ has_at self.old.store f k }
+    {
+        match entry.as_put() {
+            None => Ok(()),
+            Some(put) => {
+                let facts = of_put(alloc, put)?;
+                self.take(alloc, source_of(put.of), facts, at)
+            }
+        }
+    }
+}
+
+/// The put of a user or a role as a source.
+fn source_of<'a>(of: Principal<'a>) -> Source<'a>
+    ensures { source_in result ≡ holder (puts.grantee_in of.entry) }
+{
+    match of {
+        Principal::User(name) => Source::User(name),
+        Principal::Role(name) => Source::Role(name),
+    }
+}

@@ -1,0 +1,257 @@
+//! The channels and the roles of a user at a place.
+
+ghost use Rattle.std.specs.Prelude.{◌≡◌, ◌&&◌, ◌||◌, ℕ, List, IfOk, OnOk};
+ghost use Rattle.std.specs.BTreeMap.{get_by_text};
+ghost use Rattle.std.specs.Str.{bytes_eq};
+ghost use Rattle.sg_history.specs.History.{among};
+ghost use Rattle.sg_history.specs.Principals as principals;
+ghost use Rattle.grant_history.specs.Tracks.{held_at};
+ghost use Rattle.grant_history.specs.Reads as reads;
+
+use crate::facts::What;
+use crate::held::{Held, holds};
+use crate::holders::{self, Holders};
+use sg_history::{ChannelName, Name, TextFault};
+use sg_outside::Memory;
+use std::alloc::{AllocError, Global};
+
+/// The channel `!`, which every user has.
+fn everyone(alloc: Global) -> Result<ChannelName, Memory>
+    ensures { IfOk result (λ channel. channel ≡ principals.everyone) }
+{
+    match ChannelName::parse(alloc, "!") {
+        Ok(channel) => Ok(channel),
+        Err(TextFault::Memory) => Err(AllocError),
+        Err(TextFault::Bad) => unreachable!(),
+    }
+}
+
+fn has_channel(list: &[ChannelName], channel: &[u8]) -> bool
+    ensures { result ≡ among list.now channel.now }
+{
+    list.iter().any(|c| c.as_bytes() == channel)
+}
+
+fn add_channel(
+    alloc: Global,
+    list: &mut Vec<ChannelName>,
+    channel: &ChannelName,
+) -> Result<(), Memory>
+    ensures { OnOk result ((x : List ℕ) → among list.new.items x
+        ≡ (bytes_eq channel.now x || among list.old.items x)) }
+{
+    if !has_channel(list.as_slice(), channel.as_bytes()) {
+        list.push(channel.copy(alloc)?)?;
+    }
+    Ok(())
+}
+
+fn add_if_channel(alloc: Global, list: &mut Vec<ChannelName>, what: &What) -> Result<(), Memory>
+    ensures { OnOk result ((x : List ℕ) → among list.new.items x
+        ≡ (reads.is_channel what.now x || among list.old.items x)) }
+{
+    match what {
+        What::Channel(channel) => add_channel(alloc, list, channel),
+        _ => Ok(()),
+    }
+}
+
+/// Adds the channels that are held at a place.
+fn add_channels(
+    alloc: Global,
+    list: &mut Vec<ChannelName>,
+    all: &[Held],
+    k: u64,
+) -> Result<(), Memory>
+    ensures { OnOk result ((x : List ℕ) → among list.new.items x
+        ≡ (reads.channel_among all.now k x || among list.old.items x)) }
+{
+    for held in all {
+        if held.track.holds(k) {
+            add_if_channel(alloc, list, &held.what)?;
+        }
+    }
+    Ok(())
+}
+
+/// Adds the channels of a role where it exists.
+fn add_role_channels(
+    alloc: Global,
+    list: &mut Vec<ChannelName>,
+    roles: &Holders,
+    role: &Name,
+    k: u64,
+) -> Result<(), Memory>
+    ensures { OnOk result ((x : List ℕ) → among list.new.items x
+        ≡ (reads.role_channel roles.now role.now k x || among list.old.items x)) }
+{
+    if let Some(all) = roles.get(role.as_str()) {
+        if holds(all.as_slice(), &What::Exists, k) {
+            add_channels(alloc, list, all.as_slice(), k)?;
+        }
+    }
+    Ok(())
+}
+
+fn add_if_role(
+    alloc: Global,
+    list: &mut Vec<ChannelName>,
+    roles: &Holders,
+    what: &What,
+    k: u64,
+) -> Result<(), Memory>
+    ensures { OnOk result ((x : List ℕ) → among list.new.items x
+        ≡ (reads.gives_channel roles.now what.now k x || among list.old.items x)) }
+{
+    match what {
+        What::Role(role) => add_role_channels(alloc, list, roles, role, k),
+        _ => Ok(()),
+    }
+}
+
+/// Adds the channels of the roles that are held at a place.
+fn add_by_roles(
+    alloc: Global,
+    list: &mut Vec<ChannelName>,
+    roles: &Holders,
+    all: &[Held],
+    k: u64,
+) -> Result<(), Memory>
+    ensures { OnOk result ((x : List ℕ) → among list.new.items x
+        ≡ (reads.by_roles roles.now all.now k x || among list.old.items x)) }
+{
+    for held in all {
+        if held.track.holds(k) {
+            add_if_role(alloc, list, roles, &held.what, k)?;
+        }
+    }
+    Ok(())
+}
+
+/// Adds the channels of a user that exists.
+fn add_user(
+    alloc: Global,
+    list: &mut Vec<ChannelName>,
+    roles: &Holders,
+    all: &[Held],
+    k: u64,
+) -> Result<(), Memory>
+    ensures { OnOk result ((x : List ℕ) → among list.new.items x
+        ≡ (reads.by_roles roles.now all.now k x || (reads.channel_among all.now k x
+        || (bytes_eq principals.everyone x || among list.old.items x)))) }
+{
+    let everyone = everyone(alloc)?;
+    add_channel(alloc, list, &everyone)?;
+    add_channels(alloc, list, all, k)?;
+    add_by_roles(alloc, list, roles, all, k)
+}
+
+/// The channels of a user that has or had these, none where it does not exist at the place.
+fn channels_in(
+    alloc: Global,
+    roles: &Holders,
+    all: &[Held],
+    k: u64,
+) -> Result<Vec<ChannelName>, Memory>
+    ensures { IfOk result (λ list. (x : List ℕ) → among list.items x
+        ≡ reads.list_channel roles.now all.now k x) }
+{
+    if !holds(all, &What::Exists, k) {
+        return Ok(Vec::new(alloc));
+    }
+    let mut list = Vec::new(alloc);
+    add_user(alloc, &mut list, roles, all, k)?;
+    Ok(list)
+}
+
+/// The channels of a user at a place, none where it does not exist there.
+pub fn channels_of(
+    alloc: Global,
+    users: &Holders,
+    roles: &Holders,
+    user: &Name,
+    k: u64,
+) -> Result<Vec<ChannelName>, Memory>
+    ensures { IfOk result (λ list. (x : List ℕ) → among list.items x
+        ≡ reads.user_channel roles.now (get_by_text users.now user.now) k x) }
+{
+    match users.get(user.as_str()) {
+        None => Ok(Vec::new(alloc)),
+        Some(all) => channels_in(alloc, roles, all.as_slice(), k),
+    }
+}
+
+fn add_role(alloc: Global, list: &mut Vec<Name>, role: &Name) -> Result<(), Memory>
+    ensures { OnOk result ((x : List ℕ) → among list.new.items x
+        ≡ (bytes_eq role.now x || among list.old.items x)) }
+{
+    list.push(role.copy(alloc)?)?;
+    Ok(())
+}
+
+fn add_if_existing(
+    alloc: Global,
+    list: &mut Vec<Name>,
+    roles: &Holders,
+    what: &What,
+    k: u64,
+) -> Result<(), Memory>
+    ensures { OnOk result ((x : List ℕ) → among list.new.items x
+        ≡ (reads.is_existing roles.now what.now k x || among list.old.items x)) }
+{
+    if let What::Role(role) = what {
+        if holders::holds(roles, role.as_str(), &What::Exists, k) {
+            return add_role(alloc, list, role);
+        }
+    }
+    Ok(())
+}
+
+/// Adds the roles that exist and are held at a place.
+fn add_roles(
+    alloc: Global,
+    list: &mut Vec<Name>,
+    roles: &Holders,
+    all: &[Held],
+    k: u64,
+) -> Result<(), Memory>
+    ensures { OnOk result ((x : List ℕ) → among list.new.items x
+        ≡ (reads.role_among roles.now all.now k x || among list.old.items x)) }
+{
+    for held in all {
+        if held.track.holds(k) {
+            add_if_existing(alloc, list, roles, &held.what, k)?;
+        }
+    }
+    Ok(())
+}
+
+/// The roles of a user that has or had these, none where it does not exist at the place.
+fn roles_in(alloc: Global, roles: &Holders, all: &[Held], k: u64) -> Result<Vec<Name>, Memory>
+    ensures { IfOk result (λ list. (x : List ℕ) → among list.items x
+        ≡ reads.list_role roles.now all.now k x) }
+{
+    if !holds(all, &What::Exists, k) {
+        return Ok(Vec::new(alloc));
+    }
+    let mut list = Vec::new(alloc);
+    add_roles(alloc, &mut list, roles, all, k)?;
+    Ok(list)
+}
+
+/// The roles of a user at a place, none where it does not exist there.
+pub fn roles_of(
+    alloc: Global,
+    users: &Holders,
+    roles: &Holders,
+    user: &Name,
+    k: u64,
+) -> Result<Vec<Name>, Memory>
+    ensures { IfOk result (λ list. (x : List ℕ) → among list.items x
+        ≡ reads.user_role roles.now (get_by_text users.now user.now) k x) }
+{
+    match users.get(user.as_str()) {
+        None => Ok(Vec::new(alloc)),
+        Some(all) => roles_in(alloc, roles, all.as_slice(), k),
+    }
+}

@@ -1,0 +1,126 @@
+//! What all users and roles have or had.
+
+ghost use Rattle.std.specs.Prelude.{◌≡◌, ◌<◌, ◌≤◌, ◌+◌, ◌-◌, ℕ, List, false, IfOk, OnOk, OnErr};
+ghost use Rattle.grant_history.specs.Dated.{Dated};
+ghost use Rattle.std.specs.BTreeMap.{get_by_text};
+ghost use Rattle.sg_history.specs.History.{among};
+ghost use Rattle.sg_names.specs.declared.grants.Grantee.TheVariants.{User};
+ghost use Rattle.grant_history.specs.declared.facts.What.TheVariants as what;
+ghost use Rattle.grant_history.specs.Reads.{user_channel, user_role};
+ghost use Rattle.grant_history.specs.Facts.{fact, times};
+ghost use Rattle.grant_history.specs.Holdings.{count_at, has_at, IsStore, more_at, less_at};
+
+use crate::facts::{Fact, What};
+use crate::holders::{self, Holders};
+use crate::reads::{channels_of, roles_of};
+use sg_history::{ChannelName, Grantee, Name};
+use sg_outside::Memory;
+use std::alloc::{AllocError, Global};
+use std::collections::BTreeMap;
+
+/// What users and roles have or had.
+#[derive(Drop)]
+pub struct Store {
+    users: Holders,
+    roles: Holders,
+}
+
+impl Store {
+    /// Nothing. Allocates nothing.
+    pub fn new(alloc: Global) -> Store
+        ensures counts { (f : Fact) → count_at result f ≡ 0 }
+        ensures held { (f : Fact) (k : ℕ) → has_at result f k ≡ false }
+        ensures up_to { (n : ℕ) → IsStore result n }
+    {
+        Store {
+            users: BTreeMap::new(alloc),
+            roles: BTreeMap::new(alloc),
+        }
+    }
+
+    /// One source more gives a fact from a place on.
+    fn give(&mut self, alloc: Global, fact: &Fact, at: u64) -> Result<(), Memory>
+        ensures ok { OnOk result (Dated count_at has_at IsStore self.old self.new at
+            (more_at (count_at self.old) fact.now)) }
+        ensures err { OnErr result (Dated count_at has_at IsStore self.old self.new at
+            (count_at self.old)) }
+    {
+        match &fact.of {
+            Grantee::User(name) => {
+                holders::give(alloc, &mut self.users, name.as_str(), &fact.what, at)
+            }
+            Grantee::Role(name) => {
+                holders::give(alloc, &mut self.roles, name.as_str(), &fact.what, at)
+            }
+        }
+    }
+
+    /// One source that gave a fact does not from a place on. Allocates nothing.
+    fn take(&mut self, fact: &Fact, at: u64)
+        requires given { 0 < count_at self.old fact.now }
+        requires up_to { IsStore self.old at }
+        ensures { Dated count_at has_at IsStore self.old self.new at
+            (less_at (count_at self.old) fact.now) }
+    {
+        match &fact.of {
+            Grantee::User(name) => {
+                holders::take(&mut self.users, name.as_str(), &fact.what, at);
+            }
+            Grantee::Role(name) => {
+                holders::take(&mut self.roles, name.as_str(), &fact.what, at);
+            }
+        }
+    }
+
+    /// A source that gave these facts does not from a place on. Allocates nothing.
+    pub fn take_all(&mut self, facts: &[Fact], at: u64)
+        requires given { (f : Fact) → times facts.now f ≤ count_at self.old f }
+        requires up_to { IsStore self.old at }
+        ensures { Dated count_at has_at IsStore self.old self.new at
+            (λ f. count_at self.old f - times facts.now f) }
+    {
+        for fact in facts {
+            self.take(fact, at);
+        }
+    }
+
+    /// One source more gives these facts from a place on. Out of memory no more are given than before.
+    pub fn give_all(&mut self, alloc: Global, facts: &[Fact], at: u64) -> Result<(), Memory>
+        requires { IsStore self.old at }
+        ensures ok { OnOk result (Dated count_at has_at IsStore self.old self.new at
+            (λ f. count_at self.old f + times facts.now f)) }
+        ensures err { OnErr result (Dated count_at has_at IsStore self.old self.new at
+            (count_at self.old)) }
+    {
+        for (i, fact) in facts.iter().enumerate() {
+            if self.give(alloc, fact, at).is_err() {
+                self.take_all(&facts[..i], at);
+                return Err(AllocError);
+            }
+        }
+        Ok(())
+    }
+
+    /// Whether a user exists at a place. Allocates nothing.
+    pub fn user_exists(&self, user: &Name, k: u64) -> bool
+        ensures { result ≡ has_at self.now (fact (User user.now) what.Exists) k }
+    {
+        holders::holds(&self.users, user.as_str(), &What::Exists, k)
+    }
+
+    /// The channels of a user at a place, none where it does not exist there.
+    pub fn channels(&self, alloc: Global, user: &Name, k: u64) -> Result<Vec<ChannelName>, Memory>
+        ensures { IfOk result (λ list. (x : List ℕ) → among list.items x ≡ user_channel
+            self.now.roles (get_by_text self.now.users user.now) k x) }
+    {
+        channels_of(alloc, &self.users, &self.roles, user, k)
+    }
+
+    /// The roles of a user at a place, none where it does not exist there.
+    pub fn roles(&self, alloc: Global, user: &Name, k: u64) -> Result<Vec<Name>, Memory>
+        ensures { IfOk result (λ list. (x : List ℕ) → among list.items x ≡ user_role
+            self.now.roles (get_by_text self.now.users user.now) k x) }
+    {
+        roles_of(alloc, &self.users, &self.roles, user, k)
+    }
+}

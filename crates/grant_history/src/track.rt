@@ -1,0 +1,82 @@
+//! When something is held: by how many sources, and in which spans of places.
+
+ghost use Rattle.std.specs.Prelude.{◌≡◌, ◌<◌, ◌+◌, ◌-◌, [], OnOk, OnErr};
+ghost use Rattle.grant_history.specs.Tracks.{IsTrack, Moves, held_at, was_held};
+
+use sg_outside::Memory;
+use std::alloc::{AllocError, Global};
+
+/// The places from one up to before another.
+#[derive(Clone, Copy)]
+pub struct Span {
+    pub from: u64,
+    pub to: u64,
+}
+
+/// When one thing is held: how many sources give it, since which place where any does, and the
+/// spans in which any did before.
+#[derive(Drop)]
+pub struct Track {
+    count: u64,
+    opened: u64,
+    closed: Vec<Span>,
+}
+
+impl Track {
+    /// A track of what no source gives. Allocates nothing.
+    pub fn new(alloc: Global) -> Track
+        ensures count { result.count ≡ 0 }
+        ensures closed { result.closed.items ≡ [] }
+    {
+        Track {
+            count: 0,
+            opened: 0,
+            closed: Vec::new(alloc),
+        }
+    }
+
+    /// Whether any source gives it at a place.
+    pub fn holds(&self, k: u64) -> bool
+        ensures { result ≡ held_at self.now k }
+    {
+        self.held_before(k) || (self.count > 0 && self.opened <= k)
+    }
+
+    fn held_before(&self, k: u64) -> bool
+        ensures { result ≡ was_held self.now k }
+    {
+        self.closed.iter().any(|s| s.from <= k && k < s.to)
+    }
+
+    /// One source more gives it from a place on. Out of memory, and where 2^64 - 1 sources give it
+    /// already, it is as it was.
+    pub fn give(&mut self, at: u64) -> Result<(), Memory>
+        ensures ok { OnOk result (Moves self.old self.new at (self.old.count + 1)) }
+        ensures err { OnErr result (Moves self.old self.new at self.old.count) }
+    {
+        if self.count == u64::MAX {
+            return Err(AllocError);
+        }
+        if self.count == 0 {
+            self.closed.reserve(1)?;
+            self.opened = at;
+        }
+        self.count += 1;
+        Ok(())
+    }
+
+    /// One source that gave it does not from a place on. Allocates nothing.
+    pub fn take(&mut self, at: u64)
+        requires given { 0 < self.old.count }
+        requires room { IsTrack self.old at }
+        ensures { Moves self.old self.new at (self.old.count - 1) }
+    {
+        if self.count == 1 {
+            self.closed.push_reserved(Span {
+                from: self.opened,
+                to: at,
+            });
+        }
+        self.count -= 1;
+    }
+}
