@@ -2,12 +2,13 @@
 use Rattle.std.proofs.Common.{◌≡◌, ◌⊎◌, inl, inr, ◌<◌, ◌≤◌, ◌+◌, ◌-◌, ℕ, zero, suc, refl, sym, ◌∙◌, ap, subst, arith, List, [], ◌∷◌, ◌++◌, length, take, reverse, Option, Some, None}
 use Rattle.std.specs.Prelude.{slice_get}
 use Rattle.std.proofs.lemmas.Bool.{cases_lt}
-use Rattle.std.proofs.lemmas.List.{reverse-reverse, reverse-append, length-reverse, length-take-le}
+use Rattle.std.proofs.lemmas.List.{length-append, reverse-reverse, reverse-append, length-reverse, length-take-le}
 use Rattle.std.proofs.lemmas.Option.{none-some, same_Some}
 use Rattle.sg_history.specs.declared.entries.Entry.{Entry}
 use Rattle.sg_history.specs.declared.entries.Entry.TheVariants as entry
 use Rattle.sg_history.specs.declared.entries.Write.{Write}
-use Rattle.sg_history.specs.History.{past, as_write}
+use Rattle.sg_history.specs.History.{Extends, past, as_write}
+use Rattle.sg_history.proofs.Books.{same_past}
 use Rattle.sg_history.specs.Current.{Sequenced, current, current_after, winning_of}
 use Rattle.log_index.specs.declared.documents.Document.{Document}
 use Rattle.log_index.specs.declared.index.LogIndex.{LogIndex}
@@ -17,12 +18,12 @@ use Rattle.log_views.specs.At.{written, write_at}
 use Rattle.log_views.proofs.Placed.{found, nothing}
 use Rattle.grant_history.specs.declared.facts.Fact.{Fact}
 use Rattle.grant_history.specs.declared.history.GrantHistory.{GrantHistory}
-use Rattle.grant_history.specs.declared.kept.Kept.{Kept}
+use Rattle.grant_history.specs.declared.ledger.Ledger.{Ledger}
 use Rattle.grant_history.specs.Facts.{document_facts}
 use Rattle.grant_history.specs.Holdings.{has_at}
 use Rattle.grant_history.specs.Sources.{is_held}
-use Rattle.grant_history.specs.Kept.{facts_of_write, write_facts, IsKept, Took}
-use Rattle.grant_history.specs.Stands.{IsIndexed, KeptAt, IsNext}
+use Rattle.grant_history.specs.Ledger.{facts_of_write, write_facts, IsLedger, Took}
+use Rattle.grant_history.specs.Stands.{IsIndexed, LedgerAt, StandsFor, IsNext}
 
 take_next : (entries : List Entry) (n : ℕ) (e : Entry) → slice_get entries n ≡ Some e → take (suc n) entries ≡ take n entries ++ e ∷ []
 take_next [] n e h = absurd (none-some e h)
@@ -76,10 +77,10 @@ module _ (history : GrantHistory) (entries : List Entry) (e : Entry) (at : ℕ) 
       let low : history.applied ≤ length entries = omega (arith, next.place, next.high) in
       omega (arith, next.place, past_count entries history.applied low)
 
-  module _ (kept : Kept) (before : (f : Fact) (k : ℕ) → k < at → has_at kept.store f k ≡ has_at history.kept.store f k) where
-    pub taken : Took kept at e (past entries history.applied) → KeptAt kept entries at
+  module _ (kept : Ledger) (before : (f : Fact) (k : ℕ) → k < at → has_at kept.store f k ≡ has_at history.ledger.store f k) where
+    pub taken : Took kept at e (past entries history.applied) → LedgerAt kept entries at
     taken took = record {
-      is_kept = subst (λ (es : List Entry). IsKept kept es) (sym next.newest) took.is_kept;
+      is_kept = subst (λ (es : List Entry). IsLedger kept es) (sym next.newest) took.is_kept;
       held = λ k f le. elim (cases_lt k at) [
         | inl below ↦ before f k below ∙ next.kept.held k f (omega (arith, below, next.place))
         | inr above ↦
@@ -88,7 +89,7 @@ module _ (history : GrantHistory) (entries : List Entry) (e : Entry) (at : ℕ) 
       ];
     }
 
-    pub left : IsKept kept (past entries history.applied) → KeptAt kept entries history.applied
+    pub left : IsLedger kept (past entries history.applied) → LedgerAt kept entries history.applied
     left is = record {
       is_kept = is;
       held = λ k f le. before f k (omega (arith, le, next.place)) ∙ next.kept.held k f le;
@@ -111,3 +112,24 @@ no_write (entry.PutRole name channels) not = refl
 no_write (entry.DropUser name) not = refl
 no_write (entry.DropRole name) not = refl
 no_write entry.Unused not = refl
+
+-- a longer log
+longer : (earlier later : List Entry) → Extends earlier later → length earlier ≤ length later
+longer earlier later extends = omega (arith, ap length extends.1, length-append earlier extends.0)
+
+indexed_longer : (index : LogIndex) (earlier later : List Entry) (n : ℕ) → n ≤ length earlier → Extends earlier later → IsIndexed index earlier n → IsIndexed index later n
+indexed_longer index earlier later n high extends (inl h) = inl (subst (λ (es : List Entry). Indexes index es) (sym (same_past earlier later n extends high)) h)
+indexed_longer index earlier later n high extends (inr h) = inr (
+  omega (arith, h.0, longer earlier later extends),
+  subst (λ (es : List Entry). Indexes index es) (sym (same_past earlier later (n + 1) extends (omega (arith, h.0)))) h.1,
+)
+
+pub stands_longer : (history : GrantHistory) (earlier later : List Entry) → StandsFor history earlier → Extends earlier later → StandsFor history later
+stands_longer history earlier later stands extends = record {
+  within = omega (arith, stands.within, longer earlier later extends);
+  index = indexed_longer history.index earlier later history.applied stands.within extends stands.index;
+  kept = record {
+    is_kept = subst (λ (es : List Entry). IsLedger history.ledger es) (sym (same_past earlier later history.applied extends stands.within)) stands.kept.is_kept;
+    held = λ k f le. stands.kept.held k f le ∙ ap (λ (es : List Entry). is_held es f) (sym (same_past earlier later k extends (omega (arith, le, stands.within))));
+  };
+}

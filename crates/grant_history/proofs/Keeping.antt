@@ -19,13 +19,13 @@ use Rattle.grant_history.specs.declared.facts.Fact.{Fact}
 use Rattle.grant_history.specs.declared.held.Held.{Held}
 use Rattle.grant_history.specs.declared.track.Track.{Track}
 use Rattle.grant_history.specs.declared.store.Store.{Store}
-use Rattle.grant_history.specs.declared.kept.Kept.{Kept}
+use Rattle.grant_history.specs.declared.ledger.Ledger.{Ledger}
 use Rattle.grant_history.specs.Dated.{Dated}
 use Rattle.grant_history.specs.Tracks.{IsTrack, held_at, is_open}
 use Rattle.grant_history.specs.Facts.{same_what, times, put_facts, document_facts}
 use Rattle.grant_history.specs.Holdings.{count_in, held_in, AreUpTo, Holders, count_by_list, held_by_list, count_of, held_of, AreAllUpTo, count_to, held_to, count_at, has_at, IsStore}
 use Rattle.grant_history.specs.Sources.{standing_of, sources}
-use Rattle.grant_history.specs.Kept.{Source, document, user, role, holder, same_source, given, Lists, facts_of_list, facts_in, facts_from, IsKept, IsStep, Took}
+use Rattle.grant_history.specs.Ledger.{Source, document, user, role, holder, same_source, given, Lists, facts_of_list, facts_in, facts_from, IsLedger, IsStep, Took}
 use Rattle.grant_history.proofs.Holding.{later_all}
 use Rattle.grant_history.proofs.Same.{grantees, texts_swap}
 use Rattle.grant_history.proofs.Steps.{current_same, unwritten, standing_same, standing_put, idle_step, put_step, write_step, apart}
@@ -87,7 +87,7 @@ later_store store n m le is = record { users = later_all store.users n m le is.u
 pub still_store : (store : Store) (at : ℕ) → Dated count_at has_at IsStore store store at (count_at store)
 still_store store at = record { counts = λ f. refl; before = λ f k below. refl; up_to = λ n le up. later_store store n at le up }
 
-module _ (old new : Kept) (at : ℕ) where
+module _ (old new : Ledger) (at : ℕ) where
   pub took : (source : Source) (facts : List Fact)
       → Dated count_at has_at IsStore old.store new.store at (λ f. count_at old.store f + times facts f - times (facts_from old source) f)
       → ((s : Source) → facts_from new s ≡ (if same_source source s then facts else facts_from old s))
@@ -109,7 +109,7 @@ module _ (old new : Kept) (at : ℕ) where
         now = λ f. settled new.store at f up ∙ ap (λ (n : ℕ). nat_lt 0 n) (count f);
       }
 
-  pub kept_on : Dated count_at has_at IsStore old.store new.store at (count_at old.store) → ((s : Source) → facts_from new s ≡ facts_from old s) → (es : List Entry) → at ≡ length es + 1 → IsKept old es → IsKept new es
+  pub kept_on : Dated count_at has_at IsStore old.store new.store at (count_at old.store) → ((s : Source) → facts_from new s ≡ facts_from old s) → (es : List Entry) → at ≡ length es + 1 → IsLedger old es → IsLedger new es
   kept_on d lists es place is = record {
     lists = λ s. lists s ∙ is.lists s;
     counts = λ f. d.counts f ∙ is.counts f;
@@ -117,7 +117,7 @@ module _ (old new : Kept) (at : ℕ) where
   }
 
 -- which list a source's is
-module _ (old : Kept) (store : Store) (lists : Lists) (name : List ℕ) (facts : List Fact) where
+module _ (old : Ledger) (store : Store) (lists : Lists) (name : List ℕ) (facts : List Fact) where
   pub of_documents : ((other : List ℕ) → facts_in lists other ≡ (if bytes_eq name other then facts else facts_in old.documents other)) → (s : Source)
       → facts_from (record { store = store; documents = lists; users = old.users; roles = old.roles }) s ≡ (if same_source (document name) s then facts else facts_from old s)
   of_documents h (document d) = h d
@@ -152,10 +152,10 @@ module _ (old : Kept) (store : Store) (lists : Lists) (name : List ℕ) (facts :
   same_roles h (role n) = h n
 
 -- what a replacement asks of a step
-pub asked_up_to : (kept : Kept) (at : ℕ) (source : Source) (facts : List Fact) (e : Entry) (es : List Entry) → IsStep kept at source facts e es → IsStore kept.store at
+pub asked_up_to : (kept : Ledger) (at : ℕ) (source : Source) (facts : List Fact) (e : Entry) (es : List Entry) → IsStep kept at source facts e es → IsStore kept.store at
 asked_up_to kept at source facts e es step = subst (λ (n : ℕ). IsStore kept.store n) (sym step.place) step.is_kept.up_to
 
-pub asked_given : (kept : Kept) (at : ℕ) (source : Source) (facts : List Fact) (e : Entry) (es : List Entry) → IsStep kept at source facts e es → (f : Fact) → times (facts_from kept source) f ≤ count_at kept.store f + times facts f
+pub asked_given : (kept : Ledger) (at : ℕ) (source : Source) (facts : List Fact) (e : Entry) (es : List Entry) → IsStep kept at source facts e es → (f : Fact) → times (facts_from kept source) f ≤ count_at kept.store f + times facts f
 asked_given kept at source facts e es step f =
     let gave : times (facts_from kept source) f ≡ times (given es source) f = ap (λ (l : List Fact). times l f) (step.is_kept.lists source) in
     omega (arith, step.is_kept.counts f, step.sums f, gave)
@@ -167,7 +167,7 @@ nothing_given : (of : Grantee) → standing_of [] of ≡ None
 nothing_given (User name) = refl
 nothing_given (Role name) = refl
 
-pub kept_nothing : (kept : Kept) → kept.documents.entries ≡ [] → kept.users.entries ≡ [] → kept.roles.entries ≡ [] → ((f : Fact) → count_at kept.store f ≡ 0) → ((n : ℕ) → IsStore kept.store n) → IsKept kept []
+pub kept_nothing : (kept : Ledger) → kept.documents.entries ≡ [] → kept.users.entries ≡ [] → kept.roles.entries ≡ [] → ((f : Fact) → count_at kept.store f ≡ 0) → ((n : ℕ) → IsStore kept.store n) → IsLedger kept []
 kept_nothing kept documents users roles counts up_to = record {
   lists = by;
   counts = λ f.
@@ -181,7 +181,7 @@ kept_nothing kept documents users roles counts up_to = record {
     by (user n) = empty_list kept.users n users
     by (role n) = empty_list kept.roles n roles
 
-module _ (kept : Kept) (e : Entry) (es : List Entry) (at : ℕ) (place : at ≡ length es + 1) (is_kept : IsKept kept es) where
+module _ (kept : Ledger) (e : Entry) (es : List Entry) (at : ℕ) (place : at ≡ length es + 1) (is_kept : IsLedger kept es) where
   pub put_is_step : (p : Put) → as_write e ≡ None → as_put e ≡ Some p → IsStep kept at (holder p.of) (put_facts p.of p.standing) e es
   put_is_step p written put = record {
     place = place;

@@ -6,3 +6,5 @@ pub mod Has
 pub mod Keeping
 pub mod Applied
 pub mod Reading
+pub mod Sweeping
+pub mod Dividing

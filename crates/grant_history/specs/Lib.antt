@@ -3,6 +3,8 @@ pub mod Tracks
 pub mod Facts
 pub mod Sources
 pub mod Holdings
-pub mod Kept
+pub mod Ledger
 pub mod Stands
 pub mod Reads
+pub mod Spells
+pub mod Periods

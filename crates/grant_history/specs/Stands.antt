@@ -6,10 +6,10 @@ use Rattle.log_index.specs.declared.index.LogIndex.{LogIndex}
 use Rattle.log_index.specs.Index.{Indexes}
 use Rattle.grant_history.specs.declared.facts.Fact.{Fact}
 use Rattle.grant_history.specs.declared.history.GrantHistory.{GrantHistory}
-use Rattle.grant_history.specs.declared.kept.Kept.{Kept}
+use Rattle.grant_history.specs.declared.ledger.Ledger.{Ledger}
 use Rattle.grant_history.specs.Holdings.{has_at}
 use Rattle.grant_history.specs.Sources.{is_held}
-use Rattle.grant_history.specs.Kept.{IsKept}
+use Rattle.grant_history.specs.Ledger.{IsLedger}
 
 -- the index is that of the first entries of a log, so many or one more
 abbrev pub IsIndexed : LogIndex → List Entry → ℕ → Type 0
@@ -18,15 +18,15 @@ IsIndexed index entries n =
 
 -- what is kept is what the first entries of a log give, so many, and what is held at each place up
 -- to there is what is held after the entries up to that place
-pub record KeptAt (kept : Kept) (entries : List Entry) (n : ℕ) : Type 0 where
-  pub is_kept : IsKept kept (past entries n)
+pub record LedgerAt (kept : Ledger) (entries : List Entry) (n : ℕ) : Type 0 where
+  pub is_kept : IsLedger kept (past entries n)
   pub held : (k : ℕ) (f : Fact) → k ≤ n → has_at kept.store f k ≡ is_held (past entries k) f
 
 -- the history of grants is that of the first entries of a log, as many as it has applied
 pub record StandsFor (history : GrantHistory) (entries : List Entry) : Type 0 where
   pub within : history.applied ≤ length entries
   pub index : IsIndexed history.index entries history.applied
-  pub kept : KeptAt history.kept entries history.applied
+  pub kept : LedgerAt history.ledger entries history.applied
 
 -- the entry at a place is to be applied, and the index has it
 pub record IsNext (history : GrantHistory) (entries : List Entry) (e : Entry) (at : ℕ) : Type 0 where
@@ -35,10 +35,10 @@ pub record IsNext (history : GrantHistory) (entries : List Entry) (e : Entry) (a
   pub newest : past entries at ≡ e ∷ past entries history.applied
   pub place : at ≡ history.applied + 1
   pub index : Indexes history.index (past entries at)
-  pub kept : KeptAt history.kept entries history.applied
+  pub kept : LedgerAt history.ledger entries history.applied
 
 -- what is kept is right before a place
-pub record IsBefore (kept : Kept) (at : ℕ) : Type 0 where
+pub record IsBefore (kept : Ledger) (at : ℕ) : Type 0 where
   pub es : List Entry
   pub place : at ≡ length es + 1
-  pub is_kept : IsKept kept es
+  pub is_kept : IsLedger kept es

@@ -4,7 +4,7 @@ ghost use Rattle.std.specs.Prelude.{◌≡◌, ◌++◌, [], IfOk, OnOk};
 ghost use Rattle.std.specs.Option.{option_copied};
 ghost use Rattle.sg_history.specs.Puts as puts;
 ghost use Rattle.grant_history.specs.Facts.{channel_facts, role_facts, put_facts, grant_facts, gift_facts};
-ghost use Rattle.grant_history.specs.Kept.{write_facts};
+ghost use Rattle.grant_history.specs.Ledger.{write_facts};
 
 use crate::facts::{Fact, What};
 use sg_history::{Channels, Entry, Given, Grant, Grantee, Name, Principal, Put, RoleGrant, Write};

@@ -7,16 +7,21 @@ ghost use Rattle.sg_history.specs.History.{among, past};
 ghost use Rattle.sg_history.specs.Principals.{exists, user_at, has_channel, has_role};
 ghost use Rattle.sg_history.specs.Current.{current};
 ghost use Rattle.grant_history.specs.Facts as facts;
-ghost use Rattle.grant_history.specs.Kept.{Took};
-ghost use Rattle.grant_history.specs.Stands.{KeptAt, StandsFor, IsNext};
+ghost use Rattle.grant_history.specs.Ledger.{Took};
+ghost use Rattle.grant_history.specs.Periods.{ArePeriods};
+ghost use Rattle.grant_history.specs.Stands.{LedgerAt, StandsFor, IsNext};
 
 use crate::facts::Fact;
 use crate::given::of_entry;
-use crate::kept::{Kept, Source};
+use crate::ledger::{Ledger, Source};
+use crate::periods::Period;
 use log_index::LogIndex;
 use sg_history::{Channels, DocId, Entry, LogReads, Name, Names};
 use sg_outside::Memory;
 use std::alloc::Global;
+
+/// A list of periods.
+pub type Periods = sg_names::List<Period>;
 
 /// Which channels and roles users had at the places of a log, up to the one that was applied last.
 #[derive(Drop)]
@@ -24,7 +29,7 @@ pub struct GrantHistory {
     alloc: Global,
     applied: u64,
     index: LogIndex,
-    kept: Kept,
+    ledger: Ledger,
 }
 
 /// Puts the entry at a place into an index, unless it has it.
@@ -52,7 +57,7 @@ impl GrantHistory {
             alloc,
             applied: 0,
             index: LogIndex::new(alloc),
-            kept: Kept::new(alloc),
+            ledger: Ledger::new(alloc),
         }
     }
 
@@ -82,8 +87,8 @@ impl GrantHistory {
     /// Applies the entry at the next place to what is kept.
     fn take_entry(&mut self, log: &mut LogReads<'_>, entry: &Entry, at: u64) -> Result<(), Memory>
         requires { IsNext self.old log.old.entries entry.now at }
-        ensures ok { OnOk result (KeptAt self.new.kept log.old.entries at) }
-        ensures err { OnErr result (KeptAt self.new.kept log.old.entries self.old.applied) }
+        ensures ok { OnOk result (LedgerAt self.new.ledger log.old.entries at) }
+        ensures err { OnErr result (LedgerAt self.new.ledger log.old.entries self.old.applied) }
         ensures applied { self.new.applied ≡ self.old.applied }
         ensures index { self.new.index ≡ self.old.index }
         ensures log { log.new.entries ≡ log.old.entries }
@@ -93,9 +98,9 @@ impl GrantHistory {
             Entry::Write(write) => {
                 let facts = self.document_facts(log, &write.doc)?;
                 let source = Source::Document(&write.doc);
-                self.kept.take(self.alloc, source, facts, at)
+                self.ledger.take(self.alloc, source, facts, at)
             }
-            _ => self.kept.take_put(self.alloc, entry, at),
+            _ => self.ledger.take_put(self.alloc, entry, at),
         }
     }
 
@@ -142,7 +147,7 @@ impl GrantHistory {
         ensures { (entries : List entry.Entry) → StandsFor self.now entries
             → result ≡ exists (user_at (past entries k) user.now) }
     {
-        self.kept.store.user_exists(user, k)
+        self.ledger.store.user_exists(user, k)
     }
 
     /// The channels that a user has after the entries up to a place, each once, in no order.
@@ -151,7 +156,7 @@ impl GrantHistory {
         ensures { IfOk result (λ channels. (entries : List entry.Entry) → StandsFor self.now entries
             → (c : List ℕ) → among channels c ≡ has_channel (past entries k) user.now c) }
     {
-        let channels = self.kept.store.channels(self.alloc, user, k)?;
+        let channels = self.ledger.store.channels(self.alloc, user, k)?;
         Ok(Channels::from_vec(channels))
     }
 
@@ -161,7 +166,19 @@ impl GrantHistory {
         ensures { IfOk result (λ roles. (entries : List entry.Entry) → StandsFor self.now entries
             → (r : List ℕ) → among roles r ≡ has_role (past entries k) user.now r) }
     {
-        let roles = self.kept.store.roles(self.alloc, user, k)?;
+        let roles = self.ledger.store.roles(self.alloc, user, k)?;
         Ok(Names::from_vec(roles))
+    }
+
+    /// The periods in which a user has channels, up to the place that was applied last; one that
+    /// lasts then has no end. Those of a channel follow one another, by rising places; the channels
+    /// are in no order. It takes time by the places applied.
+    pub fn periods(&self, user: &Name) -> Result<Periods, Memory>
+        ensures { IfOk result (λ periods. (entries : List entry.Entry)
+            → StandsFor self.now entries → ArePeriods periods
+            (λ c k. has_channel (past entries k) user.now c) self.now.applied) }
+    {
+        let periods = self.ledger.store.periods(self.alloc, user, self.applied)?;
+        Ok(Periods::from_vec(periods))
     }
 }

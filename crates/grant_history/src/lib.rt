@@ -1,15 +1,21 @@
 //! Who had which channels and roles at which place of the log, kept entry by entry.
 #![tactic(auto)]
 
+mod channels;
+mod evaluate;
 mod facts;
 mod given;
 mod held;
 mod history;
 mod holders;
-mod kept;
+pub mod laws;
+mod ledger;
 mod lists;
+mod periods;
 mod reads;
+mod spells;
 mod store;
 mod track;
 
-pub use history::GrantHistory;
+pub use history::{GrantHistory, Periods};
+pub use periods::Period;

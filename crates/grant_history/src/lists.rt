@@ -4,7 +4,7 @@ ghost use Rattle.std.specs.Prelude.{◌≡◌, ℕ, List, OnOk, if◌then◌else
 ghost use Rattle.std.specs.BTreeMap.{get_by_text};
 ghost use Rattle.std.specs.Option.{IsSome};
 ghost use Rattle.std.specs.Str.{bytes_eq};
-ghost use Rattle.grant_history.specs.Kept.{facts_in};
+ghost use Rattle.grant_history.specs.Ledger.{facts_in};
 
 use crate::facts::Fact;
 use sg_outside::Memory;

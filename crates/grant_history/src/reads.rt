@@ -16,7 +16,7 @@ use sg_outside::Memory;
 use std::alloc::{AllocError, Global};
 
 /// The channel `!`, which every user has.
-fn everyone(alloc: Global) -> Result<ChannelName, Memory>
+pub fn everyone(alloc: Global) -> Result<ChannelName, Memory>
     ensures { IfOk result (λ channel. channel ≡ principals.everyone) }
 {
     match ChannelName::parse(alloc, "!") {
@@ -26,7 +26,7 @@ fn everyone(alloc: Global) -> Result<ChannelName, Memory>
     }
 }
 
-fn has_channel(list: &[ChannelName], channel: &[u8]) -> bool
+pub fn has_channel(list: &[ChannelName], channel: &[u8]) -> bool
     ensures { result ≡ among list.now channel.now }
 {
     list.iter().any(|c| c.as_bytes() == channel)

@@ -6,12 +6,14 @@ ghost use Rattle.std.specs.BTreeMap.{get_by_text};
 ghost use Rattle.sg_history.specs.History.{among};
 ghost use Rattle.sg_names.specs.declared.grants.Grantee.TheVariants.{User};
 ghost use Rattle.grant_history.specs.declared.facts.What.TheVariants as what;
+ghost use Rattle.grant_history.specs.Periods.{ArePeriods};
 ghost use Rattle.grant_history.specs.Reads.{user_channel, user_role};
 ghost use Rattle.grant_history.specs.Facts.{fact, times};
 ghost use Rattle.grant_history.specs.Holdings.{count_at, has_at, IsStore, more_at, less_at};
 
 use crate::facts::{Fact, What};
 use crate::holders::{self, Holders};
+use crate::periods::{Period, periods_of};
 use crate::reads::{channels_of, roles_of};
 use sg_history::{ChannelName, Grantee, Name};
 use sg_outside::Memory;
@@ -122,5 +124,13 @@ impl Store {
             self.now.roles (get_by_text self.now.users user.now) k x) }
     {
         roles_of(alloc, &self.users, &self.roles, user, k)
+    }
+
+    /// The periods in which a user has channels, up to a place.
+    pub fn periods(&self, alloc: Global, user: &Name, last: u64) -> Result<Vec<Period>, Memory>
+        ensures { IfOk result (λ list. ArePeriods list.items (λ c k. user_channel
+            self.now.roles (get_by_text self.now.users user.now) k c) last) }
+    {
+        periods_of(alloc, &self.users, &self.roles, user, last)
     }
 }

@@ -2,7 +2,7 @@ use Rattle.std.proofs.Common.{◌≡◌, ◌∙◌, ap, Some, arith, if◌then�
 use Rattle.std.specs.BTreeMap.{get_by_text}
 use Rattle.std.specs.Str.{bytes_eq}
 use Rattle.std.proofs.lemmas.Map.Text.{text_keys}
-use Rattle.grant_history.specs.Kept.{facts_of_list}
+use Rattle.grant_history.specs.Ledger.{facts_of_list}
 use Rattle.grant_history.proofs.Keeping.{swapped}
 use Rattle.grant_history.proofs.lists.swap.Goals as goal
 

@@ -5,7 +5,7 @@ use Rattle.sg_history.specs.History.{past}
 use Rattle.log_index.specs.declared.index.LogIndex.{LogIndex}
 use Rattle.log_index.specs.Index.{Indexes}
 use Rattle.grant_history.specs.declared.history.GrantHistory.{GrantHistory}
-use Rattle.grant_history.specs.Stands.{IsIndexed, KeptAt, IsNext}
+use Rattle.grant_history.specs.Stands.{IsIndexed, LedgerAt, IsNext}
 use Rattle.grant_history.proofs.Applied.{past_next, past_count, to_either, from_either}
 use Rattle.grant_history.proofs.history.GrantHistory.step.Goals as goal
 
@@ -33,7 +33,7 @@ take_entry-requires c =
     let is : slice_get entries n ≡ Some e = ap (λ (m : ℕ). slice_get entries m) (sym minus) ∙ c.entry-entry.ensures.entry in
     let more : n < length entries = omega (arith, c.requires.more, c.requires.within) in
     let place : n + 1 ≡ length (past entries n) + 1 = omega (arith, past_count entries n (omega (arith, more))) in
-    let history : GrantHistory = record { alloc = c.args.self.now.alloc; applied = n; index = c.index_entry.new.index; kept = c.args.self.now.kept } in
+    let history : GrantHistory = record { alloc = c.args.self.now.alloc; applied = n; index = c.index_entry.new.index; ledger = c.args.self.now.ledger } in
     let next : IsNext history entries e (n + 1) = record {
       low = omega arith;
       high = omega (arith, more);
@@ -57,7 +57,7 @@ returns-in_err-take_entry-clause-stands c =
     record {
       within = omega (arith, more, c.take_entry.ensures.applied);
       index = subst (λ (m : ℕ). IsIndexed c.take_entry.new.self.index entries m) (sym c.take_entry.ensures.applied) (subst (λ (i : LogIndex). IsIndexed i entries n) (sym c.take_entry.ensures.index) indexed);
-      kept = subst (λ (m : ℕ). KeptAt c.take_entry.new.self.kept entries m) (sym c.take_entry.ensures.applied) (subst (λ (all : List Entry). KeptAt c.take_entry.new.self.kept all n) c.entry-entry.ensures.kept c.in_err-take_entry.ensures.err);
+      kept = subst (λ (m : ℕ). LedgerAt c.take_entry.new.self.ledger entries m) (sym c.take_entry.ensures.applied) (subst (λ (all : List Entry). LedgerAt c.take_entry.new.self.ledger all n) c.entry-entry.ensures.kept c.in_err-take_entry.ensures.err);
     }
 
 pub returns-clause-stands : goal.returns-clause-stands
@@ -73,5 +73,5 @@ returns-clause-stands c =
     record {
       within = omega (arith, more);
       index = inl (subst (λ (i : LogIndex). Indexes i (past entries (n + 1))) (sym c.take_entry.ensures.index) ahead);
-      kept = subst (λ (all : List Entry). KeptAt c.take_entry.new.self.kept all (n + 1)) c.entry-entry.ensures.kept c.in_ok-take_entry.ensures.ok;
+      kept = subst (λ (all : List Entry). LedgerAt c.take_entry.new.self.ledger all (n + 1)) c.entry-entry.ensures.kept c.in_ok-take_entry.ensures.ok;
     }

@@ -5,7 +5,7 @@ use Rattle.sg_history.specs.Current.{current}
 use Rattle.sg_history.specs.Principals.{as_put}
 use Rattle.grant_history.specs.declared.facts.Fact.{Fact}
 use Rattle.grant_history.specs.Facts.{document_facts}
-use Rattle.grant_history.specs.Kept.{document, IsStep}
+use Rattle.grant_history.specs.Ledger.{document, IsStep}
 use Rattle.grant_history.proofs.Tracked.{on_ok, on_err}
 use Rattle.grant_history.proofs.Keeping.{write_is_step}
 use Rattle.grant_history.proofs.Applied.{no_write, next_place, taken, left}
@@ -18,9 +18,9 @@ take-requires c =
     let history = c.args.self.now in
     let es = past entries history.applied in
     let w = c.in-Write.write in
-    let step = write_is_step history.kept e es c.args.at (next_place history entries e c.args.at c.requires) c.requires.kept.is_kept w (ap as_write c.in-Write.is) (ap as_put c.in-Write.is) in
+    let step = write_is_step history.ledger e es c.args.at (next_place history entries e c.args.at c.requires) c.requires.kept.is_kept w (ap as_write c.in-Write.is) (ap as_put c.in-Write.is) in
     let now = c.in_ok-facts-in-Write.ensures.facts c.args.at c.requires.high c.requires.index ∙ ap (λ (l : List Entry). document_facts (current l w.doc)) c.requires.newest in
-    (e, es, subst (λ (fs : List Fact). IsStep history.kept c.args.at (document w.doc) fs e es) (sym now) step)
+    (e, es, subst (λ (fs : List Fact). IsStep history.ledger c.args.at (document w.doc) fs e es) (sym now) step)
 
 pub returns-in_ok-facts-in-Write-clause-ok : goal.returns-in_ok-facts-in-Write-clause-ok
 returns-in_ok-facts-in-Write-clause-ok c =
@@ -29,9 +29,9 @@ returns-in_ok-facts-in-Write-clause-ok c =
     let history = c.args.self.now in
     let es = past entries history.applied in
     let w = c.in-Write.write in
-    let step = write_is_step history.kept e es c.args.at (next_place history entries e c.args.at c.requires) c.requires.kept.is_kept w (ap as_write c.in-Write.is) (ap as_put c.in-Write.is) in
+    let step = write_is_step history.ledger e es c.args.at (next_place history entries e c.args.at c.requires) c.requires.kept.is_kept w (ap as_write c.in-Write.is) (ap as_put c.in-Write.is) in
     let now = c.in_ok-facts-in-Write.ensures.facts c.args.at c.requires.high c.requires.index ∙ ap (λ (l : List Entry). document_facts (current l w.doc)) c.requires.newest in
-    on_ok c.take.result _ _ (λ takes. taken history entries e c.args.at c.requires c.take.new.self c.take.ensures.before (takes e es (subst (λ (fs : List Fact). IsStep history.kept c.args.at (document w.doc) fs e es) (sym now) step))) c.take.ensures.ok
+    on_ok c.take.result _ _ (λ takes. taken history entries e c.args.at c.requires c.take.new.self c.take.ensures.before (takes e es (subst (λ (fs : List Fact). IsStep history.ledger c.args.at (document w.doc) fs e es) (sym now) step))) c.take.ensures.ok
 
 pub returns-in_ok-facts-in-Write-clause-err : goal.returns-in_ok-facts-in-Write-clause-err
 returns-in_ok-facts-in-Write-clause-err c =

@@ -1,5 +1,5 @@
 use Rattle.grant_history.proofs.Keeping.{kept_nothing}
-use Rattle.grant_history.proofs.kept.Kept.new.Goals as goal
+use Rattle.grant_history.proofs.ledger.Ledger.new.Goals as goal
 
 pub returns-clause-kept : goal.returns-clause-kept
 returns-clause-kept c =

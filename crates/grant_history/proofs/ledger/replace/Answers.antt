@@ -1,9 +1,9 @@
 use Rattle.std.proofs.Common.{◌≡◌, ◌∙◌, ap, List, arith}
 use Rattle.grant_history.specs.declared.facts.Fact.{Fact}
 use Rattle.grant_history.specs.Facts.{times}
-use Rattle.grant_history.specs.Kept.{facts_in}
+use Rattle.grant_history.specs.Ledger.{facts_in}
 use Rattle.grant_history.proofs.Holding.{chained, recounted_at}
-use Rattle.grant_history.proofs.kept.replace.Goals as goal
+use Rattle.grant_history.proofs.ledger.replace.Goals as goal
 
 pub take_all-requires-clause-up_to : goal.take_all-requires-clause-up_to
 take_all-requires-clause-up_to c = c.in_ok-give_all.ensures.ok.up_to c.args.at (omega arith) c.requires.up_to

@@ -5,7 +5,7 @@ ghost use Rattle.std.specs.Str.{bytes_eq};
 ghost use Rattle.grant_history.specs.Dated.{Dated};
 ghost use Rattle.grant_history.specs.Facts.{times};
 ghost use Rattle.grant_history.specs.Holdings.{count_at, has_at, IsStore};
-ghost use Rattle.grant_history.specs.Kept.{facts_in, source_in, holder, IsKept, IsStep, Took};
+ghost use Rattle.grant_history.specs.Ledger.{facts_in, source_in, holder, IsLedger, IsStep, Took};
 ghost use Rattle.grant_history.specs.Stands.{IsBefore};
 ghost use Rattle.sg_history.specs.History.{as_write};
 ghost use Rattle.sg_history.specs.Puts as puts;
@@ -29,7 +29,7 @@ pub enum Source<'a> {
 
 /// What each source gives, and who has what by that.
 #[derive(Drop)]
-pub struct Kept {
+pub struct Ledger {
     pub store: Store,
     documents: Lists,
     users: Lists,
@@ -65,13 +65,13 @@ fn replace(
     Ok(())
 }
 
-impl Kept {
+impl Ledger {
     /// Nothing. Allocates nothing.
-    pub fn new(alloc: Global) -> Kept
-        ensures kept { IsKept result [] }
+    pub fn new(alloc: Global) -> Ledger
+        ensures kept { IsLedger result [] }
         ensures held { (f : Fact) (k : ℕ) → has_at result.store f k ≡ false }
     {
-        Kept {
+        Ledger {
             store: Store::new(alloc),
             documents: BTreeMap::new(alloc),
             users: BTreeMap::new(alloc),
@@ -93,7 +93,7 @@ impl Kept {
             → IsStep self.old at (source_in source.entry) facts.items e es
             → Took self.new at e es) }
         ensures err { OnErr result ((es : List Entry) → at ≡ length es + 1
-            → IsKept self.old es → IsKept self.new es) }
+            → IsLedger self.old es → IsLedger self.new es) }
         ensures before { (f : Fact) (k : ℕ) → k < at
             → has_at self.new.store f k ≡ has_at self.old.store f k }
     {
@@ -130,10 +130,10 @@ impl Kept {
     pub fn take_put(&mut self, alloc: Global, entry: &Entry, at: u64) -> Result<(), Memory>
         requires before { IsBefore self.old at }
         requires no_write { as_write entry.now ≡ None }
-        ensures ok { OnOk result ((es : List Entry) → at ≡ length es + 1 → IsKept self.old es
+        ensures ok { OnOk result ((es : List Entry) → at ≡ length es + 1 → IsLedger self.old es
             → Took self.new at entry.now es) }
         ensures err { OnErr result ((es : List Entry) → at ≡ length es + 1
-            → IsKept self.old es → IsKept self.new es) }
+            → IsLedger self.old es → IsLedger self.new es) }
         ensures before { (f : Fact) (k : ℕ) → k < at
             → has_at self.new.store f k ≡ has_at self.old.store f k }
     {

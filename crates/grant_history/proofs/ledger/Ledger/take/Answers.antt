@@ -1,11 +1,11 @@
 use Rattle.std.proofs.Common.{◌≡◌, ◌<◌, ◌∙◌, sym, ap, subst, ℕ, List}
 use Rattle.grant_history.specs.declared.facts.Fact.{Fact}
-use Rattle.grant_history.specs.declared.kept.Kept.{Kept}
+use Rattle.grant_history.specs.declared.ledger.Ledger.{Ledger}
 use Rattle.grant_history.specs.Holdings.{has_at}
-use Rattle.grant_history.specs.Kept.{Source, document, user, role, source_in, IsStep}
+use Rattle.grant_history.specs.Ledger.{Source, document, user, role, source_in, IsStep}
 use Rattle.grant_history.proofs.Tracked.{on_both, on_both_err, on_ok, on_err, either}
 use Rattle.grant_history.proofs.Keeping.{took, kept_on, of_documents, of_users, of_roles, same_documents, same_users, same_roles, asked_up_to, asked_given}
-use Rattle.grant_history.proofs.kept.Kept.take.Goals as goal
+use Rattle.grant_history.proofs.ledger.Ledger.take.Goals as goal
 
 pub replace-requires : goal.replace-requires
 replace-requires c =
@@ -23,10 +23,10 @@ replace-requires c =
 
 pub returns-in-Document-clause-ok : goal.returns-in-Document-clause-ok
 returns-in-Document-clause-ok c =
-    let old : Kept = c.args.self.now in
+    let old : Ledger = c.args.self.now in
     let name = c.as_str.result.now in
     let facts = c.args.facts.items in
-    let new : Kept = record { store = c.replace.new.store; documents = c.replace.new.lists; users = old.users; roles = old.roles } in
+    let new : Ledger = record { store = c.replace.new.store; documents = c.replace.new.lists; users = old.users; roles = old.roles } in
     let is : source_in c.args.source ≡ document name = ap source_in c.in-Document.is ∙ ap (λ (n : List ℕ). document n) (sym c.as_str.ensures.value) in
     on_both c.replace.result _ _ _
     (λ d lists e es step. took old new c.args.at (document name) facts d (of_documents old c.replace.new.store c.replace.new.lists name facts lists) e es
@@ -35,8 +35,8 @@ returns-in-Document-clause-ok c =
 
 pub returns-in-Document-clause-err : goal.returns-in-Document-clause-err
 returns-in-Document-clause-err c =
-    let old : Kept = c.args.self.now in
-    let new : Kept = record { store = c.replace.new.store; documents = c.replace.new.lists; users = old.users; roles = old.roles } in
+    let old : Ledger = c.args.self.now in
+    let new : Ledger = record { store = c.replace.new.store; documents = c.replace.new.lists; users = old.users; roles = old.roles } in
     on_both_err c.replace.result _ _ _
     (λ d lists es place is. kept_on old new c.args.at d (same_documents old c.replace.new.store c.replace.new.lists c.as_str.result.now c.args.facts.items lists) es place is)
     c.replace.ensures.err_store c.replace.ensures.err_lists
@@ -63,10 +63,10 @@ replace-requires-in-User c =
 
 pub returns-in-User-clause-ok : goal.returns-in-User-clause-ok
 returns-in-User-clause-ok c =
-    let old : Kept = c.args.self.now in
+    let old : Ledger = c.args.self.now in
     let name = c.as_str-in-User.result.now in
     let facts = c.args.facts.items in
-    let new : Kept = record { store = c.replace-in-User.new.store; documents = old.documents; users = c.replace-in-User.new.lists; roles = old.roles } in
+    let new : Ledger = record { store = c.replace-in-User.new.store; documents = old.documents; users = c.replace-in-User.new.lists; roles = old.roles } in
     let is : source_in c.args.source ≡ user name = ap source_in c.in-User.is ∙ ap (λ (n : List ℕ). user n) (sym c.as_str-in-User.ensures.value) in
     on_both c.replace-in-User.result _ _ _
     (λ d lists e es step. took old new c.args.at (user name) facts d (of_users old c.replace-in-User.new.store c.replace-in-User.new.lists name facts lists) e es
@@ -75,8 +75,8 @@ returns-in-User-clause-ok c =
 
 pub returns-in-User-clause-err : goal.returns-in-User-clause-err
 returns-in-User-clause-err c =
-    let old : Kept = c.args.self.now in
-    let new : Kept = record { store = c.replace-in-User.new.store; documents = old.documents; users = c.replace-in-User.new.lists; roles = old.roles } in
+    let old : Ledger = c.args.self.now in
+    let new : Ledger = record { store = c.replace-in-User.new.store; documents = old.documents; users = c.replace-in-User.new.lists; roles = old.roles } in
     on_both_err c.replace-in-User.result _ _ _
     (λ d lists es place is. kept_on old new c.args.at d (same_users old c.replace-in-User.new.store c.replace-in-User.new.lists c.as_str-in-User.result.now c.args.facts.items lists) es place is)
     c.replace-in-User.ensures.err_store c.replace-in-User.ensures.err_lists
@@ -103,10 +103,10 @@ replace-requires-in-Role c =
 
 pub returns-in-Role-clause-ok : goal.returns-in-Role-clause-ok
 returns-in-Role-clause-ok c =
-    let old : Kept = c.args.self.now in
+    let old : Ledger = c.args.self.now in
     let name = c.as_str-in-Role.result.now in
     let facts = c.args.facts.items in
-    let new : Kept = record { store = c.replace-in-Role.new.store; documents = old.documents; users = old.users; roles = c.replace-in-Role.new.lists } in
+    let new : Ledger = record { store = c.replace-in-Role.new.store; documents = old.documents; users = old.users; roles = c.replace-in-Role.new.lists } in
     let is : source_in c.args.source ≡ role name = ap source_in c.in-Role.is ∙ ap (λ (n : List ℕ). role n) (sym c.as_str-in-Role.ensures.value) in
     on_both c.replace-in-Role.result _ _ _
     (λ d lists e es step. took old new c.args.at (role name) facts d (of_roles old c.replace-in-Role.new.store c.replace-in-Role.new.lists name facts lists) e es
@@ -115,8 +115,8 @@ returns-in-Role-clause-ok c =
 
 pub returns-in-Role-clause-err : goal.returns-in-Role-clause-err
 returns-in-Role-clause-err c =
-    let old : Kept = c.args.self.now in
-    let new : Kept = record { store = c.replace-in-Role.new.store; documents = old.documents; users = old.users; roles = c.replace-in-Role.new.lists } in
+    let old : Ledger = c.args.self.now in
+    let new : Ledger = record { store = c.replace-in-Role.new.store; documents = old.documents; users = old.users; roles = c.replace-in-Role.new.lists } in
     on_both_err c.replace-in-Role.result _ _ _
     (λ d lists es place is. kept_on old new c.args.at d (same_roles old c.replace-in-Role.new.store c.replace-in-Role.new.lists c.as_str-in-Role.result.now c.args.facts.items lists) es place is)
     c.replace-in-Role.ensures.err_store c.replace-in-Role.ensures.err_lists

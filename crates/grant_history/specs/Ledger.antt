@@ -11,9 +11,9 @@ use Rattle.sg_history.specs.History.{as_write}
 use Rattle.sg_history.specs.Current.{current}
 use Rattle.sg_history.specs.Principals.{user_at, role_at}
 use Rattle.grant_history.specs.declared.facts.Fact.{Fact}
-use Rattle.grant_history.specs.declared.kept.Kept.{Kept}
-use Rattle.grant_history.specs.declared.kept.Source as code
-use Rattle.grant_history.specs.declared.kept.Source.TheVariants as kind
+use Rattle.grant_history.specs.declared.ledger.Ledger.{Ledger}
+use Rattle.grant_history.specs.declared.ledger.Source as code
+use Rattle.grant_history.specs.declared.ledger.Source.TheVariants as kind
 use Rattle.grant_history.specs.Facts.{times, put_facts, grant_facts, gift_facts, document_facts}
 use Rattle.grant_history.specs.Holdings.{count_at, has_at, IsStore}
 use Rattle.grant_history.specs.Sources.{sources, is_held}
@@ -72,25 +72,25 @@ abbrev pub facts_in : Lists → List ℕ → List Fact
 facts_in lists name = facts_of_list (get_by_text lists name)
 
 -- what is kept of a source
-abbrev pub facts_from : Kept → Source → List Fact
+abbrev pub facts_from : Ledger → Source → List Fact
 facts_from kept (document doc) = facts_in kept.documents doc
 facts_from kept (user name) = facts_in kept.users name
 facts_from kept (role name) = facts_in kept.roles name
 
 -- what is kept is what the sources give after these entries
-pub record IsKept (kept : Kept) (es : List Entry) : Type 0 where
+pub record IsLedger (kept : Ledger) (es : List Entry) : Type 0 where
   pub lists : (s : Source) → facts_from kept s ≡ given es s
   pub counts : (f : Fact) → count_at kept.store f ≡ sources es f
   pub up_to : IsStore kept.store (length es + 1)
 
 -- the entry at a place makes one source give other facts
-pub record IsStep (kept : Kept) (at : ℕ) (source : Source) (facts : List Fact) (e : Entry) (es : List Entry) : Type 0 where
+pub record IsStep (kept : Ledger) (at : ℕ) (source : Source) (facts : List Fact) (e : Entry) (es : List Entry) : Type 0 where
   pub place : at ≡ length es + 1
-  pub is_kept : IsKept kept es
+  pub is_kept : IsLedger kept es
   pub others : (s : Source) → given (e ∷ es) s ≡ (if same_source source s then facts else given es s)
   pub sums : (f : Fact) → sources (e ∷ es) f + times (given es source) f ≡ sources es f + times facts f
 
 -- what is kept is right after the entry at this place, and so is what is held there
-pub record Took (kept : Kept) (at : ℕ) (e : Entry) (es : List Entry) : Type 0 where
-  pub is_kept : IsKept kept (e ∷ es)
+pub record Took (kept : Ledger) (at : ℕ) (e : Entry) (es : List Entry) : Type 0 where
+  pub is_kept : IsLedger kept (e ∷ es)
   pub now : (f : Fact) → has_at kept.store f at ≡ is_held (e ∷ es) f
