@@ -10,7 +10,7 @@ use Rattle.sync_syntax.specs.declared.tree.Statement.TheOpen.{Statement-F}
 use Rattle.sync_syntax.specs.declared.tree.Statement as statements
 use Rattle.sync_meaning.specs.Expressions.{Layer, SuffixLayer}
 use Rattle.sync_meaning.specs.Statements.{StatementLayer}
-use Rattle.sync_meaning.specs.Moved.{moved_expr, moved_suffix, moved_named, moved_declaration, moved_simple, moved_start, moved_statement}
+use Rattle.sync_syntax.specs.Moved.{moved_expr, moved_suffix, moved_named, moved_declaration, moved_simple, moved_start, moved_statement}
 
 module _ (f : Place → Place) where
   abbrev pub moved_member : List ℕ × Expr → List ℕ × Expr

@@ -11,7 +11,7 @@ use Rattle.sync_syntax.specs.declared.tree.Statement.TheOpen.{Statement-F}
 use Rattle.sync_meaning.specs.declared.scope.Scope.{Scope}
 use Rattle.sync_meaning.specs.Statements.{StatementLayer}
 use Rattle.sync_meaning.specs.Variables.{declared, all_declared, left, started, through_other, behind, behind_all}
-use Rattle.sync_meaning.specs.Moved.{moved_given, moved_start, moved_statement}
+use Rattle.sync_syntax.specs.Moved.{moved_given, moved_start, moved_statement}
 use Rattle.sync_meaning.proofs.Scopes.{through-behind}
 use Rattle.sync_meaning.proofs.MovedLayers.{moved_statement_layer, out-moved_statement}
 

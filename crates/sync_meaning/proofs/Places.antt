@@ -39,7 +39,7 @@ use Rattle.sync_meaning.specs.Expressions.{place_of, called_by, method_of, is_ca
 use Rattle.sync_meaning.specs.Statements as s
 use Rattle.sync_meaning.specs.Statements.{store, assign, count, jump, thrown, place_of_simple, StatementLayer, after_normal, after_round, run}
 use Rattle.sync_meaning.specs.Meaning.{body, begin, no_effects, depth_for, gathered, meaning_within, parameters, with_second, value_before}
-use Rattle.sync_meaning.specs.Moved.{moved_expr, moved_suffix, moved_named, moved_given, moved_declaration, moved_simple, moved_start, moved_statement, moved}
+use Rattle.sync_syntax.specs.Moved.{moved_expr, moved_suffix, moved_named, moved_given, moved_declaration, moved_simple, moved_start, moved_statement, moved}
 use Rattle.sync_meaning.specs.Laws.{placeless, PlacesChangeNoKind}
 use Rattle.sync_meaning.proofs.Alike.{Alike, same_ok, same_err, no_ok, then_alike, truth-alike, bounded-alike, added-alike, calculated-alike, one_more-alike, combined-alike, prefixed-alike, member-alike, indexed-alike, listed-alike, by_method-alike, as_value-alike, items_in-alike, thrown-alike, built_in-alike}
 use Rattle.sync_meaning.proofs.MovedLayers.{moved_member, moved_tail, moved_layer, moved_suffix_layer, moved_statement_layer, out-moved_expr, out-moved_suffix, out-moved_statement}

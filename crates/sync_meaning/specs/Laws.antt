@@ -15,7 +15,7 @@ use Rattle.sync_meaning.specs.declared.state.Context.{Context}
 use Rattle.sync_meaning.specs.Acts.{Found, denial}
 use Rattle.sync_meaning.specs.Builtins.{effect_count}
 use Rattle.sync_meaning.specs.Meaning.{meaning_within}
-use Rattle.sync_meaning.specs.Moved.{moved}
+use Rattle.sync_syntax.specs.Moved.{moved}
 
 -- no visit was left
 abbrev pub IsOutOfVisits : {A : Type 0} → Found A → Type 0

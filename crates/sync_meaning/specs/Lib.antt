@@ -7,5 +7,4 @@ pub mod Statements
 pub mod Meaning
 pub mod Nests
 pub mod Texts
-pub mod Moved
 pub mod Laws

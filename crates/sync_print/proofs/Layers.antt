@@ -18,7 +18,7 @@ use Rattle.sync_syntax.specs.declared.tree.Statement.TheOpen.{Statement-F}
 use Rattle.sync_syntax.specs.declared.tree.Statement.TheVariants as s
 use Rattle.sync_syntax.specs.declared.tree.Suffix.{Suffix}
 use Rattle.sync_syntax.specs.declared.tree.Suffix.TheVariants as suffix
-use Rattle.sync_print.specs.Moved.{moved_expr, moved_suffix, moved_named, moved_given, moved_declaration, moved_simple, moved_start, moved_statement}
+use Rattle.sync_syntax.specs.Moved.{moved_expr, moved_suffix, moved_named, moved_given, moved_declaration, moved_simple, moved_start, moved_statement}
 use Rattle.sync_print.specs.Trees.{Spelled, spell, spell_suffix, spell_statement, spelled, spelled_suffix, statement}
 
 abbrev pub at_start : Place → Place

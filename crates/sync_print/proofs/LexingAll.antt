@@ -1,5 +1,5 @@
 -- A whole text that is printed is cut into the tokens that it was printed from.
-use Rattle.std.proofs.Common.{◌≡◌, ◌≢◌, ℕ, suc, ◌+◌, ◌-◌, ◌^◌, ◌<◌, ◌≤◌, Bool, true, false, if◌then◌else◌, ◌⊎◌, inl, inr, List, [], ◌∷◌, ◌++◌, length, Option, Some, None, refl, sym, subst, ap, ◌∙◌, append_assoc, append-nil, length-append, eqb-true, arith}
+use Rattle.std.proofs.Common.{◌≡◌, ◌≢◌, ℕ, suc, ◌+◌, ◌^◌, ◌<◌, ◌≤◌, Bool, true, false, if◌then◌else◌, ◌⊎◌, inl, inr, List, [], ◌∷◌, ◌++◌, length, Option, Some, None, refl, sym, subst, ap, ◌∙◌, append_assoc, append-nil, length-append, eqb-true, arith}
 use Rattle.std.specs.Str.{chars}
 use Rattle.std.specs.Prelude.{codes, decimal, encode_utf8, flat_map, IsUtf8, ◌==◌}
 use Rattle.std.proofs.lemmas.Str.{chars-nil, chars-append, chars-encodes, scalars-chars, encodes-chars, length-encode, len_utf8_bounds}
@@ -18,12 +18,11 @@ use Rattle.sync_tokens.specs.declared.token.Word.TheVariants as words
 use Rattle.sync_print.specs.declared.printer.Last.{Last}
 use Rattle.sync_print.specs.declared.printer.Last.TheVariants.{Opening, Callable, Other}
 use Rattle.sync_print.specs.Spelling.{sign_text, word_text, escaped, quoted, spelling, left_by_sign, left_by, joins, gap}
-use Rattle.sync_print.specs.Laws.{kinds_of, PrintedIsReadBack}
+use Rattle.sync_print.specs.Laws.{kinds_of}
 use Rattle.sync_print.specs.Printing.{printed, nothing}
-use Rattle.sync_print.specs.Spellable.{AllParts, IsIdentifier, IsSpellable, AreSpellable}
+use Rattle.sync_tokens.specs.Spellable.{AllParts, IsIdentifier, IsSpellable, AreSpellable}
 use Rattle.sync_print.specs.Trees.{program}
 use Rattle.sync_syntax.specs.declared.tree.Program.{Program}
-use Rattle.sync_print.proofs.ReadBack.{read_back}
 use Rattle.sync_print.proofs.Lexing as x
 use Rattle.sync_print.proofs.Lexing.{Stops, Next, kinds_at, next_name, next_integer, next_text, next_sign, next_word, sign_piece, opening_piece}
 use Rattle.sync_print.proofs.LexingWords.{AllAscii, ascii_first, chars_ascii, sign_ascii, parts_ascii, letter_part, name_piece, keyword_piece, IntegerText, integer_text}
@@ -277,7 +276,7 @@ all_tokens (k ∷ ks) a last p short =
 
 -- ---- printed programs
 
-printed_text : (p : Program) → printed p ≡ x.text_from Opening (program p)
+pub printed_text : (p : Program) → printed p ≡ x.text_from Opening (program p)
 unfolding printed
 printed_text p = x.text_of (program p) nothing
 
@@ -287,6 +286,3 @@ printed_tokens p a short =
     let small : length (printed p) + 2 ≤ 18446744073709551615 = omega (arith, short) in
     let fits : length (x.text_from Opening (program p)) + 2 ≤ 18446744073709551615 = subst (λ z. length z + 2 ≤ 18446744073709551615) (printed_text p) small in
     ap (λ z. kinds_at 0 start (chars z)) (printed_text p) ∙ all_tokens (program p) a Opening start fits
-
-pub printed_is_read_back : PrintedIsReadBack
-printed_is_read_back all p is a short = read_back all (tokens_of (printed p)) p is (printed_tokens p a short)

@@ -1,5 +1,5 @@
 -- Words, names and integers that are printed are cut out again, and so is the space between tokens.
-use Rattle.std.proofs.Common.{◌≡◌, ℕ, suc, ◌+◌, ◌-◌, ◌*◌, ◌%◌, ◌/◌, ◌<◌, ◌≤◌, min, nat_lt, Bool, true, false, cond, ◌||◌, ◌⊎◌, inl, inr, List, [], ◌∷◌, ◌++◌, take, length, Some, None, refl, sym, subst, ap, ◌∙◌, true≢false, eqb-true, ltb-true, ltb-false, le-ltb, arith}
+use Rattle.std.proofs.Common.{◌≡◌, ℕ, suc, ◌+◌, ◌*◌, ◌%◌, ◌/◌, ◌<◌, ◌≤◌, min, nat_lt, Bool, true, false, cond, ◌||◌, ◌⊎◌, inl, inr, List, [], ◌∷◌, ◌++◌, take, length, Some, None, refl, sym, subst, ap, ◌∙◌, true≢false, eqb-true, ltb-true, ltb-false, le-ltb, arith}
 use Rattle.std.specs.Str.{chars}
 use Rattle.std.specs.Prelude.{decimal, fold, ◌==◌}
 use Rattle.std.specs.Char.{is_ascii_digit}
@@ -14,9 +14,8 @@ use Rattle.sync_tokens.specs.declared.token.Kind.TheVariants as kinds
 use Rattle.sync_tokens.specs.declared.token.Sign.{Sign}
 use Rattle.sync_tokens.specs.declared.token.Sign.TheVariants as signs
 use Rattle.sync_tokens.specs.declared.token.Word.{Word}
-use Rattle.sync_tokens.specs.declared.token.Word.TheVariants as words
 use Rattle.sync_print.specs.Spelling.{sign_text}
-use Rattle.sync_print.specs.Spellable.{is_part, AllParts}
+use Rattle.sync_tokens.specs.Spellable.{is_part, AllParts}
 use Rattle.sync_print.proofs.Lexing.{Stops, at_end, at_space, at_paren_close, at_bracket_close, at_comma, at_semicolon, at_colon, at_dot, at_paren_open, at_bracket_open}
 
 -- ---- ASCII

@@ -9,3 +9,6 @@ pub mod PrintsExpressions
 pub mod PrintsStatements
 pub mod ReadBack
 pub mod LexingAll
+pub mod SpellsExpressions
+pub mod SpellsStatements
+pub mod PrintedTexts

@@ -1,12 +1,11 @@
 -- What is printed of each node is read as it, where that of its parts is.
-use Rattle.std.proofs.Common.{◌≡◌, ℕ, suc, ◌+◌, ◌-◌, ◌≤◌, Bool, true, false, List, [], ◌∷◌, ◌++◌, map, Some, refl, sym, subst, ap, ◌∙◌, arith}
+use Rattle.std.proofs.Common.{◌≡◌, ℕ, suc, ◌+◌, ◌≤◌, Bool, true, false, List, [], ◌∷◌, ◌++◌, map, Some, refl, sym, subst, ap, ◌∙◌, arith}
 use Rattle.sync_tokens.specs.Places.{start}
 use Rattle.sync_tokens.specs.declared.place.Place.{Place}
 use Rattle.sync_tokens.specs.declared.token.Kind.{Kind}
 use Rattle.sync_tokens.specs.declared.token.Kind.TheVariants as kinds
 use Rattle.sync_tokens.specs.declared.token.Sign.{Sign}
 use Rattle.sync_tokens.specs.declared.token.Sign.TheVariants as signs
-use Rattle.sync_tokens.specs.declared.token.Word.{Word}
 use Rattle.sync_tokens.specs.declared.token.Word.TheVariants as words
 use Rattle.sync_syntax.specs.declared.tree.Operator.{Operator}
 use Rattle.sync_syntax.specs.declared.tree.Operator.TheVariants as operators

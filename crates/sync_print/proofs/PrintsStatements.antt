@@ -6,7 +6,6 @@ use Rattle.sync_tokens.specs.declared.token.Kind.{Kind}
 use Rattle.sync_tokens.specs.declared.token.Kind.TheVariants as kinds
 use Rattle.sync_tokens.specs.declared.token.Sign.{Sign}
 use Rattle.sync_tokens.specs.declared.token.Sign.TheVariants as signs
-use Rattle.sync_tokens.specs.declared.token.Word.{Word}
 use Rattle.sync_tokens.specs.declared.token.Word.TheVariants as words
 use Rattle.sync_syntax.specs.declared.tree.Declares.{Declares}
 use Rattle.sync_syntax.specs.declared.tree.Declares.TheVariants as declares
@@ -27,7 +26,7 @@ use Rattle.sync_syntax.specs.Reading.{Tokens, kind, next, place, same_word, sees
 use Rattle.sync_syntax.specs.Operators.{declares_by, writing_by, prefix}
 use Rattle.sync_syntax.specs.Grammar as g
 use Rattle.sync_syntax.specs.Grammar.{Takes, IsExpr, IsChain, IsUnary, IsPrimary, IsNamed, Ends, IsGiven, AreDeclared, IsDeclaration, IsSimple, IsExprOrNone, IsLast, IsStart, IsStatement, IsOtherwise, AreStatements, IsOwnName, IsSecond, IsProgram}
-use Rattle.sync_print.specs.Moved.{moved}
+use Rattle.sync_syntax.specs.Moved.{moved}
 use Rattle.sync_print.specs.Spelling.{writes_sign, declares_word}
 use Rattle.sync_print.specs.Trees as t
 use Rattle.sync_print.specs.Trees.{spelled, sign, parenthesized}

@@ -50,7 +50,7 @@ module _ (n : Bool → Rule Expr) (hn : (o : Bool) (ts : Tokens) → Holds (n o 
       let Q : List Expr → Tokens → Type 0 = λ x us. AreListed close ts x us in
       holds_eat close ts (pure ([])) ((separated_in n >>= λ found. (expect close >>= λ _. pure (found)))) Q (λ k1. g.none_listed k1) (λ no2. holds_then (separated_in n ts) (λ found. (expect close >>= λ _. pure (found))) (λ (found : List Expr) (us3 : Tokens). AreExprs ts found us3) Q (exprs-holds ts) (λ found us3 h4. holds_expect close us3 (pure (found)) Q (λ k5. g.some_listed h4 k5)))
 
-  member-holds : (ts : Tokens) → Holds (member n ts) (λ x us. IsMember ts x us)
+  pub member-holds : (ts : Tokens) → Holds (member n ts) (λ x us. IsMember ts x us)
   unfolding member
   member-holds ts =
       let Q : (List ℕ × Expr) → Tokens → Type 0 = λ x us. IsMember ts x us in
@@ -92,7 +92,7 @@ module _ (n : Bool → Rule Expr) (hn : (o : Bool) (ts : Tokens) → Holds (n o 
   unfolding primary
   primary-holds ts = primary_by-holds (kind ts) ts refl
 
-  suffix-holds : (ts : Tokens) → Holds (suffix n ts) (λ x us. IsSuffix ts x us)
+  pub suffix-holds : (ts : Tokens) → Holds (suffix n ts) (λ x us. IsSuffix ts x us)
   unfolding suffix
   suffix-holds ts =
       let Q : Suffix → Tokens → Type 0 = λ x us. IsSuffix ts x us in
@@ -163,7 +163,7 @@ module _ (level : ℕ) (below : Rule Expr) (hb : (ts : Tokens) → Holds (below 
       (λ all us f. subst (λ (l : List Tail). AreTails level ts l us) (sym f.1) f.2)
 
 module _ (room : ℕ) (n : Bool → Rule Expr) (hn : (o : Bool) (ts : Tokens) → Holds (n o ts) (λ x us. IsInner o ts x us)) where
-  chain-holds : (level : ℕ) (ts : Tokens) → Holds (chain room n level ts) (λ x us. IsChain level ts x us)
+  pub chain-holds : (level : ℕ) (ts : Tokens) → Holds (chain room n level ts) (λ x us. IsChain level ts x us)
   unfolding chain
   chain-holds zero ts = holds_map (unary room n ts) (λ x us. IsUnary ts x us) (λ x us. IsChain 0 ts x us) (unary-holds n hn room ts) (λ x us h. g.operand h)
   chain-holds (suc level) ts =
@@ -181,7 +181,7 @@ module _ (room : ℕ) (n : Bool → Rule Expr) (hn : (o : Bool) (ts : Tokens) �
   opened-holds true ts = unary-holds n hn room ts
   opened-holds false ts = choice-holds ts
 
-nested-holds : (room : ℕ) (o : Bool) (ts : Tokens) → Holds (nested room o ts) (λ x us. IsInner o ts x us)
+pub nested-holds : (room : ℕ) (o : Bool) (ts : Tokens) → Holds (nested room o ts) (λ x us. IsInner o ts x us)
 unfolding nested
 nested-holds zero o ts = tt
 nested-holds (suc room) o ts = opened-holds room (nested room) (nested-holds room) o ts

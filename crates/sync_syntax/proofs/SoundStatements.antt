@@ -1,5 +1,6 @@
 -- What the rules of statements and programs read is one by the grammar.
-use Rattle.std.proofs.Common.{◌≡◌, ℕ, zero, suc, Bool, true, false, cond, if◌then◌else◌, List, [], ◌∷◌, ◌++◌, Option, Some, None, Result, Ok, Err, IfOk, refl, sym, subst, ap, ◌∙◌, append_assoc, append-nil}
+use Rattle.std.proofs.Common.{◌≡◌, ℕ, zero, suc, Bool, true, false, cond, if◌then◌else◌, List, [], ◌∷◌, ◌++◌, Option, Some, None, Result, Ok, Err, IfOk, length, nat_lt, refl, sym, subst, ap, ◌∙◌, append_assoc, append-nil}
+use Rattle.sync_tokens.specs.Scan.{tokens_of}
 use Rattle.sync_tokens.specs.declared.place.Place.{Place}
 use Rattle.sync_tokens.specs.declared.token.Kind.{Kind}
 use Rattle.sync_tokens.specs.declared.token.Kind.TheVariants as kinds
@@ -23,9 +24,10 @@ use Rattle.sync_syntax.specs.declared.tree.Statement.TheVariants as s
 use Rattle.sync_syntax.specs.declared.tree.Program.{Program}
 use Rattle.sync_syntax.specs.Reading.{Tokens, Outcome, Rule, ◌>>=◌, ◌>>◌, ◌<$>◌, pure, take, here, kind, next, second, place, sees, eat, eat_word, expect, name, turns, is_sign, same_sign, after}
 use Rattle.sync_syntax.specs.Operators.{declares_by, writing_by, is_name}
-use Rattle.sync_syntax.specs.Statements.{named, ending, end_by, end, expr, given, declared, more_declared, declaration, written, write, value, write_or_value, simple, expr_unless, simple_unless, returned, return_at, throw, declare, only_simple, declare_or_simple, plain, jump, block_from, block, otherwise, choose, repeat, each, for_declared, for_simple, for_by, for_at, word_by, sign_by, statement_by, opened, statement, body_room, body, own_name_by, own_name, second_parameter, head, program, only, block_in, Gives}
+use Rattle.sync_syntax.specs.Statements.{named, ending, end_by, end, expr, given, declared, more_declared, declaration, written, write, value, write_or_value, simple, expr_unless, simple_unless, returned, return_at, throw, declare, only_simple, declare_or_simple, plain, jump, block_from, block, otherwise, choose, repeat, each, for_declared, for_simple, for_by, for_at, word_by, sign_by, statement_by, opened, statement, body_room, body, own_name_by, own_name, second_parameter, head, program, only, block_in, Gives, max_len, parsed}
 use Rattle.sync_syntax.specs.Grammar as g
 use Rattle.sync_syntax.specs.Grammar.{Takes, IsExpr, IsNamed, Ends, IsGiven, AreDeclared, IsDeclaration, IsSimple, IsExprOrNone, IsLast, IsStart, IsStatement, IsOtherwise, AreStatements, IsOwnName, IsSecond, IsHead, IsTail, IsProgram}
+use Rattle.sync_syntax.specs.Laws.{ReadIsProgram}
 use Rattle.sync_syntax.proofs.Holds.{Holds, holds_then, holds_map, holds_choice, holds_expect, holds_expect_word, holds_eat, holds_eatw, name-holds, separated-holds, expect-holds, sees-takes}
 use Rattle.sync_syntax.proofs.SoundExpressions.{expr-holds}
 
@@ -62,10 +64,10 @@ module _ (room : ℕ) where
       let Q : Option Expr → Tokens → Type 0 = λ x us. IsGiven ts x us in
       holds_eat signs.Assign ts ((expr room >>= λ x. pure (Some x))) (pure (None)) Q (λ k3. holds_then (expr room (next ts)) (λ x. pure (Some x)) (λ (x : Expr) (us5 : Tokens). IsExpr (next ts) x us5) Q (expr-holds room (next ts)) (λ x us5 h6. g.given k3 h6)) (λ no4. g.not_given)
 
-  abbrev IsOne : Tokens → Named × Option Expr → Tokens → Type 0
+  abbrev pub IsOne : Tokens → Named × Option Expr → Tokens → Type 0
   IsOne ts d us = (vs : Tokens) × IsNamed ts d.0 vs × IsGiven vs d.1 us
 
-  declared-holds : (ts : Tokens) → Holds (declared room ts) (λ x us. IsOne ts x us)
+  pub declared-holds : (ts : Tokens) → Holds (declared room ts) (λ x us. IsOne ts x us)
   unfolding declared
   declared-holds ts =
       let Q : (Named × Option Expr) → Tokens → Type 0 = λ x us. IsOne ts x us in
@@ -321,7 +323,7 @@ module _ (room : ℕ) (inner : Bool → Rule Statement) (hi : (l : Bool) (ts : T
   unfolding opened
   opened-holds l ts = statement_by-holds l (kind ts) ts refl
 
-statement-holds : (room : ℕ) (l : Bool) (ts : Tokens) → Holds (statement room l ts) (λ x us. IsStatement l ts x us)
+pub statement-holds : (room : ℕ) (l : Bool) (ts : Tokens) → Holds (statement room l ts) (λ x us. IsStatement l ts x us)
 unfolding statement
 statement-holds zero l ts = tt
 statement-holds (suc room) l ts = opened-holds room (statement room) (statement-holds room) l ts
@@ -388,3 +390,12 @@ program-is ts p is = only-is (program ts) (λ x. IsProgram ts x) (program-holds 
 pub given-is : (ts : Tokens) (r : Result Program ParseFault) → Gives (only (program ts)) r → IfOk r (λ p. IsProgram ts p)
 given-is ts (Ok p) is = program-is ts p is
 given-is ts (Err e) is = tt
+
+short-is : (b : Bool) (text : List ℕ) (e : ParseFault) (p : Program) → cond b (Err e) (only (program (tokens_of text))) ≡ Ok p → IsProgram (tokens_of text) p
+short-is true text e p is = absurd cc
+short-is false text e p is = program-is (tokens_of text) p is
+
+-- what a text is read as
+pub read-is : ReadIsProgram
+unfolding parsed
+read-is text p is = short-is (nat_lt max_len (length text)) text _ p is

@@ -4,3 +4,6 @@ pub mod Expressions
 pub mod Nests
 pub mod Statements
 pub mod Grammar
+pub mod Moved
+pub mod Depth
+pub mod Laws

@@ -1,9 +1,12 @@
-ghost use Rattle.std.specs.Prelude.{IfOk};
+ghost use Rattle.std.specs.Prelude.{◌≤◌, length, IfOk, Ok};
 ghost use Rattle.sync_tokens.specs.Scan.{tokens_of};
+ghost use Rattle.sync_syntax.specs.declared.tree.Program.{Program};
+ghost use Rattle.sync_syntax.specs.Depth.{depth};
 ghost use Rattle.sync_syntax.specs.Grammar.{IsProgram};
+ghost use Rattle.sync_syntax.specs.Laws.{max_depth};
 ghost use Rattle.sync_syntax.specs.Reading.{Reads};
 ghost use Rattle.sync_syntax.specs.Statements as spec;
-ghost use Rattle.sync_syntax.specs.Statements.{Gives};
+ghost use Rattle.sync_syntax.specs.Statements.{Gives, max_len};
 
 use crate::cursor::Tokens;
 use crate::fault::{ParseFault, SyntaxFault};
@@ -101,7 +104,6 @@ fn program(alloc: Global, tokens: &mut Tokens<'_>) -> Result<Program, ParseFault
 }
 
 /// The program that all of these tokens are.
-
 fn whole(alloc: Global, all: &[Token]) -> Result<Program, ParseFault>
     ensures { Gives (spec.only (spec.program all.now)) result }
 {
@@ -130,6 +132,9 @@ pub fn parse(alloc: Global, text: &str) -> Result<Program, ParseFault>
     ensures exact { Gives (spec.parsed text.now) result }
     // What is read is a program by the grammar.
     ensures grammar { IfOk result (λ program. IsProgram (tokens_of text.now) program) }
+    // A program by the grammar is read, where the text is not too long and not too much is open.
+    ensures complete { (p : Program) (d : IsProgram (tokens_of text.now) p)
+        → length text.now ≤ max_len → depth d ≤ max_depth → Gives (Ok p) result }
 {
     if text.len() > MAX_LEN {
         return Err(ParseFault::Bad(SyntaxFault {

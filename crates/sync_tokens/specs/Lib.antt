@@ -4,3 +4,4 @@ pub mod Words
 pub mod Signs
 pub mod Literals
 pub mod Scan
+pub mod Spellable

@@ -2,6 +2,7 @@
 #![tactic(auto)]
 
 mod blank;
+pub mod laws;
 mod literal;
 mod place;
 mod scan;

@@ -1,6 +1,7 @@
 ghost use Rattle.std.specs.Prelude.{◌≡◌, ◌≤◌, ◌<◌, ◌∷◌, length, IfOk, chars};
 ghost use Rattle.sync_tokens.specs.Scan as spec;
 ghost use Rattle.sync_tokens.specs.Scan.{Lays};
+ghost use Rattle.sync_tokens.specs.Spellable.{AreTokens};
 
 use crate::Memory;
 use crate::blank::{comment_len, is_space, line_len};
@@ -154,7 +155,8 @@ fn characters(alloc: Global, text: &str) -> Result<Vec<char>, Memory>
 /// `Bad`.
 #[tactic(auto, unfolding(crate::specs::Scan::tokens_of))]
 pub fn tokens(alloc: Global, text: &str) -> Result<Vec<Token>, Memory>
-    ensures { IfOk result (λ all. all.items ≡ spec.tokens_of text.now) }
+    ensures exact { IfOk result (λ all. all.items ≡ spec.tokens_of text.now) }
+    ensures spellable { IfOk result (λ all. AreTokens all.items) }
 {
     let chars = characters(alloc, text)?;
     tokens_in(alloc, chars.as_slice())

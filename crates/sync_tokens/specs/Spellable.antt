@@ -5,6 +5,8 @@ use Rattle.sync_tokens.specs.Literals.{max_integer}
 use Rattle.sync_tokens.specs.Words.{is_letter, reserved}
 use Rattle.sync_tokens.specs.declared.token.Kind.{Kind}
 use Rattle.sync_tokens.specs.declared.token.Kind.TheVariants as kinds
+use Rattle.sync_tokens.specs.declared.token.Token.{Token}
+use Rattle.sync_tokens.specs.Scan.{tokens_of}
 
 -- a letter or a digit
 abbrev pub is_part : ℕ → Bool
@@ -38,3 +40,19 @@ IsSpellable (kinds.Bad why) = ⊥
 abbrev pub AreSpellable : List Kind → Type 0
 AreSpellable [] = Unit {0}
 AreSpellable (k ∷ ks) = IsSpellable k × AreSpellable ks
+
+-- the end of a text, or characters that are no token
+abbrev pub IsLast : Kind → Type 0
+IsLast kinds.End = Unit {0}
+IsLast (kinds.Bad why) = Unit {0}
+IsLast _ = ⊥
+
+-- the tokens of a text: the last is the end or no token, and each before it can be spelled
+abbrev pub AreTokens : List Token → Type 0
+AreTokens [] = ⊥
+AreTokens (t ∷ []) = IsLast t.kind
+AreTokens (t ∷ u ∷ ts) = IsSpellable t.kind × AreTokens (u ∷ ts)
+
+-- each text has such tokens
+abbrev pub TextsHaveTokens : Type 0
+TextsHaveTokens = (text : List ℕ) → IsUtf8 text → AreTokens (tokens_of text)

@@ -1,5 +1,5 @@
 -- A program with each of its places moved.
-use Rattle.std.specs.Prelude.{Option, option_map, List, map}
+use Rattle.std.specs.Prelude.{Option, option_map, map}
 use Rattle.sync_tokens.specs.declared.place.Place.{Place}
 use Rattle.sync_syntax.specs.declared.tree.Expr.{Expr, fold-Expr}
 use Rattle.sync_syntax.specs.declared.tree.Expr.TheOpen.{Expr-F, Suffix-F}
