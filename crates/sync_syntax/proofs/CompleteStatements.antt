@@ -264,11 +264,11 @@ pub head_read : {ts us : Tokens} {own : Option (List ℕ)} {n : Named} {m : Opti
 unfolding head
 head_read (g.head w o k n m l) = rw (expect_word_read words.Function w, own_name_read o k, expect_read signs.ParenOpen k, s.named_read n, second_read m l, expect_read signs.ParenClose l) refl
 
-end_read : (ts : Tokens) → kind ts ≡ kinds.End → end ts ≡ Ok (tt, ts)
+pub end_read : (ts : Tokens) → kind ts ≡ kinds.End → end ts ≡ Ok (tt, ts)
 unfolding end
 end_read ts is = rw is refl
 
-end_no_semicolon : (ts : Tokens) → kind ts ≡ kinds.End → sees signs.Semicolon ts ≡ false
+pub end_no_semicolon : (ts : Tokens) → kind ts ≡ kinds.End → sees signs.Semicolon ts ≡ false
 unfolding sees
 end_no_semicolon ts is = ap (is_sign signs.Semicolon) is
 
@@ -309,13 +309,13 @@ parts (g.program {us = us} {vs = vs} {ws = ws} h k t b is) a =
     let q = head_past h a in
     record { behind = us; inside = vs; rest = ws; heads = head_read h; places = refl; takes = k.rest; are = (sign_past k q.are).are; body = t }
 
-read_same : {A : Type 0} {r : Outcome A} {x y : A} {us vs : Tokens} → r ≡ Ok (x, us) → r ≡ Ok (y, vs) → (x ≡ y) × (us ≡ vs)
+pub read_same : {A : Type 0} {r : Outcome A} {x y : A} {us vs : Tokens} → r ≡ Ok (x, us) → r ≡ Ok (y, vs) → (x ≡ y) × (us ≡ vs)
 read_same {A} {r} {x} {y} {us} {vs} h k = let pair : ◌≡◌ {A = A × Tokens} (x, us) (y, vs) = cc in (ap (λ z. z.0) pair, ap (λ z. z.1) pair)
 
-abbrev Heading : Type 0
+abbrev pub Heading : Type 0
 Heading = Option (List ℕ) × Named × Option Named
 
-abbrev made : Heading → Place → List Statement → Program
+abbrev pub made : Heading → Place → List Statement → Program
 made h p found = record { name = h.0; first = h.1; second = h.2; place = p; body = found }
 
 made_same : {h i : Heading} {p q : Place} {xs ys : List Statement} → h ≡ i → p ≡ q → xs ≡ ys → made h p xs ≡ made i q ys

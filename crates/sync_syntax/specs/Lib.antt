@@ -7,3 +7,4 @@ pub mod Grammar
 pub mod Moved
 pub mod Depth
 pub mod Laws
+pub mod Faults

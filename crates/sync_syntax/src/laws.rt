@@ -1,5 +1,6 @@
 //! What holds of every text. The calls do nothing.
 
+ghost use Rattle.sync_syntax.specs.Faults.{FaultsStandAtTokens};
 ghost use Rattle.sync_syntax.specs.Laws.{GrammarIsUnambiguous, ProgramsAreRead, ReadIsProgram};
 
 use sync_tokens::laws::texts_have_tokens;
@@ -22,3 +23,11 @@ pub fn grammar_is_unambiguous()
 pub fn read_is_program()
     ensures { ReadIsProgram }
 {}
+
+/// A fault but `TooLong` stands at a token; where it is `Unexpected`, no program begins with the
+/// tokens up to that one.
+pub fn faults_stand_at_tokens()
+    ensures { FaultsStandAtTokens }
+{
+    texts_have_tokens();
+}

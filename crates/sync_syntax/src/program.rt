@@ -1,7 +1,9 @@
-ghost use Rattle.std.specs.Prelude.{◌≤◌, length, IfOk, Ok};
+ghost use Rattle.std.specs.Prelude.{◌≢◌, ◌≤◌, length, IfErr, IfOk, Ok};
 ghost use Rattle.sync_tokens.specs.Scan.{tokens_of};
+ghost use Rattle.sync_syntax.specs.declared.fault.ParseFault.TheVariants.{Memory};
 ghost use Rattle.sync_syntax.specs.declared.tree.Program.{Program};
 ghost use Rattle.sync_syntax.specs.Depth.{depth};
+ghost use Rattle.sync_syntax.specs.Faults.{IsFaultOf};
 ghost use Rattle.sync_syntax.specs.Grammar.{IsProgram};
 ghost use Rattle.sync_syntax.specs.Laws.{max_depth};
 ghost use Rattle.sync_syntax.specs.Reading.{Reads};
@@ -135,6 +137,10 @@ pub fn parse(alloc: Global, text: &str) -> Result<Program, ParseFault>
     // A program by the grammar is read, where the text is not too long and not too much is open.
     ensures complete { (p : Program) (d : IsProgram (tokens_of text.now) p)
         → length text.now ≤ max_len → depth d ≤ max_depth → Gives (Ok p) result }
+    // A fault of a text that is not too long stands at a token; no program begins with the tokens
+    // up to one that fits no rule.
+    ensures fault { IfErr result (λ e. e ≢ Memory → length text.now ≤ max_len
+        → IsFaultOf (tokens_of text.now) e) }
 {
     if text.len() > MAX_LEN {
         return Err(ParseFault::Bad(SyntaxFault {

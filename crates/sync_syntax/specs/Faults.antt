@@ -1,0 +1,28 @@
+-- Which token of a text is at fault.
+use Rattle.std.specs.Prelude.{◌≡◌, ℕ, ◌≤◌, List, [], ◌∷◌, ◌++◌, length, Err, IsUtf8}
+use Rattle.sync_tokens.specs.Scan.{tokens_of}
+use Rattle.sync_tokens.specs.Spellable.{AreTokens}
+use Rattle.sync_tokens.specs.declared.place.SyntaxWhy.TheVariants.{Unexpected, TooDeep}
+use Rattle.sync_tokens.specs.declared.token.Token.{Token}
+use Rattle.sync_syntax.specs.declared.fault.ParseFault.{ParseFault}
+use Rattle.sync_syntax.specs.declared.fault.ParseFault.TheVariants.{Bad}
+use Rattle.sync_syntax.specs.declared.tree.Program.{Program}
+use Rattle.sync_syntax.specs.Grammar.{IsProgram}
+use Rattle.sync_syntax.specs.Reading.{Tokens, why_at}
+use Rattle.sync_syntax.specs.Statements.{max_len, parsed}
+
+-- no tokens that a text can have, and that begin with these, are a program by the grammar, however much is open in it
+abbrev pub NoneBegins : Tokens → Type 0
+NoneBegins ts = (rest : Tokens) (p : Program) → AreTokens (ts ++ rest) → IsProgram (ts ++ rest) p → ⊥
+
+-- the fault stands at a token of these: it is the token's own, where that is none, or else
+pub data IsFaultOf (ts : Tokens) : ParseFault → Type 0 where
+  -- no program begins with what stands before the token, and it
+  unexpected : (before : Tokens) (token : Token) (rest : Tokens) → ts ≡ before ++ token ∷ rest → NoneBegins (before ++ token ∷ [])
+      → IsFaultOf ts (Bad (record { place = token.place; why = why_at token.kind Unexpected }))
+  -- one more than may be open begins at it
+  deep : (before : Tokens) (token : Token) (rest : Tokens) → ts ≡ before ++ token ∷ rest → IsFaultOf ts (Bad (record { place = token.place; why = why_at token.kind TooDeep }))
+
+-- where a text of no more bytes than it may have is read as no program, the fault is one of its tokens
+abbrev pub FaultsStandAtTokens : Type 0
+FaultsStandAtTokens = (text : List ℕ) → IsUtf8 text → length text ≤ max_len → (e : ParseFault) → parsed text ≡ Err e → IsFaultOf (tokens_of text) e
