@@ -10,7 +10,7 @@ use Rattle.sg_names.specs.declared.rev_id.RevId.{RevId}
 use Rattle.sg_history.specs.declared.entries.Entry.{Entry}
 use Rattle.sg_history.specs.declared.entries.Write.{Write}
 use Rattle.sg_history.specs.History.{as_write, of_document, write_to}
-use Rattle.sg_history.specs.Current.{Sequenced, Current, sequenced_or, with_rev_or, last_write, write_of_rev, write_or, winning_of, write_alone, current, current_after, current_by}
+use Rattle.sg_history.specs.Current.{Sequenced, sequenced_or, with_rev_or, last_write, write_of_rev, write_or, winning_of, write_alone}
 use Rattle.log_index.specs.declared.documents.Document.{Document}
 use Rattle.log_index.specs.Places.{document_by, document_at, seq_alone, revision_seq}
 use Rattle.log_views.specs.At.{written, write_at}

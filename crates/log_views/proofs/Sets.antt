@@ -1,5 +1,5 @@
 -- what a set of names has once one was put in
-use Rattle.std.proofs.Common.{◌≡◌, ◌∙◌, ℕ, refl, ap, Bool, true, false, ◌||◌, List, [], Option, Some, Result, Ok, Err, if◌then◌else◌, Bor}
+use Rattle.std.proofs.Common.{◌≡◌, ◌∙◌, ℕ, refl, ap, Bool, true, false, ◌||◌, List, Option, Some, Result, Ok, Err, if◌then◌else◌, Bor}
 use Rattle.std.specs.Prelude.{is_some, OnOk}
 use Rattle.std.proofs.lemmas.Map.Text.{btree_map_updates_str}
 use Rattle.std.specs.BTreeMap.{BTreeMap, UpdatesBy, get_by}

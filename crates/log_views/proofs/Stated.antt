@@ -1,5 +1,5 @@
 -- what is looked up of a document and of a user is what the history says
-use Rattle.std.proofs.Common.{◌≡◌, ◌+◌, ℕ, refl, sym, ◌∙◌, ap, Bool, true, false, ◌&&◌, ◌||◌, List, [], length, map, reverse, Option, Some, None}
+use Rattle.std.proofs.Common.{◌≡◌, ℕ, sym, ◌∙◌, ap, false, ◌&&◌, ◌||◌, List, reverse, Option, Some, None}
 use Rattle.std.specs.Prelude.{option_map}
 use Rattle.std.specs.List.{list_any}
 use Rattle.std.specs.Str.{bytes_eq}
@@ -8,14 +8,14 @@ use Rattle.std.proofs.lemmas.Option.{none-some, same_Some}
 use Rattle.sg_names.specs.declared.grants.Grantee.TheVariants.{User, Role}
 use Rattle.sg_history.specs.declared.entries.Entry.{Entry}
 use Rattle.sg_history.specs.declared.entries.Write.{Write}
-use Rattle.sg_history.specs.Current.{Sequenced, Current, winning_of, write_alone, current, current_after, current_of, recorded_effects}
+use Rattle.sg_history.specs.Current.{Sequenced, winning_of, write_alone, current, current_after, current_of, recorded_effects}
 use Rattle.sg_history.specs.Principals.{Standing, everyone, exists, names_channel, is_granted, has_role, role_has_channel, roles_put, user_at, role_at, has_channel}
 use Rattle.log_index.specs.declared.documents.Document.{Document}
 use Rattle.log_index.specs.Places.{document_at, last_put}
 use Rattle.log_views.specs.At.{write_at, granting_now}
 use Rattle.log_views.specs.Has.{standing_at, user_has}
 use Rattle.log_views.specs.States.{winning}
-use Rattle.log_views.proofs.Placed.{Found, found, winner_read, nothing}
+use Rattle.log_views.proofs.Placed.{found, winner_read, nothing}
 use Rattle.log_views.proofs.Granting.{searched}
 use Rattle.log_views.proofs.Having.{user_has_is}
 use Rattle.log_views.proofs.Puts.{user_put, role_put}

@@ -1,5 +1,5 @@
 -- The channels of a user, worked out from the documents that grant anything.
-use Rattle.std.specs.Prelude.{◌≡◌, ℕ, Bool, ◌&&◌, ◌||◌, is_some, List, [], Option, Some, None}
+use Rattle.std.specs.Prelude.{◌≡◌, ℕ, Bool, ◌&&◌, ◌||◌, is_some, List, Option, Some, None}
 use Rattle.std.specs.List.{list_any, slice_get}
 use Rattle.std.specs.Prelude.{◌-◌}
 use Rattle.std.specs.Borrow.{Bor}

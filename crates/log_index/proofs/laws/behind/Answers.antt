@@ -1,4 +1,4 @@
-use Rattle.std.proofs.Common.{◌++◌, List, length, refl, sym, subst, arith}
+use Rattle.std.proofs.Common.{◌++◌, List, refl, sym, subst, arith}
 use Rattle.std.proofs.lemmas.List.{length-append}
 use Rattle.sg_history.specs.declared.entries.Entry.{Entry}
 use Rattle.log_index.specs.Index.{Indexes}

@@ -1,6 +1,4 @@
-use Rattle.std.proofs.Common.{◌≡◌, ◌&&◌, ◌||◌, ℕ, List, drop, map, reverse}
-use Rattle.std.specs.List.{list_any}
-use Rattle.std.specs.Str.{bytes_eq}
+use Rattle.std.proofs.Common.{◌≡◌, ◌||◌, ℕ, List, drop, map}
 use Rattle.sg_history.specs.Puts.{grantee_in}
 use Rattle.log_views.specs.Has.{is_there, granted}
 use Rattle.log_views.specs.States.{state_of}

@@ -1,6 +1,5 @@
-use Rattle.std.proofs.Common.{◌≡◌, ◌&&◌, ◌||◌, ℕ, List, drop, map, reverse}
+use Rattle.std.proofs.Common.{◌≡◌, ◌||◌, ℕ, List, drop, map, reverse}
 use Rattle.std.specs.List.{list_any}
-use Rattle.std.specs.Str.{bytes_eq}
 use Rattle.log_views.specs.Has.{is_there, has_by_role}
 use Rattle.log_views.specs.States.{state_of}
 use Rattle.log_views.proofs.access.add_named.Given as goal
