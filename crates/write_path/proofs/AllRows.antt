@@ -23,17 +23,16 @@ use Rattle.sg_history.specs.declared.entries.Write.{Write}
 use Rattle.sg_history.specs.declared.row.Row.{Row}
 use Rattle.sg_history.specs.declared.row.Options.{Options}
 use Rattle.sg_history.specs.History.{past}
-use Rattle.sg_names.specs.declared.rev_id.RevId.{RevId}
-use Rattle.sg_history.specs.Current.{current, write_of_rev, write_alone}
+use Rattle.sg_history.specs.Current.{current, write_alone}
 use Rattle.sg_history.specs.View.{Shown, view, same_view}
-use Rattle.sg_history.specs.Feed.{changed, feed, keeps, is_gone, row_of}
+use Rattle.sg_history.specs.Feed.{changed, feed, keeps, row_of}
 use Rattle.feed_rows.specs.Laws.{HasRow, IsAskedFor}
 use Rattle.repl_messages.specs.declared.looks.Body.{Body}
 use Rattle.repl_messages.specs.declared.looks.Body.TheVariants as body
 use Rattle.repl_messages.specs.Looks.{winning_write, said_by, left_by_write, body_with, body_of}
 use Rattle.write_path.specs.ByName.{last_named, before_all, all_rows, place_by}
-use Rattle.write_path.proofs.Same.{same_bytes, bytes_themselves, same_views}
-use Rattle.write_path.proofs.RowsTell.{seen, shown_now, place_now, row_names, winner_of_rev}
+use Rattle.write_path.proofs.Same.{same_bytes, bytes_themselves}
+use Rattle.write_path.proofs.RowsTell.{place_now, row_names}
 
 last_found : (before : Option Row) (rows : List Row) (doc : List ℕ) (r : Row) → last_named before rows doc ≡ Some r → (before ≡ Some r) ⊎ (HasRow rows r × (r.doc ≡ doc))
 last_found before [] doc r h = inl h

@@ -1,6 +1,5 @@
 -- What is answered for a row, by what is looked up of its document.
-use Rattle.std.specs.Prelude.{ℕ, Bool, ◌&&◌, nat_eq, is_none, List, [], reverse, Option, Some, None, if◌then◌else◌}
-use Rattle.sg_history.specs.declared.entries.Entry.{Entry}
+use Rattle.std.specs.Prelude.{ℕ, ◌&&◌, nat_eq, is_none, List, reverse, Option, Some, if◌then◌else◌}
 use Rattle.sg_history.specs.declared.entries.Write.{Write}
 use Rattle.sg_history.specs.declared.row.Row.{Row}
 use Rattle.sg_history.specs.Current.{current, write_alone}

@@ -1,5 +1,5 @@
 -- What is found of documents by their names, for the answers to many rows at once.
-use Rattle.std.specs.Prelude.{ℕ, true, false, ◌&&◌, nat_eq, is_none, List, [], ◌∷◌, Option, Some, None, if◌then◌else◌}
+use Rattle.std.specs.Prelude.{ℕ, true, false, List, [], ◌∷◌, Option, Some, None, if◌then◌else◌}
 use Rattle.std.specs.Option.{option_copied}
 use Rattle.std.specs.Borrow.{Bor}
 use Rattle.std.specs.Str.{bytes_eq}
@@ -7,14 +7,11 @@ use Rattle.std.specs.BTreeMap.{BTreeMap, get_by}
 use Rattle.std.specs.Ordering.{nat_cmp}
 use Rattle.std.specs.Cmp.Lexicographic.{slice_cmp}
 use Rattle.sg_names.specs.declared.key.Key.{Key}
-use Rattle.sg_history.specs.declared.entries.Write.{Write}
 use Rattle.sg_history.specs.declared.row.Row.{Row}
 use Rattle.sg_history.specs.declared.row.Options.{Options}
-use Rattle.sg_history.specs.View.{Shown, same_view}
+use Rattle.sg_history.specs.View.{Shown}
 use Rattle.sg_history.specs.Feed.{is_gone}
-use Rattle.repl_messages.specs.declared.looks.Body.{Body}
-use Rattle.repl_messages.specs.declared.looks.Body.TheVariants as body
-use Rattle.repl_messages.specs.Looks.{said_by, left_by_write, body_with}
+use Rattle.repl_messages.specs.Looks.{said_by}
 
 -- what a map has under a name
 abbrev pub under : {X : Type 0} → BTreeMap (Bor (List ℕ)) (Bor X) → List ℕ → Option X
