@@ -1,0 +1,5 @@
+//! Tests of what no clause says of grants in time.
+#![tactic(auto)]
+
+#[cfg(test)]
+mod grants;
