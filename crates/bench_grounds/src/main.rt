@@ -1,0 +1,181 @@
+//! Makes a board of so many documents, and proposes revisions to it, or pulls all documents with their bodies, so that what it
+//! takes can be measured from outside.
+#![tactic(auto)]
+
+ghost use Rattle.std.specs.Prelude.{reverse, IfOk};
+ghost use Rattle.sg_history.specs.History.{entries_of};
+ghost use Rattle.doc_board.specs.Lawful.{AreLawful};
+
+use doc_board::laws::recorded;
+use doc_board::{Board, OpenFault, Outcome};
+use repl_messages::{Body, Fed, Revision};
+use sg_history::{
+    Digest, DocId, Key, Log, Name, Options, ReadLog, RevId, Revs, Row, TextFault, read_journal,
+    write_decimal,
+};
+use sg_outside::Bytes;
+use std::alloc::{AllocError, Global};
+use std::{env, io};
+use write_path::{Ground, Shelf, SoloGround};
+
+/// The most ancestors that a body is asked for with.
+const ANCESTORS: u64 = 100;
+
+const OPTIONS: Options = Options {
+    filter: None,
+    active_only: false,
+    revocations: false,
+};
+
+/// Why a run does not go on.
+#[derive(Debug, Drop)]
+enum Stop {
+    Memory,
+    Text,
+    Journal,
+    Board,
+}
+
+impl From<AllocError> for Stop {
+    fn from(_refused: AllocError) -> Stop {
+        Stop::Memory
+    }
+}
+
+impl From<TextFault> for Stop {
+    fn from(_fault: TextFault) -> Stop {
+        Stop::Text
+    }
+}
+
+impl From<ReadLog> for Stop {
+    fn from(_bad: ReadLog) -> Stop {
+        Stop::Journal
+    }
+}
+
+impl From<OpenFault> for Stop {
+    fn from(_fault: OpenFault) -> Stop {
+        Stop::Board
+    }
+}
+
+/// The write of a document of channel A, judged before the first entry.
+fn write_line(journal: &mut Bytes, number: u64) -> Result<(), Stop> {
+    journal.extend_from_slice(b"W\td")?;
+    write_decimal(number, journal)?;
+    journal.extend_from_slice(b"\t1-a\t-\t0\t7b7d\t-\t0\t1-a\tA\t-\t-\n")?;
+    Ok(())
+}
+
+/// A journal: a put of a user who has channel A, and so many documents.
+fn journal_of(alloc: Global, documents: u64) -> Result<Bytes, Stop> {
+    let mut journal = Bytes::from_slice(alloc, b"sgjournal 1\nU\tann\tA\t-\n")?;
+    for number in 0..documents {
+        write_line(&mut journal, number)?;
+    }
+    Ok(journal)
+}
+
+fn log_of(alloc: Global, documents: u64) -> Result<Log, Stop>
+    ensures { IfOk result (λ log. AreLawful (reverse (entries_of log))) }
+{
+    recorded();
+    let journal = journal_of(alloc, documents)?;
+    Ok(read_journal(alloc, journal.as_slice())?)
+}
+
+fn ground_of(alloc: Global, documents: u64) -> Result<SoloGround, Stop> {
+    let board = Board::open(alloc, log_of(alloc, documents)?)?;
+    Ok(SoloGround::new(Shelf::new(board)?))
+}
+
+/// The first revision of a document that no journal has.
+fn revision_of(alloc: Global, number: u64) -> Result<Revision, Stop> {
+    let mut name = Bytes::from_slice(alloc, b"p")?;
+    write_decimal(number, &mut name)?;
+    let name = name.as_slice().to_vec(alloc)?;
+    let Ok(name) = String::from_utf8(name) else {
+        return Err(Stop::Text);
+    };
+    Ok(Revision {
+        doc: DocId::parse(alloc, name.as_str())?,
+        rev: RevId {
+            generation: 1,
+            digest: Digest::parse(alloc, "a")?,
+        },
+        ancestors: Revs::new(alloc),
+        deleted: false,
+        noconflicts: true,
+        body: Bytes::from_slice(alloc, b"{\"channels\":[\"A\"]}")?,
+    })
+}
+
+/// Proposes so many revisions, and counts those that are stored.
+fn stored(alloc: Global, documents: u64, proposals: u64) -> Result<u64, Stop> {
+    let mut ground = ground_of(alloc, documents)?;
+    let user = Name::parse(alloc, "ann")?;
+    let mut count = 0u64;
+    for number in 0..proposals {
+        let revision = revision_of(alloc, number)?;
+        if let Outcome::Stored { .. } = ground.propose(alloc, Some(&user), true, revision) {
+            count = count.saturating_add(1);
+        }
+    }
+    Ok(count)
+}
+
+/// How many of these rows are answered with a body.
+fn bodies(alloc: Global, ground: &mut SoloGround, user: &Name, rows: &[Row]) -> Result<u64, Stop> {
+    let found = ground.bodies(alloc, user, &OPTIONS, rows, ANCESTORS)?;
+    let mut count = 0u64;
+    for answer in found.answers.as_slice() {
+        if let Body::Rev { .. } = answer {
+            count = count.saturating_add(1);
+        }
+    }
+    Ok(count)
+}
+
+/// Pulls all documents: their rows, and the bodies of so many rows at a time, where that is not 0.
+fn pulled(alloc: Global, documents: u64, batch: u64) -> Result<u64, Stop> {
+    let mut ground = ground_of(alloc, documents)?;
+    let user = Name::parse(alloc, "ann")?;
+    let since = Key { by: 0, seq: 0 };
+    let Fed::Rows { rows, .. } = ground.feed(alloc, &user, &since, &OPTIONS)? else {
+        return Ok(0);
+    };
+    if batch == 0 {
+        return Ok(rows.as_slice().len() as u64);
+    }
+    let mut count = 0u64;
+    for some in rows.as_slice().chunks(batch as usize) {
+        count = count.saturating_add(bodies(alloc, &mut ground, &user, some)?);
+    }
+    Ok(count)
+}
+
+fn job(alloc: Global, name: &str, documents: u64, number: u64) -> Result<u64, Stop> {
+    match name {
+        "propose" => stored(alloc, documents, number),
+        _ => pulled(alloc, documents, number),
+    }
+}
+
+fn number_of(word: Option<String>) -> u64 {
+    word.map_or(0, |word| word.parse::<u64>().unwrap_or(0))
+}
+
+fn main(rt: HostRuntime) -> io::Result<()> {
+    let mut words = env::args(&rt)?;
+    let _program = words.next();
+    let Some(name) = words.next() else {
+        return Ok(());
+    };
+    let documents = number_of(words.next());
+    let number = number_of(words.next());
+    match job(rt.alloc(), name.as_str(), documents, number) {
+        Ok(count) => println!(rt; "{count} of {documents}, {number}"),
+        Err(stop) => println!(rt; "{stop:?}"),
+    }
+}
