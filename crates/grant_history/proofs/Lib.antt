@@ -8,3 +8,4 @@ pub mod Applied
 pub mod Reading
 pub mod Sweeping
 pub mod Dividing
+pub mod Sorting

@@ -7,4 +7,5 @@ pub mod Ledger
 pub mod Stands
 pub mod Reads
 pub mod Spells
+pub mod Sorted
 pub mod Periods

@@ -9,6 +9,7 @@ ghost use Rattle.sg_history.specs.Current.{current};
 ghost use Rattle.grant_history.specs.Facts as facts;
 ghost use Rattle.grant_history.specs.Ledger.{Took};
 ghost use Rattle.grant_history.specs.Periods.{ArePeriods};
+ghost use Rattle.grant_history.specs.Sorted.{AreSorted};
 ghost use Rattle.grant_history.specs.Stands.{LedgerAt, StandsFor, IsNext};
 
 use crate::facts::Fact;
@@ -150,20 +151,22 @@ impl GrantHistory {
         self.ledger.store.user_exists(user, k)
     }
 
-    /// The channels that a user has after the entries up to a place, each once, in no order.
+    /// The channels that a user has after the entries up to a place, by rising bytes.
     pub fn channels_at(&self, user: &Name, k: u64) -> Result<Channels, Memory>
         requires { k ≤ self.now.applied }
-        ensures { IfOk result (λ channels. (entries : List entry.Entry) → StandsFor self.now entries
+        ensures sorted { IfOk result (λ channels. AreSorted channels) }
+        ensures channels { IfOk result (λ channels. (entries : List entry.Entry) → StandsFor self.now entries
             → (c : List ℕ) → among channels c ≡ has_channel (past entries k) user.now c) }
     {
         let channels = self.ledger.store.channels(self.alloc, user, k)?;
         Ok(Channels::from_vec(channels))
     }
 
-    /// The roles that a user has after the entries up to a place, each once, in no order.
+    /// The roles that a user has after the entries up to a place, by rising bytes.
     pub fn roles_at(&self, user: &Name, k: u64) -> Result<Names, Memory>
         requires { k ≤ self.now.applied }
-        ensures { IfOk result (λ roles. (entries : List entry.Entry) → StandsFor self.now entries
+        ensures sorted { IfOk result (λ roles. AreSorted roles) }
+        ensures roles { IfOk result (λ roles. (entries : List entry.Entry) → StandsFor self.now entries
             → (r : List ℕ) → among roles r ≡ has_role (past entries k) user.now r) }
     {
         let roles = self.ledger.store.roles(self.alloc, user, k)?;

@@ -13,6 +13,7 @@ mod ledger;
 mod lists;
 mod periods;
 mod reads;
+mod sorted;
 mod spells;
 mod store;
 mod track;

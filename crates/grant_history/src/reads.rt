@@ -7,10 +7,12 @@ ghost use Rattle.sg_history.specs.History.{among};
 ghost use Rattle.sg_history.specs.Principals as principals;
 ghost use Rattle.grant_history.specs.Tracks.{held_at};
 ghost use Rattle.grant_history.specs.Reads as reads;
+ghost use Rattle.grant_history.specs.Sorted.{AreSorted};
 
 use crate::facts::What;
 use crate::held::{Held, holds};
 use crate::holders::{self, Holders};
+use crate::sorted::{insert_channel, insert_role};
 use sg_history::{ChannelName, Name, TextFault};
 use sg_outside::Memory;
 use std::alloc::{AllocError, Global};
@@ -37,18 +39,17 @@ fn add_channel(
     list: &mut Vec<ChannelName>,
     channel: &ChannelName,
 ) -> Result<(), Memory>
-    ensures { OnOk result ((x : List ℕ) → among list.new.items x
+    ensures among { OnOk result ((x : List ℕ) → among list.new.items x
         ≡ (bytes_eq channel.now x || among list.old.items x)) }
+    ensures sorted { OnOk result (AreSorted list.old.items → AreSorted list.new.items) }
 {
-    if !has_channel(list.as_slice(), channel.as_bytes()) {
-        list.push(channel.copy(alloc)?)?;
-    }
-    Ok(())
+    insert_channel(alloc, list, channel)
 }
 
 fn add_if_channel(alloc: Global, list: &mut Vec<ChannelName>, what: &What) -> Result<(), Memory>
-    ensures { OnOk result ((x : List ℕ) → among list.new.items x
+    ensures among { OnOk result ((x : List ℕ) → among list.new.items x
         ≡ (reads.is_channel what.now x || among list.old.items x)) }
+    ensures sorted { OnOk result (AreSorted list.old.items → AreSorted list.new.items) }
 {
     match what {
         What::Channel(channel) => add_channel(alloc, list, channel),
@@ -63,8 +64,9 @@ fn add_channels(
     all: &[Held],
     k: u64,
 ) -> Result<(), Memory>
-    ensures { OnOk result ((x : List ℕ) → among list.new.items x
+    ensures among { OnOk result ((x : List ℕ) → among list.new.items x
         ≡ (reads.channel_among all.now k x || among list.old.items x)) }
+    ensures sorted { OnOk result (AreSorted list.old.items → AreSorted list.new.items) }
 {
     for held in all {
         if held.track.holds(k) {
@@ -82,8 +84,9 @@ fn add_role_channels(
     role: &Name,
     k: u64,
 ) -> Result<(), Memory>
-    ensures { OnOk result ((x : List ℕ) → among list.new.items x
+    ensures among { OnOk result ((x : List ℕ) → among list.new.items x
         ≡ (reads.role_channel roles.now role.now k x || among list.old.items x)) }
+    ensures sorted { OnOk result (AreSorted list.old.items → AreSorted list.new.items) }
 {
     if let Some(all) = roles.get(role.as_str()) {
         if holds(all.as_slice(), &What::Exists, k) {
@@ -100,8 +103,9 @@ fn add_if_role(
     what: &What,
     k: u64,
 ) -> Result<(), Memory>
-    ensures { OnOk result ((x : List ℕ) → among list.new.items x
+    ensures among { OnOk result ((x : List ℕ) → among list.new.items x
         ≡ (reads.gives_channel roles.now what.now k x || among list.old.items x)) }
+    ensures sorted { OnOk result (AreSorted list.old.items → AreSorted list.new.items) }
 {
     match what {
         What::Role(role) => add_role_channels(alloc, list, roles, role, k),
@@ -117,8 +121,9 @@ fn add_by_roles(
     all: &[Held],
     k: u64,
 ) -> Result<(), Memory>
-    ensures { OnOk result ((x : List ℕ) → among list.new.items x
+    ensures among { OnOk result ((x : List ℕ) → among list.new.items x
         ≡ (reads.by_roles roles.now all.now k x || among list.old.items x)) }
+    ensures sorted { OnOk result (AreSorted list.old.items → AreSorted list.new.items) }
 {
     for held in all {
         if held.track.holds(k) {
@@ -136,9 +141,10 @@ fn add_user(
     all: &[Held],
     k: u64,
 ) -> Result<(), Memory>
-    ensures { OnOk result ((x : List ℕ) → among list.new.items x
+    ensures among { OnOk result ((x : List ℕ) → among list.new.items x
         ≡ (reads.by_roles roles.now all.now k x || (reads.channel_among all.now k x
         || (bytes_eq principals.everyone x || among list.old.items x)))) }
+    ensures sorted { OnOk result (AreSorted list.old.items → AreSorted list.new.items) }
 {
     let everyone = everyone(alloc)?;
     add_channel(alloc, list, &everyone)?;
@@ -153,8 +159,9 @@ fn channels_in(
     all: &[Held],
     k: u64,
 ) -> Result<Vec<ChannelName>, Memory>
-    ensures { IfOk result (λ list. (x : List ℕ) → among list.items x
+    ensures among { IfOk result (λ list. (x : List ℕ) → among list.items x
         ≡ reads.list_channel roles.now all.now k x) }
+    ensures sorted { IfOk result (λ list. AreSorted list.items) }
 {
     if !holds(all, &What::Exists, k) {
         return Ok(Vec::new(alloc));
@@ -172,8 +179,9 @@ pub fn channels_of(
     user: &Name,
     k: u64,
 ) -> Result<Vec<ChannelName>, Memory>
-    ensures { IfOk result (λ list. (x : List ℕ) → among list.items x
+    ensures among { IfOk result (λ list. (x : List ℕ) → among list.items x
         ≡ reads.user_channel roles.now (get_by_text users.now user.now) k x) }
+    ensures sorted { IfOk result (λ list. AreSorted list.items) }
 {
     match users.get(user.as_str()) {
         None => Ok(Vec::new(alloc)),
@@ -182,11 +190,11 @@ pub fn channels_of(
 }
 
 fn add_role(alloc: Global, list: &mut Vec<Name>, role: &Name) -> Result<(), Memory>
-    ensures { OnOk result ((x : List ℕ) → among list.new.items x
+    ensures among { OnOk result ((x : List ℕ) → among list.new.items x
         ≡ (bytes_eq role.now x || among list.old.items x)) }
+    ensures sorted { OnOk result (AreSorted list.old.items → AreSorted list.new.items) }
 {
-    list.push(role.copy(alloc)?)?;
-    Ok(())
+    insert_role(alloc, list, role)
 }
 
 fn add_if_existing(
@@ -196,8 +204,9 @@ fn add_if_existing(
     what: &What,
     k: u64,
 ) -> Result<(), Memory>
-    ensures { OnOk result ((x : List ℕ) → among list.new.items x
+    ensures among { OnOk result ((x : List ℕ) → among list.new.items x
         ≡ (reads.is_existing roles.now what.now k x || among list.old.items x)) }
+    ensures sorted { OnOk result (AreSorted list.old.items → AreSorted list.new.items) }
 {
     if let What::Role(role) = what {
         if holders::holds(roles, role.as_str(), &What::Exists, k) {
@@ -215,8 +224,9 @@ fn add_roles(
     all: &[Held],
     k: u64,
 ) -> Result<(), Memory>
-    ensures { OnOk result ((x : List ℕ) → among list.new.items x
+    ensures among { OnOk result ((x : List ℕ) → among list.new.items x
         ≡ (reads.role_among roles.now all.now k x || among list.old.items x)) }
+    ensures sorted { OnOk result (AreSorted list.old.items → AreSorted list.new.items) }
 {
     for held in all {
         if held.track.holds(k) {
@@ -228,8 +238,9 @@ fn add_roles(
 
 /// The roles of a user that has or had these, none where it does not exist at the place.
 fn roles_in(alloc: Global, roles: &Holders, all: &[Held], k: u64) -> Result<Vec<Name>, Memory>
-    ensures { IfOk result (λ list. (x : List ℕ) → among list.items x
+    ensures among { IfOk result (λ list. (x : List ℕ) → among list.items x
         ≡ reads.list_role roles.now all.now k x) }
+    ensures sorted { IfOk result (λ list. AreSorted list.items) }
 {
     if !holds(all, &What::Exists, k) {
         return Ok(Vec::new(alloc));
@@ -247,8 +258,9 @@ pub fn roles_of(
     user: &Name,
     k: u64,
 ) -> Result<Vec<Name>, Memory>
-    ensures { IfOk result (λ list. (x : List ℕ) → among list.items x
+    ensures among { IfOk result (λ list. (x : List ℕ) → among list.items x
         ≡ reads.user_role roles.now (get_by_text users.now user.now) k x) }
+    ensures sorted { IfOk result (λ list. AreSorted list.items) }
 {
     match users.get(user.as_str()) {
         None => Ok(Vec::new(alloc)),

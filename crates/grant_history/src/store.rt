@@ -7,6 +7,7 @@ ghost use Rattle.sg_history.specs.History.{among};
 ghost use Rattle.sg_names.specs.declared.grants.Grantee.TheVariants.{User};
 ghost use Rattle.grant_history.specs.declared.facts.What.TheVariants as what;
 ghost use Rattle.grant_history.specs.Periods.{ArePeriods};
+ghost use Rattle.grant_history.specs.Sorted.{AreSorted};
 ghost use Rattle.grant_history.specs.Reads.{user_channel, user_role};
 ghost use Rattle.grant_history.specs.Facts.{fact, times};
 ghost use Rattle.grant_history.specs.Holdings.{count_at, has_at, IsStore, more_at, less_at};
@@ -112,7 +113,8 @@ impl Store {
 
     /// The channels of a user at a place, none where it does not exist there.
     pub fn channels(&self, alloc: Global, user: &Name, k: u64) -> Result<Vec<ChannelName>, Memory>
-        ensures { IfOk result (λ list. (x : List ℕ) → among list.items x ≡ user_channel
+        ensures sorted { IfOk result (λ list. AreSorted list.items) }
+        ensures among { IfOk result (λ list. (x : List ℕ) → among list.items x ≡ user_channel
             self.now.roles (get_by_text self.now.users user.now) k x) }
     {
         channels_of(alloc, &self.users, &self.roles, user, k)
@@ -120,7 +122,8 @@ impl Store {
 
     /// The roles of a user at a place, none where it does not exist there.
     pub fn roles(&self, alloc: Global, user: &Name, k: u64) -> Result<Vec<Name>, Memory>
-        ensures { IfOk result (λ list. (x : List ℕ) → among list.items x ≡ user_role
+        ensures sorted { IfOk result (λ list. AreSorted list.items) }
+        ensures among { IfOk result (λ list. (x : List ℕ) → among list.items x ≡ user_role
             self.now.roles (get_by_text self.now.users user.now) k x) }
     {
         roles_of(alloc, &self.users, &self.roles, user, k)
