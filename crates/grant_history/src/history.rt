@@ -155,8 +155,9 @@ impl GrantHistory {
     pub fn channels_at(&self, user: &Name, k: u64) -> Result<Channels, Memory>
         requires { k ≤ self.now.applied }
         ensures sorted { IfOk result (λ channels. AreSorted channels) }
-        ensures channels { IfOk result (λ channels. (entries : List entry.Entry) → StandsFor self.now entries
-            → (c : List ℕ) → among channels c ≡ has_channel (past entries k) user.now c) }
+        ensures channels { IfOk result (λ channels. (entries : List entry.Entry)
+            → StandsFor self.now entries → (c : List ℕ)
+            → among channels c ≡ has_channel (past entries k) user.now c) }
     {
         let channels = self.ledger.store.channels(self.alloc, user, k)?;
         Ok(Channels::from_vec(channels))
@@ -166,8 +167,9 @@ impl GrantHistory {
     pub fn roles_at(&self, user: &Name, k: u64) -> Result<Names, Memory>
         requires { k ≤ self.now.applied }
         ensures sorted { IfOk result (λ roles. AreSorted roles) }
-        ensures roles { IfOk result (λ roles. (entries : List entry.Entry) → StandsFor self.now entries
-            → (r : List ℕ) → among roles r ≡ has_role (past entries k) user.now r) }
+        ensures roles { IfOk result (λ roles. (entries : List entry.Entry)
+            → StandsFor self.now entries → (r : List ℕ)
+            → among roles r ≡ has_role (past entries k) user.now r) }
     {
         let roles = self.ledger.store.roles(self.alloc, user, k)?;
         Ok(Names::from_vec(roles))

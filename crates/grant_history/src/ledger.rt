@@ -79,7 +79,7 @@ impl Ledger {
         }
     }
 
-    /// A source gives other facts from a place on. Out of memory all is as it was before that place.
+    /// A source gives other facts from a place on. Out of memory all is as it was before it.
     pub fn take(
         &mut self,
         alloc: Global,

@@ -87,7 +87,7 @@ impl Store {
         }
     }
 
-    /// One source more gives these facts from a place on. Out of memory no more are given than before.
+    /// One source more gives these facts from a place on. Out of memory none gives more than before.
     pub fn give_all(&mut self, alloc: Global, facts: &[Fact], at: u64) -> Result<(), Memory>
         requires { IsStore self.old at }
         ensures ok { OnOk result (Dated count_at has_at IsStore self.old self.new at
