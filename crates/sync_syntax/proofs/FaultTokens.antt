@@ -1,23 +1,31 @@
--- A text that is read as no program has its fault at a token, and no program begins with the tokens up to one that no rule reads.
-use Rattle.std.proofs.Common.{◌≡◌, ◌≢◌, ℕ, suc, ◌+◌, ◌≤◌, nat_lt, Bool, true, false, cond, List, [], ◌∷◌, ◌++◌, length, Ok, Err, Result, IfErr, refl, sym, subst, ap, ◌∙◌, append_assoc, le-ltb, arith}
+-- A text that is read as no program has its fault at the first token at fault: some program begins with the tokens before it, and none
+-- with those up to one that no rule reads.
+use Rattle.std.proofs.Common.{◌≡◌, inl, inr, ◌≢◌, ℕ, suc, ◌+◌, ◌≤◌, nat_lt, Bool, true, false, cond, List, [], ◌∷◌, ◌++◌, length, Ok, Err, Result, IfErr, refl, sym, subst, ap, ◌∙◌, append_assoc, le-ltb, arith}
+use Rattle.std.specs.Str.{IsUtf8, chars}
+use Rattle.std.proofs.lemmas.Str.{encodes-chars, length-le-encodes}
+use Rattle.sync_tokens.specs.Places.{start, IsBefore}
+use Rattle.sync_tokens.specs.Rising.{Rise, TokensRise}
+use Rattle.sync_tokens.specs.declared.place.Place.{Place}
 use Rattle.sync_tokens.specs.Scan.{tokens_of}
-use Rattle.sync_tokens.specs.Spellable.{AreTokens, TextsHaveTokens}
+use Rattle.sync_tokens.specs.Spellable.{IsSpellable, AreTokens, TextsHaveTokens}
 use Rattle.sync_tokens.specs.declared.token.Kind.TheVariants as kinds
 use Rattle.sync_tokens.specs.declared.token.Sign.TheVariants as signs
 use Rattle.sync_tokens.specs.declared.token.Token.{Token}
 use Rattle.sync_syntax.specs.declared.fault.ParseFault.{ParseFault}
-use Rattle.sync_syntax.specs.declared.fault.ParseFault.TheVariants.{Memory}
+use Rattle.sync_syntax.specs.declared.fault.ParseFault.TheVariants.{Bad, Memory}
 use Rattle.sync_syntax.specs.declared.tree.Program.{Program}
 use Rattle.sync_syntax.specs.declared.tree.Statement.{Statement}
 use Rattle.sync_syntax.specs.Depth.{depth}
 use Rattle.sync_syntax.specs.Faults as f
-use Rattle.sync_syntax.specs.Faults.{NoneBegins, IsFaultOf, FaultsStandAtTokens}
+use Rattle.sync_syntax.specs.Faults.{NoneBegins, SomeBegins, IsFaultOf, FaultsAreFirst}
 use Rattle.sync_syntax.specs.Grammar as g
 use Rattle.sync_syntax.specs.Grammar.{Takes, IsTail, IsProgram}
 use Rattle.sync_syntax.specs.Reading.{Tokens, Outcome, Rule, and_then, ◌>>=◌, pure, kind, place, sees, after, expect, refusal, too_deep}
 use Rattle.sync_syntax.specs.Statements.{block_in, body_room, end, head, body, program, only, max_len, parsed, Gives}
 use Rattle.sync_syntax.proofs.Alike.{Alike, Stops, deep, unexpected}
 use Rattle.sync_syntax.proofs.AlikeStatements.{body_in, program_in, program_alike}
+use Rattle.sync_syntax.proofs.Begun.{Found, Spells, Halts, Grows}
+use Rattle.sync_syntax.proofs.BegunPrograms.{AtEnd, ProgramOf, program_grows}
 use Rattle.sync_syntax.proofs.CompleteStatements.{block_read, head_read, end_read, end_no_semicolon, made}
 use Rattle.sync_syntax.proofs.Fronts.{takes_sees}
 use Rattle.sync_syntax.proofs.Loops.{same_then}
@@ -71,29 +79,118 @@ none_begins before t e h rest p a d =
     let stops : only (program_in (body_room + depth c) (before ++ t ∷ rest)) ≡ Err e = ap only (h (depth c) rest b) in
     absurd cc
 
-stops_at : (ts : Tokens) (e : ParseFault) → Stops false (λ m. program_in (body_room + m)) ts e → IsFaultOf ts e
+-- ---- two tokens at one place are one
+
+both_before : (p q r : Place) → IsBefore p q → IsBefore q r → IsBefore p r
+both_before p q r (inl a) (inl b) = inl (omega arith)
+both_before p q r (inl a) (inr b) = inl (omega (arith, b.0))
+both_before p q r (inr a) (inl b) = inl (omega (arith, a.0))
+both_before p q r (inr a) (inr b) = inr (a.0 ∙ b.0, omega (arith, a.1, b.1))
+
+not_before : (p : Place) → IsBefore p p → ⊥
+not_before p (inl a) = omega arith
+not_before p (inr a) = omega (arith, a.1)
+
+rise_rest : (t : Token) (ts : Tokens) → Rise (t ∷ ts) → Rise ts
+rise_rest t [] h = tt
+rise_rest t (u ∷ ts) h = h.1
+
+before_all : (t : Token) (before : Tokens) (u : Token) (r : Tokens) → Rise (t ∷ (before ++ u ∷ r)) → IsBefore t.place u.place
+before_all t [] u r h = h.0
+before_all t (w ∷ ws) u r h = both_before t.place w.place u.place h.0 (before_all w ws u r h.1)
+
+same_before : (xs ys : Tokens) (t u : Token) (r q : Tokens) → xs ++ t ∷ r ≡ ys ++ u ∷ q → Rise (xs ++ t ∷ r) → t.place ≡ u.place → xs ≡ ys
+same_before [] [] t u r q e h is = refl
+same_before [] (w ∷ ws) t u r q e h is =
+    let first : t ≡ w = cc in
+    let b : IsBefore w.place u.place = before_all w ws u q (subst Rise e h) in
+    absurd (not_before u.place (subst (λ z. IsBefore z u.place) (ap (λ z. z.place) (sym first) ∙ is) b))
+same_before (v ∷ vs) [] t u r q e h is =
+    let first : v ≡ u = cc in
+    let b : IsBefore v.place t.place = before_all v vs t r h in
+    absurd (not_before t.place (subst (λ z. IsBefore z t.place) (ap (λ z. z.place) first ∙ sym is) b))
+same_before (v ∷ vs) (w ∷ ws) t u r q e h is =
+    let first : v ≡ w = cc in
+    let others : vs ++ t ∷ r ≡ ws ++ u ∷ q = cc in
+    let more : vs ≡ ws = same_before vs ws t u r q others (rise_rest v (vs ++ t ∷ r) h) is in
+    ap (λ z. z ∷ vs) first ∙ ap (λ z. w ∷ z) more
+
+abbrev placed : ParseFault → Place
+placed (Bad f) = f.place
+placed Memory = start
+
+-- ---- what stands before the token at fault begins a program
+
+spelled_first : (v : Token) (us : Tokens) (t : Token) (r : Tokens) → AreTokens (v ∷ (us ++ t ∷ r)) → IsSpellable v.kind × AreTokens (us ++ t ∷ r)
+spelled_first v [] t r h = h
+spelled_first v (u ∷ us) t r h = h
+
+first_more : (v : Token) (us : Tokens) → IsSpellable v.kind → AreTokens us → AreTokens (v ∷ us)
+first_more v [] k h = absurd h
+first_more v (u ∷ us) k h = (k, h)
+
+front_tokens : (before : Tokens) (t : Token) (r w : Tokens) → AreTokens (before ++ t ∷ r) → AreTokens w → AreTokens (before ++ w)
+front_tokens [] t r w a b = b
+front_tokens (v ∷ vs) t r w a b = let p = spelled_first v vs t r a in first_more v (vs ++ w) p.0 (front_tokens vs t r w p.1 b)
+
+abbrev the_end : Tokens
+the_end = record { place = start; kind = kinds.End } ∷ []
+
+some_begins : (ts : Tokens) (e : ParseFault) (h : Halts (Spells ProgramOf AtEnd) ts e) → AreTokens ts → SomeBegins h.before
+unfolding kind
+some_begins ts e h a =
+    let p : Found ProgramOf (h.front (h.more the_end)) the_end = h.is.any the_end tt refl in
+    let law : h.front (h.more the_end) ≡ h.before ++ h.more the_end = h.law (h.more the_end) in
+    let whole : AreTokens (h.before ++ h.token ∷ h.rest) = subst AreTokens (h.split ∙ h.law (h.token ∷ h.rest)) a in
+    record {
+      rest = h.more the_end;
+      program = p.tree;
+      are = front_tokens h.before h.token h.rest (h.more the_end) whole (h.good the_end tt);
+      is = subst (λ z. IsProgram z p.tree) law p.is;
+    }
+
+-- both say of one fault where it stands
+at_place : (ts : Tokens) (e : ParseFault) (before : Tokens) (t : Token) (r : Tokens) → ts ≡ before ++ t ∷ r → placed e ≡ t.place → (h : Halts (Spells ProgramOf AtEnd) ts e) → AreTokens ts → Rise ts → SomeBegins before
+unfolding place
+at_place ts e before t r split is h a rise =
+    let other : ts ≡ h.before ++ h.token ∷ h.rest = h.split ∙ h.law (h.token ∷ h.rest) in
+    let same : h.before ≡ before =
+    same_before h.before before h.token t h.rest r (sym other ∙ split) (subst Rise other rise) (sym (ap placed h.at) ∙ is) in
+    subst SomeBegins same (some_begins ts e h a)
+
+stops_at : (ts : Tokens) (e : ParseFault) → AreTokens ts → Rise ts → Halts (Spells ProgramOf AtEnd) ts e → Stops false (λ m. program_in (body_room + m)) ts e → IsFaultOf ts e
 unfolding refusal too_deep kind place
-stops_at ts e (deep before t r is fault) = subst (IsFaultOf ts) (sym fault) (f.deep before t r is)
-stops_at ts e (unexpected before t r is some fault h) = subst (IsFaultOf ts) (sym fault) (f.unexpected before t r is (none_begins before t e h))
+stops_at ts e a rise halts (deep before t r is fault) = subst (IsFaultOf ts) (sym fault) (f.deep before t r is (at_place ts e before t r is (ap placed fault) halts a rise))
+stops_at ts e a rise halts (unexpected before t r is some fault h) =
+    subst (IsFaultOf ts) (sym fault) (f.unexpected before t r is (at_place ts e before t r is (ap placed fault) halts a rise) (none_begins before t e h))
 
 only_fault : (q : Outcome Program) (e : ParseFault) → only q ≡ Err e → q ≡ Err e
 only_fault (Ok p) e h = absurd cc
 only_fault (Err x) e h = let same : x ≡ e = cc in ap Err same
 
-program_fault : (ts : Tokens) (e : ParseFault) → AreTokens ts → only (program ts) ≡ Err e → IsFaultOf ts e
-program_fault ts e a is =
-    let r : program_in body_room ts ≡ Err e = sym (program_is ts) ∙ only_fault (program ts) e is in
+program_fault : (ts : Tokens) (e : ParseFault) → AreTokens ts → Rise ts → only (program ts) ≡ Err e → IsFaultOf ts e
+program_fault ts e a rise is =
+    let err : program ts ≡ Err e = only_fault (program ts) e is in
+    let r : program_in body_room ts ≡ Err e = sym (program_is ts) ∙ err in
     let alike : Alike false (program_in body_room ts) (λ m. program_in (body_room + m)) ts = program_alike body_room (λ m. body_room + m) (λ m. omega arith) ts a in
-    stops_at ts e (subst (λ (q : Outcome Program). Alike false q (λ m. program_in (body_room + m)) ts) r alike)
+    let grows : Grows (λ _ _ _. Unit {0}) (Spells ProgramOf AtEnd) (program ts) ts = program_grows ts a in
+    stops_at ts e a rise (subst (λ (q : Outcome Program). Grows (λ _ _ _. Unit {0}) (Spells ProgramOf AtEnd) q ts) err grows)
+    (subst (λ (q : Outcome Program). Alike false q (λ m. program_in (body_room + m)) ts) r alike)
 
-pub faults_stand_at_tokens : TextsHaveTokens → FaultsStandAtTokens
+-- the places of a text that is not too long
+short_rises : TokensRise → (text : List ℕ) → IsUtf8 text → length text ≤ max_len → Rise (tokens_of text)
+short_rises rise text u short =
+    let size : length (chars text) ≤ length text = subst (λ (bs : List ℕ). length (chars text) ≤ length bs) (encodes-chars text u) (length-le-encodes (chars text)) in
+    rise text (omega (arith, size, short))
+
+pub faults_are_first : TextsHaveTokens → TokensRise → FaultsAreFirst
 unfolding parsed
-faults_stand_at_tokens tokens text u short e is =
+faults_are_first tokens rise text u short e is =
     let fits : nat_lt max_len (length text) ≡ false = le-ltb max_len (length text) short in
-    program_fault (tokens_of text) e (tokens text u) (rw fits at is)
+    program_fault (tokens_of text) e (tokens text u) (short_rises rise text u short) (rw fits at is)
 
-pub given_fault : (text : List ℕ) (ts us : Tokens) (r : Result Program ParseFault) → AreTokens ts → ts ≡ tokens_of text → us ≡ ts → Gives (only (program us)) r
+pub given_fault : TokensRise → (text : List ℕ) (ts us : Tokens) (r : Result Program ParseFault) → IsUtf8 text → AreTokens ts → ts ≡ tokens_of text → us ≡ ts → Gives (only (program us)) r
     → IfErr r (λ e. e ≢ Memory → length text ≤ max_len → IsFaultOf (tokens_of text) e)
-given_fault text ts us (Ok p) a is same given = tt
-given_fault text ts us (Err e) a is same given =
-    λ other short. program_fault (tokens_of text) e (subst AreTokens is a) (ap (λ z. only (program z)) (sym is ∙ sym same) ∙ given other)
+given_fault rise text ts us (Ok p) u a is same given = tt
+given_fault rise text ts us (Err e) u a is same given =
+    λ other short. program_fault (tokens_of text) e (subst AreTokens is a) (short_rises rise text u short) (ap (λ z. only (program z)) (sym is ∙ sym same) ∙ given other)

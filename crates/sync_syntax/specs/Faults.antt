@@ -15,14 +15,23 @@ use Rattle.sync_syntax.specs.Statements.{max_len, parsed}
 abbrev pub NoneBegins : Tokens → Type 0
 NoneBegins ts = (rest : Tokens) (p : Program) → AreTokens (ts ++ rest) → IsProgram (ts ++ rest) p → ⊥
 
--- the fault stands at a token of these: it is the token's own, where that is none, or else
-pub data IsFaultOf (ts : Tokens) : ParseFault → Type 0 where
-  -- no program begins with what stands before the token, and it
-  unexpected : (before : Tokens) (token : Token) (rest : Tokens) → ts ≡ before ++ token ∷ rest → NoneBegins (before ++ token ∷ [])
-      → IsFaultOf ts (Bad (record { place = token.place; why = why_at token.kind Unexpected }))
-  -- one more than may be open begins at it
-  deep : (before : Tokens) (token : Token) (rest : Tokens) → ts ≡ before ++ token ∷ rest → IsFaultOf ts (Bad (record { place = token.place; why = why_at token.kind TooDeep }))
+-- tokens that a text can have, and that begin with these, are a program by the grammar
+pub record SomeBegins (ts : Tokens) : Type 0 where
+  pub rest : Tokens
+  pub program : Program
+  pub are : AreTokens (ts ++ rest)
+  pub is : IsProgram (ts ++ rest) program
 
--- where a text of no more bytes than it may have is read as no program, the fault is one of its tokens
-abbrev pub FaultsStandAtTokens : Type 0
-FaultsStandAtTokens = (text : List ℕ) → IsUtf8 text → length text ≤ max_len → (e : ParseFault) → parsed text ≡ Err e → IsFaultOf (tokens_of text) e
+-- The fault stands at a token of these: it is the token's own, where that is none, or else as here. Some program begins with what
+-- stands before the token.
+pub data IsFaultOf (ts : Tokens) : ParseFault → Type 0 where
+  -- no program begins with that and the token
+  unexpected : (before : Tokens) (token : Token) (rest : Tokens) → ts ≡ before ++ token ∷ rest → SomeBegins before → NoneBegins (before ++ token ∷ [])
+      → IsFaultOf ts (Bad (record { place = token.place; why = why_at token.kind Unexpected }))
+  -- one more than may be open begins at the token
+  deep : (before : Tokens) (token : Token) (rest : Tokens) → ts ≡ before ++ token ∷ rest → SomeBegins before
+      → IsFaultOf ts (Bad (record { place = token.place; why = why_at token.kind TooDeep }))
+
+-- where a text of no more bytes than it may have is read as no program, the fault is at the first token that is at fault
+abbrev pub FaultsAreFirst : Type 0
+FaultsAreFirst = (text : List ℕ) → IsUtf8 text → length text ≤ max_len → (e : ParseFault) → parsed text ≡ Err e → IsFaultOf (tokens_of text) e

@@ -18,6 +18,7 @@ use crate::tree::{Named, Program, Statement};
 use json_doc::DocText;
 use sqlite_items::Items;
 use std::alloc::Global;
+use sync_tokens::laws::tokens_rise;
 use sync_tokens::{Kind, Place, Sign, SyntaxWhy, Token, Word, tokens};
 
 /// How many bytes a text may have.
@@ -137,8 +138,8 @@ pub fn parse(alloc: Global, text: &str) -> Result<Program, ParseFault>
     // A program by the grammar is read, where the text is not too long and not too much is open.
     ensures complete { (p : Program) (d : IsProgram (tokens_of text.now) p)
         → length text.now ≤ max_len → depth d ≤ max_depth → Gives (Ok p) result }
-    // A fault of a text that is not too long stands at a token; no program begins with the tokens
-    // up to one that fits no rule.
+    // A fault of a text that is not too long stands at the first token at fault: some program begins
+    // with the tokens before it, and none with it, where it fits no rule.
     ensures fault { IfErr result (λ e. e ≢ Memory → length text.now ≤ max_len
         → IsFaultOf (tokens_of text.now) e) }
 {
@@ -148,6 +149,7 @@ pub fn parse(alloc: Global, text: &str) -> Result<Program, ParseFault>
             why: SyntaxWhy::TooLong,
         }));
     }
+    tokens_rise();
     let all = tokens(alloc, text)?;
     lawful(alloc, all.as_slice())
 }

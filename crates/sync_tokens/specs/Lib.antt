@@ -5,3 +5,4 @@ pub mod Signs
 pub mod Literals
 pub mod Scan
 pub mod Spellable
+pub mod Rising

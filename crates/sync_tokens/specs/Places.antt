@@ -1,5 +1,5 @@
 -- Places in a text.
-use Rattle.std.specs.Prelude.{ℕ, ◌+◌, ◌-◌, ◌^◌, ◌==◌, min, if◌then◌else◌}
+use Rattle.std.specs.Prelude.{◌≡◌, ◌⊎◌, ℕ, ◌+◌, ◌-◌, ◌^◌, ◌<◌, ◌==◌, min, if◌then◌else◌}
 use Rattle.sync_tokens.specs.declared.place.Place.{Place}
 
 -- the next number, as far as 32 bits go
@@ -13,3 +13,7 @@ step p c = if c == 10 then record { line = next p.line; column = 1 } else record
 -- the place of a text's first character
 abbrev pub start : Place
 start = record { line = 1; column = 1 }
+
+-- one place stands before another: in an earlier line, or further left in the same
+abbrev pub IsBefore : Place → Place → Type 0
+IsBefore p q = (p.line < q.line) ⊎ ((p.line ≡ q.line) × (p.column < q.column))

@@ -8,4 +8,4 @@ returns-clause-complete c =
 
 pub returns-clause-fault : goal.returns-clause-fault
 returns-clause-fault c =
-    given_fault c.args.text.now c.in_ok-all.all.items c.as_slice.result.now c.lawful.result c.in_ok-all.ensures.spellable c.in_ok-all.ensures.exact c.as_slice.ensures.value c.lawful.ensures.exact
+    given_fault c.tokens_rise.ensures c.args.text.now c.in_ok-all.all.items c.as_slice.result.now c.lawful.result c.utf8.text c.in_ok-all.ensures.spellable c.in_ok-all.ensures.exact c.as_slice.ensures.value c.lawful.ensures.exact
