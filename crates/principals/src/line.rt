@@ -1,0 +1,140 @@
+//! The lines of a script behind the header.
+
+ghost use Rattle.std.specs.Prelude.{◌≡◌, ◌∷◌, ◌<◌, List, ℕ, map, length, codes, IfOk, IfErr};
+ghost use Rattle.sg_history.specs.Faults.{HasReason};
+ghost use Rattle.sg_history.specs.Pieces.{pieces};
+ghost use Rattle.principals.specs.Script.{IsLine, fields_of, line_of};
+ghost use Rattle.principals.specs.Faults.{IsFault};
+ghost use Rattle.principals.specs.Kinds.{kind_text};
+
+use crate::admin_line::AdminLine;
+use crate::command::Command;
+use crate::doc_line::read_doc;
+use crate::fields;
+use crate::kind::{Kind, kind_of};
+use sg_history::fault::LineFault;
+use sg_history::{Why, cut, field};
+use std::alloc::Global;
+
+/// Reads the fields after the kind `user`.
+fn read_put_user(alloc: Global, fields: &[&[u8]]) -> Result<AdminLine, LineFault>
+    ensures ok { IfOk result (λ line. IsLine line
+        × (codes "user" ∷ map (λ p. p.now) fields.now ≡ fields_of line)) }
+    ensures reason { IfErr result
+        (HasReason (IsFault (codes "user" ∷ map (λ p. p.now) fields.now))) }
+{
+    let [name, channels, roles] = fields else {
+        return Err(LineFault::Bad(Why::Fields));
+    };
+    let name = field::read(alloc, name, 2)?;
+    let channels = field::read(alloc, channels, 3)?;
+    let roles = field::read(alloc, roles, 4)?;
+    Ok(AdminLine::Command(Command::PutUser(name, channels, roles)))
+}
+
+/// Reads the fields after the kind `role`.
+fn read_put_role(alloc: Global, fields: &[&[u8]]) -> Result<AdminLine, LineFault>
+    ensures ok { IfOk result (λ line. IsLine line
+        × (codes "role" ∷ map (λ p. p.now) fields.now ≡ fields_of line)) }
+    ensures reason { IfErr result
+        (HasReason (IsFault (codes "role" ∷ map (λ p. p.now) fields.now))) }
+{
+    let [name, channels] = fields else {
+        return Err(LineFault::Bad(Why::Fields));
+    };
+    let name = field::read(alloc, name, 2)?;
+    let channels = field::read(alloc, channels, 3)?;
+    Ok(AdminLine::Command(Command::PutRole(name, channels)))
+}
+
+/// Reads the fields after the kind `dropuser`.
+fn read_drop_user(alloc: Global, fields: &[&[u8]]) -> Result<AdminLine, LineFault>
+    ensures ok { IfOk result (λ line. IsLine line
+        × (codes "dropuser" ∷ map (λ p. p.now) fields.now ≡ fields_of line)) }
+    ensures reason { IfErr result
+        (HasReason (IsFault (codes "dropuser" ∷ map (λ p. p.now) fields.now))) }
+{
+    let [name] = fields else {
+        return Err(LineFault::Bad(Why::Fields));
+    };
+    let name = field::read(alloc, name, 2)?;
+    Ok(AdminLine::Command(Command::DropUser(name)))
+}
+
+/// Reads the fields after the kind `droprole`.
+fn read_drop_role(alloc: Global, fields: &[&[u8]]) -> Result<AdminLine, LineFault>
+    ensures ok { IfOk result (λ line. IsLine line
+        × (codes "droprole" ∷ map (λ p. p.now) fields.now ≡ fields_of line)) }
+    ensures reason { IfErr result
+        (HasReason (IsFault (codes "droprole" ∷ map (λ p. p.now) fields.now))) }
+{
+    let [name] = fields else {
+        return Err(LineFault::Bad(Why::Fields));
+    };
+    let name = field::read(alloc, name, 2)?;
+    Ok(AdminLine::Command(Command::DropRole(name)))
+}
+
+/// Reads the fields after this kind.
+fn read_kind(alloc: Global, kind: Kind, fields: &[&[u8]]) -> Result<AdminLine, LineFault>
+    ensures ok { IfOk result (λ line. IsLine line
+        × (kind_text kind ∷ map (λ p. p.now) fields.now ≡ fields_of line)) }
+    ensures reason { IfErr result
+        (HasReason (IsFault (kind_text kind ∷ map (λ p. p.now) fields.now))) }
+{
+    match kind {
+        Kind::User => read_put_user(alloc, fields),
+        Kind::Role => read_put_role(alloc, fields),
+        Kind::DropUser => read_drop_user(alloc, fields),
+        Kind::DropRole => read_drop_role(alloc, fields),
+        Kind::Doc => read_doc(alloc, fields),
+    }
+}
+
+/// Reads the fields of a line.
+fn read_fields(alloc: Global, fields: &[&[u8]]) -> Result<AdminLine, LineFault>
+    ensures ok { IfOk result
+        (λ line. IsLine line × (map (λ p. p.now) fields.now ≡ fields_of line)) }
+    ensures reason { IfErr result (HasReason (IsFault (map (λ p. p.now) fields.now))) }
+{
+    let [kind, further @ ..] = fields else {
+        return Err(LineFault::Bad(Why::Kind));
+    };
+    match kind_of(kind) {
+        Some(kind) => read_kind(alloc, kind, further),
+        None => Err(LineFault::Bad(Why::Kind)),
+    }
+}
+
+/// What is wrong with a line of this kind that has more fields than any kind.
+fn fault_of_kind(kind: &[u8]) -> Why
+    ensures { (texts : List (List ℕ)) → 4 < length texts → IsFault (kind.now ∷ texts) result }
+{
+    match kind_of(kind) {
+        Some(_) => Why::Fields,
+        None => Why::Kind,
+    }
+}
+
+/// What is wrong with a line of more fields than any kind has.
+fn fault_of_many(line: &[u8]) -> Why
+    requires { 5 < length (pieces 9 line.now) }
+    ensures { IsFault (pieces 9 line.now) result }
+{
+    match cut(line, b'\t') {
+        Some((kind, _)) => fault_of_kind(kind),
+        None => fault_of_kind(line),
+    }
+}
+
+/// Reads a line, without its line feed.
+pub fn read_line(alloc: Global, line: &[u8]) -> Result<AdminLine, LineFault>
+    ensures ok { IfOk result (λ read. IsLine read × (line.now ≡ line_of read)) }
+    ensures reason { IfErr result (HasReason (IsFault (pieces 9 line.now))) }
+{
+    let mut into: [&[u8]; fields::MOST] = [&[]; fields::MOST];
+    match fields::fields_of(line, &mut into) {
+        Some(count) => read_fields(alloc, &into[..count]),
+        None => Err(LineFault::Bad(fault_of_many(line))),
+    }
+}
