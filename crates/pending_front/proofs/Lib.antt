@@ -1,0 +1,5 @@
+pub mod Putting
+pub mod Releasing
+pub mod Heaps
+pub mod Worlds
+pub mod Storing

@@ -1,0 +1,4 @@
+pub mod ByNumber
+pub mod Pending
+pub mod Runs
+pub mod Storing
