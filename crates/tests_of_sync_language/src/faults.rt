@@ -40,65 +40,65 @@ fn programs_are_read(rt: HostRuntime) -> Result<(), Fail> {
 }
 
 /// Texts that are no programs, with an empty line between each two: before each the line, the column and the kind of its first
-/// fault.
+/// fault. A `@` stands before the fault, and behind a second one what makes a program of the text before the fault.
 const FAULTS: &str = "\
-1 1 unexpected|\n\n\
-2 2 unexpected|  \n \n\n\
-1 9 unexpected|function\n\n\
-1 10 unexpected|function() {}\n\n\
-1 10 unexpected|function(while) {}\n\n\
-1 14 unexpected|function(a, b, c) {}\n\n\
-2 2 unexpected|function(doc) { // c\n \n\n\
-1 17 unexpected|function(doc) { while (true) {} }\n\n\
-1 18 unexpected|function(doc) {} }\n\n\
-1 18 unexpected|function(doc) {};;\n\n\
-1 18 unexpected|function(doc) {} x\n\n\
-1 19 unexpected|function(doc) { x y }\n\n\
-2 1 unexpected|function(doc) { x\ny }\n\n\
-1 24 unexpected|function(doc) { if (x) }\n\n\
-1 28 unexpected|function(doc) { if (x) y() else z(); }\n\n\
-1 17 unexpected|function(doc) { else x; }\n\n\
-1 17 unexpected|function(doc) { break; }\n\n\
-1 24 unexpected|function(doc) { if (x) continue; }\n\n\
-1 36 unexpected|function(doc) { for (;;) { break } continue }\n\n\
-1 32 unexpected|function(doc) { for (;;) break x; }\n\n\
-1 19 unexpected|function(doc) { x.of }\n\n\
-1 19 unexpected|function(doc) { x.delete }\n\n\
-1 22 unexpected|function(doc) { y = {if: 1} }\n\n\
-1 25 unexpected|function(doc) { x = 1 + ; }\n\n\
-1 23 unexpected|function(doc) { a = b = c }\n\n\
-1 21 unexpected|function(doc) { (a) = b }\n\n\
-1 21 unexpected|function(doc) { a.b = c }\n\n\
-1 19 unexpected|function(doc) { -x++ }\n\n\
-1 17 unexpected|function(doc) { ++x }\n\n\
-1 23 unexpected|function(doc) { x ? y }\n\n\
-1 28 unexpected|function(doc) { for (let x in y) {} }\n\n\
-1 24 unexpected|function(doc) { for (x of y) {} }\n\n\
-1 26 unexpected|function(doc) { for (a; b) {} }\n\n\
-1 32 unexpected|function(doc) { for (let a = 1 of b) {} }\n\n\
-1 21 unexpected|function(doc) { let }\n\n\
-1 28 unexpected|function(doc) { let x = 1, }\n\n\
-1 21 unexpected|function(doc) { f(a,) }\n\n\
-1 20 unexpected|function(doc) { [1,] }\n\n\
-1 22 unexpected|function(doc) { x = {1: 2} }\n\n\
-1 19 unexpected|function(doc) { {a: 1} }\n\n\
-1 17 unexpected|function(doc) { ) 007 }\n\n\
-1 22 unexpected|function(doc) { throw; }\n\n\
-1 17 range|function(doc) { 007 ) }\n\n\
-1 25 range|function(doc) { channel(00); }\n\n\
-1 25 range|function(doc) { channel(9007199254740992); }\n\n\
-1 21 range|function(doc) { x = 99999999999999999999999999 }\n\n\
-1 21 bad text|function(doc) { x = '\\ud800' }\n\n\
-1 21 bad text|function(doc) { x = '\\u12g4' }\n\n\
-1 21 bad text|function(doc) { x = '\\q' }\n\n\
-1 21 bad text|function(doc) { x = 'a\n' }\n\n\
-1 21 bad text|function(doc) { x = \"a' }\n\n\
-1 19 bad text|function(doc) { x /* }\n\n\
-1 19 bad text|function(doc) { x & y }\n\n\
-1 19 bad text|function(doc) { x # }\n\n\
-2 7 bad text|function(doc)\n{\t'\u{e9}' \u{e9} }\n\n\
-1 18 bad text|function(doc) {} 'a\n\n\
-2 5 unexpected|function(doc) {\r\n  x y }";
+1 1 unexpected|@@function(a) {}\n\n\
+2 2 unexpected|  \n @@function(a) {}\n\n\
+1 9 unexpected|function@@ (a) {}\n\n\
+1 10 unexpected|function(@) {}@a) {}\n\n\
+1 10 unexpected|function(@while) {}@a) {}\n\n\
+1 14 unexpected|function(a, b@, c) {}@) {}\n\n\
+2 2 unexpected|function(doc) { // c\n @@}\n\n\
+1 17 unexpected|function(doc) { @while (true) {} }@}\n\n\
+1 18 unexpected|function(doc) {} @}@;\n\n\
+1 18 unexpected|function(doc) {};@;@\n\n\
+1 18 unexpected|function(doc) {} @x@;\n\n\
+1 19 unexpected|function(doc) { x @y }@}\n\n\
+2 1 unexpected|function(doc) { x\n@y }@}\n\n\
+1 24 unexpected|function(doc) { if (x) @}@;}\n\n\
+1 28 unexpected|function(doc) { if (x) y() @else z(); }@}\n\n\
+1 17 unexpected|function(doc) { @else x; }@}\n\n\
+1 17 unexpected|function(doc) { @break; }@}\n\n\
+1 24 unexpected|function(doc) { if (x) @continue; }@;}\n\n\
+1 36 unexpected|function(doc) { for (;;) { break } @continue }@}\n\n\
+1 32 unexpected|function(doc) { for (;;) break @x; }@}\n\n\
+1 19 unexpected|function(doc) { x.@of }@a }\n\n\
+1 19 unexpected|function(doc) { x.@delete }@a }\n\n\
+1 22 unexpected|function(doc) { y = {@if: 1} }@a: 1} }\n\n\
+1 25 unexpected|function(doc) { x = 1 + @; }@1 }\n\n\
+1 23 unexpected|function(doc) { a = b @= c }@}\n\n\
+1 21 unexpected|function(doc) { (a) @= b }@}\n\n\
+1 21 unexpected|function(doc) { a.b @= c }@}\n\n\
+1 19 unexpected|function(doc) { -x@++ }@}\n\n\
+1 17 unexpected|function(doc) { @++x }@}\n\n\
+1 23 unexpected|function(doc) { x ? y @}@: z }\n\n\
+1 28 unexpected|function(doc) { for (let x @in y) {} }@of y) {} }\n\n\
+1 24 unexpected|function(doc) { for (x @of y) {} }@;;) {} }\n\n\
+1 26 unexpected|function(doc) { for (a; b@) {} }@;) {} }\n\n\
+1 32 unexpected|function(doc) { for (let a = 1 @of b) {} }@;;) {} }\n\n\
+1 21 unexpected|function(doc) { let @}@a }\n\n\
+1 28 unexpected|function(doc) { let x = 1, @}@y }\n\n\
+1 21 unexpected|function(doc) { f(a,@) }@b) }\n\n\
+1 20 unexpected|function(doc) { [1,@] }@2] }\n\n\
+1 22 unexpected|function(doc) { x = {@1: 2} }@a: 2} }\n\n\
+1 19 unexpected|function(doc) { {a@: 1} }@} }\n\n\
+1 17 unexpected|function(doc) { @) 007 }@}\n\n\
+1 22 unexpected|function(doc) { throw@; }@ x }\n\n\
+1 17 range|function(doc) { @007 ) }@7 }\n\n\
+1 25 range|function(doc) { channel(@00); }@0); }\n\n\
+1 25 range|function(doc) { channel(@9007199254740992); }@1); }\n\n\
+1 21 range|function(doc) { x = @99999999999999999999999999 }@1 }\n\n\
+1 21 bad text|function(doc) { x = @'\\ud800' }@'' }\n\n\
+1 21 bad text|function(doc) { x = @'\\u12g4' }@'' }\n\n\
+1 21 bad text|function(doc) { x = @'\\q' }@'' }\n\n\
+1 21 bad text|function(doc) { x = @'a\n' }@'' }\n\n\
+1 21 bad text|function(doc) { x = @\"a' }@'' }\n\n\
+1 19 bad text|function(doc) { x @/* }@}\n\n\
+1 19 bad text|function(doc) { x @& y }@}\n\n\
+1 19 bad text|function(doc) { x @# }@}\n\n\
+2 7 bad text|function(doc)\n{\t'\u{e9}' @\u{e9} }@}\n\n\
+1 18 bad text|function(doc) {} @'a@;\n\n\
+2 5 unexpected|function(doc) {\r\n  x @y }@}";
 
 /// What is wrong, in words.
 fn why_text(why: SyntaxWhy) -> &'static str {
@@ -121,12 +121,40 @@ fn fault_text(alloc: Global, text: &str) -> Result<String, AllocError> {
     }
 }
 
+/// What stands before a fault, from it on, and in its place in a program.
+fn parts(text: &str) -> (&str, &str, &str) {
+    let mut parts = text.split('@');
+    (
+        parts.next().unwrap_or(""),
+        parts.next().unwrap_or(""),
+        parts.next().unwrap_or(""),
+    )
+}
+
 #[test]
 fn the_first_fault_is_reported_at_its_token(rt: HostRuntime) -> Result<(), Fail> {
     let alloc = rt.alloc();
     for case in FAULTS.split("\n\n") {
         let (want, text) = case.split_once('|').ok_or("no case of the table")?;
-        assert!(rt; fault_text(alloc, text)?.as_str() == want, "{case}");
+        let (before, fault, _) = parts(text);
+        let whole = format!(in alloc; "{before}{fault}")?;
+        assert!(rt;
+            fault_text(alloc, whole.as_str())?.as_str() == want,
+            "{case}"
+        );
+    }
+    Ok(())
+}
+
+/// What stands before the first fault begins a program.
+#[test]
+fn no_fault_is_reported_late(rt: HostRuntime) -> Result<(), Fail> {
+    let alloc = rt.alloc();
+    for case in FAULTS.split("\n\n") {
+        let (_, text) = case.split_once('|').ok_or("no case of the table")?;
+        let (before, _, other) = parts(text);
+        let program = format!(in alloc; "{before}{other}")?;
+        assert!(rt; parse(alloc, program.as_str()).is_ok(), "{case}");
     }
     Ok(())
 }
