@@ -1,0 +1,5 @@
+//! Tests of administrators' scripts.
+#![tactic(auto)]
+
+#[cfg(test)]
+mod scripts;
