@@ -2,7 +2,7 @@
 
 use crate::grounds::ground_of;
 use repl_messages::{Offer, OfferAnswer, Revision};
-use sg_history::{Digest, DocId, Entry, Name, RevId, Revs};
+use sg_history::{ChannelName, Digest, DocId, Entry, Name, RevId, Revs, Write};
 use sg_outside::Bytes;
 use std::alloc::Global;
 use std::test::Fail;
@@ -46,26 +46,48 @@ fn revs_of(alloc: Global, text: &str) -> Result<Revs, Fail> {
     Ok(revs)
 }
 
-fn field_text(alloc: Global, outcome: &Outcome) -> Result<String, Fail> {
-    Ok(match outcome {
-        Outcome::Bad400 { field } => format!(in alloc; "bad {}", field.as_str())?,
-        Outcome::TooLarge413 { bytes } => format!(in alloc; "too large {bytes}")?,
-        Outcome::UserGone401 { at } => format!(in alloc; "user gone at {at}")?,
-        Outcome::Known { at } => format!(in alloc; "known at {at}")?,
-        Outcome::BadHistory400 { at } => format!(in alloc; "bad history at {at}")?,
-        Outcome::Conflict409 { at, leaf } => {
-            format!(in alloc;
-                "conflict at {at} with {}-{}",
-                leaf.generation,
-                leaf.digest.as_str()
-            )?
-        }
-        Outcome::Stored { sequence, at } => format!(in alloc; "stored {sequence} at {at}")?,
-        Outcome::Memory507 => String::from_str(alloc, "memory")?,
-    })
+fn worded(alloc: Global, words: &str, word: &str) -> Result<String, Fail> {
+    Ok(format!(in alloc; "{words} {word}")?)
 }
 
-/// What comes of a revision that a user proposes, or the administrator under the name `-`.
+fn numbered(alloc: Global, words: &str, number: u64) -> Result<String, Fail> {
+    Ok(format!(in alloc; "{words} {number}")?)
+}
+
+fn conflict_text(alloc: Global, at: u64, leaf: &RevId) -> Result<String, Fail> {
+    Ok(format!(in alloc;
+        "conflict at {at} with {}-{}",
+        leaf.generation,
+        leaf.digest.as_str()
+    )?)
+}
+
+fn stored_text(alloc: Global, sequence: u64, at: u64) -> Result<String, Fail> {
+    Ok(format!(in alloc; "stored {sequence} at {at}")?)
+}
+
+fn outcome_text(alloc: Global, outcome: &Outcome) -> Result<String, Fail> {
+    match outcome {
+        Outcome::Bad400 { field } => worded(alloc, "bad", field.as_str()),
+        Outcome::TooLarge413 { bytes } => numbered(alloc, "too large", *bytes),
+        Outcome::UserGone401 { at } => numbered(alloc, "user gone at", *at),
+        Outcome::Known { at } => numbered(alloc, "known at", *at),
+        Outcome::BadHistory400 { at } => numbered(alloc, "bad history at", *at),
+        Outcome::Conflict409 { at, leaf } => conflict_text(alloc, *at, leaf),
+        Outcome::Stored { sequence, at } => stored_text(alloc, *sequence, *at),
+        Outcome::Memory507 => worded(alloc, "out of", "memory"),
+    }
+}
+
+/// The user of this name, or the administrator under the name `-`.
+fn proposer(alloc: Global, by: &str) -> Result<Option<Name>, Fail> {
+    if by == "-" {
+        return Ok(None);
+    }
+    Ok(Some(Name::parse(alloc, by)?))
+}
+
+/// The outcome of a revision that a user proposes, or the administrator under the name `-`.
 fn propose(
     alloc: Global,
     ground: &mut SoloGround,
@@ -73,16 +95,12 @@ fn propose(
     strict: bool,
     revision: Revision,
 ) -> Result<String, Fail> {
-    let by = if by == "-" {
-        None
-    } else {
-        Some(Name::parse(alloc, by)?)
-    };
+    let by = proposer(alloc, by)?;
     let outcome = ground.propose(alloc, by.as_ref(), strict, revision);
-    field_text(alloc, &outcome)
+    outcome_text(alloc, &outcome)
 }
 
-/// Proposals to one ground after one another: who, the document, the revision, its ancestors, its body, and what comes of it;
+/// Proposals to one ground after one another: who, the document, the revision, its ancestors, its body, and the outcome;
 /// those of all but the last are strict.
 const PROPOSALS: &str = "\
 ann d1 1-a  {\"channels\":[\"A\"]}>stored 2 at 1\n\
@@ -112,16 +130,40 @@ fn revisions_are_proposed(rt: HostRuntime) -> Result<(), Fail> {
     Ok(())
 }
 
-/// What comes of the proposal of a line of the table.
+/// The word at a place of a line, with one space between each two.
+fn word(line: &str, place: usize) -> Result<&str, Fail> {
+    match line.split(' ').nth(place) {
+        Some(word) => Ok(word),
+        None => Err(Fail::from("no word")),
+    }
+}
+
+fn rev_in(alloc: Global, line: &str) -> Result<RevId, Fail> {
+    rev_of(alloc, word(line, 2)?)
+}
+
+fn ancestors_in(alloc: Global, line: &str) -> Result<Revs, Fail> {
+    revs_of(alloc, word(line, 3)?)
+}
+
+fn body_in(alloc: Global, line: &str) -> Result<Bytes, Fail> {
+    let body = word(line, 4)?;
+    Ok(Bytes::from_slice(alloc, body.as_bytes())?)
+}
+
+fn revision_in(alloc: Global, line: &str) -> Result<Revision, Fail> {
+    let doc = word(line, 1)?;
+    let rev = rev_in(alloc, line)?;
+    let ancestors = ancestors_in(alloc, line)?;
+    let body = body_in(alloc, line)?;
+    revision_of(alloc, doc, rev, ancestors, body)
+}
+
+/// The outcome of the proposal of a line of the table.
 fn proposed(alloc: Global, ground: &mut SoloGround, line: &str) -> Result<String, Fail> {
     let (asked, _) = line.split_once('>').ok_or("no line of the table")?;
-    let mut words = asked.split(' ');
-    let by = words.next().ok_or("no name")?;
-    let doc = words.next().ok_or("no document")?;
-    let rev = rev_of(alloc, words.next().ok_or("no revision")?)?;
-    let ancestors = revs_of(alloc, words.next().ok_or("no ancestors")?)?;
-    let body = Bytes::from_slice(alloc, words.next().ok_or("no body")?.as_bytes())?;
-    let revision = revision_of(alloc, doc, rev, ancestors, body)?;
+    let by = word(asked, 0)?;
+    let revision = revision_in(alloc, asked)?;
     propose(alloc, ground, by, true, revision)
 }
 
@@ -152,15 +194,36 @@ fn a_write_is_stored(rt: HostRuntime) -> Result<(), Fail> {
     let Some(Entry::Write(write)) = shelf.board.log().entries.as_slice().last() else {
         return Err(Fail::from("no write"));
     };
-    assert!(rt; write.body.as_slice() == b"{}".as_slice() && write.by.is_none() && write.at == 1);
-    assert_eq!(rt;
-        (write.ancestors.as_slice().len(), write.winner.generation),
-        (2, 4)
-    );
-    assert!(rt;
-        matches!(write.channels.as_slice(), [channel] if channel.as_bytes() == b"!".as_slice())
-    );
+    assert!(rt; is_as_wanted(write));
     Ok(())
+}
+
+/// The body `{}`, no writer, the front 1, two ancestors, the revision itself as the winner, and the channel of every user alone.
+fn is_as_wanted(write: &Write) -> bool {
+    write.body.as_slice() == b"{}".as_slice()
+        && write.by.is_none()
+        && write.at == 1
+        && write.ancestors.as_slice().len() == 2
+        && write.winner.generation == 4
+        && is_everyone(write.channels.as_slice())
+}
+
+fn is_everyone(channels: &[ChannelName]) -> bool {
+    match channels {
+        [channel] => channel.as_bytes() == b"!".as_slice(),
+        _ => false,
+    }
+}
+
+/// Ancestors whose generations fall from 2,000 on.
+fn falling(alloc: Global, count: u32) -> Result<Revs, Fail> {
+    let mut ancestors = Revs::new(alloc);
+    for i in 0..count {
+        let digest = Digest::parse(alloc, "a")?;
+        let generation = 2000u32.saturating_sub(i);
+        ancestors.push(RevId { generation, digest })?;
+    }
+    Ok(ancestors)
 }
 
 /// A history of 1,001 ancestors, whose generations fall.
@@ -168,20 +231,9 @@ fn a_write_is_stored(rt: HostRuntime) -> Result<(), Fail> {
 fn too_many_ancestors(rt: HostRuntime) -> Result<(), Fail> {
     let alloc = rt.alloc();
     let mut ground = ground_of(alloc, "U|ann|A|-;")?;
-    let mut ancestors = Revs::new(alloc);
-    for i in 0..1001 {
-        ancestors.push(RevId {
-            generation: 2000 - i,
-            digest: Digest::parse(alloc, "a")?,
-        })?;
-    }
-    let revision = revision_of(
-        alloc,
-        "d1",
-        rev_of(alloc, "3000-a")?,
-        ancestors,
-        Bytes::new(alloc),
-    )?;
+    let ancestors = falling(alloc, 1001)?;
+    let rev = rev_of(alloc, "3000-a")?;
+    let revision = revision_of(alloc, "d1", rev, ancestors, Bytes::new(alloc))?;
     let text = propose(alloc, &mut ground, "ann", false, revision)?;
     assert!(rt; text.as_bytes() == b"bad history at 1".as_slice(), "{text}");
     Ok(())
@@ -202,40 +254,59 @@ fn bodies_that_are_too_large(rt: HostRuntime) -> Result<(), Fail> {
     Ok(())
 }
 
-/// What is answered for an offer, in one line: whether it is known, the winner, the parent's marks, and the ancestors.
+fn push_rev(alloc: Global, text: &mut String, rev: &RevId) -> Result<(), Fail> {
+    let rev = format!(in alloc; " {}-{}", rev.generation, rev.digest.as_str())?;
+    text.push_str(rev.as_str())?;
+    Ok(())
+}
+
+fn marks_text(alloc: Global, answer: &OfferAnswer) -> Result<String, Fail> {
+    Ok(format!(in alloc; "{} {} {}", answer.known, answer.parent, answer.parent_wins)?)
+}
+
+/// What is answered for an offer, in one line: whether it is known, the parent's marks, the winner, and the ancestors.
 fn answer_text(alloc: Global, answer: &OfferAnswer) -> Result<String, Fail> {
-    let mut text = format!(in alloc; "{} {} {}", answer.known, answer.parent, answer.parent_wins)?;
+    let mut text = marks_text(alloc, answer)?;
     if let Some(winner) = &answer.winner {
-        text.push_str(&format!(in alloc;
-            " {}-{}",
-            winner.rev.generation,
-            winner.rev.digest.as_str()
-        )?)?;
+        push_rev(alloc, &mut text, &winner.rev)?;
     }
     text.push_str(":")?;
     for rev in answer.ancestors.as_slice() {
-        text.push_str(&format!(in alloc; " {}-{}", rev.generation, rev.digest.as_str())?)?;
+        push_rev(alloc, &mut text, rev)?;
     }
     Ok(text)
+}
+
+/// A parent, or none under `-`.
+fn parent_of(alloc: Global, parent: &str) -> Result<Option<RevId>, Fail> {
+    if parent == "-" {
+        return Ok(None);
+    }
+    Ok(Some(rev_of(alloc, parent)?))
+}
+
+/// An offer of d1; `-` stands for no parent.
+fn offer_of(alloc: Global, rev: &str, parent: &str) -> Result<Offer, Fail> {
+    Ok(Offer {
+        doc: DocId::parse(alloc, "d1")?,
+        rev: rev_of(alloc, rev)?,
+        parent: parent_of(alloc, parent)?,
+    })
+}
+
+fn first_text(alloc: Global, answers: &[OfferAnswer]) -> Result<String, Fail> {
+    match answers.first() {
+        None => Err(Fail::from("no answer")),
+        Some(answer) => answer_text(alloc, answer),
+    }
 }
 
 /// What a ground answers for one offer of d1; `-` stands for no parent.
 fn asked(alloc: Global, ground: &mut SoloGround, rev: &str, parent: &str) -> Result<String, Fail> {
     let mut offers = Vec::new(alloc);
-    offers.push(Offer {
-        doc: DocId::parse(alloc, "d1")?,
-        rev: rev_of(alloc, rev)?,
-        parent: if parent == "-" {
-            None
-        } else {
-            Some(rev_of(alloc, parent)?)
-        },
-    })?;
+    offers.push(offer_of(alloc, rev, parent)?)?;
     let asked = ground.ask(alloc, offers.as_slice())?;
-    let Some(answer) = asked.answers.as_slice().first() else {
-        return Err(Fail::from("no answer"));
-    };
-    answer_text(alloc, answer)
+    first_text(alloc, asked.answers.as_slice())
 }
 
 /// Three leaves, of which one deletes.
@@ -258,18 +329,22 @@ fn offers_are_answered(rt: HostRuntime) -> Result<(), Fail> {
     Ok(())
 }
 
+/// Proposes a revision of d1 without ancestors, of this generation.
+fn propose_leaf(alloc: Global, ground: &mut SoloGround, generation: u32) -> Result<(), Fail> {
+    let digest = Digest::parse(alloc, "a")?;
+    let rev = RevId { generation, digest };
+    let revision = revision_of(alloc, "d1", rev, Revs::new(alloc), Bytes::new(alloc))?;
+    propose(alloc, ground, "ann", false, revision)?;
+    Ok(())
+}
+
 /// Of 21 leaves the 20 greatest are answered.
 #[test]
 fn twenty_leaves_at_most(rt: HostRuntime) -> Result<(), Fail> {
     let alloc = rt.alloc();
     let mut ground = ground_of(alloc, "U|ann|A|-;")?;
     for i in 0..21 {
-        let rev = RevId {
-            generation: 1 + i,
-            digest: Digest::parse(alloc, "a")?,
-        };
-        let revision = revision_of(alloc, "d1", rev, Revs::new(alloc), Bytes::new(alloc))?;
-        propose(alloc, &mut ground, "ann", false, revision)?;
+        propose_leaf(alloc, &mut ground, 1 + i)?;
     }
     let text = asked(alloc, &mut ground, "22-b", "-")?;
     let want =
