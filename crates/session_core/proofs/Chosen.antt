@@ -2,7 +2,7 @@
 use Rattle.std.proofs.Common.{◌≡◌, ◌≤◌, Bool, true, false, List, [], ◌∷◌, ◌++◌, length, arith, ap, le_refl}
 use Rattle.std.proofs.lemmas.List.{length-append}
 use Rattle.sg_history.specs.declared.row.Row.{Row}
-use Rattle.session_core.specs.Puts.{chosen}
+use Rattle.session_core.specs.Acts.{chosen}
 
 -- no more than there are
 pub chosen_bound : (rows : List Row) (flags : List Bool) → length (chosen rows flags) ≤ length rows

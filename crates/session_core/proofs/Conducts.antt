@@ -1,106 +1,409 @@
--- What a machine does in one exchange is what the session calls for.
-use Rattle.std.proofs.Common.{◌≡◌, ℕ, ◌+◌, Bool, true, false, List, [], ◌∷◌, map, Option, Some, None, Result, Ok, Err, refl, sym, ◌∙◌, ap, subst, if◌then◌else◌, zero-add}
+-- What always holds of what a session does.
+use Rattle.std.proofs.Common.{◌≡◌, ◌⊎◌, inl, inr, ◌≤◌, ◌<◌, ℕ, suc, ◌+◌, Bool, true, false, ◌&&◌, nat_lt, List, [], ◌∷◌, ◌++◌, length, take, Option, Some, None, Result, Ok, Err, refl, sym, ◌∙◌, ap, subst, if◌then◌else◌, arith, add-zero}
+use Rattle.std.proofs.lemmas.Bool.{false≢true}
 use Rattle.blip_frame.specs.declared.frame.Kind.{Kind}
 use Rattle.blip_frame.specs.declared.frame.Kind.TheVariants as kinds
 use Rattle.blip_frame.specs.declared.payload.Payload.{Payload}
 use Rattle.blip_mux.specs.declared.message.Message.{Message}
-use Rattle.blip_mux.specs.Joining.{is_request}
-use Rattle.sg_history.specs.declared.entries.Entry.{Entry}
+use Rattle.blip_mux.specs.Joining.{is_request, is_reply}
+use Rattle.sg_history.specs.declared.row.Row.{Row}
 use Rattle.repl_messages.specs.declared.request.Version.{Version}
-use Rattle.session_core.specs.declared.served.Served.{Served}
-use Rattle.session_core.specs.declared.served.Served.TheVariants.{Feed}
+use Rattle.repl_messages.specs.declared.request.Request.{Request}
+use Rattle.repl_messages.specs.declared.request.Request.TheVariants as request
 use Rattle.repl_messages.specs.declared.request.RequestFault.{RequestFault}
-use Rattle.repl_messages.specs.declared.request.RequestFault.TheVariants as faults
 use Rattle.repl_messages.specs.declared.error.ErrorKind.{ErrorKind}
 use Rattle.repl_messages.specs.declared.error.ErrorKind.TheVariants as errors
-use Rattle.repl_messages.specs.Errors.{error_payload}
-use Rattle.session_core.specs.Served.{IsRead}
+use Rattle.repl_messages.specs.declared.looks.Body.{Body}
+use Rattle.repl_messages.specs.declared.looks.Body.TheVariants as body
+use Rattle.repl_messages.specs.declared.looks.Bodies.{Bodies}
+use Rattle.repl_messages.specs.declared.looks.Fed.{Fed}
+use Rattle.repl_messages.specs.declared.looks.Fed.TheVariants as fed
+use Rattle.repl_messages.specs.declared.offers.Asked.{Asked}
+use Rattle.repl_messages.specs.declared.offers.Offer.{Offer}
+use Rattle.repl_messages.specs.Answers.{answers_payload}
+use Rattle.repl_messages.specs.Errors.{ok_payload, error_payload}
+use Rattle.repl_messages.specs.Looks.{front_of}
+use Rattle.repl_messages.specs.Wanted.{wanted_rows, reply_items}
+use Rattle.doc_board.specs.declared.outcome.Outcome.{Outcome}
+use Rattle.doc_board.specs.declared.outcome.Outcome.TheVariants as outcome
 use Rattle.session_core.specs.declared.act.Act.{Act}
 use Rattle.session_core.specs.declared.act.Act.TheVariants as act
-use Rattle.session_core.specs.declared.look.Look.{Look}
+use Rattle.session_core.specs.declared.act.Want.{Want}
+use Rattle.session_core.specs.declared.act.Want.TheVariants as want
+use Rattle.session_core.specs.declared.event.Event.{Event}
+use Rattle.session_core.specs.declared.event.Event.TheVariants as event
+use Rattle.session_core.specs.declared.replies.Asker.{Asker}
+use Rattle.session_core.specs.declared.machine.Subscription.{Subscription}
 use Rattle.session_core.specs.declared.machine.Pending.{Pending}
 use Rattle.session_core.specs.declared.machine.Pending.TheVariants as pending
-use Rattle.session_core.specs.Running.{Running}
-use Rattle.session_core.specs.Puts.{reply_message, reply_to, refusal, error_of}
-use Rattle.session_core.specs.Exchange.{Exchange, requests_among, running_after, answers}
-use Rattle.session_core.specs.Machine.{Machine, Stepped, asker_of, reply_act, refusal_act, on_request}
-use Rattle.session_core.specs.Session.{looks_for, puts_for, front_of}
-use Rattle.session_core.specs.Conduct.{messages_from, at_rest}
+use Rattle.session_core.specs.Acts.{chosen, reply_act, refusal_act, acceptance_act, outcome_act, error_of, body_act, body_acts, offer_act}
+use Rattle.session_core.specs.Conduct.{AreOnOffer, requests_in, are_requests, AreAnswers, due_with, due_at, IsStillDue, feed_front, WantsFor, most_answers, is_answer, AreWithin, IsKept}
+use Rattle.session_core.specs.Fronts.{front_told}
+use Rattle.session_core.specs.Running.{Running, rest, is_none, is_silent, next_acts, next_requests, next_feed_with}
+use Rattle.session_core.specs.State.{Machine, AwaitsBy, Awaits}
+use Rattle.session_core.specs.Transitions.{Done, puts, asks, goes_on, looks_again, answered_by, asker_of, refused, on_sub_changes, on_changes, on_served, on_request, answers, wanted_of, most_ancestors, on_wanted, on_reply, first_of, on_first_look, on_next_look, on_fed, on_bodies_of, on_bodies, on_asked, on_judged, on_idle, Does, DoesByMessage}
 
--- what holds of an exchange before which this feed ran and so many requests were put, and of where it leads
-abbrev pub Done : List Entry → (List ℕ → ℕ) → List ℕ → Version → Option Running → ℕ → Exchange → Machine → Type 0
-Done h numbers user version r n x after =
-    (is_request x.message.kind ≡ true → IsRead x.message.payload version x.read)
-    × (map (λ (look : Look). look.purpose) x.looks ≡ looks_for x.message x.read r)
-    × (x.puts ≡ puts_for h numbers user version x.message x.read r (front_of x.looks) (n + 1))
-    × (after ≡ at_rest user version (requests_among x.puts + n) (running_after h user x (requests_among x.puts + n) r))
+-- ---- acts
 
-abbrev pub exchange : Message → Result Served RequestFault → List Look → List Act → ℕ → Exchange
-exchange message read looks acts n = record { message = message; read = read; looks = looks; puts = messages_from (n + 1) acts }
+requests_on : (acts more : List Act) → are_requests acts ≡ true → are_requests more ≡ true → are_requests (acts ++ more) ≡ true
+requests_on [] more a b = b
+requests_on (act.Reply to kind urgent payload ∷ acts) more a b = absurd (false≢true a)
+requests_on (act.Request payload no_reply ∷ acts) more a b = requests_on acts more a b
+requests_on (act.Want want ∷ acts) more a b = absurd (false≢true a)
 
--- what stands in place of a request's reading where the message is no request
-abbrev pub unread : Result Served RequestFault
-unread = Err faults.Unknown404
+answers_on : (due : Option ℕ) (acts more : List Act) → AreAnswers due acts → are_requests more ≡ true → AreAnswers due (acts ++ more)
+answers_on due [] [] a b = tt
+answers_on due [] (act.Reply to kind urgent payload ∷ more) a b = absurd (false≢true b)
+answers_on due [] (act.Request payload no_reply ∷ more) a b = b
+answers_on due [] (act.Want want ∷ more) a b = absurd (false≢true b)
+answers_on due (act.Reply to kind urgent payload ∷ acts) more (is, reply, requests) b = (is, reply, requests_on acts more requests b)
+answers_on due (act.Request payload no_reply ∷ acts) more a b = requests_on acts more a b
+answers_on due (act.Want want ∷ acts) more a b = absurd a
 
--- a look's answer is awaited
-abbrev pub Busy : Pending → Type 0
-Busy pending.Nothing = ⊥
-Busy (pending.Feed asked) = Unit {0}
-Busy (pending.Bodies rows) = Unit {0}
+count_on : (acts more : List Act) → requests_in (acts ++ more) ≡ requests_in acts + requests_in more
+count_on [] more = omega arith
+count_on (act.Reply to kind urgent payload ∷ acts) more = count_on acts more
+count_on (act.Request payload no_reply ∷ acts) more = omega (arith, count_on acts more)
+count_on (act.Want want ∷ acts) more = count_on acts more
 
-reply_messages : (n : ℕ) (m : Message) (kind : Kind) (payload : Payload) → messages_from n (reply_act (asker_of m) kind payload) ≡ reply_to m kind payload
-reply_messages n m kind payload =
-    elim m.no_reply as (λ b. messages_from n (if b then [] else act.Reply m.number kind m.urgent payload ∷ []) ≡ (if b then [] else reply_message m.number kind m.urgent payload ∷ []))
+-- the reply to a request
+reply_due : (asker : Asker) (kind : Kind) (payload : Payload) → is_reply kind ≡ true → AreAnswers (Some asker.number) (reply_act asker kind payload)
+reply_due asker kind payload is =
+    elim (asker.no_reply) as (λ b. AreAnswers (Some asker.number) (if b then [] else act.Reply asker.number kind asker.urgent payload ∷ []))
+    [ true ↦ tt | false ↦ (refl, is, refl) ]
+
+reply_count : (asker : Asker) (kind : Kind) (payload : Payload) → requests_in (reply_act asker kind payload) ≡ 0
+reply_count asker kind payload =
+    elim (asker.no_reply) as (λ b. requests_in (if b then [] else act.Reply asker.number kind asker.urgent payload ∷ []) ≡ 0)
     [ true ↦ refl | false ↦ refl ]
 
-no_requests : (m : Message) (payload : Payload) → requests_among (reply_to m kinds.Err payload) ≡ 0
-no_requests m payload =
-    elim m.no_reply as (λ b. requests_among (if b then [] else reply_message m.number kinds.Err m.urgent payload ∷ []) ≡ 0) [ true ↦ refl | false ↦ refl ]
+-- the next offer of a feed
+next_requested : (version : Version) (r : Running) → are_requests (next_acts version r) ≡ true
+next_requested version r =
+    elim (is_silent r) as (λ b. are_requests (if b then [] else offer_act r.rows r.batch version ∷ []) ≡ true)
+    [ true ↦ refl | false ↦ refl ]
 
--- a machine that awaits a look's answer awaits no message
-pub at_rest_only : (m after : Machine) (b : Pending) → Busy b → after ≡ m → m.pending ≡ b → after.pending ≡ pending.Nothing → ⊥
-at_rest_only m after b busy e is rest = subst Busy (sym is ∙ ap (λ (x : Machine). x.pending) (sym e) ∙ rest) busy
+next_counted : (version : Version) (requests : ℕ) (r : Running) → next_requests requests r ≡ requests + requests_in (next_acts version r)
+next_counted version requests r =
+    elim (is_silent r) as (λ b. (if b then requests else requests + 1) ≡ requests + requests_in (if b then [] else offer_act r.rows r.batch version ∷ []))
+    [ true ↦ omega arith | false ↦ omega arith ]
 
--- ---- a request that is refused
+-- bodies
+one_body : (row : Row) (b : Body) (acts : List Act) → are_requests (body_act row b ∷ acts) ≡ are_requests acts
+one_body row (body.Rev ancestors bytes) acts = refl
+one_body row body.Removed acts = refl
+one_body row body.NoRev acts = refl
 
-pub refused_done : (h : List Entry) (numbers : List ℕ → ℕ) (user : List ℕ) (version : Version) (r : Option Running) (n : ℕ) (number : ℕ) (urgent no_reply : Bool) (payload : Payload)
-    (read : Result Served RequestFault) (looks : List Look) (error : ErrorKind) (acts : List Act) (after : Machine)
-    → let m : Message = record { number = number; kind = kinds.Msg; urgent = urgent; no_reply = no_reply; payload = payload } in
-    IsRead payload version read
-    → map (λ (look : Look). look.purpose) looks ≡ looks_for m read r
-    → puts_for h numbers user version m read r (front_of looks) (n + 1) ≡ refusal m error
-    → ((k : ℕ) → running_after h user (exchange m read looks acts n) k r ≡ r)
-    → after ≡ at_rest user version n r
-    → acts ≡ refusal_act (asker_of m) error
-    → Done h numbers user version r n (exchange m read looks acts n) after
-refused_done h numbers user version r n number urgent no_reply payload read looks error acts after answer looked puts stays e is =
-    let m : Message = record { number = number; kind = kinds.Msg; urgent = urgent; no_reply = no_reply; payload = payload } in
-    let put : messages_from (n + 1) acts ≡ refusal m error = ap (messages_from (n + 1)) is ∙ reply_messages (n + 1) m kinds.Err (error_payload error) in
-    let count : requests_among (messages_from (n + 1) acts) + n ≡ n = ap (λ ms. requests_among ms + n) put ∙ ap (λ k. k + n) (no_requests m (error_payload error)) ∙ zero-add n in (
-      (λ _. answer),
-      looked,
-      put ∙ sym puts,
-      e ∙ sym (ap (λ k. at_rest user version k r) count) ∙ ap (at_rest user version (requests_among (messages_from (n + 1) acts) + n)) (sym (stays (requests_among (messages_from (n + 1) acts) + n))),
-    )
+bodies_requested : (rows : List Row) (bodies : List Body) → are_requests (body_acts rows bodies) ≡ true
+bodies_requested [] bodies = refl
+bodies_requested (row ∷ rows) [] = refl
+bodies_requested (row ∷ rows) (b ∷ bodies) = one_body row b (body_acts rows bodies) ∙ bodies_requested rows bodies
 
-no_answer : (r : Running) (number : ℕ) (urgent no_reply : Bool) (payload : Payload)
-    → answers r (record { number = number; kind = kinds.Msg; urgent = urgent; no_reply = no_reply; payload = payload }) ≡ false
-no_answer r number urgent no_reply payload = refl
+count_one : (row : Row) (b : Body) (acts : List Act) → requests_in (body_act row b ∷ acts) ≡ suc (requests_in acts)
+count_one row (body.Rev ancestors bytes) acts = omega arith
+count_one row body.Removed acts = omega arith
+count_one row body.NoRev acts = omega arith
 
--- a request, read so, that leaves the machine at rest
-pub request_done : (h : List Entry) (numbers : List ℕ → ℕ) (user : List ℕ) (version : Version) (r : Option Running) (n : ℕ) (number : ℕ) (urgent no_reply : Bool) (payload : Payload)
-    (read : Result Served RequestFault) (acts : List Act) (after : Machine)
-    → let m : Message = record { number = number; kind = kinds.Msg; urgent = urgent; no_reply = no_reply; payload = payload } in
-    IsRead payload version read
-    → ◌≡◌ {A = Stepped} (after, acts) (on_request (at_rest user version n r) m read)
-    → after.pending ≡ pending.Nothing
-    → Done h numbers user version r n (exchange m read [] acts n) after
-request_done h numbers user version None n number urgent no_reply payload (Err fault) acts after answer e rest =
-    refused_done h numbers user version None n number urgent no_reply payload (Err fault) [] (error_of fault) acts after answer refl refl (λ _. refl) (ap (λ (s : Stepped). s.0) e) (ap (λ (s : Stepped). s.1) e)
-request_done h numbers user version (Some r) n number urgent no_reply payload (Err fault) acts after answer e rest =
-    refused_done h numbers user version (Some r) n number urgent no_reply payload (Err fault) [] (error_of fault) acts after answer refl refl (λ _. refl) (ap (λ (s : Stepped). s.0) e) (ap (λ (s : Stepped). s.1) e)
-request_done h numbers user version None n number urgent no_reply payload (Ok (Feed since batch options)) acts after answer e rest =
-    absurd (at_rest_only _ after _ tt (ap (λ (s : Stepped). s.0) e) refl rest)
-request_done h numbers user version (Some r) n number urgent no_reply payload (Ok (Feed since batch options)) acts after answer e rest =
-    refused_done h numbers user version (Some r) n number urgent no_reply payload (Ok (Feed since batch options)) [] errors.FeedRuns409 acts after answer refl refl (λ _. refl)
-    (ap (λ (s : Stepped). s.0) e) (ap (λ (s : Stepped). s.1) e)
+bodies_counted : (rows : List Row) (bodies : List Body) → length bodies ≡ length rows → requests_in (body_acts rows bodies) ≡ length rows
+bodies_counted [] bodies e = refl
+bodies_counted (row ∷ rows) [] e = absurd (omega (arith, e))
+bodies_counted (row ∷ rows) (b ∷ bodies) e = count_one row b (body_acts rows bodies) ∙ ap suc (bodies_counted rows bodies (omega (arith, e)))
+
+requests_are_answers : (due : Option ℕ) (acts : List Act) → are_requests acts ≡ true → AreAnswers due acts
+requests_are_answers due acts e = answers_on due [] acts tt e
+
+-- ---- what an event comes to
+
+-- all of it, given the reply that is due and the fronts that are seen
+pub record Conducted (m : Machine) (due : Option ℕ) (fronts : List ℕ) (done : Done) : Type 0 where
+  pub puts : AreAnswers due done.acts
+  pub still : IsStillDue due done
+  pub wants : WantsFor done.after.feed done.after.pending done.want
+  pub user : done.after.user ≡ m.user
+  pub version : done.after.version ≡ m.version
+  pub strict : done.after.strict ≡ m.strict
+  pub requests : done.after.requests ≡ m.requests + requests_in done.acts
+  pub front : (most : ℕ) → feed_front m.feed ≤ most → AreWithin most fronts → feed_front done.after.feed ≤ most
+
+puts_are : (m : Machine) (due : Option ℕ) (fronts : List ℕ) (acts : List Act) → AreAnswers due acts → requests_in acts ≡ 0 → Conducted m due fronts (puts m acts)
+puts_are m due fronts acts are none = record {
+  puts = are;
+  still = inl refl;
+  wants = tt;
+  user = refl;
+  version = refl;
+  strict = refl;
+  requests = omega (arith, none);
+  front = λ most a b. a;
+}
+
+none_put : (m : Machine) (due : Option ℕ) (fronts : List ℕ) → Conducted m due fronts (puts m [])
+none_put m due fronts = puts_are m due fronts [] tt refl
+
+refusal : (m : Machine) (asker : Asker) (fronts : List ℕ) (error : ErrorKind) → Conducted m (Some asker.number) fronts (refused m asker error)
+refusal m asker fronts error =
+    puts_are m (Some asker.number) fronts (refusal_act asker error) (reply_due asker kinds.Err (error_payload error) refl) (reply_count asker kinds.Err (error_payload error))
+
+still_due : (m : Machine) (due : Option ℕ) (awaited : Pending) (wanted : Want) → (due_with awaited ≡ None) ⊎ (due_with awaited ≡ due) → IsStillDue due (asks m awaited wanted)
+still_due m due awaited wanted (inl none) = inl none
+still_due m due awaited wanted (inr same) = inr (same, refl)
+
+asks_for : (m : Machine) (due : Option ℕ) (fronts : List ℕ) (awaited : Pending) (wanted : Want)
+    → (due_with awaited ≡ None) ⊎ (due_with awaited ≡ due) → WantsFor m.feed awaited (Some wanted)
+    → Conducted m due fronts (asks m awaited wanted)
+asks_for m due fronts awaited wanted is wants = record {
+  puts = tt;
+  still = still_due m due awaited wanted is;
+  wants = wants;
+  user = refl;
+  version = refl;
+  strict = refl;
+  requests = sym (add-zero m.requests);
+  front = λ most a b. a;
+}
+
+next_front : (rows : List Row) (requests : ℕ) (r : Running) (most : ℕ) → r.front ≤ most → feed_front (next_feed_with rows requests r) ≤ most
+next_front [] requests r most a =
+    elim (r.continuous) as (λ b. feed_front (if b then Some (record r { caught_up = true }) else None) ≤ most) [ true ↦ a | false ↦ omega arith ]
+next_front (row ∷ rows) requests r most a = a
+
+goes : (m : Machine) (due : Option ℕ) (fronts : List ℕ) (acts : List Act) (requests : ℕ) (r : Running)
+    → AreAnswers due acts → requests ≡ m.requests + requests_in acts
+    → ((most : ℕ) → feed_front m.feed ≤ most → AreWithin most fronts → r.front ≤ most)
+    → Conducted m due fronts (goes_on m acts requests r)
+goes m due fronts acts requests r are counted within = record {
+  puts = answers_on due acts (next_acts m.version r) are (next_requested m.version r);
+  still = inl refl;
+  wants = tt;
+  user = refl;
+  version = refl;
+  strict = refl;
+  requests = omega (arith, next_counted m.version requests r, counted, count_on acts (next_acts m.version r));
+  front = λ most a b. next_front r.rows requests r most (within most a b);
+}
+
+looks : (m : Machine) (due : Option ℕ) (fronts : List ℕ) (acts : List Act) (requests : ℕ) (r : Running)
+    → AreAnswers due acts → requests ≡ m.requests + requests_in acts
+    → ((most : ℕ) → feed_front m.feed ≤ most → AreWithin most fronts → r.front ≤ most)
+    → Conducted m due fronts (looks_again m acts requests r)
+looks m due fronts acts requests r are counted within = record {
+  puts = are;
+  still = inl refl;
+  wants = (refl, refl);
+  user = refl;
+  version = refl;
+  strict = refl;
+  requests = counted;
+  front = λ most a b. within most a b;
+}
+
+are_answered : (b : Bool) (m : Machine) (due : Option ℕ) (fronts : List ℕ) (acts : List Act) (requests : ℕ) (r : Running)
+    → AreAnswers due acts → requests ≡ m.requests + requests_in acts
+    → ((most : ℕ) → feed_front m.feed ≤ most → AreWithin most fronts → r.front ≤ most)
+    → Conducted m due fronts (answered_by b m acts requests r)
+are_answered true m due fronts acts requests r are counted within = looks m due fronts acts requests r are counted within
+are_answered false m due fronts acts requests r are counted within = goes m due fronts acts requests r are counted within
+
+-- ---- messages
+
+-- what a request comes to, but for the number of answers that may come
+feed_asked : (m : Machine) (asked : Subscription) (feed : Option Running) → Conducted m (Some asked.asker.number) [] (on_sub_changes m asked feed)
+feed_asked m asked None = asks_for m (Some asked.asker.number) [] (pending.Feed asked) (want.Feed asked.since asked.options) (inr refl) (refl, refl)
+feed_asked m asked (Some r) = refusal m asked.asker [] errors.FeedRuns409
+
+offered : (b : Bool) (m : Machine) (asker : Asker) (offers : List Offer) → Conducted m (Some asker.number) [] (on_changes b m asker (want.Ask offers))
+offered true m asker offers = refusal m asker [] errors.UsePropose409
+offered false m asker offers = asks_for m (Some asker.number) [] (pending.Ask asker false) (want.Ask offers) (inr refl) tt
+
+served : (m : Machine) (asker : Asker) (r : Request) → Conducted m (Some asker.number) [] (on_served m asker r)
+served m asker (request.GetCheckpoint client) = refusal m asker [] errors.NoHandler404
+served m asker (request.SetCheckpoint client rev body) = refusal m asker [] errors.NoHandler404
+served m asker (request.SubChanges since continuous batch options) =
+    feed_asked m (record { asker = asker; since = since; continuous = continuous; batch = batch; options = options }) m.feed
+served m asker (request.Changes offers) = offered m.strict m asker offers
+served m asker (request.ProposeChanges offers) = asks_for m (Some asker.number) [] (pending.Ask asker true) (want.Ask offers) (inr refl) tt
+served m asker (request.Rev revision) = asks_for m (Some asker.number) [] (pending.Push asker) (want.Propose revision) (inr refl) tt
+
+requested : (m : Machine) (message : Message) (read : Result Request RequestFault) → Conducted m (Some message.number) [] (on_request m message read)
+requested m message (Err fault) = refusal m (asker_of message) [] (error_of fault)
+requested m message (Ok r) = served m (asker_of message) r
+
+within_rest : (m : Machine) (r : Running) → m.feed ≡ Some r → (most : ℕ) → feed_front m.feed ≤ most → AreWithin most [] → r.front ≤ most
+within_rest m r e most a b = subst (λ f. feed_front f ≤ most) e a
+
+wanted_rows_are : (m : Machine) (message : Message) (r : Running) (rows : List Row) → m.feed ≡ Some r → ((flags : List Bool) × (rows ≡ chosen (take r.batch r.rows) flags)) → Conducted m None [] (on_wanted m message r rows)
+wanted_rows_are m message r [] e some =
+    are_answered (r.continuous && is_none (rest r).rows) m None [] [] m.requests (rest r) tt (sym (add-zero m.requests)) (within_rest m r e)
+wanted_rows_are m message r (row ∷ rows) e some =
+    asks_for m None [] (pending.Bodies (row ∷ rows)) (want.Bodies r.options (row ∷ rows) (most_ancestors message)) (inl refl)
+    (refl, subst (λ f. AreOnOffer f r.options (row ∷ rows)) (sym e) (refl, some))
+
+replied_with : (m : Machine) (message : Message) (r : Running) (b : Bool) → m.feed ≡ Some r → Conducted m None [] (if b then on_wanted m message r (wanted_of r message) else puts m [])
+replied_with m message r true e = wanted_rows_are m message r (wanted_of r message) e (wanted_rows (length (take r.batch r.rows)) (reply_items message.kind message.payload.body), refl)
+replied_with m message r false e = none_put m None []
+
+replied : (m : Machine) (message : Message) (feed : Option Running) → m.feed ≡ feed → Conducted m None [] (on_reply m message feed)
+replied m message None e = none_put m None []
+replied m message (Some r) e = replied_with m message r (answers r message) e
+
+by_message : (m : Machine) (message : Message) (done : Done) (b : Bool) → DoesByMessage b m message done → Conducted m (if b then Some message.number else None) [] done
+by_message m message done true (read, is, e) = subst (Conducted m (Some message.number) []) (sym e) (requested m message read)
+by_message m message done false e = subst (Conducted m None []) (sym e) (replied m message m.feed refl)
+
+-- ---- answers
+
+first_look : (m : Machine) (asked : Subscription) (answer : Fed) → Conducted m (Some asked.asker.number) (front_of answer ∷ []) (on_first_look m asked answer)
+first_look m asked (fed.Future front) = refusal m asked.asker (front ∷ []) (errors.SincePast400 front)
+first_look m asked (fed.Rows front rows) =
+    goes m (Some asked.asker.number) (front ∷ []) (acceptance_act asked.asker) m.requests (first_of asked rows front)
+    (reply_due asked.asker kinds.Rpy ok_payload refl)
+    (omega (arith, reply_count asked.asker kinds.Rpy ok_payload))
+    (λ most a b. b.0)
+
+next_look : (m : Machine) (feed : Option Running) (answer : Fed) → Conducted m None (front_of answer ∷ []) (on_next_look m feed answer)
+next_look m None answer = none_put m None (front_of answer ∷ [])
+next_look m (Some r) (fed.Future front) = none_put m None (front ∷ [])
+next_look m (Some r) (fed.Rows front rows) =
+    goes m None (front ∷ []) [] m.requests (record r { rows = rows; front = front }) tt (sym (add-zero m.requests)) (λ most a b. b.0)
+
+fed_to : (m : Machine) (answer : Fed) (awaited : Pending) → Conducted m (due_with awaited) (front_of answer ∷ []) (on_fed m answer awaited)
+fed_to m answer pending.Nothing = none_put m None (front_of answer ∷ [])
+fed_to m answer (pending.Feed asked) = first_look m asked answer
+fed_to m answer pending.More = next_look m m.feed answer
+fed_to m answer (pending.Bodies rows) = none_put m None (front_of answer ∷ [])
+fed_to m answer (pending.Ask asker proposed) = none_put m (Some asker.number) (front_of answer ∷ [])
+fed_to m answer (pending.Push asker) = none_put m (Some asker.number) (front_of answer ∷ [])
+
+bodies_of : (m : Machine) (b : Bodies) (wanted : List Row) (feed : Option Running) → m.feed ≡ feed → length b.answers ≡ length wanted
+    → Conducted m None (b.front ∷ []) (on_bodies_of m b wanted feed)
+bodies_of m b wanted None e same = none_put m None (b.front ∷ [])
+bodies_of m b wanted (Some r) e same =
+    are_answered (r.continuous && is_none (rest r).rows) m None (b.front ∷ []) (body_acts wanted b.answers) (m.requests + length wanted) (rest r)
+    (requests_are_answers None (body_acts wanted b.answers) (bodies_requested wanted b.answers))
+    (ap (λ n. m.requests + n) (sym (bodies_counted wanted b.answers same)))
+    (λ most a seen. subst (λ f. feed_front f ≤ most) e a)
+
+accepted : (m : Machine) (asker : Asker) (fronts : List ℕ) → Conducted m (Some asker.number) fronts (puts m (acceptance_act asker))
+accepted m asker fronts = puts_are m (Some asker.number) fronts (acceptance_act asker) (reply_due asker kinds.Rpy ok_payload refl) (reply_count asker kinds.Rpy ok_payload)
+
+outcome_is : (m : Machine) (asker : Asker) (o : Outcome) (fronts : List ℕ) → Conducted m (Some asker.number) fronts (puts m (outcome_act asker o))
+outcome_is m asker (outcome.Bad400 field) fronts = refusal m asker fronts (errors.Bad400 field)
+outcome_is m asker (outcome.TooLarge413 bytes) fronts = refusal m asker fronts errors.TooLarge413
+outcome_is m asker (outcome.UserGone401 at) fronts = refusal m asker fronts errors.UserGone401
+outcome_is m asker (outcome.Known at) fronts = accepted m asker fronts
+outcome_is m asker (outcome.BadHistory400 at) fronts = refusal m asker fronts errors.BadHistory400
+outcome_is m asker (outcome.Conflict409 at leaf) fronts = refusal m asker fronts (errors.Conflict409 leaf)
+outcome_is m asker (outcome.Stored sequence at) fronts = accepted m asker fronts
+outcome_is m asker outcome.Memory507 fronts = refusal m asker fronts errors.Memory507
+
+bodied : (m : Machine) (b : Bodies) (awaited : Pending) → AwaitsBy m.feed awaited (event.Bodies b) → Conducted m (due_with awaited) (b.front ∷ []) (on_bodies m b awaited)
+bodied m b pending.Nothing a = absurd a
+bodied m b (pending.Feed asked) a = absurd a
+bodied m b pending.More a = absurd a
+bodied m b (pending.Bodies rows) a = bodies_of m b rows m.feed refl a
+bodied m b (pending.Ask asker proposed) a = absurd a
+bodied m b (pending.Push asker) a = absurd a
+
+asked_to : (m : Machine) (answer : Asked) (awaited : Pending) → Conducted m (due_with awaited) (answer.front ∷ []) (on_asked m answer awaited)
+asked_to m answer pending.Nothing = none_put m None (answer.front ∷ [])
+asked_to m answer (pending.Feed asked) = none_put m (Some asked.asker.number) (answer.front ∷ [])
+asked_to m answer pending.More = none_put m None (answer.front ∷ [])
+asked_to m answer (pending.Bodies rows) = none_put m None (answer.front ∷ [])
+asked_to m answer (pending.Ask asker proposed) =
+    puts_are m (Some asker.number) (answer.front ∷ []) (reply_act asker kinds.Rpy (answers_payload answer.answers proposed))
+    (reply_due asker kinds.Rpy (answers_payload answer.answers proposed) refl) (reply_count asker kinds.Rpy (answers_payload answer.answers proposed))
+asked_to m answer (pending.Push asker) = none_put m (Some asker.number) (answer.front ∷ [])
+
+judged_to : (m : Machine) (o : Outcome) (awaited : Pending) → Conducted m (due_with awaited) (front_told (event.Judged o)) (on_judged m o awaited)
+judged_to m o pending.Nothing = none_put m None (front_told (event.Judged o))
+judged_to m o (pending.Feed asked) = none_put m (Some asked.asker.number) (front_told (event.Judged o))
+judged_to m o pending.More = none_put m None (front_told (event.Judged o))
+judged_to m o (pending.Bodies rows) = none_put m None (front_told (event.Judged o))
+judged_to m o (pending.Ask asker proposed) = none_put m (Some asker.number) (front_told (event.Judged o))
+judged_to m o (pending.Push asker) = outcome_is m asker o (front_told (event.Judged o))
+
+-- ---- idle moments
+
+idled_with : (m : Machine) (front : ℕ) (r : Running) (b : Bool) → m.feed ≡ Some r → Conducted m None (front ∷ []) (if b then looks_again m [] m.requests r else puts m [])
+idled_with m front r true e =
+    looks m None (front ∷ []) [] m.requests r tt (sym (add-zero m.requests)) (λ most a seen. subst (λ f. feed_front f ≤ most) e a)
+idled_with m front r false e = none_put m None (front ∷ [])
+
+idled : (m : Machine) (front : ℕ) (feed : Option Running) → m.feed ≡ feed → Conducted m None (front ∷ []) (on_idle m front feed)
+idled m front None e = none_put m None (front ∷ [])
+idled m front (Some r) e = idled_with m front r (nat_lt r.front front) e
+
+-- ---- how many answers may come
+
+after_answered : (b : Bool) (m : Machine) (acts : List Act) (requests : ℕ) (r : Running) → most_answers (answered_by b m acts requests r).after.pending ≤ 1
+after_answered true m acts requests r = omega arith
+after_answered false m acts requests r = omega arith
+
+after_bodies : (m : Machine) (b : Bodies) (wanted : List Row) (feed : Option Running) → most_answers (on_bodies_of m b wanted feed).after.pending ≤ 1
+after_bodies m b wanted None = omega arith
+after_bodies m b wanted (Some r) = after_answered (r.continuous && is_none (rest r).rows) m (body_acts wanted b.answers) (m.requests + length wanted) (rest r)
+
+after_first : (m : Machine) (asked : Subscription) (answer : Fed) → most_answers (on_first_look m asked answer).after.pending ≤ 0
+after_first m asked (fed.Future front) = omega arith
+after_first m asked (fed.Rows front rows) = omega arith
+
+after_next : (m : Machine) (feed : Option Running) (answer : Fed) → most_answers (on_next_look m feed answer).after.pending ≤ 0
+after_next m None answer = omega arith
+after_next m (Some r) (fed.Future front) = omega arith
+after_next m (Some r) (fed.Rows front rows) = omega arith
+
+fewer_fed : (m : Machine) (answer : Fed) (awaited : Pending) → AwaitsBy m.feed awaited (event.Fed answer) → most_answers (on_fed m answer awaited).after.pending < most_answers awaited
+fewer_fed m answer pending.Nothing a = absurd a
+fewer_fed m answer (pending.Feed asked) a = omega (arith, after_first m asked answer)
+fewer_fed m answer pending.More a = omega (arith, after_next m m.feed answer)
+fewer_fed m answer (pending.Bodies rows) a = absurd a
+fewer_fed m answer (pending.Ask asker proposed) a = absurd a
+fewer_fed m answer (pending.Push asker) a = absurd a
+
+fewer_bodies : (m : Machine) (b : Bodies) (awaited : Pending) → AwaitsBy m.feed awaited (event.Bodies b) → most_answers (on_bodies m b awaited).after.pending < most_answers awaited
+fewer_bodies m b pending.Nothing a = absurd a
+fewer_bodies m b (pending.Feed asked) a = absurd a
+fewer_bodies m b pending.More a = absurd a
+fewer_bodies m b (pending.Bodies rows) a = omega (arith, after_bodies m b rows m.feed)
+fewer_bodies m b (pending.Ask asker proposed) a = absurd a
+fewer_bodies m b (pending.Push asker) a = absurd a
+
+fewer_asked : (m : Machine) (answer : Asked) (awaited : Pending) → AwaitsBy m.feed awaited (event.Asked answer) → most_answers (on_asked m answer awaited).after.pending < most_answers awaited
+fewer_asked m answer pending.Nothing a = absurd a
+fewer_asked m answer (pending.Feed asked) a = absurd a
+fewer_asked m answer pending.More a = absurd a
+fewer_asked m answer (pending.Bodies rows) a = absurd a
+fewer_asked m answer (pending.Ask asker proposed) a = omega arith
+fewer_asked m answer (pending.Push asker) a = absurd a
+
+fewer_judged : (m : Machine) (o : Outcome) (awaited : Pending) → AwaitsBy m.feed awaited (event.Judged o) → most_answers (on_judged m o awaited).after.pending < most_answers awaited
+fewer_judged m o pending.Nothing a = absurd a
+fewer_judged m o (pending.Feed asked) a = absurd a
+fewer_judged m o pending.More a = absurd a
+fewer_judged m o (pending.Bodies rows) a = absurd a
+fewer_judged m o (pending.Ask asker proposed) a = absurd a
+fewer_judged m o (pending.Push asker) a = omega arith
+
+pub fewer : (m : Machine) (e : Event) (done : Done) → Awaits m e → Does m e done → is_answer e ≡ true → most_answers done.after.pending < most_answers m.pending
+fewer m (event.Whole message) done awaits does is = absurd (false≢true is)
+fewer m (event.Idle front) done awaits does is = absurd (false≢true is)
+fewer m (event.Fed answer) done awaits does is = subst (λ (d : Done). most_answers d.after.pending < most_answers m.pending) (sym does) (fewer_fed m answer m.pending awaits)
+fewer m (event.Bodies b) done awaits does is = subst (λ (d : Done). most_answers d.after.pending < most_answers m.pending) (sym does) (fewer_bodies m b m.pending awaits)
+fewer m (event.Asked answer) done awaits does is = subst (λ (d : Done). most_answers d.after.pending < most_answers m.pending) (sym does) (fewer_asked m answer m.pending awaits)
+fewer m (event.Judged o) done awaits does is = subst (λ (d : Done). most_answers d.after.pending < most_answers m.pending) (sym does) (fewer_judged m o m.pending awaits)
+
+-- ---- all of them
+
+pub conducted : (m : Machine) (e : Event) (done : Done) → Awaits m e → Does m e done → Conducted m (due_at m.pending e) (front_told e) done
+conducted m (event.Whole message) done awaits does = by_message m message done (is_request message.kind) does
+conducted m (event.Idle front) done awaits does = subst (Conducted m None (front ∷ [])) (sym does) (idled m front m.feed refl)
+conducted m (event.Fed answer) done awaits does = subst (Conducted m (due_with m.pending) (front_of answer ∷ [])) (sym does) (fed_to m answer m.pending)
+conducted m (event.Bodies b) done awaits does =
+    subst (Conducted m (due_with m.pending) (b.front ∷ [])) (sym does) (bodied m b m.pending awaits)
+conducted m (event.Asked answer) done awaits does = subst (Conducted m (due_with m.pending) (answer.front ∷ [])) (sym does) (asked_to m answer m.pending)
+conducted m (event.Judged o) done awaits does = subst (Conducted m (due_with m.pending) (front_told (event.Judged o))) (sym does) (judged_to m o m.pending)
+
+pub kept : (m : Machine) (e : Event) (done : Done) → Awaits m e → Does m e done → IsKept m e done
+kept m e done awaits does =
+    let c : Conducted m (due_at m.pending e) (front_told e) done = conducted m e done awaits does in
+    record { user = c.user; version = c.version; strict = c.strict; requests = c.requests; front = c.front }

@@ -1,28 +1,31 @@
--- A machine that conducts a session, exchange by exchange.
-use Rattle.std.specs.Prelude.{◌≡◌, ℕ, ◌+◌, Bool, true, false, ◌&&◌, List, [], ◌∷◌, Option}
-use Rattle.blip_mux.specs.declared.message.Message.{Message}
-use Rattle.sg_history.specs.declared.entries.Entry.{Entry}
+-- What always holds of what a session does, for those who conduct it.
+use Rattle.std.specs.Prelude.{◌≡◌, ◌⊎◌, ◌≤◌, ℕ, ◌+◌, Bool, true, false, List, [], ◌∷◌, take, Option, Some, None, if◌then◌else◌}
+use Rattle.blip_mux.specs.Joining.{is_request, is_reply}
+use Rattle.sg_names.specs.declared.key.Key.{Key}
 use Rattle.sg_history.specs.declared.row.Options.{Options}
-use Rattle.repl_messages.specs.declared.request.Version.{Version}
+use Rattle.sg_history.specs.declared.row.Row.{Row}
 use Rattle.session_core.specs.declared.act.Act.{Act}
 use Rattle.session_core.specs.declared.act.Act.TheVariants as act
+use Rattle.session_core.specs.declared.act.Want.{Want}
 use Rattle.session_core.specs.declared.act.Want.TheVariants as want
+use Rattle.session_core.specs.declared.event.Event.{Event}
+use Rattle.session_core.specs.declared.event.Event.TheVariants as event
 use Rattle.session_core.specs.declared.machine.Pending.{Pending}
 use Rattle.session_core.specs.declared.machine.Pending.TheVariants as pending
-use Rattle.session_core.specs.Puts.{request_message, reply_message}
-use Rattle.session_core.specs.Running.{Running}
-use Rattle.session_core.specs.declared.look.Look.{Look}
-use Rattle.session_core.specs.Session.{Exchanged}
-use Rattle.blip_mux.specs.Joining.{is_reply}
-use Rattle.session_core.specs.Exchange.{Exchange, requests_among, requests_put, running}
-use Rattle.session_core.specs.Machine.{Machine}
+use Rattle.session_core.specs.Acts.{chosen}
+use Rattle.session_core.specs.Fronts.{front_told}
+use Rattle.session_core.specs.Running.{Running, next_since}
+use Rattle.session_core.specs.State.{Machine}
+use Rattle.session_core.specs.Transitions.{Done}
 
--- the messages that acts put, requests numbered from this one on
-abbrev pub messages_from : ℕ → List Act → List Message
-messages_from number [] = []
-messages_from number (act.Reply to kind urgent payload ∷ acts) = reply_message to kind urgent payload ∷ messages_from number acts
-messages_from number (act.Request payload no_reply ∷ acts) = request_message number no_reply payload ∷ messages_from (number + 1) acts
-messages_from number (act.Want want ∷ acts) = messages_from number acts
+-- ---- what is put
+
+-- how many requests are among acts
+abbrev pub requests_in : List Act → ℕ
+requests_in [] = 0
+requests_in (act.Reply to kind urgent payload ∷ acts) = requests_in acts
+requests_in (act.Request payload no_reply ∷ acts) = 1 + requests_in acts
+requests_in (act.Want want ∷ acts) = requests_in acts
 
 -- whether all are requests
 abbrev pub are_requests : List Act → Bool
@@ -31,43 +34,85 @@ are_requests (act.Reply to kind urgent payload ∷ acts) = false
 are_requests (act.Request payload no_reply ∷ acts) = are_requests acts
 are_requests (act.Want want ∷ acts) = false
 
--- whether all are messages to put, of which at most the first is a reply
-abbrev pub are_puts : List Act → Bool
-are_puts [] = true
-are_puts (act.Reply to kind urgent payload ∷ acts) = is_reply kind && are_requests acts
-are_puts (act.Request payload no_reply ∷ acts) = are_requests acts
-are_puts (act.Want want ∷ acts) = false
+-- the first may be the reply that is due, if one is, and all others are requests
+abbrev pub AreAnswers : Option ℕ → List Act → Type 0
+AreAnswers due [] = Unit {0}
+AreAnswers due (act.Reply to kind urgent payload ∷ acts) = (due ≡ Some to) × (is_reply kind ≡ true) × (are_requests acts ≡ true)
+AreAnswers due (act.Request payload no_reply ∷ acts) = are_requests acts ≡ true
+AreAnswers due (act.Want want ∷ acts) = ⊥
 
--- user and version stay, and the requests among what is put are counted
-abbrev pub Keeps : Machine → List Act → Machine → Type 0
-Keeps m acts after =
-    (after.user ≡ m.user) × (after.version ≡ m.version) × (after.requests ≡ requests_among (messages_from (m.requests + 1) acts) + m.requests)
+-- the number of the request whose reply is due once the awaited answer comes
+abbrev pub due_with : Pending → Option ℕ
+due_with pending.Nothing = None
+due_with (pending.Feed asked) = Some asked.asker.number
+due_with pending.More = None
+due_with (pending.Bodies rows) = None
+due_with (pending.Ask asker proposed) = Some asker.number
+due_with (pending.Push asker) = Some asker.number
 
--- the look that is wanted is the one whose answer is awaited, and it is all there is to do; where none is awaited, all is to be put
-abbrev pub Wants : Pending → List Act → Type 0
-Wants pending.Nothing acts = are_puts acts ≡ true
-Wants (pending.Feed asked) acts = acts ≡ act.Want (want.Feed asked.since asked.options) ∷ []
-Wants (pending.Bodies rows) acts = (options : Options) × (most : ℕ) × (acts ≡ act.Want (want.Bodies options rows most) ∷ [])
+-- the number of the request whose reply is due at an event
+abbrev pub due_at : Pending → Event → Option ℕ
+due_at awaited (event.Whole message) = if is_request message.kind then Some message.number else None
+due_at awaited (event.Idle front) = None
+due_at awaited other = due_with awaited
 
--- a machine that awaits a message
-abbrev pub at_rest : List ℕ → Version → ℕ → Option Running → Machine
-at_rest user version requests feed = record { user = user; version = version; requests = requests; feed = feed; pending = pending.Nothing }
+-- a reply that is due stays due where an answer is awaited for it, and then nothing is put; else none is due
+abbrev pub IsStillDue : Option ℕ → Done → Type 0
+IsStillDue due done = (due_with done.after.pending ≡ None) ⊎ ((due_with done.after.pending ≡ due) × (done.acts ≡ []))
 
--- where these exchanges lead the machine
-abbrev pub led_to : List Entry → List ℕ → Version → List Exchange → Machine
-led_to h user version earlier = at_rest user version (requests_put earlier) (running h user earlier)
+-- ---- what is wanted
 
--- where an exchange leads, for every history that the machine may be looking at
-abbrev pub Leads : Machine → Exchange → (List Entry → List ℕ → Type 0) → Machine → Type 0
-Leads m x By after =
-    (h : List Entry) (user : List ℕ) (version : Version) (earlier : List Exchange) → m ≡ led_to h user version earlier → By h user
-    → Exchanged h user version earlier x × (after ≡ led_to h user version (x ∷ earlier))
+-- the front of a feed's last look
+abbrev pub feed_front : Option Running → ℕ
+feed_front None = 0
+feed_front (Some r) = r.front
 
--- an exchange for this message, with these looks, that puts what these acts put
-abbrev pub Makes : Machine → Message → List Look → List Act → (List Entry → List ℕ → Type 0) → Machine → Type 0
-Makes m message taken acts By after =
-    (x : Exchange) × (x.message ≡ message) × (x.looks ≡ taken) × (x.puts ≡ messages_from (m.requests + 1) acts) × Leads m x By after
+-- the next look of a feed is from the front of its last one, by the feed's own options
+abbrev pub IsNext : Option Running → Key → Options → Type 0
+IsNext None since options = ⊥
+IsNext (Some r) since options = (since ≡ next_since r) × (options ≡ r.options)
 
--- every history
-abbrev pub Always : List Entry → List ℕ → Type 0
-Always h user = Unit {0}
+-- these rows are some of those that a feed has on offer, and these are its options
+abbrev pub AreOnOffer : Option Running → Options → List Row → Type 0
+AreOnOffer None options rows = ⊥
+AreOnOffer (Some r) options rows = (options ≡ r.options) × ((flags : List Bool) × (rows ≡ chosen (take r.batch r.rows) flags))
+
+-- what is wanted is what is then awaited
+abbrev pub WantsFor : Option Running → Pending → Option Want → Type 0
+WantsFor feed pending.Nothing None = Unit {0}
+WantsFor feed (pending.Feed asked) (Some (want.Feed since options)) = (since ≡ asked.since) × (options ≡ asked.options)
+WantsFor feed pending.More (Some (want.Feed since options)) = IsNext feed since options
+WantsFor feed (pending.Bodies rows) (Some (want.Bodies options wanted most)) = (wanted ≡ rows) × AreOnOffer feed options rows
+WantsFor feed (pending.Ask asker proposed) (Some (want.Ask offers)) = Unit {0}
+WantsFor feed (pending.Push asker) (Some (want.Propose revision)) = Unit {0}
+WantsFor feed awaited wanted = ⊥
+
+-- how many answers may still come before a message does
+abbrev pub most_answers : Pending → ℕ
+most_answers pending.Nothing = 0
+most_answers (pending.Feed asked) = 1
+most_answers pending.More = 1
+most_answers (pending.Bodies rows) = 2
+most_answers (pending.Ask asker proposed) = 1
+most_answers (pending.Push asker) = 1
+
+-- whether an event is an answer
+abbrev pub is_answer : Event → Bool
+is_answer (event.Whole message) = false
+is_answer (event.Idle front) = false
+is_answer other = true
+
+-- ---- what stays
+
+-- no front is above this one
+abbrev pub AreWithin : ℕ → List ℕ → Type 0
+AreWithin most [] = Unit {0}
+AreWithin most (front ∷ fronts) = (front ≤ most) × AreWithin most fronts
+
+-- the user, the version and whether conflicts are off stay; the requests are counted; and no feed's look is past all fronts seen
+pub record IsKept (m : Machine) (event : Event) (done : Done) : Type 0 where
+  pub user : done.after.user ≡ m.user
+  pub version : done.after.version ≡ m.version
+  pub strict : done.after.strict ≡ m.strict
+  pub requests : done.after.requests ≡ m.requests + requests_in done.acts
+  pub front : (most : ℕ) → feed_front m.feed ≤ most → AreWithin most (front_told event) → feed_front done.after.feed ≤ most

@@ -1,8 +1,10 @@
-pub mod Batches
+pub mod Acts
 pub mod Conduct
-pub mod Exchange
-pub mod Machine
-pub mod Puts
+pub mod Feeds
+pub mod Fronts
+pub mod Right
 pub mod Running
 pub mod Served
-pub mod Session
+pub mod State
+pub mod Steps
+pub mod Transitions

@@ -1,13 +1,15 @@
 //! What a session does for an event.
 
-ghost use Rattle.std.specs.Prelude.{◌≡◌, ◌++◌, ◌∷◌, [], OnOk, OnErr};
+ghost use Rattle.std.specs.Prelude.{◌≡◌, IfOk};
+ghost use Rattle.session_core.specs.Acts.{listed};
 
 use blip_frame::{Kind, Payload};
+use repl_messages::{Offers, Revision};
 use sg_history::{Key, Options, Rows};
-use std::alloc::{AllocError, Global};
-use std::marker::Model;
+use sg_outside::Memory;
+use std::alloc::Global;
 
-/// A look at the history that is wanted.
+/// What is wanted of the history.
 #[derive(Drop)]
 pub enum Want {
     /// The user's feed after a since key.
@@ -20,6 +22,14 @@ pub enum Want {
         options: Options,
         rows: Rows,
         most: u64,
+    },
+    /// What is known of offered revisions.
+    Ask {
+        offers: Offers,
+    },
+    /// That a revision is stored.
+    Propose {
+        revision: Revision,
     },
 }
 
@@ -38,60 +48,26 @@ pub enum Act {
         payload: Payload,
         no_reply: bool,
     },
-    /// Look at the history, and take the answer as the next event.
+    /// Read the history, and take the answer as the next event.
     Want(Want),
 }
 
-/// A list of things to do, in order. At most the last is a want.
+/// What is to be done: first these replies and requests are put, in order; then the history is read, where that is wanted.
 #[derive(Drop)]
 pub struct Acts {
-    items: Vec<Act>,
-}
-
-impl Model for Acts {
-    ghost use Rattle.std.specs.Prelude.{List};
-    ghost use Rattle.session_core.specs.declared.act.Act.{Act};
-
-    ghost Value = { List Act };
-
-    ghost view = { λ l. l.items.items };
+    pub puts: Vec<Act>,
+    pub want: Option<Want>,
 }
 
 impl Acts {
-    /// None. Takes no memory.
-    pub fn new(alloc: Global) -> Acts
-        ensures { result ≡ [] }
+    /// All in one list, of which a want is the last.
+    pub fn into_list(self) -> Result<Vec<Act>, Memory>
+        ensures { IfOk result (λ acts. acts.items ≡ listed self.puts.items self.want) }
     {
-        Acts {
-            items: Vec::new(alloc),
+        let Acts { mut puts, want } = self;
+        if let Some(want) = want {
+            puts.push(Act::Want(want))?;
         }
-    }
-
-    /// The list of a vector's acts. Takes no memory.
-    pub fn from_vec(items: Vec<Act>) -> Acts
-        ensures { result ≡ items.items }
-    {
-        Acts { items }
-    }
-
-    /// The vector of the acts. Takes no memory.
-    pub fn into_vec(self) -> Vec<Act>
-        ensures { result.items ≡ self }
-    {
-        self.items
-    }
-
-    pub fn as_slice(&self) -> &[Act]
-        ensures { result.now ≡ self.now }
-    {
-        self.items.as_slice()
-    }
-
-    pub fn push(&mut self, act: Act) -> Result<(), AllocError>
-        ensures ok { OnOk result (self.new ≡ self.old ++ act ∷ []) }
-        ensures err { OnErr result (self.new ≡ self.old) }
-    {
-        self.items.push(act)?;
-        Ok(())
+        Ok(puts)
     }
 }

@@ -1,9 +1,7 @@
 //! Acts that answer the rows that a device wants.
 
-ghost use Rattle.std.specs.Prelude.{◌≡◌, ◌≤◌, ◌++◌, true, length, IfOk, OnOk};
-ghost use Rattle.session_core.specs.Puts.{chosen, flagged};
-ghost use Rattle.session_core.specs.Machine.{body_act, body_acts};
-ghost use Rattle.session_core.specs.Conduct.{are_requests};
+ghost use Rattle.std.specs.Prelude.{◌≡◌, ◌≤◌, ◌++◌, length, IfOk, OnOk};
+ghost use Rattle.session_core.specs.Acts.{body_act, body_acts, chosen, flagged};
 
 use crate::act::Act;
 use repl_messages::{Body, write_norev, write_rev};
@@ -76,8 +74,7 @@ fn body(alloc: Global, row: &Row, answer: &Body) -> Result<Act, Memory>
 
 /// The messages for rows that the device wants, by their answers.
 pub(crate) fn bodies(alloc: Global, rows: &[Row], answers: &[Body]) -> Result<Vec<Act>, Memory>
-    ensures value { IfOk result (λ acts. acts.items ≡ body_acts rows.now answers.now) }
-    ensures requests { IfOk result (λ acts. are_requests acts.items ≡ true) }
+    ensures { IfOk result (λ acts. acts.items ≡ body_acts rows.now answers.now) }
 {
     let mut acts = Vec::new(alloc);
     let mut rows = rows;

@@ -1,15 +1,22 @@
 //! What happens to a session.
 
 use blip_mux::Message;
-use repl_messages::{Bodies, Fed};
+use doc_board::Outcome;
+use repl_messages::{Asked, Bodies, Fed};
 
 /// One event.
 #[derive(Drop)]
 pub enum Event {
     /// A message of the device became whole.
     Whole(Message),
+    /// Nothing came, and this is the length of the history.
+    Idle { front: u64 },
     /// What the look for a feed answered.
     Fed(Fed),
     /// What the look for the bodies of rows answered.
     Bodies(Bodies),
+    /// What the look for offered revisions answered.
+    Asked(Asked),
+    /// What came of the revision that was proposed.
+    Judged(Outcome),
 }

@@ -1,43 +1,47 @@
 //! Laws of sessions. Each is the contract of a function that does nothing.
 
-ghost use Rattle.std.specs.Prelude.{◌≡◌, ◌<◌, ◌≤◌, ◌∷◌, ℕ, List, [], length};
-ghost use Rattle.std.specs.List.{flat_map};
-ghost use Rattle.blip_mux.specs.declared.message.Message.{Message};
+ghost use Rattle.std.specs.Prelude.{◌≡◌, ◌<◌, ◌++◌, ◌∷◌, [], ℕ, Bool, true, List};
+ghost use Rattle.sg_history.specs.declared.entries.Entry.{Entry};
 ghost use Rattle.sg_history.specs.declared.row.Row.{Row};
-ghost use Rattle.sg_history.specs.declared.row.Options.{Options};
 ghost use Rattle.repl_messages.specs.declared.looks.Fed.{Fed};
-ghost use Rattle.repl_messages.specs.declared.looks.Bodies.{Bodies};
-ghost use Rattle.repl_messages.specs.Looks.{IsFed, AreBodies, front_of};
-ghost use Rattle.session_core.specs.declared.act.Act.{Act};
-ghost use Rattle.session_core.specs.declared.act.Want.{Want};
-ghost use Rattle.session_core.specs.declared.event.Event.{Event};
-ghost use Rattle.session_core.specs.declared.look.Purpose.{Purpose};
-ghost use Rattle.session_core.specs.declared.machine.Asked.{Asked};
+ghost use Rattle.repl_messages.specs.declared.request.Version.{Version};
 ghost use Rattle.session_core.specs.declared.machine.Pending.{Pending};
-ghost use Rattle.session_core.specs.Batches.{offers, AreBatches};
-ghost use Rattle.session_core.specs.Running.{running_with};
-ghost use Rattle.session_core.specs.Machine.{Machine, Steps};
-ghost use Rattle.session_core.specs.Conduct.{Makes, Always};
+ghost use Rattle.session_core.specs.declared.machine.Subscription.{Subscription};
+ghost use Rattle.session_core.specs.Feeds.{AreOffered, not_offered, rows_at, feed_looks, LeadsFeed};
+ghost use Rattle.session_core.specs.Right.{AreRight};
+ghost use Rattle.session_core.specs.Steps.{Step, Steps, Leads, put_by};
+ghost use Rattle.session_core.specs.declared.event.Event.{Event};
+ghost use Rattle.session_core.specs.State.{Machine, Awaits, new_machine};
+ghost use Rattle.session_core.specs.Transitions.{Done, Does};
+ghost use Rattle.session_core.specs.Conduct.{AreAnswers, due_at, IsStillDue, WantsFor, most_answers, is_answer, IsKept};
 
-/// What the machine does from a message on until it is at rest again is an exchange of the session over every history
-/// by which the look's answer is right: without a look, with one for a feed, and with one for bodies.
-pub fn exchanges()
-    ensures no_look { (m : Machine) (message : Message) (after : Machine) (acts : List Act)
-        → Steps m (Event.Whole message) after acts → after.pending ≡ Pending.Nothing
-        → Makes m message [] acts Always after }
-    ensures feed { (m : Machine) (message : Message) (between : Machine) (asks : List Act) (asked : Asked) (answer : Fed) (after : Machine) (acts : List Act)
-        → Steps m (Event.Whole message) between asks → between.pending ≡ Pending.Feed asked
-        → Steps between (Event.Fed answer) after acts
-        → Makes m message (record { front = front_of answer; purpose = Purpose.Feed } ∷ []) acts (λ h user. IsFed h user asked.since asked.options answer) after }
-    ensures bodies { (m : Machine) (message : Message) (between : Machine) (asks : List Act) (options : Options) (rows : List Row) (most : ℕ) (answer : Bodies) (after : Machine) (acts : List Act)
-        → Steps m (Event.Whole message) between asks → between.pending ≡ Pending.Bodies rows
-        → asks ≡ Act.Want (Want.Bodies options rows most) ∷ []
-        → Steps between (Event.Bodies answer) after acts
-        → Makes m message (record { front = answer.front; purpose = Purpose.Bodies } ∷ []) acts (λ h user. AreBodies h user options rows most answer) after }
+/// What holds of each event that is awaited, for those who conduct a session: what is put are at most the reply that is due and
+/// requests; what is wanted is what is then awaited; after an answer fewer answers are to come than before; and user, version and
+/// strictness stay, and the requests are counted.
+pub fn conduct()
+    ensures puts { (m : Machine) (event : Event) (done : Done) → Awaits m event → Does m event done
+        → AreAnswers (due_at m.pending event) done.acts }
+    ensures due { (m : Machine) (event : Event) (done : Done) → Awaits m event → Does m event done
+        → IsStillDue (due_at m.pending event) done }
+    ensures wants { (m : Machine) (event : Event) (done : Done) → Awaits m event → Does m event done
+        → WantsFor done.after.feed done.after.pending done.want }
+    ensures fewer { (m : Machine) (event : Event) (done : Done) → Awaits m event → Does m event done
+        → is_answer event ≡ true
+        → most_answers done.after.pending < most_answers m.pending }
+    ensures kept { (m : Machine) (event : Event) (done : Done) → Awaits m event → Does m event done
+        → IsKept m event done }
 {}
 
-/// The offers of a feed, one after another, are its rows in their order, each once; each but the last is a full batch.
-pub fn batches()
-    ensures rows { (k : ℕ) (rows : List Row) (batch : ℕ) (options : Options) (number : ℕ) → 0 < batch → length rows ≤ k → flat_map (λ (some : List Row). some) (offers k (running_with rows batch options number)) ≡ rows }
-    ensures full { (k : ℕ) (rows : List Row) (batch : ℕ) (options : Options) (number : ℕ) → 0 < batch → AreBatches batch (offers k (running_with rows batch options number)) }
+/// While a feed runs, the rows that were offered and those that are not yet, and no others, are the rows that it was given: those of
+/// the feed at its first look's front from its since key, then at each later look's front from the plain key of the front before,
+/// in order, each once.
+pub fn feeds()
+    ensures { (h : List Entry) (user : List ℕ) (version : Version) (strict : Bool) (asked : Subscription)
+        (front : ℕ) (rows : List Row) (earlier more : List Step) (before first after : Machine) (s : Step)
+        → Leads (new_machine user version strict) earlier before → before.pending ≡ Pending.Feed asked
+        → s.event ≡ Event.Fed (Fed.Rows front rows) → Steps before s first
+        → LeadsFeed first more after → AreRight h user strict (more ++ s ∷ earlier)
+        → (offered : List Row) × AreOffered version (put_by (more ++ s ∷ [])) offered
+        × (offered ++ not_offered after.feed
+        ≡ rows_at h user asked.since asked.options (feed_looks (more ++ s ∷ []))) }
 {}

@@ -10,10 +10,9 @@ pub mod laws;
 pub mod look;
 pub mod machine;
 pub mod replies;
-pub mod served;
+pub(crate) mod served;
 
 pub use act::{Act, Acts, Want};
 pub use event::Event;
 pub use look::{Look, Looks, Purpose};
 pub use machine::Core;
-pub use served::Served;

@@ -1,24 +1,29 @@
 //! The machine.
 
-ghost use Rattle.std.specs.Prelude.{◌≡◌, ◌≤◌, ◌<◌, ◌+◌, ◌∷◌, ◌++◌, ◌&&◌, ◌==◌, [], true, drop, Some, None, Result, IsSome, IsTrue, ◌↔◌, IfOk, OnOk, OnErr};
+ghost use Rattle.std.specs.Prelude.{◌≡◌, ◌≤◌, ◌<◌, ◌+◌, ◌&&◌, ◌==◌, length, Some, None, Ok, Result, IsSome, IsTrue, ◌↔◌, IfOk, OnOk, OnErr};
 ghost use Rattle.blip_mux.specs.Joining.{is_reply};
+ghost use Rattle.repl_messages.specs.Requests.{IsBounded};
 ghost use Rattle.repl_messages.specs.declared.request.RequestFault.{RequestFault};
-ghost use Rattle.session_core.specs.declared.served.Served.{Served};
+ghost use Rattle.sg_history.specs.Device as device;
+ghost use Rattle.session_core.specs.Running as running;
+ghost use Rattle.session_core.specs.Running.{Running, rest};
 ghost use Rattle.session_core.specs.Served.{IsRead};
-ghost use Rattle.session_core.specs.Running.{Running, answered};
-ghost use Rattle.session_core.specs.Machine as machine;
-ghost use Rattle.session_core.specs.Conduct.{Wants, Keeps, are_requests};
-ghost use Rattle.session_core.specs.Machine.{Machine, Awaits, Steps, ask_for_feed, on_request, on_reply, fed_by, offer_act, IsFeed, BeginsBy};
+ghost use Rattle.session_core.specs.State.{Machine, Awaits, IsSound, new_machine};
+ghost use Rattle.session_core.specs.Transitions as does;
+ghost use Rattle.session_core.specs.Transitions.{Does, IsDone, IsDoneBy, IsFirst, BeginsBy, going_on, most_ancestors, on_sub_changes, on_changes, on_served, on_request, on_reply, on_wanted, on_next_look, on_fed, on_bodies, on_asked, on_judged, on_idle, refused, asks};
 
 use crate::act::{Act, Acts, Want};
 use crate::bodies::{bodies, choose, copy_rows};
 use crate::event::Event;
 use crate::feed::Feed;
-use crate::replies::{Asker, accept, error_of_fault, offer, refuse};
-use crate::served::{Served, read_served};
+use crate::replies::{
+    Asker, accept, answer_offers, answer_outcome, error_of_fault, push_offer, refuse,
+};
+use crate::served::read_served;
 use blip_frame::Kind;
 use blip_mux::Message;
-use repl_messages::{Bodies, ErrorKind, Fed, Version, read_wanted};
+use doc_board::Outcome;
+use repl_messages::{Asked, Bodies, ErrorKind, Fed, Offers, Request, Version, read_wanted};
 use sg_history::{Key, Name, Options, Rows};
 use sg_outside::Memory;
 use std::alloc::Global;
@@ -27,53 +32,69 @@ use std::mem;
 
 /// A request for a feed.
 #[derive(Drop)]
-pub struct Asked {
+pub struct Subscription {
     pub asker: Asker,
     pub since: Key,
+    pub continuous: bool,
     pub batch: u64,
     pub options: Options,
 }
 
-/// Which look's answer is the next event.
+/// Which answer is the next event.
 #[derive(Drop)]
 pub enum Pending {
-    /// None: a message is.
+    /// None: a message is, or an idle moment.
     Nothing,
-    /// That of the look for the feed that a request asks for.
-    Feed(Asked),
+    /// That of the first look for the feed that a request asks for.
+    Feed(Subscription),
+    /// That of the next look for the feed that runs.
+    More,
     /// That of the look for the bodies of these rows.
     Bodies(Rows),
+    /// That of the look for revisions which a request offers, by proposeChanges or by changes.
+    Ask { asker: Asker, proposed: bool },
+    /// What comes of the revision that a request proposes.
+    Push(Asker),
 }
 
-/// A session of one device. Contracts see its user, the version that it speaks, how many requests it has
-/// put, the feed that runs, and which look's answer is the next event.
+/// A session of one device. Contracts see its user, the version that it speaks, whether conflicts are off, how many
+/// requests it has put, the feed that runs, and which answer is the next event.
 #[derive(Drop)]
 pub struct Core {
     user: Name,
     version: Version,
+    strict: bool,
     requests: u64,
     feed: Option<Feed>,
     pending: Pending,
 }
 
 impl Model for Core {
-    ghost use Rattle.session_core.specs.Machine.{Machine, IsSound};
+    ghost use Rattle.session_core.specs.State.{Machine, IsSound};
 
     ghost Value = { Machine };
 
-    ghost view = { λ c. record { user = c.user; version = c.version; requests = c.requests; feed = c.feed; pending = c.pending } };
+    ghost view = { λ c. record {
+      user = c.user;
+      version = c.version;
+      strict = c.strict;
+      requests = c.requests;
+      feed = c.feed;
+      pending = c.pending;
+    } };
 
     ghost invariant = { λ c. IsSound c.feed c.pending };
 }
 
 impl Core {
-    /// A session to which nothing has happened. Takes no memory.
-    pub fn new(user: Name, version: Version) -> Core
-        ensures { result ≡ record { user = user; version = version; requests = 0; feed = None; pending = Pending.Nothing } }
+    /// A session to which nothing has happened. Where it is strict, conflicts are off. Takes no memory.
+    pub fn new(user: Name, version: Version, strict: bool) -> Core
+        ensures { result ≡ new_machine user version strict }
     {
         Core {
             user,
             version,
+            strict,
             requests: 0,
             feed: None,
             pending: Pending::Nothing,
@@ -87,7 +108,24 @@ impl Core {
         &self.user
     }
 
-    /// Whether this event is the one that is awaited, and there is room for the numbers of further requests.
+    /// Whether conflicts are off.
+    pub fn strict(&self) -> bool
+        ensures { result ≡ self.now.strict }
+    {
+        self.strict
+    }
+
+    /// Whether a feed waits for the history to grow.
+    pub fn waits(&self) -> bool
+        ensures { result ≡ running.waits self.now.feed }
+    {
+        match &self.feed {
+            Some(feed) => feed.waits(),
+            None => false,
+        }
+    }
+
+    /// Whether this event is one that is awaited, and there is room for the numbers of further requests.
     pub fn may_take(&self, event: &Event) -> bool
         ensures { IsTrue result ↔ (Awaits self.now event.now × (self.now.requests ≤ 9223372036854775808)) }
     {
@@ -99,35 +137,40 @@ impl Core {
     {
         match (&self.pending, event) {
             (Pending::Nothing, Event::Whole(_)) => true,
+            (Pending::Nothing, Event::Idle { .. }) => self.waits(),
             (Pending::Feed(_), Event::Fed(_)) => true,
+            (Pending::More, Event::Fed(Fed::Rows { .. })) => true,
             (Pending::Bodies(rows), Event::Bodies(bodies)) => {
                 bodies.answers.as_slice().len() == rows.as_slice().len()
             }
+            (Pending::Ask { .. }, Event::Asked(_)) => true,
+            (Pending::Push(_), Event::Judged(_)) => true,
             _ => false,
         }
     }
 
-    /// Takes one event, and says what is to be done. At want of memory the session stays as it was.
+    /// Takes one event, and says what is to be done. Out of memory the session stays as it was.
     pub fn step(&mut self, alloc: Global, event: Event) -> Result<Acts, Memory>
         requires awaited { Awaits self.old event }
         requires room { self.old.requests ≤ 9223372036854775808 }
-        ensures ok { IfOk result (λ acts. Steps self.old event self.new acts) }
-        ensures wants { IfOk result (λ acts. Wants self.new.pending acts) }
-        ensures keeps { IfOk result (λ acts. Keeps self.old acts self.new) }
+        ensures ok { IfOk result (λ acts. IsDoneBy (λ done. Does self.old event done) self.new acts) }
         ensures few { OnOk result (self.new.requests ≤ self.old.requests + 10001) }
         ensures err { OnErr result (self.new ≡ self.old) }
     {
         match event {
             Event::Whole(message) => self.take_message(alloc, &message),
+            Event::Idle { front } => self.take_idle(alloc, front),
             Event::Fed(fed) => self.take_fed(alloc, fed),
             Event::Bodies(bodies) => self.take_bodies(alloc, &bodies),
+            Event::Asked(asked) => self.take_asked(alloc, &asked),
+            Event::Judged(outcome) => self.take_judged(alloc, outcome),
         }
     }
 
     fn take_message(&mut self, alloc: Global, message: &Message) -> Result<Acts, Memory>
         requires awaited { self.old.pending ≡ Pending.Nothing }
         requires room { self.old.requests ≤ 9223372036854775808 }
-        ensures ok { IfOk result (λ acts. Steps self.old (Event.Whole message.now) self.new acts) }
+        ensures ok { IfOk result (λ acts. IsDoneBy (λ done. Does self.old (Event.Whole message.now) done) self.new acts) }
         ensures few { OnOk result (self.new.requests ≤ self.old.requests + 1) }
         ensures err { OnErr result (self.new ≡ self.old) }
     {
@@ -137,10 +180,12 @@ impl Core {
         }
     }
 
+    // ---- requests
+
     fn take_request(&mut self, alloc: Global, message: &Message) -> Result<Acts, Memory>
         requires awaited { self.old.pending ≡ Pending.Nothing }
-        ensures ok { IfOk result (λ acts. (read : Result Served RequestFault) × IsRead message.now.payload self.old.version read
-            × ((self.new, acts) ≡ on_request self.old message.now read)) }
+        ensures ok { IfOk result (λ acts. IsDoneBy (λ done. (read : Result Request RequestFault) × IsRead message.now.payload self.old.version read
+            × (done ≡ on_request self.old message.now read)) self.new acts) }
         ensures few { OnOk result (self.new.requests ≡ self.old.requests) }
         ensures err { OnErr result (self.new ≡ self.old) }
     {
@@ -150,128 +195,320 @@ impl Core {
             no_reply: message.no_reply,
         };
         match read_served(alloc, message, self.version) {
-            Ok(
-                Served::Feed {
-                    since,
-                    batch,
-                    options,
-                },
-            ) => self.ask_for_feed(
+            Ok(request) => self.take_served(alloc, asker, request),
+            Err(fault) => self.refuse(alloc, asker, error_of_fault(fault)?),
+        }
+    }
+
+    /// Takes a request that could be read.
+    fn take_served(&mut self, alloc: Global, asker: Asker, request: Request) -> Result<Acts, Memory>
+        requires awaited { self.old.pending ≡ Pending.Nothing }
+        requires bounded { IsBounded request }
+        ensures ok { IfOk result (λ acts. IsDone (on_served self.old asker request) self.new acts) }
+        ensures few { OnOk result (self.new.requests ≡ self.old.requests) }
+        ensures err { OnErr result (self.new ≡ self.old) }
+    {
+        match request {
+            Request::SubChanges {
+                since,
+                continuous,
+                batch,
+                options,
+            } => self.subscribe(
                 alloc,
-                Asked {
+                Subscription {
                     asker,
                     since,
+                    continuous,
                     batch,
                     options,
                 },
             ),
-            Err(fault) => {
-                let acts = refuse(alloc, asker, error_of_fault(fault)?)?;
-                Ok(Acts::from_vec(acts))
+            Request::Changes { offers } => self.take_changes(alloc, asker, offers),
+            Request::ProposeChanges { offers } => Ok(self.ask(
+                alloc,
+                Pending::Ask {
+                    asker,
+                    proposed: true,
+                },
+                Want::Ask { offers },
+            )),
+            Request::Rev(revision) => {
+                Ok(self.ask(alloc, Pending::Push(asker), Want::Propose { revision }))
             }
+            Request::GetCheckpoint { .. } => { self.refuse(alloc, asker, ErrorKind::NoHandler404) }
+            Request::SetCheckpoint { .. } => { self.refuse(alloc, asker, ErrorKind::NoHandler404) }
         }
     }
 
-    fn ask_for_feed(&mut self, alloc: Global, asked: Asked) -> Result<Acts, Memory>
+    /// Takes a request that offers revisions by changes, which is refused where conflicts are off.
+    fn take_changes(&mut self, alloc: Global, asker: Asker, offers: Offers) -> Result<Acts, Memory>
+        requires awaited { self.old.pending ≡ Pending.Nothing }
+        ensures ok { IfOk result (λ acts. IsDone (on_changes self.old.strict self.old asker (Want.Ask offers)) self.new acts) }
+        ensures few { OnOk result (self.new.requests ≡ self.old.requests) }
+        ensures err { OnErr result (self.new ≡ self.old) }
+    {
+        if self.strict {
+            return self.refuse(alloc, asker, ErrorKind::UsePropose409);
+        }
+        let pending = Pending::Ask {
+            asker,
+            proposed: false,
+        };
+        Ok(self.ask(alloc, pending, Want::Ask { offers }))
+    }
+
+    /// Refuses a request.
+    fn refuse(&mut self, alloc: Global, asker: Asker, error: ErrorKind) -> Result<Acts, Memory>
+        requires awaited { self.old.pending ≡ Pending.Nothing }
+        ensures ok { IfOk result (λ acts. IsDone (refused self.old asker error) self.new acts) }
+        ensures same { self.new ≡ self.old }
+    {
+        let replies = refuse(alloc, asker, error)?;
+        Ok(put(replies))
+    }
+
+    /// Awaits this answer, which the session is sound with.
+    fn ask(&mut self, alloc: Global, pending: Pending, want: Want) -> Acts
+        requires sound { IsSound self.old.feed pending }
+        ensures { IsDone (asks self.old pending want) self.new result }
+    {
+        self.pending = pending;
+        Acts {
+            puts: Vec::new(alloc),
+            want: Some(want),
+        }
+    }
+
+    fn subscribe(&mut self, alloc: Global, asked: Subscription) -> Result<Acts, Memory>
         requires awaited { self.old.pending ≡ Pending.Nothing }
         requires some { 0 < asked.batch }
         requires bound { asked.batch ≤ 10000 }
-        ensures ok { IfOk result (λ acts. (self.new, acts) ≡ ask_for_feed self.old asked self.old.feed) }
+        ensures ok { IfOk result (λ acts. IsDone (on_sub_changes self.old asked self.old.feed) self.new acts) }
         ensures few { OnOk result (self.new.requests ≡ self.old.requests) }
         ensures err { OnErr result (self.new ≡ self.old) }
     {
         if self.feed.is_some() {
-            let acts = refuse(alloc, asked.asker, ErrorKind::FeedRuns409)?;
-            return Ok(Acts::from_vec(acts));
+            return self.refuse(alloc, asked.asker, ErrorKind::FeedRuns409);
         }
-        let options = asked.options.copy(alloc)?;
-        let acts = want(
-            alloc,
-            Want::Feed {
-                since: asked.since,
-                options,
-            },
-        )?;
-        self.pending = Pending::Feed(asked);
-        Ok(acts)
+        let want = Want::Feed {
+            since: asked.since,
+            options: asked.options.copy(alloc)?,
+        };
+        Ok(self.ask(alloc, Pending::Feed(asked), want))
     }
+
+    // ---- replies
 
     fn take_reply(&mut self, alloc: Global, message: &Message) -> Result<Acts, Memory>
         requires awaited { self.old.pending ≡ Pending.Nothing }
         requires room { self.old.requests ≤ 9223372036854775808 }
-        ensures ok { IfOk result (λ acts. (self.new, acts) ≡ on_reply self.old message.now self.old.feed) }
+        ensures ok { IfOk result (λ acts. IsDone (on_reply self.old message.now self.old.feed) self.new acts) }
         ensures few { OnOk result (self.new.requests ≤ self.old.requests + 1) }
         ensures err { OnErr result (self.new ≡ self.old) }
     {
         let Some(feed) = &self.feed else {
-            return Ok(Acts::new(alloc));
+            return Ok(put(Vec::new(alloc)));
         };
-        if !is_answer(message, feed.number()) {
-            return Ok(Acts::new(alloc));
+        if feed.waits() || !is_answer(message, feed.number()) {
+            return Ok(put(Vec::new(alloc)));
         }
         let offered = feed.offered();
         let wanted = read_wanted(alloc, message, offered.len() as u64)?;
         let rows = choose(alloc, offered, wanted.rows.as_slice())?;
-        if rows.as_slice().is_empty() {
-            return self.go_on(alloc, Vec::new(alloc), 0);
-        }
-        let acts = want(
-            alloc,
-            Want::Bodies {
-                options: feed.options().copy(alloc)?,
-                rows: copy_rows(alloc, rows.as_slice())?,
-                most: wanted.max_history,
-            },
-        )?;
-        self.pending = Pending::Bodies(rows);
-        Ok(acts)
+        self.take_wanted(alloc, rows, wanted.max_history)
     }
+
+    /// The rows on offer are answered, of which these are wanted.
+    fn take_wanted(&mut self, alloc: Global, rows: Rows, most: u64) -> Result<Acts, Memory>
+        requires awaited { self.old.pending ≡ Pending.Nothing }
+        requires room { self.old.requests ≤ 9223372036854775808 }
+        requires runs { IsSome self.old.feed }
+        requires few { length rows ≤ 10000 }
+        ensures ok { IfOk result (λ acts. (r : Running) × (self.old.feed ≡ Some r)
+            × ((message : Message) → most ≡ most_ancestors message → IsDone (on_wanted self.old message r rows) self.new acts)) }
+        ensures few { OnOk result (self.new.requests ≤ self.old.requests + 1) }
+        ensures err { OnErr result (self.new ≡ self.old) }
+    {
+        if rows.as_slice().is_empty() {
+            return self.answered(alloc, Vec::new(alloc), 0);
+        }
+        let Some(feed) = &self.feed else {
+            unreachable!();
+        };
+        let want = Want::Bodies {
+            options: feed.options().copy(alloc)?,
+            rows: copy_rows(alloc, rows.as_slice())?,
+            most,
+        };
+        Ok(self.ask(alloc, Pending::Bodies(rows), want))
+    }
+
+    /// The rows on offer are answered, by these acts, which are so many requests.
+    fn answered(&mut self, alloc: Global, acts: Vec<Act>, count: u64) -> Result<Acts, Memory>
+        requires runs { IsSome self.old.feed }
+        requires room { self.old.requests ≤ 9223372036854775808 }
+        requires few { count ≤ 10000 }
+        ensures ok { IfOk result (λ done. (r : Running) × (self.old.feed ≡ Some r)
+            × IsDone (does.answered self.old acts.items (self.old.requests + count) (rest r)) self.new done) }
+        ensures few { OnOk result (self.new.requests ≤ self.old.requests + count + 1) }
+        ensures err { OnErr result (self.new ≡ self.old) }
+    {
+        let Some(feed) = &self.feed else {
+            unreachable!();
+        };
+        if feed.continuous() && feed.later().is_empty() {
+            let options = feed.options().copy(alloc)?;
+            let since = plain(feed.front());
+            self.look_again(count);
+            return Ok(Acts {
+                puts: acts,
+                want: Some(Want::Feed { since, options }),
+            });
+        }
+        let mut acts = acts;
+        let (later, batch) = (feed.later(), feed.batch());
+        push_offer(alloc, &mut acts, false, later, batch, self.version)?;
+        self.go_on_with_rest(count);
+        Ok(put(acts))
+    }
+
+    /// The rows on offer are answered by so many requests, and the feed's next look is awaited.
+    fn look_again(&mut self, count: u64)
+        requires runs { IsSome self.old.feed }
+        requires room { self.old.requests ≤ 9223372036854775808 }
+        requires few { count ≤ 10000 }
+        ensures { (r : Running) × (self.old.feed ≡ Some r)
+            × (self.new ≡ record self.old { requests = self.old.requests + count; feed = Some (rest r); pending = Pending.More }) }
+    {
+        let Some(feed) = self.feed.take() else {
+            unreachable!();
+        };
+        self.requests += count;
+        self.feed = Some(feed.rest());
+        self.pending = Pending::More;
+    }
+
+    /// The rows on offer are answered by so many requests, and the feed goes on.
+    fn go_on_with_rest(&mut self, count: u64)
+        requires runs { IsSome self.old.feed }
+        requires room { self.old.requests ≤ 9223372036854775808 }
+        requires few { count ≤ 10000 }
+        ensures { (r : Running) × (self.old.feed ≡ Some r)
+            × (self.new ≡ going_on self.old (self.old.requests + count) (rest r)) }
+    {
+        let Some(feed) = self.feed.take() else {
+            unreachable!();
+        };
+        self.pending = Pending::Nothing;
+        let requests = self.requests + count;
+        self.settle(feed.rest(), requests);
+    }
+
+    /// This feed goes on, where the gateway has put so many requests.
+    fn settle(&mut self, feed: Feed, requests: u64)
+        requires room { requests < 18446744073709551615 }
+        ensures { self.new ≡ going_on self.old requests feed }
+    {
+        let (feed, requests) = feed.onward(requests);
+        self.feed = feed;
+        self.requests = requests;
+        self.pending = Pending::Nothing;
+    }
+
+    // ---- answers of the history
 
     fn take_fed(&mut self, alloc: Global, fed: Fed) -> Result<Acts, Memory>
         requires awaited { Awaits self.old (Event.Fed fed) }
         requires room { self.old.requests ≤ 9223372036854775808 }
-        ensures ok { IfOk result (λ acts. Steps self.old (Event.Fed fed) self.new acts) }
+        ensures ok { IfOk result (λ acts. IsDone (on_fed self.old fed self.old.pending) self.new acts) }
         ensures few { OnOk result (self.new.requests ≤ self.old.requests + 1) }
         ensures err { OnErr result (self.new ≡ self.old) }
     {
-        let Pending::Feed(asked) = &self.pending else {
-            unreachable!();
-        };
-        let asker = asked.asker;
-        let batch = asked.batch;
-        match fed {
-            Fed::Future { front } => {
-                let acts = refuse(alloc, asker, ErrorKind::SincePast400 { front })?;
+        match (&self.pending, fed) {
+            (Pending::Feed(asked), Fed::Future { front }) => {
+                let acts = refuse(alloc, asked.asker, ErrorKind::SincePast400 { front })?;
                 self.pending = Pending::Nothing;
-                Ok(Acts::from_vec(acts))
+                Ok(put(acts))
             }
-            Fed::Rows { front: _, rows } => {
-                let mut acts = accept(alloc, asker)?;
-                acts.push(offer(alloc, rows.as_slice(), batch, self.version)?)?;
-                self.begin(rows);
-                Ok(Acts::from_vec(acts))
+            (Pending::Feed(asked), Fed::Rows { front, rows }) => {
+                let mut acts = accept(alloc, asked.asker)?;
+                let batch = asked.batch;
+                push_offer(
+                    alloc,
+                    &mut acts,
+                    false,
+                    rows.as_slice(),
+                    batch,
+                    self.version,
+                )?;
+                self.begin(rows, front);
+                Ok(put(acts))
             }
+            (_, Fed::Rows { front, rows }) => self.take_more(alloc, rows, front),
+            _ => unreachable!(),
         }
     }
 
-    /// The feed that was asked for begins, its first rows on offer in the next request.
-    fn begin(&mut self, rows: Rows)
-        requires awaited { IsFeed self.old.pending }
+    /// The feed that was asked for begins with these rows of its first look.
+    fn begin(&mut self, rows: Rows, front: u64)
+        requires awaited { IsFirst self.old.pending }
         requires room { self.old.requests ≤ 9223372036854775808 }
-        ensures { BeginsBy self.old rows self.old.pending self.new }
+        ensures { BeginsBy self.old rows front self.old.pending self.new }
     {
         let Pending::Feed(asked) = mem::replace(&mut self.pending, Pending::Nothing) else {
             unreachable!();
         };
-        self.requests += 1;
-        self.feed = Feed::begin(rows, asked.batch, asked.options, self.requests);
+        let feed = Feed::new(rows, asked.batch, asked.options, asked.continuous, front);
+        let requests = self.requests;
+        self.settle(feed, requests);
+    }
+
+    /// The feed goes on with these rows of its next look.
+    fn take_more(&mut self, alloc: Global, rows: Rows, front: u64) -> Result<Acts, Memory>
+        requires awaited { self.old.pending ≡ Pending.More }
+        requires room { self.old.requests ≤ 9223372036854775808 }
+        ensures ok { IfOk result (λ acts. IsDone (on_next_look self.old self.old.feed (Fed.Rows front rows)) self.new acts) }
+        ensures few { OnOk result (self.new.requests ≤ self.old.requests + 1) }
+        ensures err { OnErr result (self.new ≡ self.old) }
+    {
+        let Some(feed) = &self.feed else {
+            unreachable!();
+        };
+        let silent = feed.caught_up() && feed.continuous() && rows.as_slice().is_empty();
+        let batch = feed.batch();
+        let mut acts = Vec::new(alloc);
+        push_offer(
+            alloc,
+            &mut acts,
+            silent,
+            rows.as_slice(),
+            batch,
+            self.version,
+        )?;
+        self.go_on_with(rows, front);
+        Ok(put(acts))
+    }
+
+    /// The feed has these rows of its next look, and goes on.
+    fn go_on_with(&mut self, rows: Rows, front: u64)
+        requires runs { IsSome self.old.feed }
+        requires room { self.old.requests ≤ 9223372036854775808 }
+        ensures { (r : Running) × (self.old.feed ≡ Some r)
+            × (self.new ≡ going_on self.old self.old.requests (record r { rows = rows; front = front })) }
+    {
+        let Some(feed) = self.feed.take() else {
+            unreachable!();
+        };
+        self.pending = Pending::Nothing;
+        let requests = self.requests;
+        self.settle(feed.with_rows(rows, front), requests);
     }
 
     fn take_bodies(&mut self, alloc: Global, answers: &Bodies) -> Result<Acts, Memory>
         requires awaited { Awaits self.old (Event.Bodies answers.now) }
         requires room { self.old.requests ≤ 9223372036854775808 }
-        ensures ok { IfOk result (λ acts. Steps self.old (Event.Bodies answers.now) self.new acts) }
-        ensures wants { IfOk result (λ acts. Wants self.new.pending acts) }
+        ensures ok { IfOk result (λ acts. IsDone (on_bodies self.old answers.now self.old.pending) self.new acts) }
         ensures few { OnOk result (self.new.requests ≤ self.old.requests + 10001) }
         ensures err { OnErr result (self.new ≡ self.old) }
     {
@@ -280,34 +517,66 @@ impl Core {
         };
         let count = rows.as_slice().len() as u64;
         let acts = bodies(alloc, rows.as_slice(), answers.answers.as_slice())?;
-        self.go_on(alloc, acts, count)
+        self.answered(alloc, acts, count)
     }
 
-    /// The rows on offer are answered by so many requests: puts these acts, and the next offer.
-    fn go_on(&mut self, alloc: Global, acts: Vec<Act>, count: u64) -> Result<Acts, Memory>
-        requires runs { IsSome self.old.feed }
-        requires room { self.old.requests ≤ 9223372036854775808 }
-        requires few { count ≤ 10000 }
-        requires requests { are_requests acts.items ≡ true }
-        ensures wants { IfOk result (λ done. Wants self.new.pending done) }
-        ensures ok { IfOk result (λ done. (r : Running) × (self.old.feed ≡ Some r)
-            × (self.new ≡ fed_by self.old (self.old.requests + count + 1) (answered r (self.old.requests + count + 1)))
-            × (done ≡ acts.items ++ offer_act (drop r.batch r.rows) r.batch self.old.version ∷ [])) }
+    fn take_asked(&mut self, alloc: Global, asked: &Asked) -> Result<Acts, Memory>
+        requires awaited { Awaits self.old (Event.Asked asked.now) }
+        ensures ok { IfOk result (λ acts. IsDone (on_asked self.old asked.now self.old.pending) self.new acts) }
+        ensures few { OnOk result (self.new.requests ≡ self.old.requests) }
         ensures err { OnErr result (self.new ≡ self.old) }
     {
-        let mut acts = acts;
-        let Some(feed) = &self.feed else {
+        let Pending::Ask { asker, proposed } = &self.pending else {
             unreachable!();
         };
-        acts.push(offer(alloc, feed.later(), feed.batch(), self.version)?)?;
-        self.requests += count + 1;
-        let requests = self.requests;
-        self.feed = match self.feed.take() {
-            Some(feed) => feed.answered(requests),
-            None => None,
-        };
+        let acts = answer_offers(alloc, *asker, *proposed, asked)?;
         self.pending = Pending::Nothing;
-        Ok(Acts::from_vec(acts))
+        Ok(put(acts))
+    }
+
+    fn take_judged(&mut self, alloc: Global, outcome: Outcome) -> Result<Acts, Memory>
+        requires awaited { Awaits self.old (Event.Judged outcome) }
+        ensures ok { IfOk result (λ acts. IsDone (on_judged self.old outcome self.old.pending) self.new acts) }
+        ensures few { OnOk result (self.new.requests ≡ self.old.requests) }
+        ensures err { OnErr result (self.new ≡ self.old) }
+    {
+        let Pending::Push(asker) = &self.pending else {
+            unreachable!();
+        };
+        let acts = answer_outcome(alloc, *asker, outcome)?;
+        self.pending = Pending::Nothing;
+        Ok(put(acts))
+    }
+
+    // ---- idle moments
+
+    fn take_idle(&mut self, alloc: Global, front: u64) -> Result<Acts, Memory>
+        requires awaited { self.old.pending ≡ Pending.Nothing }
+        ensures ok { IfOk result (λ acts. IsDone (on_idle self.old front self.old.feed) self.new acts) }
+        ensures few { OnOk result (self.new.requests ≡ self.old.requests) }
+        ensures err { OnErr result (self.new ≡ self.old) }
+    {
+        let Some(feed) = &self.feed else {
+            return Ok(put(Vec::new(alloc)));
+        };
+        if front <= feed.front() {
+            return Ok(put(Vec::new(alloc)));
+        }
+        let want = Want::Feed {
+            since: plain(feed.front()),
+            options: feed.options().copy(alloc)?,
+        };
+        Ok(self.ask(alloc, Pending::More, want))
+    }
+}
+
+/// A plain number as a key.
+fn plain(number: u64) -> Key
+    ensures { result ≡ device.plain number }
+{
+    Key {
+        by: number,
+        seq: number,
     }
 }
 
@@ -321,11 +590,9 @@ fn is_answer(message: &Message, number: u64) -> bool
     }
 }
 
-/// The one act that a look is wanted.
-fn want(alloc: Global, look: Want) -> Result<Acts, Memory>
-    ensures { IfOk result (λ acts. acts ≡ Act.Want look ∷ []) }
+/// These are put, and nothing is wanted.
+fn put(puts: Vec<Act>) -> Acts
+    ensures { (result.puts.items ≡ puts.items) × (result.want ≡ None) }
 {
-    let mut acts = Acts::new(alloc);
-    acts.push(Act::Want(look))?;
-    Ok(acts)
+    Acts { puts, want: None }
 }

@@ -1,13 +1,15 @@
 //! Acts that answer a request.
 
-ghost use Rattle.std.specs.Prelude.{◌≡◌, ◌≢◌, IfOk};
-ghost use Rattle.repl_messages.specs.Errors.{ok_payload, error_payload};
-ghost use Rattle.session_core.specs.Puts.{error_of};
-ghost use Rattle.session_core.specs.Machine.{reply_act, offer_act};
+ghost use Rattle.std.specs.Prelude.{◌≡◌, ◌≢◌, ◌++◌, ◌∷◌, [], IfOk, OnOk, if◌then◌else◌};
+ghost use Rattle.repl_messages.specs.Answers.{answers_payload};
+ghost use Rattle.session_core.specs.Acts.{error_of, reply_act, refusal_act, acceptance_act, outcome_act, offer_act};
 
 use crate::act::Act;
 use blip_frame::{Kind, Payload};
-use repl_messages::{ErrorKind, RequestFault, Version, write_changes, write_error, write_ok};
+use doc_board::Outcome;
+use repl_messages::{
+    Asked, ErrorKind, RequestFault, Version, write_answers, write_changes, write_error, write_ok,
+};
 use sg_history::Row;
 use sg_outside::Memory;
 use std::alloc::{AllocError, Global};
@@ -38,14 +40,14 @@ fn reply(alloc: Global, asker: Asker, kind: Kind, payload: Payload) -> Result<Ve
 
 /// The reply that a request is refused.
 pub(crate) fn refuse(alloc: Global, asker: Asker, error: ErrorKind) -> Result<Vec<Act>, Memory>
-    ensures { IfOk result (λ acts. acts.items ≡ reply_act asker Kind.Err (error_payload error)) }
+    ensures { IfOk result (λ acts. acts.items ≡ refusal_act asker error) }
 {
     reply(alloc, asker, Kind::Err, write_error(alloc, &error)?)
 }
 
-/// The reply that a feed begins.
+/// The empty reply.
 pub(crate) fn accept(alloc: Global, asker: Asker) -> Result<Vec<Act>, Memory>
-    ensures { IfOk result (λ acts. acts.items ≡ reply_act asker Kind.Rpy ok_payload) }
+    ensures { IfOk result (λ acts. acts.items ≡ acceptance_act asker) }
 {
     reply(alloc, asker, Kind::Rpy, write_ok(alloc))
 }
@@ -63,14 +65,41 @@ pub(crate) fn error_of_fault(fault: RequestFault) -> Result<ErrorKind, Memory>
     }
 }
 
+/// The reply to offered revisions.
+pub(crate) fn answer_offers(
+    alloc: Global,
+    asker: Asker,
+    proposed: bool,
+    asked: &Asked,
+) -> Result<Vec<Act>, Memory>
+    ensures { IfOk result (λ acts. acts.items ≡ reply_act asker Kind.Rpy (answers_payload asked.now.answers proposed)) }
+{
+    let payload = write_answers(alloc, asked.answers.as_slice(), proposed)?;
+    reply(alloc, asker, Kind::Rpy, payload)
+}
+
+/// The reply to a revision that was proposed.
+pub(crate) fn answer_outcome(
+    alloc: Global,
+    asker: Asker,
+    outcome: Outcome,
+) -> Result<Vec<Act>, Memory>
+    ensures { IfOk result (λ acts. acts.items ≡ outcome_act asker outcome) }
+{
+    match outcome {
+        Outcome::Stored { .. } | Outcome::Known { .. } => accept(alloc, asker),
+        Outcome::Bad400 { field } => refuse(alloc, asker, ErrorKind::Bad400 { field }),
+        Outcome::TooLarge413 { .. } => refuse(alloc, asker, ErrorKind::TooLarge413),
+        Outcome::UserGone401 { .. } => refuse(alloc, asker, ErrorKind::UserGone401),
+        Outcome::BadHistory400 { .. } => refuse(alloc, asker, ErrorKind::BadHistory400),
+        Outcome::Conflict409 { leaf, .. } => refuse(alloc, asker, ErrorKind::Conflict409 { leaf }),
+        Outcome::Memory507 => refuse(alloc, asker, ErrorKind::Memory507),
+    }
+}
+
 /// The next offer of a feed, whose rows these are: as many of them as a batch has. Where no rows are left
 /// it is empty, and wants no reply.
-pub(crate) fn offer(
-    alloc: Global,
-    rows: &[Row],
-    batch: u64,
-    version: Version,
-) -> Result<Act, Memory>
+fn offer(alloc: Global, rows: &[Row], batch: u64, version: Version) -> Result<Act, Memory>
     ensures { IfOk result (λ act. act ≡ offer_act rows.now batch version) }
 {
     let offered = &rows[..rows.len().min(batch as usize)];
@@ -78,4 +107,22 @@ pub(crate) fn offer(
         payload: write_changes(alloc, offered, version)?,
         no_reply: rows.is_empty(),
     })
+}
+
+/// Puts the next offer at the end, unless there is nothing to put.
+pub(crate) fn push_offer(
+    alloc: Global,
+    acts: &mut Vec<Act>,
+    silent: bool,
+    rows: &[Row],
+    batch: u64,
+    version: Version,
+) -> Result<(), Memory>
+    ensures { OnOk result (acts.new.items ≡ acts.old.items ++ (if silent then [] else offer_act rows.now batch version ∷ [])) }
+{
+    if silent {
+        return Ok(());
+    }
+    acts.push(offer(alloc, rows, batch, version)?)?;
+    Ok(())
 }

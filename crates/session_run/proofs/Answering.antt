@@ -1,180 +1,380 @@
--- The acts of an exchange answer its message.
-use Rattle.std.proofs.Common.{◌≡◌, ℕ, Bool, true, false, List, [], ◌∷◌, ◌++◌, take, drop, Option, Some, None, Result, Ok, Err, refl, sym, ◌∙◌, ap, subst, if◌then◌else◌}
-use Rattle.std.proofs.lemmas.Bool.{false≢true}
-use Rattle.blip_frame.specs.declared.frame.Kind.{Kind}
-use Rattle.blip_frame.specs.declared.frame.Kind.TheVariants as kinds
-use Rattle.blip_frame.specs.declared.payload.Payload.{Payload}
+-- What was answered to a session, step by step.
+use Rattle.std.proofs.Common.{◌≡◌, ◌≤◌, ℕ, Bool, ◌||◌, List, [], ◌∷◌, ◌++◌, length, map, reverse, Option, Some, None, refl, sym, ◌∙◌, ap, subst, le_refl, le_trans}
+use Rattle.std.specs.Prelude.{IfSome}
+use Rattle.std.proofs.lemmas.List.{append_assoc, reverse-append}
+use Rattle.std.proofs.Math.Seq.{take-length}
+use Rattle.std.proofs.Math.Path.{fun_ext}
 use Rattle.blip_mux.specs.declared.message.Message.{Message}
-use Rattle.blip_mux.specs.Joining.{is_request, is_reply}
+use Rattle.sg_names.specs.declared.key.Key.{Key}
+use Rattle.sg_history.specs.declared.book.Waiting.{Waiting}
 use Rattle.sg_history.specs.declared.entries.Entry.{Entry}
+use Rattle.sg_history.specs.declared.entries.Entry.TheVariants as entry
 use Rattle.sg_history.specs.declared.row.Options.{Options}
-use Rattle.sg_history.specs.declared.row.Row.{Row}
-use Rattle.sg_history.specs.Board.{BoardState}
-use Rattle.repl_messages.specs.declared.request.RequestFault.{RequestFault}
-use Rattle.repl_messages.specs.declared.error.ErrorKind.TheVariants as errors
-use Rattle.repl_messages.specs.declared.looks.Body.{Body}
-use Rattle.repl_messages.specs.declared.looks.Body.TheVariants as body
+use Rattle.sg_history.specs.Board.{BoardState, board_book}
+use Rattle.sg_history.specs.Book.{Book, book_of, book_with, Later}
+use Rattle.sg_history.specs.History.{past, Extends}
+use Rattle.rev_tree.specs.declared.tree.Node.{Node}
+use Rattle.rev_tree.specs.Documents.{tree_in, last_at, trees_up_to}
 use Rattle.repl_messages.specs.declared.looks.Bodies.{Bodies}
 use Rattle.repl_messages.specs.declared.looks.Fed.{Fed}
-use Rattle.repl_messages.specs.declared.looks.Fed.TheVariants as fed
-use Rattle.repl_messages.specs.Changes.{changes_payload}
-use Rattle.repl_messages.specs.Looks.{AreBodies}
-use Rattle.write_path.specs.Reads.{IsLaterThanAll}
-use Rattle.repl_messages.specs.Errors.{ok_payload, error_payload}
-use Rattle.session_core.specs.declared.served.Served.{Served}
-use Rattle.session_core.specs.declared.served.Served.TheVariants.{Feed}
-use Rattle.session_core.specs.declared.act.Act.{Act}
-use Rattle.session_core.specs.declared.act.Act.TheVariants as act
+use Rattle.repl_messages.specs.declared.offers.Asked.{Asked}
+use Rattle.repl_messages.specs.declared.offers.Offer.{Offer}
+use Rattle.repl_messages.specs.declared.revision.Revision.{Revision}
+use Rattle.repl_messages.specs.Looks.{IsFed, AreBodies, front_of}
+use Rattle.sg_history.specs.declared.row.Row.{Row}
+use Rattle.doc_board.specs.declared.outcome.Outcome.{Outcome}
+use Rattle.doc_board.specs.declared.outcome.Outcome.TheVariants as outcome
+use Rattle.doc_board.specs.Boards.{board_last, board_tree}
+use Rattle.doc_board.specs.Offers.{answer_to}
+use Rattle.session_core.specs.declared.act.Want.{Want}
+use Rattle.session_core.specs.declared.act.Want.TheVariants as want
+use Rattle.session_core.specs.declared.event.Event.{Event}
 use Rattle.session_core.specs.declared.event.Event.TheVariants as event
-use Rattle.session_core.specs.declared.look.Look.{Look}
-use Rattle.session_core.specs.declared.look.Purpose.TheVariants as purposes
-use Rattle.session_core.specs.declared.replies.Asker.{Asker}
-use Rattle.session_core.specs.declared.machine.Asked.{Asked}
-use Rattle.session_core.specs.declared.machine.Pending.{Pending}
-use Rattle.session_core.specs.declared.machine.Pending.TheVariants as pending
-use Rattle.session_core.specs.Conduct.{are_requests}
-use Rattle.session_core.specs.Exchange.{answers}
-use Rattle.session_core.specs.Machine.{Machine, Stepped, Steps, StepsBy, StepsByMessage, asker_of, reply_act, ask_for_feed, on_request, on_wanted, on_reply, on_fed, on_bodies, body_act, body_acts}
-use Rattle.session_core.specs.Puts.{error_of, is_none}
-use Rattle.session_core.specs.Running.{Running}
-use Rattle.session_core.specs.Session.{wanted_of}
-use Rattle.session_run.specs.Exchanges.{Answers}
+use Rattle.session_core.specs.Conduct.{AreWithin}
+use Rattle.session_core.specs.Fronts.{judged_at, stored_by, front_told, fronts_of, stored_of, RiseBetween}
+use Rattle.session_core.specs.Right.{AreAsked, IsJudgedIn, IsProposedIn, IsRight, AreRight}
+use Rattle.session_core.specs.Steps.{Step, wanted_after}
+use Rattle.write_path.specs.Asks.{AskedAt}
+use Rattle.write_path.specs.Bodies.{BodiesAt}
+use Rattle.write_path.specs.Feed.{FeedAt}
+use Rattle.write_path.specs.Proposals as proposals
+use Rattle.write_path.specs.Proposals.{Stores, IsAnswered, IsStored, recorded_after}
+use Rattle.write_path.specs.Reads.{Reads, WasRead, HasLength, IsLaterThanAll}
+use Rattle.session_run.specs.Answered as answered
+use Rattle.session_run.specs.Answered.{Moment, HasRead, Saw, IsLoaded, AreAnswered, length_after, recorded_by, AreLength, AreAtLength}
 
-requests_answer : (m : Message) (acts : List Act) → are_requests acts ≡ true → Answers m acts
-requests_answer m [] e = tt
-requests_answer m (act.Reply to kind urgent payload ∷ acts) e = absurd (false≢true e)
-requests_answer m (act.Request payload no_reply ∷ acts) e = e
-requests_answer m (act.Want want ∷ acts) e = absurd (false≢true e)
+-- what the laws say
+abbrev pub Since : Type 0
+Since = (before after : List BoardState) (b : BoardState) (h : List Entry) → WasRead before after b → IsLaterThanAll after h → Later (board_book b) (book_of h)
 
--- a reply to the message, and then requests
-reply_answers : (m : Message) (asker : Asker) (kind : Kind) (payload : Payload) (acts : List Act) → is_request m.kind ≡ true → asker.number ≡ m.number → is_reply kind ≡ true → are_requests acts ≡ true
-    → Answers m (reply_act asker kind payload ++ acts)
-reply_answers m asker kind payload acts is number reply requests =
-    elim asker.no_reply as (λ b. Answers m ((if b then [] else act.Reply asker.number kind asker.urgent payload ∷ []) ++ acts)) [ true ↦ requests_answer m acts requests | false ↦ (is, number, reply, requests) ]
+abbrev pub LogExtends : Type 0
+LogExtends = (log : List Entry) (waiting : List Waiting) (h : List Entry) → Later (book_with log waiting) (book_of h) → Extends log h
 
-refusal_answers : (m : Message) (asker : Asker) (kind : Kind) (payload : Payload) → is_request m.kind ≡ true → asker.number ≡ m.number → is_reply kind ≡ true → Answers m (reply_act asker kind payload)
-refusal_answers m asker kind payload is number reply =
-    elim asker.no_reply as (λ b. Answers m (if b then [] else act.Reply asker.number kind asker.urgent payload ∷ [])) [ true ↦ tt | false ↦ (is, number, reply, refl) ]
+abbrev pub SameFronts : Type 0
+SameFronts = (log h : List Entry) (front : ℕ) → Extends log h → front ≤ length log → past h front ≡ past log front
 
--- ---- without a look
+abbrev pub SameTrees : Type 0
+SameTrees = (board : BoardState) (later : Book) (doc : List ℕ) → Later (board_book board) later → tree_in later (board_last board doc) doc ≡ board_tree board doc
 
-abbrev Answered : Message → Stepped → Type 0
-Answered m s = s.0.pending ≡ pending.Nothing → Answers m s.1
+abbrev pub LeastOfLog : Type 0
+LeastOfLog = (board : BoardState) (doc : List ℕ) → last_at (reverse board.log) doc ≤ board_last board doc
 
-abbrev is_nothing : Pending → Bool
-is_nothing pending.Nothing = true
-is_nothing (pending.Feed asked) = false
-is_nothing (pending.Bodies rows) = false
+abbrev pub FedLater : Type 0
+FedLater = (earlier later : List Entry) (user : List ℕ) (since : Key) (options : Options) (answer : Fed) → Extends earlier later → FeedAt earlier user since options answer → IsFed later user since options answer
 
-feed_answered : (m : Machine) (message : Message) (asked : Asked) (feed : Option Running) → is_request message.kind ≡ true → asked.asker.number ≡ message.number → Answered message (ask_for_feed m asked feed)
-feed_answered m message asked None is number rest = absurd (false≢true (ap is_nothing rest))
-feed_answered m message asked (Some r) is number rest = refusal_answers message asked.asker kinds.Err (error_payload errors.FeedRuns409) is number refl
+abbrev pub BodiesLater : Type 0
+BodiesLater = (board : BoardState) (later : List Entry) (user : List ℕ) (options : Options) (rows : List Row) (most : ℕ) (bodies : Bodies) → Later (board_book board) (book_of later) → BodiesAt board user options rows most bodies → AreBodies later user options rows most bodies
 
-request_answered : (m : Machine) (message : Message) (read : Result Served RequestFault) → is_request message.kind ≡ true → Answered message (on_request m message read)
-request_answered m message (Err fault) is rest = refusal_answers message (asker_of message) kinds.Err (error_payload (error_of fault)) is refl refl
-request_answered m message (Ok (Feed since batch options)) is rest =
-    feed_answered m message (record { asker = asker_of message; since = since; batch = batch; options = options }) m.feed is refl rest
+abbrev pub ReadBefore : Type 0
+ReadBefore = (before after : List BoardState) (low high : ℕ) (h : List Entry) → Reads before after low high → IsLaterThanAll after h → IsLaterThanAll before h
 
-wanted_answered : (m : Machine) (message : Message) (r : Running) (rows : List Row) → Answered message (on_wanted m message r rows)
-wanted_answered m message r [] rest = refl
-wanted_answered m message r (row ∷ rows) rest = absurd (false≢true (ap is_nothing rest))
+-- the laws of reads, together
+pub record Laws : Type 0 where
+  pub since : Since
+  pub log : LogExtends
+  pub fronts : SameFronts
+  pub trees : SameTrees
+  pub least : LeastOfLog
+  pub fed : FedLater
+  pub bodies : BodiesLater
+  pub before : ReadBefore
+  pub reflexive : (read : List BoardState) (lowest : ℕ) → Reads read read lowest lowest
+  pub transitive : (first second third : List BoardState) (low middle high : ℕ) → Reads first second low middle → Reads second third middle high → Reads first third low high
+  pub lowest : (before after : List BoardState) (low high : ℕ) (b : BoardState) → Reads before after low high → WasRead before after b → low ≤ length b.log
+  pub front : (before after : List BoardState) (low high : ℕ) (b : BoardState) → Reads before after low high → WasRead before after b → length b.log ≤ high
 
-offer_answered : (m : Machine) (message : Message) (r : Running) (b : Bool) → Answered message (if b then on_wanted m message r (wanted_of r message) else (m, []))
-offer_answered m message r true rest = wanted_answered m message r (wanted_of r message) rest
-offer_answered m message r false rest = tt
+pub laws_of : Since → LogExtends → SameFronts → SameTrees → LeastOfLog → FedLater → BodiesLater → ReadBefore
+    → ((read : List BoardState) (lowest : ℕ) → Reads read read lowest lowest)
+    → ((first second third : List BoardState) (low middle high : ℕ) → Reads first second low middle → Reads second third middle high → Reads first third low high)
+    → ((before after : List BoardState) (low high : ℕ) (b : BoardState) → Reads before after low high → WasRead before after b → low ≤ length b.log)
+    → ((before after : List BoardState) (low high : ℕ) (b : BoardState) → Reads before after low high → WasRead before after b → length b.log ≤ high)
+    → Laws
+laws_of since log fronts trees least fed bodies before reflexive transitive lowest front = record {
+  since = since;
+  log = log;
+  fronts = fronts;
+  trees = trees;
+  least = least;
+  fed = fed;
+  bodies = bodies;
+  before = before;
+  reflexive = reflexive;
+  transitive = transitive;
+  lowest = lowest;
+  front = front;
+}
 
-reply_answered : (m : Machine) (message : Message) (feed : Option Running) → Answered message (on_reply m message feed)
-reply_answered m message None rest = tt
-reply_answered m message (Some r) rest = offer_answered m message r (answers r message) rest
+-- ---- what was answered is right
 
-by_message : (b : Bool) (m : Machine) (message : Message) (after : Machine) (acts : List Act) → is_request message.kind ≡ b → StepsByMessage b m message after acts → after.pending ≡ pending.Nothing → Answers message acts
-by_message true m message after acts is (read, answer, e) rest = subst (Answered message) (sym e) (request_answered m message read is) rest
-by_message false m message after acts is e rest = subst (Answered message) (sym e) (reply_answered m message m.feed) rest
+asked_later : Laws → (b : BoardState) (h : List Entry) (offers : List Offer) (asked : Asked) → Later (board_book b) (book_of h) → AskedAt b offers asked → AreAsked h offers asked
+asked_later laws b h offers asked later at =
+    let more : Extends b.log h = laws.log b.log b.pending h later in
+    let whole : past h asked.front ≡ reverse b.log =
+    laws.fronts b.log h asked.front more (subst (λ n. n ≤ length b.log) (sym at.front) (le_refl (length b.log))) ∙ ap (λ n. past b.log n) at.front ∙ ap (λ (es : List Entry). reverse es) (take-length b.log) in
+    let trees : board_tree b ≡ trees_up_to (book_of h) (board_last b) = fun_ext (λ doc. sym (laws.trees b (book_of h) doc later)) in
+    let L : List ℕ → List Entry → Type 0 = λ doc es. last_at es doc ≤ board_last b doc in
+    record {
+      numbers = board_last b;
+      seen = λ doc. subst (L doc) (sym whole) (laws.least b doc);
+      answers = at.answers ∙ ap (λ (t : List ℕ → List Node). map (λ (offer : Offer). answer_to (t offer.doc) offer) offers) trees;
+    }
 
-by_pending : (p : Pending) (m : Machine) (message : Message) (after : Machine) (acts : List Act) → StepsBy m (event.Whole message) p after acts → after.pending ≡ pending.Nothing → Answers message acts
-by_pending pending.Nothing m message after acts s rest = by_message (is_request message.kind) m message after acts refl s rest
-by_pending (pending.Feed asked) m message after acts s rest = absurd s
-by_pending (pending.Bodies rows) m message after acts s rest = absurd s
+judged_later : Laws → (before after : Moment) (strict : Bool) (by : Option (List ℕ)) (r : Revision) (answer : Outcome) (h : List Entry) → IsLaterThanAll after.read h
+    → IsAnswered before.read after.read before.recorded strict by r answer → IsJudgedIn h strict by r answer
+judged_later laws before after strict by r answer h later was =
+    record { board = was.board; later = laws.since before.read after.read was.board h was.was_read later; outcome = was.outcome }
 
-pub answers_no_look : (m : Machine) (message : Message) (after : Machine) (acts : List Act) → Steps m (event.Whole message) after acts → after.pending ≡ pending.Nothing → Answers message acts
-answers_no_look m message after acts s rest = by_pending m.pending m message after acts s rest
+stored_later : Laws → (before after : Moment) (strict : Bool) (by : Option (List ℕ)) (r : Revision) (sequence at : ℕ) (h : List Entry) → IsLaterThanAll after.read h
+    → IsStored before.read after.read before.own after.own before.recorded strict by r sequence at → IsProposedIn h strict by r (outcome.Stored sequence at)
+stored_later laws before after strict by r sequence at h later was = record {
+  judged = record { board = was.judged; later = laws.since before.read after.read was.judged h was.was_judged later; outcome = was.outcome };
+  write = was.write;
+  is_write = was.is_write;
+  there = (laws.since before.read after.read was.holding h was.was_read later).kept sequence _ was.there;
+}
 
--- ---- with a look for a feed
+proposed_later : Laws → (before after : Moment) (strict : Bool) (by : Option (List ℕ)) (r : Revision) (answer : Outcome) (h : List Entry) → IsLaterThanAll after.read h
+    → proposals.IsProposed before.read after.read before.own after.own before.recorded strict by r answer → IsProposedIn h strict by r answer
+proposed_later laws before after strict by r (outcome.Bad400 field) h later was = was.1
+proposed_later laws before after strict by r (outcome.TooLarge413 bytes) h later was = was.1
+proposed_later laws before after strict by r (outcome.UserGone401 at) h later was = judged_later laws before after strict by r (outcome.UserGone401 at) h later was.1
+proposed_later laws before after strict by r (outcome.Known at) h later was = judged_later laws before after strict by r (outcome.Known at) h later was.1
+proposed_later laws before after strict by r (outcome.BadHistory400 at) h later was = judged_later laws before after strict by r (outcome.BadHistory400 at) h later was.1
+proposed_later laws before after strict by r (outcome.Conflict409 at leaf) h later was = judged_later laws before after strict by r (outcome.Conflict409 at leaf) h later was.1
+proposed_later laws before after strict by r (outcome.Stored sequence at) h later was = stored_later laws before after strict by r sequence at h later was
+proposed_later laws before after strict by r outcome.Memory507 h later was = tt
 
--- whose feed is asked for
-abbrev AskedBy : Message → Pending → Type 0
-AskedBy m pending.Nothing = Unit {0}
-AskedBy m (pending.Feed asked) = (is_request m.kind ≡ true) × (asked.asker.number ≡ m.number)
-AskedBy m (pending.Bodies rows) = Unit {0}
+-- one event: what it was answered by is a read, and what holds of it
+record Told (before : Moment) (user : List ℕ) (strict : Bool) (wanted : Option Want) (e : Event) (after : Moment) : Type 0 where
+  pub right : (h : List Entry) → IsLaterThanAll after.read h → IsRight h user strict wanted e
+  pub reads : Reads before.read after.read before.lowest after.lowest
+  pub rise : RiseBetween before.lowest (front_told e) after.lowest
+  pub recorded : after.recorded ≡ length_after before.recorded e
+  pub at_length : AreLength before.recorded (front_told e)
+  pub own : (added : List Waiting) × (after.own ≡ added ++ before.own) × (map (λ (w : Waiting). w.number) added ≡ reverse (stored_by e))
 
-feed_asked : (m : Machine) (message : Message) (asked : Asked) (feed : Option Running) → is_request message.kind ≡ true → asked.asker.number ≡ message.number → AskedBy message m.pending → AskedBy message (ask_for_feed m asked feed).0.pending
-feed_asked m message asked None is number before = (is, number)
-feed_asked m message asked (Some r) is number before = before
+-- the front is the length of the log of a board that was read
+one_front : Laws → (before after : Moment) (front : ℕ) (b : BoardState) → Reads before.read after.read before.lowest after.lowest → WasRead before.read after.read b → front ≡ length b.log
+    → RiseBetween before.lowest (front ∷ []) after.lowest
+one_front laws before after front b reads was is =
+    (subst (λ n. before.lowest ≤ n) (sym is) (laws.lowest before.read after.read before.lowest after.lowest b reads was), subst (λ n. n ≤ after.lowest) (sym is) (laws.front before.read after.read before.lowest after.lowest b reads was))
 
-request_asked : (m : Machine) (message : Message) (read : Result Served RequestFault) → is_request message.kind ≡ true → AskedBy message m.pending → AskedBy message (on_request m message read).0.pending
-request_asked m message (Err fault) is before = before
-request_asked m message (Ok (Feed since batch options)) is before =
-    feed_asked m message (record { asker = asker_of message; since = since; batch = batch; options = options }) m.feed is refl before
+one_length : (recorded : Option ℕ) (front : ℕ) (b : BoardState) → HasLength recorded b → front ≡ length b.log → AreLength recorded (front ∷ [])
+one_length None front b has is = tt
+one_length (Some n) front b has is = (is ∙ has, tt)
 
-wanted_asked : (m : Machine) (message : Message) (r : Running) (rows : List Row) → AskedBy message (on_wanted m message r rows).0.pending
-wanted_asked m message r [] = tt
-wanted_asked m message r (row ∷ rows) = tt
+no_front : (recorded : Option ℕ) → AreLength recorded []
+no_front None = tt
+no_front (Some n) = tt
 
-reply_asked : (m : Machine) (message : Message) (feed : Option Running) → AskedBy message m.pending → AskedBy message (on_reply m message feed).0.pending
-reply_asked m message None before = before
-reply_asked m message (Some r) before =
-    elim (answers r message) as (λ b. AskedBy message (if b then on_wanted m message r (wanted_of r message) else (m, [])).0.pending) [ true ↦ wanted_asked m message r (wanted_of r message) | false ↦ before ]
+told_by_read : Laws → (before after : Moment) (user : List ℕ) (strict : Bool) (wanted : Want) (e : Event) (front : ℕ) (Holds : BoardState → Type 0) → HasRead before after → Saw before after Holds
+    → front_told e ≡ front ∷ [] → stored_by e ≡ [] → length_after before.recorded e ≡ before.recorded
+    → ((b : BoardState) → Holds b → front ≡ length b.log)
+    → ((b : BoardState) (h : List Entry) → Holds b → Later (board_book b) (book_of h) → IsRight h user strict (Some wanted) e)
+    → Told before user strict (Some wanted) e after
+told_by_read laws before after user strict wanted e front Holds read (b, was, has, holds) told none same is right = record {
+  right = λ h later. right b h holds (laws.since before.read after.read b h was later);
+  reads = read.reads;
+  rise = subst (λ fs. RiseBetween before.lowest fs after.lowest) (sym told) (one_front laws before after front b read.reads was (is b holds));
+  recorded = read.recorded ∙ sym same;
+  at_length = subst (AreLength before.recorded) (sym told) (one_length before.recorded front b has (is b holds));
+  own = ([], read.own, ap (λ ns. reverse ns) (sym none));
+}
 
-asked_by_message : (b : Bool) (m : Machine) (message : Message) (after : Machine) (acts : List Act) → is_request message.kind ≡ b → AskedBy message m.pending → StepsByMessage b m message after acts → AskedBy message after.pending
-asked_by_message true m message after acts is before (read, answer, e) = subst (λ (s : Stepped). AskedBy message s.0.pending) (sym e) (request_asked m message read is before)
-asked_by_message false m message after acts is before e = subst (λ (s : Stepped). AskedBy message s.0.pending) (sym e) (reply_asked m message m.feed before)
+loaded_length : (recorded : Option ℕ) (front : ℕ) → IfSome recorded (λ n. front ≡ n) → AreLength recorded (front ∷ [])
+loaded_length None front is = tt
+loaded_length (Some n) front is = (is, tt)
 
-asked_by_pending : (p : Pending) (m : Machine) (message : Message) (after : Machine) (acts : List Act) → m.pending ≡ p → StepsBy m (event.Whole message) p after acts → AskedBy message after.pending
-asked_by_pending pending.Nothing m message after acts is s = asked_by_message (is_request message.kind) m message after acts refl (subst (AskedBy message) (sym is) tt) s
-asked_by_pending (pending.Feed asked) m message after acts is s = absurd s
-asked_by_pending (pending.Bodies rows) m message after acts is s = absurd s
+-- to read nothing, with a lowest front that rises
+risen : (before after : Moment) → before.read ≡ after.read → before.lowest ≤ after.lowest → Reads before.read after.read before.lowest after.lowest
+risen before after same rises = record { added = []; read = sym same; later = tt; lengths = tt; rises = rises }
 
-fed_answers : (m : Machine) (message : Message) (asked : Asked) (answer : Fed) → is_request message.kind ≡ true → asked.asker.number ≡ message.number → Answers message (on_fed m asked answer).1
-fed_answers m message asked (fed.Future front) is number = refusal_answers message asked.asker kinds.Err (error_payload (errors.SincePast400 front)) is number refl
-fed_answers m message asked (fed.Rows front rows) is number = reply_answers message asked.asker kinds.Rpy ok_payload (act.Request (changes_payload (take asked.batch rows) m.version) (is_none rows) ∷ []) is number refl refl
+loaded_told : Laws → (before after : Moment) (user : List ℕ) (strict : Bool) (front : ℕ) → IsLoaded before front after → Told before user strict None (event.Idle front) after
+loaded_told laws before after user strict front loaded = record {
+  right = λ h later. tt;
+  reads = risen before after (sym loaded.read) (subst (λ n. before.lowest ≤ n) (sym loaded.lowest) loaded.rises);
+  rise = (loaded.rises, subst (λ n. front ≤ n) (sym loaded.lowest) (le_refl front));
+  recorded = loaded.recorded;
+  at_length = loaded_length before.recorded front loaded.length;
+  own = ([], loaded.own, refl);
+}
 
-fed_by_pending : (p : Pending) (between : Machine) (message : Message) (answer : Fed) (after : Machine) (acts : List Act) → AskedBy message p → StepsBy between (event.Fed answer) p after acts → Answers message acts
-fed_by_pending pending.Nothing between message answer after acts asked s = absurd s
-fed_by_pending (pending.Feed asked) between message answer after acts (is, number) s = subst (λ (t : Stepped). Answers message t.1) (sym s) (fed_answers between message asked answer is number)
-fed_by_pending (pending.Bodies rows) between message answer after acts asked s = absurd s
+-- ---- proposals
 
-pub answers_fed : (m between after : Machine) (message : Message) (asks acts : List Act) (answer : Fed) → Steps m (event.Whole message) between asks → Steps between (event.Fed answer) after acts → Answers message acts
-answers_fed m between after message asks acts answer s t =
-    fed_by_pending between.pending between message answer after acts (asked_by_pending m.pending m message between asks refl s) t
+judged_rise : Laws → (before after : Moment) (strict : Bool) (by : Option (List ℕ)) (r : Revision) (answer : Outcome) (at : ℕ) → Reads before.read after.read before.lowest after.lowest
+    → (was : IsAnswered before.read after.read before.recorded strict by r answer) → at ≡ length was.board.log → RiseBetween before.lowest (at ∷ []) after.lowest × AreLength before.recorded (at ∷ [])
+judged_rise laws before after strict by r answer at reads was is =
+    (one_front laws before after at was.board reads was.was_read is, one_length before.recorded at was.board was.has_length is)
 
--- ---- with a look for bodies
+proposed_rise : Laws → (before after : Moment) (strict : Bool) (by : Option (List ℕ)) (r : Revision) (answer : Outcome) → Reads before.read after.read before.lowest after.lowest
+    → proposals.IsProposed before.read after.read before.own after.own before.recorded strict by r answer
+    → RiseBetween before.lowest (judged_at answer) after.lowest × AreLength before.recorded (judged_at answer)
+proposed_rise laws before after strict by r (outcome.Bad400 field) reads was = (reads.rises, no_front before.recorded)
+proposed_rise laws before after strict by r (outcome.TooLarge413 bytes) reads was = (reads.rises, no_front before.recorded)
+proposed_rise laws before after strict by r (outcome.UserGone401 at) reads was = judged_rise laws before after strict by r (outcome.UserGone401 at) at reads was.1 was.1.outcome.front
+proposed_rise laws before after strict by r (outcome.Known at) reads was = judged_rise laws before after strict by r (outcome.Known at) at reads was.1 was.1.outcome.front
+proposed_rise laws before after strict by r (outcome.BadHistory400 at) reads was = judged_rise laws before after strict by r (outcome.BadHistory400 at) at reads was.1 was.1.outcome.front
+proposed_rise laws before after strict by r (outcome.Conflict409 at leaf) reads was = judged_rise laws before after strict by r (outcome.Conflict409 at leaf) at reads was.1 was.1.outcome.0.front
+proposed_rise laws before after strict by r (outcome.Stored sequence at) reads was =
+    (one_front laws before after at was.judged reads was.was_judged was.outcome.0.front, one_length before.recorded at was.judged was.has_length was.outcome.0.front)
+proposed_rise laws before after strict by r outcome.Memory507 reads was = (reads.rises, no_front before.recorded)
 
-one_body : (row : Row) (b : Body) (acts : List Act) → are_requests (body_act row b ∷ acts) ≡ are_requests acts
-one_body row (body.Rev ancestors bytes) acts = refl
-one_body row body.Removed acts = refl
-one_body row body.NoRev acts = refl
+proposed_own : (before after : Moment) (strict : Bool) (by : Option (List ℕ)) (r : Revision) (answer : Outcome)
+    → proposals.IsProposed before.read after.read before.own after.own before.recorded strict by r answer
+    → (added : List Waiting) × (after.own ≡ added ++ before.own) × (map (λ (w : Waiting). w.number) added ≡ reverse (stored_by (event.Judged answer)))
+proposed_own before after strict by r (outcome.Bad400 field) was = ([], was.0, refl)
+proposed_own before after strict by r (outcome.TooLarge413 bytes) was = ([], was.0, refl)
+proposed_own before after strict by r (outcome.UserGone401 at) was = ([], was.0, refl)
+proposed_own before after strict by r (outcome.Known at) was = ([], was.0, refl)
+proposed_own before after strict by r (outcome.BadHistory400 at) was = ([], was.0, refl)
+proposed_own before after strict by r (outcome.Conflict409 at leaf) was = ([], was.0, refl)
+proposed_own before after strict by r (outcome.Stored sequence at) was = (record { number = sequence; entry = entry.Write was.write } ∷ [], was.own, refl)
+proposed_own before after strict by r outcome.Memory507 was = ([], was, refl)
 
-bodies_requests : (rows : List Row) (found : List Body) (payload : Payload) (no_reply : Bool) → are_requests (body_acts rows found ++ act.Request payload no_reply ∷ []) ≡ true
-bodies_requests [] found payload no_reply = refl
-bodies_requests (row ∷ rows) [] payload no_reply = refl
-bodies_requests (row ∷ rows) (b ∷ found) payload no_reply = one_body row b (body_acts rows found ++ act.Request payload no_reply ∷ []) ∙ bodies_requests rows found payload no_reply
+proposed_told : Laws → (before after : Moment) (user : List ℕ) (strict : Bool) (r : Revision) (answer : Outcome) → answered.IsProposed before user (strict || r.noconflicts) r answer after
+    → Told before user strict (Some (want.Propose r)) (event.Judged answer) after
+proposed_told laws before after user strict r answer was =
+    let both : RiseBetween before.lowest (judged_at answer) after.lowest × AreLength before.recorded (judged_at answer) =
+    proposed_rise laws before after (strict || r.noconflicts) (Some user) r answer was.stores.reads was.stores.proposed in
+    record {
+      right = λ h later. proposed_later laws before after (strict || r.noconflicts) (Some user) r answer h later was.stores.proposed;
+      reads = was.stores.reads;
+      rise = both.0;
+      recorded = was.recorded;
+      at_length = both.1;
+      own = proposed_own before after (strict || r.noconflicts) (Some user) r answer was.stores.proposed;
+    }
 
-bodies_answer : (m : Machine) (message : Message) (rows : List Row) (found : List Body) (feed : Option Running) → Answers message (on_bodies m rows found feed).1
-bodies_answer m message rows found None = tt
-bodies_answer m message rows found (Some r) =
-    requests_answer message (body_acts rows found ++ act.Request (changes_payload (take r.batch (drop r.batch r.rows)) m.version) (is_none (drop r.batch r.rows)) ∷ [])
-    (bodies_requests rows found (changes_payload (take r.batch (drop r.batch r.rows)) m.version) (is_none (drop r.batch r.rows)))
+-- ---- each event
 
-bodies_by_pending : (p : Pending) (between : Machine) (message : Message) (answer : Bodies) (after : Machine) (acts : List Act) → StepsBy between (event.Bodies answer) p after acts → Answers message acts
-bodies_by_pending pending.Nothing between message answer after acts s = absurd s
-bodies_by_pending (pending.Feed asked) between message answer after acts s = absurd s
-bodies_by_pending (pending.Bodies rows) between message answer after acts s = subst (λ (t : Stepped). Answers message t.1) (sym s) (bodies_answer between message rows answer.answers between.feed)
+fed_told : Laws → (before after : Moment) (user : List ℕ) (strict : Bool) (since : Key) (options : Options) (answer : Fed) → HasRead before after → Saw before after (λ b. FeedAt b.log user since options answer)
+    → Told before user strict (Some (want.Feed since options)) (event.Fed answer) after
+fed_told laws before after user strict since options answer read saw =
+    told_by_read laws before after user strict (want.Feed since options) (event.Fed answer) (front_of answer) (λ b. FeedAt b.log user since options answer) read saw refl refl refl
+    (λ b at. at.0)
+    (λ b h at later. laws.fed b.log h user since options answer (laws.log b.log b.pending h later) at)
 
-pub answers_bodies : (between : Machine) (message : Message) (answer : Bodies) (after : Machine) (acts : List Act) → Steps between (event.Bodies answer) after acts → Answers message acts
-answers_bodies between message answer after acts s = bodies_by_pending between.pending between message answer after acts s
+bodies_told : Laws → (before after : Moment) (user : List ℕ) (strict : Bool) (options : Options) (rows : List Row) (most : ℕ) (answer : Bodies) → HasRead before after → Saw before after (λ b. BodiesAt b user options rows most answer)
+    → Told before user strict (Some (want.Bodies options rows most)) (event.Bodies answer) after
+bodies_told laws before after user strict options rows most answer read saw =
+    told_by_read laws before after user strict (want.Bodies options rows most) (event.Bodies answer) answer.front (λ b. BodiesAt b user options rows most answer) read saw refl refl refl
+    (λ b at. at.front)
+    (λ b h at later. laws.bodies b h user options rows most answer later at)
 
-pub answers_bodies_in : (between : Machine) (message : Message) (after : Machine) (acts : List Act) (options : Options) (rows : List Row) (most : ℕ) (look : Look) (boards : List BoardState)
-    → ((answer : Bodies) × Steps between (event.Bodies answer) after acts × (look ≡ record { front = answer.front; purpose = purposes.Bodies })
-    × ((h : List Entry) → IsLaterThanAll boards h → AreBodies h between.user options rows most answer))
-    → Answers message acts
-answers_bodies_in between message after acts options rows most look boards (answer, steps, look_is, said) = answers_bodies between message answer after acts steps
+asked_told : Laws → (before after : Moment) (user : List ℕ) (strict : Bool) (offers : List Offer) (answer : Asked) → HasRead before after → Saw before after (λ b. AskedAt b offers answer)
+    → Told before user strict (Some (want.Ask offers)) (event.Asked answer) after
+asked_told laws before after user strict offers answer read saw =
+    told_by_read laws before after user strict (want.Ask offers) (event.Asked answer) answer.front (λ b. AskedAt b offers answer) read saw refl refl refl
+    (λ b at. at.front)
+    (λ b h at later. asked_later laws b h offers answer later at)
+
+came_told : Laws → (before after : Moment) (user : List ℕ) (strict : Bool) (message : Message) → after ≡ before → Told before user strict None (event.Whole message) after
+came_told laws before after user strict message same = record {
+  right = λ h later. tt;
+  reads = subst (λ (m : Moment). Reads before.read m.read before.lowest m.lowest) (sym same) (laws.reflexive before.read before.lowest);
+  rise = subst (λ (m : Moment). before.lowest ≤ m.lowest) (sym same) (le_refl before.lowest);
+  recorded = ap (λ (m : Moment). m.recorded) same;
+  at_length = no_front before.recorded;
+  own = ([], ap (λ (m : Moment). m.own) same, refl);
+}
+
+one_told : Laws → (before after : Moment) (user : List ℕ) (strict : Bool) (wanted : Option Want) (e : Event) → answered.IsAnswered before user strict wanted e after → Told before user strict wanted e after
+one_told laws before after user strict None (event.Whole message) a = came_told laws before after user strict message a
+one_told laws before after user strict None (event.Idle front) a = loaded_told laws before after user strict front a
+one_told laws before after user strict None (event.Fed answer) a = absurd a
+one_told laws before after user strict None (event.Bodies answer) a = absurd a
+one_told laws before after user strict None (event.Asked answer) a = absurd a
+one_told laws before after user strict None (event.Judged answer) a = absurd a
+one_told laws before after user strict (Some (want.Feed since options)) (event.Fed answer) a = fed_told laws before after user strict since options answer a.0 a.1
+one_told laws before after user strict (Some (want.Feed since options)) (event.Whole message) a = absurd a
+one_told laws before after user strict (Some (want.Feed since options)) (event.Idle front) a = absurd a
+one_told laws before after user strict (Some (want.Feed since options)) (event.Bodies answer) a = absurd a
+one_told laws before after user strict (Some (want.Feed since options)) (event.Asked answer) a = absurd a
+one_told laws before after user strict (Some (want.Feed since options)) (event.Judged answer) a = absurd a
+one_told laws before after user strict (Some (want.Bodies options rows most)) (event.Bodies answer) a = bodies_told laws before after user strict options rows most answer a.0 a.1
+one_told laws before after user strict (Some (want.Bodies options rows most)) (event.Whole message) a = absurd a
+one_told laws before after user strict (Some (want.Bodies options rows most)) (event.Idle front) a = absurd a
+one_told laws before after user strict (Some (want.Bodies options rows most)) (event.Fed answer) a = absurd a
+one_told laws before after user strict (Some (want.Bodies options rows most)) (event.Asked answer) a = absurd a
+one_told laws before after user strict (Some (want.Bodies options rows most)) (event.Judged answer) a = absurd a
+one_told laws before after user strict (Some (want.Ask offers)) (event.Asked answer) a = asked_told laws before after user strict offers answer a.0 a.1
+one_told laws before after user strict (Some (want.Ask offers)) (event.Whole message) a = absurd a
+one_told laws before after user strict (Some (want.Ask offers)) (event.Idle front) a = absurd a
+one_told laws before after user strict (Some (want.Ask offers)) (event.Fed answer) a = absurd a
+one_told laws before after user strict (Some (want.Ask offers)) (event.Bodies answer) a = absurd a
+one_told laws before after user strict (Some (want.Ask offers)) (event.Judged answer) a = absurd a
+one_told laws before after user strict (Some (want.Propose r)) (event.Judged answer) a = proposed_told laws before after user strict r answer a
+one_told laws before after user strict (Some (want.Propose r)) (event.Whole message) a = absurd a
+one_told laws before after user strict (Some (want.Propose r)) (event.Idle front) a = absurd a
+one_told laws before after user strict (Some (want.Propose r)) (event.Fed answer) a = absurd a
+one_told laws before after user strict (Some (want.Propose r)) (event.Bodies answer) a = absurd a
+one_told laws before after user strict (Some (want.Propose r)) (event.Asked answer) a = absurd a
+
+-- no front of an event is above the lowest front after it, which does not fall
+rise_within : (low : ℕ) (fronts : List ℕ) (high : ℕ) → RiseBetween low fronts high → (low ≤ high) × AreWithin high fronts
+rise_within low [] high rise = (rise, tt)
+rise_within low (front ∷ fronts) high (first, rise) =
+    let later : (front ≤ high) × AreWithin high fronts = rise_within front fronts high rise in
+    (le_trans first later.0, (later.0, later.1))
+
+pub event_within : Laws → (before after : Moment) (user : List ℕ) (strict : Bool) (wanted : Option Want) (e : Event) → answered.IsAnswered before user strict wanted e after
+    → (before.lowest ≤ after.lowest) × AreWithin after.lowest (front_told e)
+event_within laws before after user strict wanted e a = rise_within before.lowest (front_told e) after.lowest (one_told laws before after user strict wanted e a).rise
+
+-- ---- all of them
+
+rise_from : (least low high : ℕ) (fronts : List ℕ) → least ≤ low → RiseBetween low fronts high → RiseBetween least fronts high
+rise_from least low high [] a rise = le_trans a rise
+rise_from least low high (front ∷ fronts) a (first, rise) = (le_trans a first, rise)
+
+rise_on : (low middle high : ℕ) (fronts later : List ℕ) → RiseBetween low fronts middle → RiseBetween middle later high → RiseBetween low (fronts ++ later) high
+rise_on low middle high [] later a b = rise_from low middle high later a b
+rise_on low middle high (front ∷ fronts) later (first, a) b = (first, rise_on front middle high fronts later a b)
+
+numbers_on : (first second : List Waiting) → map (λ (w : Waiting). w.number) (first ++ second) ≡ map (λ (w : Waiting). w.number) first ++ map (λ (w : Waiting). w.number) second
+numbers_on [] second = refl
+numbers_on (w ∷ first) second = ap (λ ns. w.number ∷ ns) (numbers_on first second)
+
+-- all that holds of the steps that were answered
+pub record AllTold (start : Moment) (user : List ℕ) (strict : Bool) (steps : List Step) (now : Moment) : Type 0 where
+  pub right : (h : List Entry) → IsLaterThanAll now.read h → AreRight h user strict steps
+  pub reads : Reads start.read now.read start.lowest now.lowest
+  pub rise : RiseBetween start.lowest (fronts_of steps) now.lowest
+  pub recorded : now.recorded ≡ recorded_by start.recorded steps
+  pub at_length : AreAtLength start.recorded steps
+  pub own : (added : List Waiting) × (now.own ≡ added ++ start.own) × (map (λ (w : Waiting). w.number) added ≡ reverse (stored_of steps))
+
+none_told : Laws → (start : Moment) (user : List ℕ) (strict : Bool) → AllTold start user strict [] start
+none_told laws start user strict = record {
+  right = λ h later. tt;
+  reads = laws.reflexive start.read start.lowest;
+  rise = le_refl start.lowest;
+  recorded = refl;
+  at_length = tt;
+  own = ([], refl, refl);
+}
+
+own_on : (start between now : Moment) (stored more : List ℕ)
+    → ((added : List Waiting) × (between.own ≡ added ++ start.own) × (map (λ (w : Waiting). w.number) added ≡ reverse stored))
+    → ((added : List Waiting) × (now.own ≡ added ++ between.own) × (map (λ (w : Waiting). w.number) added ≡ reverse more))
+    → (added : List Waiting) × (now.own ≡ added ++ start.own) × (map (λ (w : Waiting). w.number) added ≡ reverse (stored ++ more))
+own_on start between now stored more (first, first_is, first_numbers) (second, second_is, second_numbers) = (
+  second ++ first,
+  second_is ∙ ap (λ l. second ++ l) first_is ∙ sym (append_assoc second first start.own),
+  numbers_on second first ∙ ap (λ ns. ns ++ map (λ (w : Waiting). w.number) first) second_numbers ∙ ap (λ ns. reverse more ++ ns) first_numbers ∙ sym (reverse-append stored more),
+)
+
+told_on : Laws → (start between now : Moment) (user : List ℕ) (strict : Bool) (s : Step) (earlier : List Step) → AllTold start user strict earlier between → Told between user strict (wanted_after earlier) s.event now → AllTold start user strict (s ∷ earlier) now
+told_on laws start between now user strict s earlier all one = record {
+  right = λ h later. (one.right h later, all.right h (laws.before between.read now.read between.lowest now.lowest h one.reads later));
+  reads = laws.transitive start.read between.read now.read start.lowest between.lowest now.lowest all.reads one.reads;
+  rise = rise_on start.lowest between.lowest now.lowest (fronts_of earlier) (front_told s.event) all.rise one.rise;
+  recorded = one.recorded ∙ ap (λ n. length_after n s.event) all.recorded;
+  at_length = (subst (λ n. AreLength n (front_told s.event)) all.recorded one.at_length, all.at_length);
+  own = own_on start between now (stored_of earlier) (stored_by s.event) all.own one.own;
+}
+
+pub all_told : Laws → (start now : Moment) (user : List ℕ) (strict : Bool) (steps : List Step) → AreAnswered start user strict steps now → AllTold start user strict steps now
+all_told laws start now user strict [] a = subst (AllTold start user strict []) (sym a) (none_told laws start user strict)
+all_told laws start now user strict (s ∷ earlier) (between, a, one) =
+    told_on laws start between now user strict s earlier (all_told laws start between user strict earlier a) (one_told laws between now user strict (wanted_after earlier) s.event one)

@@ -1,8 +1,10 @@
 -- A session that ends.
-use Rattle.std.proofs.Common.{◌≡◌, inl, inr, ℕ, ◌+◌, Bool, true, false, List, [], ◌∷◌, ◌++◌, length, Option, Some, None, Result, Ok, Err, refl, sym, ◌∙◌, ap, subst, arith, append-nil}
+use Rattle.std.proofs.Common.{◌≡◌, inl, inr, ◌≤◌, ◌<◌, ℕ, ◌+◌, Bool, true, false, List, [], ◌∷◌, ◌++◌, length, Option, Some, None, Result, Ok, Err, refl, sym, ◌∙◌, ap, subst, arith, append-nil}
 use Rattle.std.proofs.lemmas.Bool.{false≢true}
-use Rattle.std.proofs.lemmas.List.{length-append}
-use Rattle.sg_outside.specs.Wire.{Traffic, ReceivesIfTold}
+use Rattle.std.proofs.lemmas.List.{length-append, append_assoc}
+use Rattle.sg_outside.specs.Wire.{Traffic}
+use Rattle.sg_outside.specs.declared.sink.Gave.{Gave}
+use Rattle.sg_outside.specs.declared.sink.Gave.TheVariants as gave
 use Rattle.sg_outside.specs.declared.wire.Got.{Got}
 use Rattle.sg_outside.specs.declared.wire.Got.TheVariants as got
 use Rattle.blip_frame.specs.Frame.{FrameParts, ◌>>=◌, frame_at, frames_at, with_first, with_front, all_sent}
@@ -10,24 +12,27 @@ use Rattle.blip_frame.specs.declared.frame.FrameFault.{FrameFault}
 use Rattle.blip_mux.specs.declared.inbox.Taken.{Taken}
 use Rattle.blip_mux.specs.declared.inbox.TakeFault.{TakeFault}
 use Rattle.blip_mux.specs.Joining.{answer_in}
-use Rattle.blip_mux.specs.Standing.{answer_at, taken_after}
+use Rattle.blip_mux.specs.Standing.{answer_at}
 use Rattle.blip_mux.specs.Sending.{Sending, picked}
-use Rattle.sg_history.specs.Board.{BoardState}
-use Rattle.repl_messages.specs.declared.request.Version.{Version}
-use Rattle.session_core.specs.declared.look.Look.{Look}
+use Rattle.session_core.specs.declared.machine.Pending.TheVariants as pending
+use Rattle.session_core.specs.Conduct.{feed_front}
+use Rattle.session_core.specs.Fronts.{looks_of, stored_of}
+use Rattle.session_core.specs.State.{Machine}
+use Rattle.session_core.specs.Steps.{Step}
+use Rattle.session_mux.specs.declared.frame_why.FrameWhy.{FrameWhy}
+use Rattle.session_mux.specs.Frames.{IsBadFrame, IsBadTaken}
+use Rattle.session_mux.specs.Sent.{Tells}
 use Rattle.session_run.specs.declared.ended.End.{End}
 use Rattle.session_run.specs.declared.ended.End.TheVariants as end
-use Rattle.session_run.specs.declared.ended.FrameWhy.{FrameWhy}
+use Rattle.session_run.specs.declared.ended.Ended.{Ended}
+use Rattle.session_run.specs.declared.serve.Setup.{Setup}
 use Rattle.session_run.specs.declared.session.Session.{Session}
-use Rattle.session_run.specs.Frames.{IsBadFrame, IsBadTaken}
-use Rattle.session_run.specs.Held.{IsAtRest, Holds, Turns, Leaves, Takes, Runs, Ends, RunsOn}
-use Rattle.session_run.specs.Sent.{Tells, expecting_all}
-use Rattle.session_run.specs.Served.{bytes_of, IsBadAfter, EndsBy, IsSentAt, IsSession}
-use Rattle.session_run.specs.Turns.{Turn, puts_in, exchanges_of, frames_of, events_of}
-use Rattle.session_run.proofs.Holding.{Came, Expects, Joins, Extends, front_ok, front_err, frames_on, read_on, written_more, made_looks, turn_exchanged, holds_on, holds_idle}
-use Rattle.session_run.proofs.Sending.{tells_on, tells_none}
-
--- ---- what a wire tells of what is received
+use Rattle.session_run.specs.Answered.{Moment, HasRead, AreAnswered}
+use Rattle.session_run.specs.Held.{IsAtRest, Holds, Turned, Leaves, Takes, Runs, RunsOn}
+use Rattle.session_run.specs.Served.{bytes_of, IsBadAfter, EndsBy, IsSentAt, IsClosedAt, IsSession, IsServed}
+use Rattle.session_run.specs.Turns.{Turn, steps_of, frames_of, events_of}
+use Rattle.session_run.proofs.Holding.{Came, Expects, Joins, Received, received_on, front_ok, front_err, written_more, looks_after, stored_after, turn_answered, holds_on}
+use Rattle.session_run.proofs.Taking.{Kept, Wants}
 
 abbrev is_memory : Got → Bool
 is_memory (got.Frame bytes) = false
@@ -40,18 +45,10 @@ is_memory got.Memory = true
 pub not_memory : (result : Got) → is_memory result ≡ false → result ≡ got.Memory → ⊥
 not_memory result e is = false≢true (sym e ∙ ap is_memory is)
 
-pub tells_received : (told after : Option Traffic) (result : Got) → ReceivesIfTold told result after → (result ≡ got.Memory → ⊥) → Tells told (result ∷ []) [] after
-tells_received None after result e other = e
-tells_received (Some t) after (got.Frame bytes) (u, e, next) other = (u, e, ap (λ (t : Traffic). t.got) next.1, ap (λ (t : Traffic). t.sent) next.1 ∙ sym (append-nil t.sent))
-tells_received (Some t) after got.Text (u, e, next) other = (u, e, ap (λ (t : Traffic). t.got) next.1, ap (λ (t : Traffic). t.sent) next.1 ∙ sym (append-nil t.sent))
-tells_received (Some t) after got.Idle (u, e, next) other = (u, e, ap (λ (t : Traffic). t.got) next.1, ap (λ (t : Traffic). t.sent) next.1 ∙ sym (append-nil t.sent))
-tells_received (Some t) after got.End (u, e, next) other = (u, e, ap (λ (t : Traffic). t.got) next.1, ap (λ (t : Traffic). t.sent) next.1 ∙ sym (append-nil t.sent))
-tells_received (Some t) after got.Failed (u, e, next) other = (u, e, ap (λ (t : Traffic). t.got) next.1, ap (λ (t : Traffic). t.sent) next.1 ∙ sym (append-nil t.sent))
-tells_received (Some t) after got.Memory (u, e, next) other = absurd (other refl)
-
-pub tells_not_received : (told after : Option Traffic) → ReceivesIfTold told got.Memory after → Tells told [] [] after
-tells_not_received None after e = e
-tells_not_received (Some t) after (u, e, same) = (u, e, ap (λ (t : Traffic). t.got) same ∙ sym (append-nil t.got), ap (λ (t : Traffic). t.sent) same ∙ sym (append-nil t.sent))
+-- what the law of traffic says
+abbrev pub TellsOn : Type 0
+TellsOn = (told between after : Option Traffic) (got more_got : List Got) (sent more_sent : List (List ℕ)) (failed : List Gave)
+    → Tells told got sent [] between → Tells between more_got more_sent failed after → Tells told (got ++ more_got) (sent ++ more_sent) failed after
 
 -- ---- the whole
 
@@ -63,53 +60,110 @@ none_left (end.BadFrame index w) left idle = idle
 none_left end.TurnsFull left idle = idle
 none_left end.Memory left idle = tt
 
+closed : (e : End) (m : Machine) → m.pending ≡ pending.Nothing → IsClosedAt e m []
+closed end.Closed m rest = (rest, refl)
+closed end.WireFault m rest = (rest, refl)
+closed (end.BadFrame index w) m rest = (rest, refl)
+closed end.TurnsFull m rest = (rest, refl)
+closed end.Memory m rest = tt
+
+abbrev pub ended_as : End → Session → Ended
+ended_as e s = record { end = e; looks = s.listing.looks; stored = s.listing.stored }
+
 -- a session that ends after its turns, by these last results
-pub ends_after : (user : List ℕ) (version : Version) (boards after : List BoardState) (s : Session) (turns : List Turn) (frames : List FrameParts) (results last : List Got) (sent : List (List ℕ)) (e : End) (looks : List Look)
-    → Holds user version boards s turns frames results sent → Extends boards after → looks ≡ s.looks → EndsBy turns s.mux.outbox e results last
-    → IsSession user version after (record { end = e; looks = looks }) (results ++ last) sent
-ends_after user version boards after s turns frames results last sent e looks held extends looks_are by = record {
+session_after : (setup : Setup) (start now : Moment) (s : Session) (turns : List Turn) (frames : List FrameParts) (results last : List Got) (sent : List (List ℕ)) (e : End) (failed : List Gave)
+    → Holds setup start now s turns frames results sent → HasRead now now → length (results ++ last) ≤ 1099511627776 → EndsBy turns s.mux.outbox e results last failed
+    → IsSession setup start now (ended_as e s) (results ++ last) sent failed
+session_after setup start now s turns frames results last sent e failed held read count by = record {
   turns = turns;
+  halted = [];
   taken = results;
   last = last;
   frames = frames;
   left = s.mux.outbox;
+  machine = s.core;
+  now = now;
   results_are = refl;
+  count = count;
   taken_are = held.taken;
+  kinds = held.kinds;
   read = ap (frames_at 0) (sym (append-nil (bytes_of results))) ∙ held.read [] ∙ front_ok (frames_of turns) [] ∙ ap Ok (append-nil (frames_of turns));
   joined = held.joined;
-  exchanged = λ h later. held.exchanged h (extends h later);
-  looks = looks_are ∙ held.looks;
+  led = held.led;
+  closed = closed e s.core held.rest.pending;
+  answered = held.answered;
+  reads = read;
+  looks = held.looks;
+  stored = held.stored;
   put = held.put;
   written = held.written;
   whole = none_left e s.mux.outbox held.rest.idle;
   ends = by;
 }
 
+counted_on : (results : List Got) (g : Got) (count : ℕ) → length results ≡ count → length (results ++ g ∷ []) ≡ count + 1
+counted_on results g count e = omega (arith, length-append results (g ∷ []), e)
+
+at_most_one : (results last : List Got) (count : ℕ) → length results ≡ count → count < 1099511627776 → length last ≤ 1 → length (results ++ last) ≤ 1099511627776
+at_most_one results last count e below few = omega (arith, length-append results last, e, below, few)
+
+-- by these last results, at most one, in which no turn is
+pub run_ends : TellsOn → (setup : Setup) (start now final : Moment) (told told_now told_after : Option Traffic) (s new : Session) (count : ℕ) (e : End) (last : List Got)
+    → final ≡ now → HasRead now now → new.listing.looks ≡ s.listing.looks → new.listing.stored ≡ s.listing.stored
+    → count + length last ≤ 1099511627776
+    → ((turns : List Turn) (frames : List FrameParts) (results : List Got) (sent : List (List ℕ)) → Holds setup start now s turns frames results sent → length results ≡ count → EndsBy turns s.mux.outbox e results last [])
+    → Tells told_now last [] [] told_after
+    → Runs setup start now told s told_now count → IsServed setup start final told (ended_as e new) told_after
+run_ends law setup start now final told told_now told_after s new count e last same read looks stored few by tells runs =
+    subst (λ m. IsServed setup start m told (ended_as e new) told_after) (sym same)
+    (subst (λ l. IsServed setup start now told (record { end = e; looks = l; stored = new.listing.stored }) told_after) (sym looks)
+    (subst (λ l. IsServed setup start now told (record { end = e; looks = s.listing.looks; stored = l }) told_after) (sym stored)
+    (record {
+      results = runs.results ++ last;
+      sent = runs.sent;
+      failed = [];
+      session = session_after setup start now s runs.turns runs.frames runs.results last runs.sent e [] runs.holds read (omega (arith, few, runs.counted, length-append runs.results last)) (by runs.turns runs.frames runs.results runs.sent runs.holds runs.counted);
+      tells = subst (λ t. Tells told (runs.results ++ last) t [] told_after) (append-nil runs.sent) (law told told_now told_after runs.results last runs.sent [] [] runs.tells tells);
+    })))
+
+-- ---- in a turn
+
 -- a session that ends in a turn, of which this is left
-pub ends_within : Joins → (user : List ℕ) (version : Version) (boards after : List BoardState) (old new : Session) (turns : List Turn) (frames : List FrameParts) (results : List Got) (sent : List (List ℕ)) (e : End)
-    (bytes : List ℕ) (told told_after : Option Traffic) (t : Turn) (left : Sending)
-    → Holds user version boards old turns frames results sent → Extends boards after → (did : Turns old new bytes after told told_after t left)
-    → IsSentAt e left → EndsBy (t ∷ turns) left e (results ++ got.Frame bytes ∷ []) []
-    → IsSession user version after (record { end = e; looks = new.looks }) (results ++ got.Frame bytes ∷ []) (sent ++ did.sent)
-ends_within law_joins user version boards after old new turns frames results sent e bytes told told_after t left held extends did whole by = record {
-  turns = t ∷ turns;
-  taken = results ++ got.Frame bytes ∷ [];
-  last = [];
-  frames = frames ++ did.frames;
-  left = left;
-  results_are = sym (append-nil (results ++ got.Frame bytes ∷ []));
-  taken_are = frames_on results bytes held.taken;
-  read = ap (frames_at 0) (sym (append-nil (bytes_of (results ++ got.Frame bytes ∷ []))))
-      ∙ read_on results (frames_of turns) t.frame bytes old.mux.received.value new.mux.received.value held.read did.read []
-      ∙ front_ok (frames_of (t ∷ turns)) [] ∙ ap Ok (append-nil (frames_of (t ∷ turns)));
-  joined = (sym (law_joins old.mux.inbox (events_of turns) t.frame held.inbox) ∙ did.answer, did.given, held.joined);
-  exchanged = λ h later. (turn_exchanged user version boards after old new turns frames results sent bytes told told_after t left held did extends h later).0;
-  looks = made_looks old new after t.exchange (exchanges_of turns) did.made held.looks;
-  put = (frames, did.frames, old.mux.outbox, refl, held.put, held.rest.idle, did.heard, did.go);
-  written = written_more [] sent did.sent frames did.frames held.written (did.written (all_sent [] frames) held.checked).0;
-  whole = whole;
-  ends = by;
-}
+turn_session : Came → Joins → (setup : Setup) (start now final : Moment) (old new : Session) (turns : List Turn) (frames : List FrameParts) (results : List Got) (sent : List (List ℕ)) (e : End)
+    (result : Got) (told told_after : Option Traffic) (t : Turn) (halted : List Step) (left : Sending) (failed : List Gave)
+    → Holds setup start now old turns frames results sent → (did : Turned old new result now final told told_after t halted left failed)
+    → length (results ++ result ∷ []) ≤ 1099511627776
+    → IsClosedAt e new.core halted → IsSentAt e left → EndsBy (t ∷ turns) left e (results ++ result ∷ []) [] failed
+    → IsSession setup start final (ended_as e new) (results ++ result ∷ []) (sent ++ did.sent) failed
+turn_session came_law joins setup start now final old new turns frames results sent e result told told_after t halted left failed held did count is_closed whole by =
+    let got : Received old new turns results result t.frame t.given = received_on came_law joins setup start now old new turns frames results sent result t.frame t.given held did.read in
+    record {
+      turns = t ∷ turns;
+      halted = halted;
+      taken = results ++ result ∷ [];
+      last = [];
+      frames = frames ++ did.frames;
+      left = left;
+      machine = new.core;
+      now = did.now;
+      results_are = sym (append-nil (results ++ result ∷ []));
+      count = count;
+      taken_are = got.taken;
+      kinds = got.kinds;
+      read = ap (frames_at 0) (sym (append-nil (bytes_of (results ++ result ∷ [])))) ∙ got.read [] ∙ front_ok (frames_of (t ∷ turns)) [] ∙ ap Ok (append-nil (frames_of (t ∷ turns)));
+      joined = (got.joined, held.joined);
+      led = (old.core, held.led, did.leads, did.called);
+      closed = is_closed;
+      answered = subst (λ steps. AreAnswered start setup.user setup.strict steps did.now) (append_assoc halted t.steps (steps_of turns))
+          (turn_answered setup start now did.now old turns (halted ++ t.steps) frames results sent held did.answered);
+      reads = did.reads;
+      looks = did.looks ∙ ap (λ l. l ++ looks_of (halted ++ t.steps)) held.looks ∙ sym (looks_after (halted ++ t.steps) (steps_of turns)) ∙ ap looks_of (append_assoc halted t.steps (steps_of turns));
+      stored = did.stored ∙ ap (λ l. l ++ stored_of (halted ++ t.steps)) held.stored ∙ sym (stored_after (halted ++ t.steps) (steps_of turns)) ∙ ap stored_of (append_assoc halted t.steps (steps_of turns));
+      put = (frames, did.frames, old.mux.outbox, refl, held.put, held.rest.idle, did.heard, did.go);
+      written = written_more [] sent did.sent frames did.frames held.written (did.written (all_sent [] frames) held.checked).0;
+      whole = whole;
+      ends = by;
+    }
 
 -- ---- a frame at fault
 
@@ -121,110 +175,104 @@ bad_bytes turns left (Err fault) answer w same bad = subst (λ r. IsBadAfter tur
 bad_bytes turns left (Ok one) answer w same bad =
     subst (λ r. IsBadAfter turns left r w) (sym (front_ok (frames_of turns) (one.0 ∷ []))) (one.0, refl, subst (λ r. IsBadTaken r left w) (same one.0) bad)
 
-pub bad_after : Joins → (user : List ℕ) (version : Version) (boards : List BoardState) (s : Session) (turns : List Turn) (frames : List FrameParts) (results : List Got) (sent : List (List ℕ)) (bytes : List ℕ) (w : FrameWhy)
-    → Holds user version boards s turns frames results sent
+bad_after : Joins → (setup : Setup) (start now : Moment) (s : Session) (turns : List Turn) (frames : List FrameParts) (results : List Got) (sent : List (List ℕ)) (bytes : List ℕ) (w : FrameWhy)
+    → Holds setup start now s turns frames results sent
     → IsBadFrame (frame_at s.mux.received.value bytes) (answer_at s.mux.inbox) s.mux.outbox w
     → IsBadAfter turns s.mux.outbox (frames_at 0 (bytes_of results ++ bytes ∷ [])) w
-bad_after law_joins user version boards s turns frames results sent bytes w held bad =
+bad_after joins setup start now s turns frames results sent bytes w held bad =
     subst (λ r. IsBadAfter turns s.mux.outbox r w) (sym (held.read (bytes ∷ [])))
-    (bad_bytes turns s.mux.outbox (frame_at s.mux.received.value bytes) (answer_at s.mux.inbox) w (λ f. law_joins s.mux.inbox (events_of turns) f held.inbox) bad)
+    (bad_bytes turns s.mux.outbox (frame_at s.mux.received.value bytes) (answer_at s.mux.inbox) w (λ f. joins s.mux.inbox (events_of turns) f held.inbox) bad)
 
 -- ---- by one result more
 
-counted_on : (results : List Got) (g : Got) (count : ℕ) → length results ≡ count → length (results ++ g ∷ []) ≡ count + 1
-counted_on results g count e = omega (arith, length-append results (g ∷ []), e)
+-- all of whose turn went
+turn_runs : TellsOn → Came → Expects → Joins → Kept → Wants → (setup : Setup) (start now final : Moment) (told told_now told_between told_after : Option Traffic) (old new : Session) (count : ℕ) (result : Got)
+    → Tells told_now (result ∷ []) [] [] told_between
+    → Takes old new result now final told_between told_after None
+    → Runs setup start now told old told_now count → Runs setup start final told new told_after (count + 1)
+turn_runs law came_law expects joins kept wants setup start now final told told_now told_between told_after old new count result tells (t, did, value, rest, now_is, inbox, front, few) runs = record {
+  turns = t ∷ runs.turns;
+  frames = runs.frames ++ did.frames;
+  results = runs.results ++ result ∷ [];
+  sent = runs.sent ++ did.sent;
+  holds = holds_on came_law expects joins kept wants setup start now final old new runs.turns runs.frames runs.results runs.sent result told_between told_after t runs.holds did value rest now_is inbox;
+  tells = law told told_now told_after runs.results (result ∷ []) runs.sent did.sent [] runs.tells (law told_now told_between told_after (result ∷ []) [] [] did.sent [] tells did.tells);
+  counted = counted_on runs.results result count runs.counted;
+}
 
--- by these last results, in which no turn is
-pub run_ends : (user : List ℕ) (version : Version) (boards after : List BoardState) (told told_now told_after : Option Traffic) (s : Session) (count : ℕ) (e : End) (looks : List Look) (last : List Got)
-    → Extends boards after → looks ≡ s.looks
-    → ((turns : List Turn) (frames : List FrameParts) (results : List Got) (sent : List (List ℕ)) → Holds user version boards s turns frames results sent → length results ≡ count → EndsBy turns s.mux.outbox e results last)
-    → Tells told_now last [] told_after
-    → Runs user version boards told s told_now count → Ends user version after told (record { end = e; looks = looks }) told_after
-run_ends user version boards after told told_now told_after s count e looks last extends looks_are by tells (turns, frames, results, sent, held, all_told, counted) = (
-  results ++ last,
-  sent,
-  ends_after user version boards after s turns frames results last sent e looks held extends looks_are (by turns frames results sent held counted),
-  subst (λ t. Tells told (results ++ last) t told_after) (append-nil sent) (tells_on told told_now told_after results last sent [] all_told tells),
-)
+-- in whose turn the session ends
+turn_ends : TellsOn → Came → Joins → (setup : Setup) (start now final : Moment) (told told_now told_between told_after : Option Traffic) (old new : Session) (count : ℕ) (result : Got) (e : End) (t : Turn) (halted : List Step) (left : Sending) (failed : List Gave)
+    → count < 1099511627776
+    → Tells told_now (result ∷ []) [] [] told_between
+    → Turned old new result now final told_between told_after t halted left failed
+    → IsClosedAt e new.core halted → IsSentAt e left → ((turns : List Turn) (results : List Got) → EndsBy turns left e results [] failed)
+    → Runs setup start now told old told_now count → IsServed setup start final told (ended_as e new) told_after
+turn_ends law came_law joins setup start now final told told_now told_between told_after old new count result e t halted left failed below tells did is_closed whole by runs = record {
+  results = runs.results ++ result ∷ [];
+  sent = runs.sent ++ did.sent;
+  failed = failed;
+  session = turn_session came_law joins setup start now final old new runs.turns runs.frames runs.results runs.sent e result told_between told_after t halted left failed runs.holds did
+      (omega (arith, below, counted_on runs.results result count runs.counted)) is_closed whole (by (t ∷ runs.turns) (runs.results ++ result ∷ []));
+  tells = law told told_now told_after runs.results (result ∷ []) runs.sent did.sent failed runs.tells (law told_now told_between told_after (result ∷ []) [] [] did.sent failed tells did.tells);
+}
 
-pub runs_idle : (user : List ℕ) (version : Version) (boards : List BoardState) (told told_now told_after : Option Traffic) (s : Session) (count : ℕ)
-    → Tells told_now (got.Idle ∷ []) [] told_after
-    → Runs user version boards told s told_now count → Runs user version boards told s told_after (count + 1)
-runs_idle user version boards told told_now told_after s count tells (turns, frames, results, sent, held, all_told, counted) = (
-  turns,
-  frames,
-  results ++ got.Idle ∷ [],
-  sent,
-  holds_idle user version boards s turns frames results sent held,
-  subst (λ t. Tells told (results ++ got.Idle ∷ []) t told_after) (append-nil sent) (tells_on told told_now told_after results (got.Idle ∷ []) sent [] all_told tells),
-  counted_on results got.Idle count counted,
-)
+-- that takes part in no turn
+leaves_ends : TellsOn → (setup : Setup) (start now final : Moment) (told told_now told_between told_after : Option Traffic) (old new : Session) (count : ℕ) (bytes : List ℕ) (e : End)
+    → count < 1099511627776 → HasRead now now
+    → Tells told_now (got.Frame bytes ∷ []) [] [] told_between
+    → ((turns : List Turn) (frames : List FrameParts) (results : List Got) (sent : List (List ℕ)) → Holds setup start now old turns frames results sent → length results ≡ count → EndsBy turns old.mux.outbox e results (got.Frame bytes ∷ []) [])
+    → Leaves old new now final told_between told_after
+    → Runs setup start now told old told_now count → IsServed setup start final told (ended_as e new) told_after
+leaves_ends law setup start now final told told_now told_between told_after old new count bytes e below read tells by leaves runs =
+    run_ends law setup start now final told told_now told_after old new count e (got.Frame bytes ∷ []) leaves.same read leaves.looks leaves.stored (omega (arith, below)) by
+    (law told_now told_between told_after (got.Frame bytes ∷ []) [] [] [] [] tells leaves.tells) runs
 
--- by a frame, all of whose turn went
-frame_runs : Came → Expects → Joins → (user : List ℕ) (version : Version) (boards after : List BoardState) (told told_now told_between told_after : Option Traffic) (old new : Session) (count : ℕ) (bytes : List ℕ)
-    → Extends boards after → Tells told_now (got.Frame bytes ∷ []) [] told_between
-    → ((t : Turn) × (did : Turns old new bytes after told_between told_after t new.mux.outbox) × (did.value ≡ new.mux.sent.value) × IsAtRest new × (new.mux.inbox ≡ expecting_all (puts_in t.exchange) (taken_after old.mux.inbox t.frame)))
-    → Runs user version boards told old told_now count → Runs user version after told new told_after (count + 1)
-frame_runs law_came law_expects law_joins user version boards after told told_now told_between told_after old new count bytes extends tells (t, did, value, rest, inbox) (turns, frames, results, sent, held, all_told, counted) = (
-  t ∷ turns,
-  frames ++ did.frames,
-  results ++ got.Frame bytes ∷ [],
-  sent ++ did.sent,
-  holds_on law_came law_expects law_joins user version boards after old new turns frames results sent bytes told_between told_after t held extends did value rest inbox,
-  tells_on told told_now told_after results (got.Frame bytes ∷ []) sent did.sent all_told (tells_on told_now told_between told_after (got.Frame bytes ∷ []) [] [] did.sent tells did.tells),
-  counted_on results (got.Frame bytes) count counted,
-)
+memory_ends : TellsOn → Came → Joins → (setup : Setup) (start now final : Moment) (told told_now told_between told_after : Option Traffic) (old new : Session) (count : ℕ) (result : Got)
+    → count < 1099511627776 → HasRead now now
+    → Tells told_now (result ∷ []) [] [] told_between
+    → Takes old new result now final told_between told_after (Some end.Memory)
+    → Runs setup start now told old told_now count → IsServed setup start final told (ended_as end.Memory new) told_after
+memory_ends law came_law joins setup start now final told told_now told_between told_after old new count result below read tells (inl (t, halted, left, did)) runs =
+    turn_ends law came_law joins setup start now final told told_now told_between told_after old new count result end.Memory t halted left [] below tells did tt tt (λ turns results. (inr refl, refl)) runs
+memory_ends law came_law joins setup start now final told told_now told_between told_after old new count result below read tells (inr (bytes, is, leaves)) runs =
+    leaves_ends law setup start now final told told_now told_between told_after old new count bytes end.Memory below read
+    (subst (λ r. Tells told_now (r ∷ []) [] [] told_between) is tells)
+    (λ turns frames results sent held counted. (inl (bytes, refl), refl)) leaves runs
 
--- by a frame in whose turn the session ends
-frame_ends : Joins → (user : List ℕ) (version : Version) (boards after : List BoardState) (told told_now told_between told_after : Option Traffic) (old new : Session) (count : ℕ) (bytes : List ℕ) (e : End)
-    → Extends boards after → Tells told_now (got.Frame bytes ∷ []) [] told_between
-    → ((left : Sending) → IsSentAt e left) → ((turns : List Turn) (left : Sending) (results : List Got) → EndsBy turns left e results [])
-    → ((t : Turn) × (left : Sending) × Turns old new bytes after told_between told_after t left)
-    → Runs user version boards told old told_now count → Ends user version after told (record { end = e; looks = new.looks }) told_after
-frame_ends law_joins user version boards after told told_now told_between told_after old new count bytes e extends tells whole by (t, left, did) (turns, frames, results, sent, held, all_told, counted) = (
-  results ++ got.Frame bytes ∷ [],
-  sent ++ did.sent,
-  ends_within law_joins user version boards after old new turns frames results sent e bytes told_between told_after t left held extends did (whole left) (by (t ∷ turns) left (results ++ got.Frame bytes ∷ [])),
-  tells_on told told_now told_after results (got.Frame bytes ∷ []) sent did.sent all_told (tells_on told_now told_between told_after (got.Frame bytes ∷ []) [] [] did.sent tells did.tells),
-)
-
--- by a frame that takes part in no turn
-frame_leaves : (user : List ℕ) (version : Version) (boards after : List BoardState) (told told_now told_between told_after : Option Traffic) (old new : Session) (count : ℕ) (bytes : List ℕ) (e : End)
-    → Extends boards after → Tells told_now (got.Frame bytes ∷ []) [] told_between
-    → ((turns : List Turn) (frames : List FrameParts) (results : List Got) (sent : List (List ℕ)) → Holds user version boards old turns frames results sent → length results ≡ count → EndsBy turns old.mux.outbox e results (got.Frame bytes ∷ []))
-    → Leaves old new told_between told_after
-    → Runs user version boards told old told_now count → Ends user version after told (record { end = e; looks = new.looks }) told_after
-frame_leaves user version boards after told told_now told_between told_after old new count bytes e extends tells by leaves runs =
-    run_ends user version boards after told told_now told_after old count e new.looks (got.Frame bytes ∷ []) extends leaves.0 by (tells_on told_now told_between told_after (got.Frame bytes ∷ []) [] [] [] tells leaves.1) runs
-
-memory_ends : Joins → (user : List ℕ) (version : Version) (boards after : List BoardState) (told told_now told_between told_after : Option Traffic) (old new : Session) (count : ℕ) (bytes : List ℕ)
-    → Extends boards after → Tells told_now (got.Frame bytes ∷ []) [] told_between
-    → Takes old new bytes after told_between told_after (Some end.Memory)
-    → Runs user version boards told old told_now count → Ends user version after told (record { end = end.Memory; looks = new.looks }) told_after
-memory_ends law_joins user version boards after told told_now told_between told_after old new count bytes extends tells (inl partly) runs =
-    frame_ends law_joins user version boards after told told_now told_between told_after old new count bytes end.Memory extends tells (λ left. tt) (λ turns left results. inr refl) partly runs
-memory_ends law_joins user version boards after told told_now told_between told_after old new count bytes extends tells (inr leaves) runs =
-    frame_leaves user version boards after told told_now told_between told_after old new count bytes end.Memory extends tells (λ turns frames results sent held counted. inl (bytes, refl)) leaves runs
-
-pub frame_taken : Came → Expects → Joins → (user : List ℕ) (version : Version) (boards after : List BoardState) (told told_now told_between told_after : Option Traffic) (old new : Session) (count : ℕ) (bytes : List ℕ) (result : Option End)
-    → Extends boards after → Tells told_now (got.Frame bytes ∷ []) [] told_between
-    → Takes old new bytes after told_between told_after result
-    → Runs user version boards told old told_now count → RunsOn user version after told new told_after count result
-frame_taken law_came law_expects law_joins user version boards after told told_now told_between told_after old new count bytes None extends tells taken runs =
-    frame_runs law_came law_expects law_joins user version boards after told told_now told_between told_after old new count bytes extends tells taken runs
-frame_taken law_came law_expects law_joins user version boards after told told_now told_between told_after old new count bytes (Some end.Closed) extends tells taken runs = absurd taken
-frame_taken law_came law_expects law_joins user version boards after told told_now told_between told_after old new count bytes (Some end.WireFault) extends tells taken runs =
-    frame_ends law_joins user version boards after told told_now told_between told_after old new count bytes end.WireFault extends tells (λ left. tt) (λ turns left results. inr refl) taken runs
-frame_taken law_came law_expects law_joins user version boards after told told_now told_between told_after old new count bytes (Some (end.BadFrame index w)) extends tells (at, bad, leaves) runs =
-    frame_leaves user version boards after told told_now told_between told_after old new count bytes (end.BadFrame index w) extends tells
-    (λ turns frames results sent held counted. (at ∙ ap (λ n. n + 1) held.count, got.Frame bytes, refl, bad_after law_joins user version boards old turns frames results sent bytes w held bad))
+pub result_taken : TellsOn → Came → Expects → Joins → Kept → Wants → (setup : Setup) (start now final : Moment) (told told_now told_between told_after : Option Traffic) (old new : Session) (count : ℕ) (result : Got) (ends : Option End)
+    → count < 1099511627776 → HasRead now now
+    → Tells told_now (result ∷ []) [] [] told_between
+    → Takes old new result now final told_between told_after ends
+    → Runs setup start now told old told_now count → RunsOn setup start final told new told_after count ends
+result_taken law came_law expects joins kept wants setup start now final told told_now told_between told_after old new count result None below read tells takes runs =
+    turn_runs law came_law expects joins kept wants setup start now final told told_now told_between told_after old new count result tells takes runs
+result_taken law came_law expects joins kept wants setup start now final told told_now told_between told_after old new count result (Some end.Closed) below read tells takes runs = absurd takes
+result_taken law came_law expects joins kept wants setup start now final told told_now told_between told_after old new count result (Some end.WireFault) below read tells (t, left, did, rest) runs =
+    turn_ends law came_law joins setup start now final told told_now told_between told_after old new count result end.WireFault t [] left (gave.Failed ∷ []) below tells did (rest, refl) tt (λ turns results. inr (refl, refl)) runs
+result_taken law came_law expects joins kept wants setup start now final told told_now told_between told_after old new count result (Some (end.BadFrame index w)) below read tells (bytes, is, at, bad, leaves) runs =
+    leaves_ends law setup start now final told told_now told_between told_after old new count bytes (end.BadFrame index w) below read
+    (subst (λ r. Tells told_now (r ∷ []) [] [] told_between) is tells)
+    (λ turns frames results sent held counted. (at ∙ ap (λ n. n + 1) held.count, got.Frame bytes, refl, bad_after joins setup start now old turns frames results sent bytes w held bad, refl))
     leaves runs
-frame_taken law_came law_expects law_joins user version boards after told told_now told_between told_after old new count bytes (Some end.TurnsFull) extends tells taken runs = absurd taken
-frame_taken law_came law_expects law_joins user version boards after told told_now told_between told_after old new count bytes (Some end.Memory) extends tells taken runs =
-    memory_ends law_joins user version boards after told told_now told_between told_after old new count bytes extends tells taken runs
+result_taken law came_law expects joins kept wants setup start now final told told_now told_between told_after old new count result (Some end.TurnsFull) below read tells takes runs = absurd takes
+result_taken law came_law expects joins kept wants setup start now final told told_now told_between told_after old new count result (Some end.Memory) below read tells takes runs =
+    memory_ends law came_law joins setup start now final told told_now told_between told_after old new count result below read tells takes runs
+
+-- ---- after a step
+
+pub rest_after : (old new : Session) (result : Got) (now final : Moment) (told told_after : Option Traffic) (ends : Option End) → Takes old new result now final told told_after ends → ends ≡ None → IsAtRest new
+rest_after old new result now final told told_after None (t, did, value, rest, now_is, inbox, front, few) e = rest
+rest_after old new result now final told told_after (Some other) takes e = cc
+
+pub front_after : (old new : Session) (result : Got) (now final : Moment) (told told_after : Option Traffic) (ends : Option End) → Takes old new result now final told told_after ends → ends ≡ None → feed_front new.core.feed ≤ final.lowest
+front_after old new result now final told told_after None (t, did, value, rest, now_is, inbox, front, few) e = front
+front_after old new result now final told told_after (Some other) takes e = cc
+
+pub few_after : (old new : Session) (result : Got) (now final : Moment) (told told_after : Option Traffic) (ends : Option End) → Takes old new result now final told told_after ends → ends ≡ None → new.core.requests ≤ old.core.requests + 30003
+few_after old new result now final told told_after None (t, did, value, rest, now_is, inbox, front, few) e = few
+few_after old new result now final told told_after (Some other) takes e = cc
 
 -- ---- the beginning
 
-pub runs_new : (user : List ℕ) (version : Version) (boards : List BoardState) (told : Option Traffic) (s : Session)
-    → Holds user version boards s [] [] [] [] → Runs user version boards told s told 0
-runs_new user version boards told s held = ([], [], [], [], held, tells_none told, refl)
+pub runs_new : (setup : Setup) (now : Moment) (told : Option Traffic) (s : Session) → Tells told [] [] [] told → Holds setup now now s [] [] [] [] → Runs setup now now told s told 0
+runs_new setup now told s tells held = record { turns = []; frames = []; results = []; sent = []; holds = held; tells = tells; counted = refl }

@@ -1,35 +1,37 @@
--- A session that runs, from result to result.
-use Rattle.std.proofs.Common.{◌≡◌, ℕ, ◌+◌, Bool, true, false, ◌&&◌, not, List, [], ◌∷◌, ◌++◌, Option, Some, None, Result, Ok, Err, refl, sym, ◌∙◌, ap, subst, if◌then◌else◌, arith, append-nil}
+-- A session that runs, from turn to turn.
+use Rattle.std.proofs.Common.{◌≡◌, ℕ, ◌+◌, Bool, true, false, ◌&&◌, not, List, [], ◌∷◌, ◌++◌, length, Option, Some, None, Result, Ok, Err, refl, sym, ◌∙◌, ap, subst, if◌then◌else◌, arith, append-nil}
 use Rattle.std.proofs.lemmas.Bool.{false≢true}
-use Rattle.std.proofs.lemmas.List.{append_assoc}
+use Rattle.std.proofs.lemmas.List.{append_assoc, length-append}
 use Rattle.sg_outside.specs.Wire.{Traffic}
 use Rattle.sg_outside.specs.declared.wire.Got.{Got}
 use Rattle.sg_outside.specs.declared.wire.Got.TheVariants as got
 use Rattle.blip_frame.specs.Checksum.{checksum, after_bits}
-use Rattle.blip_frame.specs.Frame.{FrameParts, ◌>>=◌, frame_at, frames_at, with_first, with_front, AreWrittenAfter, all_sent}
 use Rattle.blip_frame.specs.Frame as frame
+use Rattle.blip_frame.specs.Frame.{FrameParts, ◌>>=◌, frame_at, frames_at, with_first, with_front, AreWrittenAfter, all_sent}
 use Rattle.blip_frame.specs.declared.frame.FrameFault.{FrameFault}
 use Rattle.blip_mux.specs.declared.message.Message.{Message}
+use Rattle.blip_mux.specs.declared.inbox.Taken.{Taken}
 use Rattle.blip_mux.specs.Apart.{AreApart}
 use Rattle.blip_mux.specs.Joining.{Event, came, expected, is_request, answer_in}
 use Rattle.blip_mux.specs.Remembered.{Standing}
 use Rattle.blip_mux.specs.Standing.{new_standing, expecting, answer_at, taken_after, StandsFor}
 use Rattle.blip_mux.specs.Sending.{Sending, new_sending, picked}
-use Rattle.sg_history.specs.declared.entries.Entry.{Entry}
-use Rattle.sg_history.specs.Board.{BoardState}
-use Rattle.repl_messages.specs.declared.request.Version.{Version}
-use Rattle.session_core.specs.declared.look.Look.{Look}
+use Rattle.session_core.specs.declared.act.Want.{Want}
+use Rattle.session_core.specs.declared.machine.Pending.{Pending}
 use Rattle.session_core.specs.declared.machine.Pending.TheVariants as pending
-use Rattle.session_core.specs.Exchange.{Exchange, requests_among, requests_put}
-use Rattle.session_core.specs.Session.{Exchanged, AreExchanged, looks_of}
-use Rattle.session_core.specs.Machine.{Machine}
-use Rattle.session_core.specs.Conduct.{led_to}
-use Rattle.write_path.specs.Reads.{IsLaterThanAll}
+use Rattle.session_core.specs.Conduct.{WantsFor}
+use Rattle.session_core.specs.Fronts.{look_of, stored_by, looks_of, stored_of}
+use Rattle.session_core.specs.Running.{Running}
+use Rattle.session_core.specs.State.{Machine, new_machine}
+use Rattle.session_core.specs.Steps.{Step, Steps, Leads, put_by, wanted_after}
+use Rattle.session_mux.specs.Sent.{expecting_by, expecting_all}
+use Rattle.session_run.specs.declared.serve.Setup.{Setup}
 use Rattle.session_run.specs.declared.session.Session.{Session}
-use Rattle.session_run.specs.Held.{IsAtRest, IsMade, Holds, Turns}
-use Rattle.session_run.specs.Sent.{expecting_by, expecting_all}
+use Rattle.session_run.specs.Answered.{Moment, IsAnswered, AreAnswered}
+use Rattle.session_run.specs.Held.{IsAtRest, IsRead, Holds, Turned, inbox_after, counted}
 use Rattle.session_run.specs.Served.{are_frames, bytes_of}
-use Rattle.session_run.specs.Turns.{Turn, puts_in, with_exchange, exchanges_of, frames_of, events_of, put_after, all_put_after}
+use Rattle.session_run.specs.Turns.{Turn, steps_of, frame_in, frames_of, is_frame, framed, framed_by, events_of, came_after, put_after, all_put_after, IsJoined}
+use Rattle.session_run.proofs.Taking.{Kept, Wants}
 
 -- ---- what is expected
 
@@ -67,23 +69,14 @@ pub front_err : (frames : List FrameParts) (fault : FrameFault) → with_front f
 front_err [] fault = refl
 front_err (g ∷ frames) fault = ap (with_first g) (front_err frames fault)
 
-pub frames_on : (results : List Got) (bytes : List ℕ) → are_frames results ≡ true → are_frames (results ++ got.Frame bytes ∷ []) ≡ true
-frames_on [] bytes e = refl
-frames_on (got.Frame first ∷ results) bytes e = frames_on results bytes e
-frames_on (got.Text ∷ results) bytes e = absurd (false≢true e)
-frames_on (got.Idle ∷ results) bytes e = frames_on results bytes e
-frames_on (got.End ∷ results) bytes e = absurd (false≢true e)
-frames_on (got.Failed ∷ results) bytes e = absurd (false≢true e)
-frames_on (got.Memory ∷ results) bytes e = absurd (false≢true e)
-
-idle_on : (results : List Got) → are_frames results ≡ true → are_frames (results ++ got.Idle ∷ []) ≡ true
-idle_on [] e = refl
-idle_on (got.Frame first ∷ results) e = idle_on results e
-idle_on (got.Text ∷ results) e = absurd (false≢true e)
-idle_on (got.Idle ∷ results) e = idle_on results e
-idle_on (got.End ∷ results) e = absurd (false≢true e)
-idle_on (got.Failed ∷ results) e = absurd (false≢true e)
-idle_on (got.Memory ∷ results) e = absurd (false≢true e)
+frames_on : (results more : List Got) → are_frames results ≡ true → are_frames more ≡ true → are_frames (results ++ more) ≡ true
+frames_on [] more e f = f
+frames_on (got.Frame first ∷ results) more e f = frames_on results more e f
+frames_on (got.Text ∷ results) more e f = absurd (false≢true e)
+frames_on (got.Idle ∷ results) more e f = frames_on results more e f
+frames_on (got.End ∷ results) more e f = absurd (false≢true e)
+frames_on (got.Failed ∷ results) more e f = absurd (false≢true e)
+frames_on (got.Memory ∷ results) more e f = absurd (false≢true e)
 
 bytes_on : (results more : List Got) → bytes_of (results ++ more) ≡ bytes_of results ++ bytes_of more
 bytes_on [] more = refl
@@ -94,8 +87,17 @@ bytes_on (got.End ∷ results) more = bytes_on results more
 bytes_on (got.Failed ∷ results) more = bytes_on results more
 bytes_on (got.Memory ∷ results) more = bytes_on results more
 
+kinds_on : (results more : List Got) → framed_by (results ++ more) ≡ framed_by results ++ framed_by more
+kinds_on [] more = refl
+kinds_on (got.Frame first ∷ results) more = ap (λ bs. true ∷ bs) (kinds_on results more)
+kinds_on (got.Text ∷ results) more = ap (λ bs. false ∷ bs) (kinds_on results more)
+kinds_on (got.Idle ∷ results) more = ap (λ bs. false ∷ bs) (kinds_on results more)
+kinds_on (got.End ∷ results) more = ap (λ bs. false ∷ bs) (kinds_on results more)
+kinds_on (got.Failed ∷ results) more = ap (λ bs. false ∷ bs) (kinds_on results more)
+kinds_on (got.Memory ∷ results) more = ap (λ bs. false ∷ bs) (kinds_on results more)
+
 -- one frame more is read
-pub read_on : (results : List Got) (frames : List FrameParts) (f : FrameParts) (bytes : List ℕ) (value value_after : ℕ)
+read_on : (results : List Got) (frames : List FrameParts) (f : FrameParts) (bytes : List ℕ) (value value_after : ℕ)
     → ((later : List (List ℕ)) → frames_at 0 (bytes_of results ++ later) ≡ with_front frames (frames_at value later))
     → frame_at value bytes ≡ Ok (f, value_after)
     → (later : List (List ℕ)) → frames_at 0 (bytes_of (results ++ got.Frame bytes ∷ []) ++ later) ≡ with_front (frames ++ f ∷ []) (frames_at value_after later)
@@ -105,6 +107,39 @@ read_on results frames f bytes value value_after read one later =
     ∙ read (bytes ∷ later)
     ∙ ap (λ r. with_front frames (r >>= λ found. with_first found.0 (frames_at found.1 later))) one
     ∙ sym (front_end frames f (frames_at value_after later))
+
+-- what holds of one result more
+pub record Received (old new : Session) (turns : List Turn) (results : List Got) (result : Got) (f : Option FrameParts) (given : Taken) : Type 0 where
+  pub taken : are_frames (results ++ result ∷ []) ≡ true
+  pub kinds : framed_by (results ++ result ∷ []) ≡ framed turns ++ is_frame f ∷ []
+  pub read : (later : List (List ℕ)) → frames_at 0 (bytes_of (results ++ result ∷ []) ++ later) ≡ with_front (frames_of turns ++ frame_in f) (frames_at new.mux.received.value later)
+  pub joined : IsJoined f given (events_of turns)
+  pub inbox : StandsFor (inbox_after old.mux.inbox f) (came_after f (events_of turns))
+
+pub received_on : Came → Joins → (setup : Setup) (start now : Moment) (old new : Session) (turns : List Turn) (frames : List FrameParts) (results : List Got) (sent : List (List ℕ)) (result : Got) (f : Option FrameParts) (given : Taken)
+    → Holds setup start now old turns frames results sent → IsRead result old.mux new.mux f given → Received old new turns results result f given
+received_on came_law joins setup start now old new turns frames results sent (got.Frame bytes) (Some f) given held (read, answer) = record {
+  taken = frames_on results (got.Frame bytes ∷ []) held.taken refl;
+  kinds = kinds_on results (got.Frame bytes ∷ []) ∙ ap (λ bs. bs ++ true ∷ []) held.kinds;
+  read = read_on results (frames_of turns) f bytes old.mux.received.value new.mux.received.value held.read read;
+  joined = sym (joins old.mux.inbox (events_of turns) f held.inbox) ∙ answer;
+  inbox = came_law old.mux.inbox (events_of turns) f held.inbox;
+}
+received_on came_law joins setup start now old new turns frames results sent (got.Frame bytes) None given held read = absurd read
+received_on came_law joins setup start now old new turns frames results sent got.Idle None given held (same, none) = record {
+  taken = frames_on results (got.Idle ∷ []) held.taken refl;
+  kinds = kinds_on results (got.Idle ∷ []) ∙ ap (λ bs. bs ++ false ∷ []) held.kinds;
+  read = λ later. ap (λ bs. frames_at 0 (bs ++ later)) (bytes_on results (got.Idle ∷ []) ∙ append-nil (bytes_of results)) ∙ held.read later
+      ∙ ap (λ fs. with_front fs (frames_at old.mux.received.value later)) (sym (append-nil (frames_of turns)))
+      ∙ ap (λ c. with_front (frames_of turns ++ []) (frames_at c.value later)) (sym same);
+  joined = none;
+  inbox = held.inbox;
+}
+received_on came_law joins setup start now old new turns frames results sent got.Idle (Some f) given held read = absurd read
+received_on came_law joins setup start now old new turns frames results sent got.Text f given held read = absurd read
+received_on came_law joins setup start now old new turns frames results sent got.End f given held read = absurd read
+received_on came_law joins setup start now old new turns frames results sent got.Failed f given held read = absurd read
+received_on came_law joins setup start now old new turns frames results sent got.Memory f given held read = absurd read
 
 -- ---- what was sent
 
@@ -119,92 +154,100 @@ sent_more : (sent : List ℕ) (frames others : List FrameParts) → all_sent sen
 sent_more sent [] others = refl
 sent_more sent (f ∷ frames) others = sent_more (frame.sent_after sent f) frames others
 
+-- ---- steps after steps
+
+pub looks_after : (steps earlier : List Step) → looks_of (steps ++ earlier) ≡ looks_of earlier ++ looks_of steps
+looks_after [] earlier = sym (append-nil (looks_of earlier))
+looks_after (s ∷ steps) earlier = ap (λ l. l ++ look_of s.event) (looks_after steps earlier) ∙ append_assoc (looks_of earlier) (looks_of steps) (look_of s.event)
+
+pub stored_after : (steps earlier : List Step) → stored_of (steps ++ earlier) ≡ stored_of earlier ++ stored_of steps
+stored_after [] earlier = sym (append-nil (stored_of earlier))
+stored_after (s ∷ steps) earlier = ap (λ l. l ++ stored_by s.event) (stored_after steps earlier) ∙ append_assoc (stored_of earlier) (stored_of steps) (stored_by s.event)
+
+still_wanted : (steps earlier : List Step) → wanted_after earlier ≡ None → wanted_after (steps ++ earlier) ≡ wanted_after steps
+still_wanted [] earlier none = none
+still_wanted (s ∷ steps) earlier none = refl
+
+pub answered_after : (start between now : Moment) (user : List ℕ) (strict : Bool) (steps earlier : List Step) → wanted_after earlier ≡ None
+    → AreAnswered start user strict earlier between → AreAnswered between user strict steps now → AreAnswered start user strict (steps ++ earlier) now
+answered_after start between now user strict [] earlier none a b = subst (AreAnswered start user strict earlier) (sym b) a
+answered_after start between now user strict (s ∷ steps) earlier none a (middle, b, one) =
+    (middle, answered_after start between middle user strict steps earlier none a b, subst (λ w. IsAnswered middle user strict w s.event now) (sym (still_wanted steps earlier none)) one)
+
+-- ---- where nothing is awaited
+
+none_wanted : (feed : Option Running) (p : Pending) (want : Option Want) → p ≡ pending.Nothing → WantsFor feed p want → want ≡ None
+none_wanted feed pending.Nothing None e w = refl
+none_wanted feed pending.Nothing (Some want) e w = absurd w
+none_wanted feed (pending.Feed asked) want e w = cc
+none_wanted feed pending.More want e w = cc
+none_wanted feed (pending.Bodies rows) want e w = cc
+none_wanted feed (pending.Ask asker proposed) want e w = cc
+none_wanted feed (pending.Push asker) want e w = cc
+
+step_wants : Wants → (m : Machine) (s : Step) (after : Machine) → Steps m s after → after.pending ≡ pending.Nothing → s.want ≡ None
+step_wants law m s after made rest =
+    made.want ∙ none_wanted made.done.after.feed made.done.after.pending made.done.want (ap (λ (m : Machine). m.pending) (sym made.leads) ∙ rest) (law m s.event made.done made.awaited made.does)
+
+pub nothing_wanted : Wants → (m : Machine) (steps earlier : List Step) (after : Machine) → Leads m steps after → after.pending ≡ pending.Nothing → wanted_after earlier ≡ None → wanted_after (steps ++ earlier) ≡ None
+nothing_wanted law m [] earlier after leads rest none = none
+nothing_wanted law m (s ∷ steps) earlier after (before, leads, made) rest none = step_wants law before s after made rest
+
+pub users_stay : Kept → (m : Machine) (steps : List Step) (after : Machine) → Leads m steps after → (after.user ≡ m.user) × (after.strict ≡ m.strict)
+users_stay law m [] after leads = (ap (λ (m : Machine). m.user) leads, ap (λ (m : Machine). m.strict) leads)
+users_stay law m (s ∷ steps) after (before, leads, made) =
+    let kept = law before s.event made.done made.awaited made.does in
+    let earlier : (before.user ≡ m.user) × (before.strict ≡ m.strict) = users_stay law m steps before leads in
+    (ap (λ (m : Machine). m.user) made.leads ∙ kept.user ∙ earlier.0, ap (λ (m : Machine). m.strict) made.leads ∙ kept.strict ∙ earlier.1)
+
 -- ---- from turn to turn
 
--- what is later than all boards read since is later than all read before
-abbrev pub Extends : List BoardState → List BoardState → Type 0
-Extends before after = (h : List Entry) → IsLaterThanAll after h → IsLaterThanAll before h
+counted_frames : (f : Option FrameParts) → length (frame_in f) ≡ counted f
+counted_frames None = refl
+counted_frames (Some f) = refl
 
--- what holds of an exchange, where one was begun
-made_user : (old new : Session) (boards : List BoardState) (x : Option Exchange) → IsMade old new boards x → new.core.user ≡ old.core.user
-made_user old new boards None made = ap (λ (m : Machine). m.user) made.0
-made_user old new boards (Some x) (acts, made, looks) = made.user
+counted_on : (old new : Session) (turns : List Turn) (t : Turn) → new.frames ≡ old.frames + counted t.frame → old.frames ≡ length (frames_of turns) → new.frames ≡ length (frames_of (t ∷ turns))
+counted_on old new turns t more count = omega (arith, more, count, counted_frames t.frame, length-append (frames_of turns) (frame_in t.frame))
 
-made_version : (old new : Session) (boards : List BoardState) (x : Option Exchange) → IsMade old new boards x → new.core.version ≡ old.core.version
-made_version old new boards None made = ap (λ (m : Machine). m.version) made.0
-made_version old new boards (Some x) (acts, made, looks) = made.version
+-- a turn's steps were answered after all before it
+pub turn_answered : (setup : Setup) (start now final : Moment) (old : Session) (turns : List Turn) (steps : List Step) (frames : List FrameParts) (results : List Got) (sent : List (List ℕ))
+    → Holds setup start now old turns frames results sent → AreAnswered now old.core.user old.core.strict steps final
+    → AreAnswered start setup.user setup.strict (steps ++ steps_of turns) final
+turn_answered setup start now final old turns steps frames results sent held a =
+    answered_after start now final setup.user setup.strict steps (steps_of turns) held.wanted held.answered
+    (subst (λ s. AreAnswered now setup.user s steps final) held.strict (subst (λ u. AreAnswered now u old.core.strict steps final) held.user a))
 
-made_requests : (old new : Session) (boards : List BoardState) (x : Option Exchange) (earlier : List Exchange) → IsMade old new boards x → old.core.requests ≡ requests_put earlier → new.core.requests ≡ requests_put (with_exchange x earlier)
-made_requests old new boards None earlier made e = ap (λ (m : Machine). m.requests) made.0 ∙ e
-made_requests old new boards (Some x) earlier (acts, made, looks) e = made.requests ∙ ap (λ n. requests_among x.puts + n) e
-
-pub made_looks : (old new : Session) (boards : List BoardState) (x : Option Exchange) (earlier : List Exchange) → IsMade old new boards x → old.looks ≡ looks_of earlier → new.looks ≡ looks_of (with_exchange x earlier)
-made_looks old new boards None earlier made e = made.1 ∙ e
-made_looks old new boards (Some x) earlier (acts, made, looks) e = looks ∙ ap (λ (l : List Look). l ++ x.looks) e
-
-made_led : (h : List Entry) (user : List ℕ) (version : Version) (old new : Session) (boards : List BoardState) (x : Option Exchange) (earlier : List Exchange) → IsMade old new boards x → IsLaterThanAll boards h
-    → old.core ≡ led_to h user version earlier → AreExchanged h user version earlier
-    → AreExchanged h user version (with_exchange x earlier) × (new.core ≡ led_to h user version (with_exchange x earlier))
-made_led h user version old new boards None earlier made later led all = (all, made.0 ∙ led)
-made_led h user version old new boards (Some x) earlier (acts, made, looks) later led all =
-    let made_now : Exchanged h user version earlier x × (new.core ≡ led_to h user version (x ∷ earlier)) = made.leads h user version earlier later led in
-    ((made_now.0, all), made_now.1)
-
--- the exchanges of a turn are the session's
-pub turn_exchanged : (user : List ℕ) (version : Version) (boards after : List BoardState) (old new : Session) (turns : List Turn) (frames : List FrameParts) (results : List Got) (sent : List (List ℕ))
-    (bytes : List ℕ) (told told_after : Option Traffic) (t : Turn) (left : Sending)
-    → Holds user version boards old turns frames results sent → Turns old new bytes after told told_after t left → Extends boards after
-    → (h : List Entry) → IsLaterThanAll after h → AreExchanged h user version (exchanges_of (t ∷ turns)) × (new.core ≡ led_to h user version (exchanges_of (t ∷ turns)))
-turn_exchanged user version boards after old new turns frames results sent bytes told told_after t left held did extends h later =
-    made_led h user version old new after t.exchange (exchanges_of turns) did.made later (held.led h (extends h later)) (held.exchanged h (extends h later))
-
-pub holds_on : Came → Expects → Joins
-    → (user : List ℕ) (version : Version) (boards after : List BoardState) (old new : Session) (turns : List Turn) (frames : List FrameParts) (results : List Got) (sent : List (List ℕ))
-    (bytes : List ℕ) (told told_after : Option Traffic) (t : Turn)
-    → Holds user version boards old turns frames results sent → Extends boards after
-    → (did : Turns old new bytes after told told_after t new.mux.outbox) → did.value ≡ new.mux.sent.value → IsAtRest new
-    → new.mux.inbox ≡ expecting_all (puts_in t.exchange) (taken_after old.mux.inbox t.frame)
-    → Holds user version after new (t ∷ turns) (frames ++ did.frames) (results ++ got.Frame bytes ∷ []) (sent ++ did.sent)
-holds_on law_came law_expects law_joins user version boards after old new turns frames results sent bytes told told_after t held extends did value rest inbox =
+pub holds_on : Came → Expects → Joins → Kept → Wants
+    → (setup : Setup) (start now final : Moment) (old new : Session) (turns : List Turn) (frames : List FrameParts) (results : List Got) (sent : List (List ℕ))
+    (result : Got) (told told_after : Option Traffic) (t : Turn)
+    → Holds setup start now old turns frames results sent
+    → (did : Turned old new result now final told told_after t [] new.mux.outbox []) → did.value ≡ new.mux.sent.value → IsAtRest new → did.now ≡ final
+    → new.mux.inbox ≡ expecting_all (put_by t.steps) (inbox_after old.mux.inbox t.frame)
+    → Holds setup start final new (t ∷ turns) (frames ++ did.frames) (results ++ result ∷ []) (sent ++ did.sent)
+holds_on came_law expects joins kept_law wants setup start now final old new turns frames results sent result told told_after t held did value rest now_is inbox =
     let written : AreWrittenAfter (all_sent [] frames) did.sent did.frames × (did.value ≡ checksum (all_sent (all_sent [] frames) did.frames)) = did.written (all_sent [] frames) held.checked in
+    let got : Received old new turns results result t.frame t.given = received_on came_law joins setup start now old new turns frames results sent result t.frame t.given held did.read in
+    let users : (new.core.user ≡ old.core.user) × (new.core.strict ≡ old.core.strict) = users_stay kept_law old.core t.steps new.core did.leads in
     record {
-      user_is = made_user old new after t.exchange did.made ∙ held.user_is;
-      version_is = made_version old new after t.exchange did.made ∙ held.version_is;
-      requests = made_requests old new after t.exchange (exchanges_of turns) did.made held.requests;
+      user = users.0 ∙ held.user;
+      strict = users.1 ∙ held.strict;
+      led = (old.core, held.led, did.leads, did.called);
       rest = rest;
-      exchanged = λ h later. (turn_exchanged user version boards after old new turns frames results sent bytes told told_after t new.mux.outbox held did extends h later).0;
-      led = λ h later. (turn_exchanged user version boards after old new turns frames results sent bytes told told_after t new.mux.outbox held did extends h later).1;
-      joined = (sym (law_joins old.mux.inbox (events_of turns) t.frame held.inbox) ∙ did.answer, did.given, held.joined);
+      wanted = nothing_wanted wants old.core t.steps (steps_of turns) new.core did.leads rest.pending held.wanted;
+      answered = turn_answered setup start now final old turns t.steps frames results sent held (subst (AreAnswered now old.core.user old.core.strict t.steps) now_is did.answered);
+      joined = (got.joined, held.joined);
       inbox = subst (λ s. StandsFor s (events_of (t ∷ turns))) (sym inbox)
-          (all_stand law_expects (puts_in t.exchange) (taken_after old.mux.inbox t.frame) (came t.frame ∷ events_of turns) (law_came old.mux.inbox (events_of turns) t.frame held.inbox));
-      looks = made_looks old new after t.exchange (exchanges_of turns) did.made held.looks;
-      count = omega (arith, did.count, held.count);
-      taken = frames_on results bytes held.taken;
-      read = read_on results (frames_of turns) t.frame bytes old.mux.received.value new.mux.received.value held.read did.read;
+          (all_stand expects (put_by t.steps) (inbox_after old.mux.inbox t.frame) (came_after t.frame (events_of turns)) got.inbox);
+      looks = did.looks ∙ ap (λ l. l ++ looks_of t.steps) held.looks ∙ sym (looks_after t.steps (steps_of turns));
+      stored = did.stored ∙ ap (λ l. l ++ stored_of t.steps) held.stored ∙ sym (stored_after t.steps (steps_of turns));
+      count = counted_on old new turns t did.count held.count;
+      taken = got.taken;
+      kinds = got.kinds;
+      read = got.read;
       put = (frames, did.frames, old.mux.outbox, refl, held.put, held.rest.idle, did.heard, did.go);
       written = written_more [] sent did.sent frames did.frames held.written written.0;
       checked = sym value ∙ written.1 ∙ ap checksum (sym (sent_more [] frames did.frames));
     }
-
-pub holds_idle : (user : List ℕ) (version : Version) (boards : List BoardState) (s : Session) (turns : List Turn) (frames : List FrameParts) (results : List Got) (sent : List (List ℕ))
-    → Holds user version boards s turns frames results sent → Holds user version boards s turns frames (results ++ got.Idle ∷ []) sent
-holds_idle user version boards s turns frames results sent held = record {
-  user_is = held.user_is;
-  version_is = held.version_is;
-  requests = held.requests;
-  rest = held.rest;
-  exchanged = held.exchanged;
-  led = held.led;
-  joined = held.joined;
-  inbox = held.inbox;
-  looks = held.looks;
-  count = held.count;
-  taken = idle_on results held.taken;
-  read = λ later. ap (λ bs. frames_at 0 (bs ++ later)) (bytes_on results (got.Idle ∷ []) ∙ append-nil (bytes_of results)) ∙ held.read later;
-  put = held.put;
-  written = held.written;
-  checked = held.checked;
-}
 
 -- ---- the beginning
 
@@ -213,28 +256,32 @@ unfolding checksum after_bits
 nothing_checked = refl
 
 -- a session to which nothing has come
-pub holds_new : (user : List ℕ) (version : Version) (boards : List BoardState) (s : Session)
+pub holds_new : (setup : Setup) (now : Moment) (s : Session)
     → StandsFor new_standing [] → AreApart new_standing new_sending
-    → s.core ≡ record { user = user; version = version; requests = 0; feed = None; pending = pending.Nothing }
-    → s.mux.inbox ≡ new_standing → s.mux.outbox ≡ new_sending → s.mux.received.value ≡ 0 → s.mux.sent.value ≡ 0 → s.looks ≡ [] → s.frames ≡ 0
-    → Holds user version boards s [] [] [] []
-holds_new user version boards s stands apart core inbox outbox received sent looks frames = record {
-  user_is = ap (λ (m : Machine). m.user) core;
-  version_is = ap (λ (m : Machine). m.version) core;
-  requests = ap (λ (m : Machine). m.requests) core;
+    → s.core ≡ new_machine setup.user setup.version setup.strict
+    → s.mux.inbox ≡ new_standing → s.mux.outbox ≡ new_sending → s.mux.received.value ≡ 0 → s.mux.sent.value ≡ 0 → s.listing.looks ≡ [] → s.listing.stored ≡ [] → s.frames ≡ 0
+    → Holds setup now now s [] [] [] []
+holds_new setup now s stands apart core inbox outbox received sent looks stored frames = record {
+  user = ap (λ (m : Machine). m.user) core;
+  strict = ap (λ (m : Machine). m.strict) core;
+  led = (core, refl);
   rest = record {
     pending = ap (λ (m : Machine). m.pending) core;
-    requests = ap (λ (o : Sending). o.requests) outbox ∙ sym (ap (λ (m : Machine). m.requests) core);
+    ready = record {
+      requests = ap (λ (o : Sending). o.requests) outbox ∙ sym (ap (λ (m : Machine). m.requests) core);
+      apart = subst (λ i. AreApart i s.mux.outbox) (sym inbox) (subst (AreApart new_standing) (sym outbox) apart);
+    };
     idle = ap picked outbox;
-    apart = subst (λ i. AreApart i s.mux.outbox) (sym inbox) (subst (AreApart new_standing) (sym outbox) apart);
   };
-  exchanged = λ h later. tt;
-  led = λ h later. core;
+  wanted = refl;
+  answered = refl;
   joined = tt;
   inbox = subst (λ s. StandsFor s []) (sym inbox) stands;
   looks = looks;
+  stored = stored;
   count = frames;
   taken = refl;
+  kinds = refl;
   read = λ later. ap (λ v. frames_at v later) (sym received);
   put = (refl, outbox);
   written = tt;

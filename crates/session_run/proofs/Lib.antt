@@ -1,11 +1,8 @@
-pub mod Exchanging
 pub mod Answering
-pub mod Looking
-pub mod Sending
-pub mod Fitting
-pub mod Putting
-pub mod Rising
-pub mod Turning
-pub mod Holding
+pub mod Conversing
 pub mod Ending
-pub mod Bodies
+pub mod Holding
+pub mod Owning
+pub mod ActsPut
+pub mod Taking
+pub mod Turning

@@ -1,162 +1,198 @@
--- One frame, from its bytes to the frames that went for it.
-use Rattle.std.proofs.Common.{◌≡◌, inl, inr, ℕ, ◌+◌, ◌<◌, ◌≤◌, arith, true, false, List, [], ◌∷◌, ◌++◌, Option, Some, None, Ok, refl, sym, ◌∙◌, ap, subst}
-use Rattle.std.specs.Prelude.{option_map}
+-- One result of the wire, from what is done for it to the frames that went.
+use Rattle.std.proofs.Common.{◌≡◌, inl, ℕ, ◌+◌, ◌≤◌, Bool, true, false, List, [], ◌∷◌, ◌++◌, Option, Some, None, Ok, refl, sym, ◌∙◌, ap, subst, arith, le_refl}
 use Rattle.std.specs.List.{list_any}
 use Rattle.sg_outside.specs.Wire.{Traffic}
 use Rattle.sg_outside.specs.declared.sink.Gave.{Gave}
 use Rattle.sg_outside.specs.declared.sink.Gave.TheVariants as gave
+use Rattle.sg_outside.specs.declared.wire.Got.TheVariants as got
 use Rattle.blip_frame.specs.declared.crc.Crc.{Crc}
 use Rattle.blip_frame.specs.declared.frame.Kind.{Kind}
-use Rattle.blip_frame.specs.Frame.{FrameParts}
+use Rattle.blip_frame.specs.Frame.{FrameParts, frame_at}
 use Rattle.blip_mux.specs.declared.message.Message.{Message}
 use Rattle.blip_mux.specs.declared.inbox.Taken.{Taken}
 use Rattle.blip_mux.specs.declared.inbox.Taken.TheVariants as takens
 use Rattle.blip_mux.specs.Apart.{AreApart, HasCome}
-use Rattle.blip_mux.specs.Cutting.{Deed, after_deed, ArePicked, after_deeds}
+use Rattle.blip_mux.specs.Cutting.{after_deeds, ArePicked}
 use Rattle.blip_mux.specs.Joining.{is_request}
 use Rattle.blip_mux.specs.Remembered.{Standing}
 use Rattle.blip_mux.specs.Standing.{answer_at, taken_after}
 use Rattle.blip_mux.specs.Sending.{Sending, picked, heard_in, is_reply_to}
-use Rattle.sg_history.specs.Board.{BoardState}
-use Rattle.session_core.specs.declared.act.Act.{Act}
+use Rattle.session_core.specs.declared.event.Event.{Event}
+use Rattle.session_core.specs.declared.event.Event.TheVariants as event
+use Rattle.session_core.specs.declared.machine.Pending.{Pending}
 use Rattle.session_core.specs.declared.machine.Pending.TheVariants as pending
-use Rattle.session_core.specs.Conduct.{messages_from}
-use Rattle.session_core.specs.Exchange.{Exchange, requests_among}
+use Rattle.session_core.specs.Conduct.{due_at, feed_front}
+use Rattle.session_core.specs.Fronts.{looks_of, stored_of}
+use Rattle.session_core.specs.Running.{waits}
+use Rattle.session_core.specs.State.{Machine}
+use Rattle.session_core.specs.Steps.{Step, Leads, put_by}
+use Rattle.session_mux.specs.declared.mux.Mux.{Mux}
+use Rattle.session_mux.specs.Muxed.{Gives, IsPart, acknowledged_by, HaveGone}
+use Rattle.session_mux.specs.Sent.{AreWrittenFrom, Tells, expecting_all}
 use Rattle.session_run.specs.declared.ended.End.{End}
 use Rattle.session_run.specs.declared.ended.End.TheVariants as end
-use Rattle.session_run.specs.declared.mux.Mux.{Mux}
 use Rattle.session_run.specs.declared.session.Session.{Session}
-use Rattle.session_run.specs.Exchanges.{Makes, Answers}
-use Rattle.session_run.specs.Held.{IsAtRest, IsMade, Turns, Goes, GoesOn, IsEndOf, Takes}
-use Rattle.session_run.specs.Muxed.{Gives, IsPart, HaveGone, put_all, requests_in}
-use Rattle.session_run.specs.Sent.{AreWrittenFrom, Tells, expecting_all}
-use Rattle.session_run.specs.Turns.{message_in, puts_in, puts_of, acknowledged_by}
-use Rattle.session_run.proofs.Putting.{PutsApart, PicksApart, put_as, acts_put, acts_counted, count_puts, answers_apart, picked_apart, picked_requests}
-use Rattle.session_run.proofs.Sending.{none_written, tells_none}
+use Rattle.session_run.specs.Answered.{Moment, HasRead, AreAnswered}
+use Rattle.session_run.specs.Held.{IsReady, IsAtRest, IsCalled, Conversed, Conversing, Went, GoesOn, IsEndOf, Turned, Takes}
+use Rattle.session_run.specs.Putting.{MayReply, put_as}
+use Rattle.session_run.specs.Turns.{IsForTaken, IsForIdle, puts_all}
+use Rattle.session_run.proofs.Conversing.{at_rest, deeds_on}
+use Rattle.session_run.proofs.ActsPut.{PicksApart, picked_apart, picked_requests}
 
--- ---- what goes after a frame
+-- to read nothing
+pub read_nothing : (now : Moment) → HasRead now now
+read_nothing now = record { reads = record { added = []; read = refl; later = tt; lengths = tt; rises = le_refl now.lowest }; recorded = refl; own = refl }
 
-goes_done : PicksApart → (old new : Session) (message : Option Message) (boards : List BoardState) (told told_after : Option Traffic) (x : Option Exchange) (out : Sending)
-    → option_map (λ x. x.message) x ≡ message → IsMade old new boards x → new.frames ≡ old.frames + 1 → new.mux.received ≡ old.mux.received
-    → out ≡ after_deeds old.mux.outbox (puts_of x) → new.mux.inbox ≡ expecting_all (puts_in x) old.mux.inbox
-    → new.core.pending ≡ pending.Nothing → out.requests ≡ new.core.requests → AreApart new.mux.inbox out
+-- ---- frames that go
+
+none_written : (value : ℕ) → AreWrittenFrom value [] [] value
+none_written value sent e = (tt, e)
+
+-- what went is what may go after what was put
+abbrev went_with : (old middle new : Session) (first : Option Event) (before now final : Moment) (told told_after : Option Traffic) (steps halted : List Step) (failed : List Gave)
+    → Leads old.core steps middle.core → IsCalled first (halted ++ steps) → AreAnswered before old.core.user old.core.strict (halted ++ steps) now → HasRead now final
+    → middle.listing.looks ≡ old.listing.looks ++ looks_of (halted ++ steps) → middle.listing.stored ≡ old.listing.stored ++ stored_of (halted ++ steps)
+    → new.core ≡ middle.core → new.listing ≡ middle.listing
+    → (out : Sending) → out ≡ after_deeds old.mux.outbox (puts_all (put_by steps)) → (crc : Crc) → crc ≡ old.mux.sent
     → (frames : List FrameParts) (texts : List (List ℕ)) (left : Sending) (value : ℕ)
-    → ArePicked out frames left → AreWrittenFrom old.mux.sent.value frames texts value → Tells told [] texts told_after
-    → picked left ≡ None → left ≡ new.mux.outbox → value ≡ new.mux.sent.value
-    → GoesOn old new message boards told told_after None
-goes_done law old new message boards told told_after x out given made count received out_is inbox rest requests apart frames texts left value go written tells idle left_is value_is = (
-  record {
-    exchange = x;
-    frames = frames;
-    sent = texts;
-    value = value;
-    given = given;
-    made = made;
-    count = count;
-    received = received;
-    go = subst (λ l. ArePicked (after_deeds old.mux.outbox (puts_of x)) frames l) left_is (subst (λ o. ArePicked o frames left) out_is go);
-    written = written;
-    tells = tells;
-  },
-  value_is,
-  record {
-    pending = rest;
-    requests = ap (λ (s : Sending). s.requests) (sym left_is) ∙ picked_requests out frames left go ∙ requests;
-    idle = ap picked (sym left_is) ∙ idle;
-    apart = subst (AreApart new.mux.inbox) left_is (picked_apart law new.mux.inbox out frames left go apart);
-  },
-  inbox,
-)
-
-goes_partly : (old new : Session) (message : Option Message) (boards : List BoardState) (told told_after : Option Traffic) (x : Option Exchange) (out : Sending)
-    → option_map (λ x. x.message) x ≡ message → IsMade old new boards x → new.frames ≡ old.frames + 1 → new.mux.received ≡ old.mux.received
-    → out ≡ after_deeds old.mux.outbox (puts_of x)
-    → (frames : List FrameParts) (texts : List (List ℕ)) (left : Sending) (value : ℕ)
-    → ArePicked out frames left → AreWrittenFrom old.mux.sent.value frames texts value → Tells told [] texts told_after
-    → Goes old new message boards told told_after left
-goes_partly old new message boards told told_after x out given made count received out_is frames texts left value go written tells = record {
-  exchange = x;
+    → ArePicked out frames left → AreWrittenFrom crc.value frames texts value → Tells told [] texts failed told_after
+    → Went old new first before final told told_after steps halted left failed
+went_with old middle new first before now final told told_after steps halted failed leads called answered reads looks stored core listing out out_is crc crc_is frames texts left value go written tells = record {
+  now = now;
   frames = frames;
   sent = texts;
   value = value;
-  given = given;
-  made = made;
-  count = count;
-  received = received;
+  leads = subst (Leads old.core steps) (sym core) leads;
+  called = called;
+  answered = answered;
+  reads = reads;
+  looks = ap (λ l. l.looks) listing ∙ looks;
+  stored = ap (λ l. l.stored) listing ∙ stored;
   go = subst (λ o. ArePicked o frames left) out_is go;
-  written = written;
+  written = subst (λ (c : Crc). AreWrittenFrom c.value frames texts value) crc_is written;
   tells = tells;
 }
 
-pub goes : PicksApart → (old new : Session) (message : Option Message) (boards : List BoardState) (told told_after : Option Traffic) (x : Option Exchange) (out : Sending) (g : Gave) (result : Option End)
-    → option_map (λ x. x.message) x ≡ message → IsMade old new boards x → new.frames ≡ old.frames + 1 → new.mux.received ≡ old.mux.received
-    → out ≡ after_deeds old.mux.outbox (puts_of x) → new.mux.inbox ≡ expecting_all (puts_in x) old.mux.inbox
-    → new.core.pending ≡ pending.Nothing → out.requests ≡ new.core.requests → AreApart new.mux.inbox out
-    → HaveGone out old.mux.sent.value told told_after g new.mux.outbox new.mux.sent.value → IsEndOf g result
-    → GoesOn old new message boards told told_after result
-goes law old new message boards told told_after x out gave.Done result given made count received out_is inbox rest requests apart (frames, texts, left, value, go, written, tells, is_left) e =
-    subst (GoesOn old new message boards told told_after) (sym e)
-    (goes_done law old new message boards told told_after x out given made count received out_is inbox rest requests apart frames texts left value go written tells is_left.0 is_left.1 is_left.2)
-goes law old new message boards told told_after x out gave.Failed result given made count received out_is inbox rest requests apart (frames, texts, left, value, go, written, tells, is_left) e =
-    subst (GoesOn old new message boards told told_after) (sym e)
-    (left, goes_partly old new message boards told told_after x out given made count received out_is frames texts left value go written tells)
-goes law old new message boards told told_after x out gave.Memory result given made count received out_is inbox rest requests apart (frames, texts, left, value, go, written, tells, is_left) e =
-    subst (GoesOn old new message boards told told_after) (sym e)
-    (inl (left, goes_partly old new message boards told told_after x out given made count received out_is frames texts left value go written tells))
+-- a session once all went
+rested : PicksApart → (middle new : Session) (frames : List FrameParts) (left : Sending) → middle.core.pending ≡ pending.Nothing → IsReady middle → new.core ≡ middle.core → new.mux.inbox ≡ middle.mux.inbox
+    → ArePicked middle.mux.outbox frames left → picked left ≡ None → left ≡ new.mux.outbox → IsAtRest new
+rested law middle new frames left rest ready core inbox go idle left_is = record {
+  pending = ap (λ (m : Machine). m.pending) core ∙ rest;
+  ready = record {
+    requests = ap (λ (s : Sending). s.requests) (sym left_is) ∙ picked_requests middle.mux.outbox frames left go ∙ ready.requests ∙ ap (λ (m : Machine). m.requests) (sym core);
+    apart = subst (λ s. AreApart s new.mux.outbox) (sym inbox) (subst (AreApart middle.mux.inbox) left_is (picked_apart law middle.mux.inbox middle.mux.outbox frames left go ready.apart));
+  };
+  idle = ap picked (sym left_is) ∙ idle;
+}
 
--- ---- a message that is answered
+-- what a session has before it sends
+record Puts (old middle : Session) (first : Option Event) (before final : Moment) (steps : List Step) : Type 0 where
+  pub leads : Leads old.core steps middle.core
+  pub called : IsCalled first steps
+  pub answered : AreAnswered before old.core.user old.core.strict steps final
+  pub looks : middle.listing.looks ≡ old.listing.looks ++ looks_of steps
+  pub stored : middle.listing.stored ≡ old.listing.stored ++ stored_of steps
+  pub mux : middle.mux ≡ put_as old.mux (put_by steps)
+  pub ready : IsReady middle
+  pub rest : middle.core.pending ≡ pending.Nothing
+  pub front : feed_front middle.core.feed ≤ final.lowest
+  pub few : middle.core.requests ≤ old.core.requests + 30003
 
--- what is put for it
-put_for : (old : Session) (message : Message) (acts : List Act) (after : Mux) (x : Exchange) → old.mux.outbox.requests ≡ old.core.requests → Answers message acts → x.puts ≡ messages_from (old.core.requests + 1) acts
-    → after ≡ put_all acts old.mux → after ≡ put_as old.mux x.puts
-put_for old message acts after x requests answers puts is =
-    is ∙ acts_put message acts old.mux answers ∙ ap (λ n. put_as old.mux (messages_from (n + 1) acts)) requests ∙ ap (put_as old.mux) (sym puts)
+abbrev puts_went : (old middle new : Session) (first : Option Event) (before final : Moment) (told told_after : Option Traffic) (steps : List Step) (failed : List Gave)
+    → Puts old middle first before final steps → HasRead final final → new.core ≡ middle.core → new.listing ≡ middle.listing → middle.mux.sent ≡ old.mux.sent
+    → (frames : List FrameParts) (texts : List (List ℕ)) (left : Sending) (value : ℕ)
+    → ArePicked middle.mux.outbox frames left → AreWrittenFrom middle.mux.sent.value frames texts value → Tells told [] texts failed told_after
+    → Went old new first before final told told_after steps [] left failed
+puts_went old middle new first before final told told_after steps failed put read core listing sent frames texts left value go written tells =
+    went_with old middle new first before final final told told_after steps [] failed put.leads put.called put.answered read put.looks put.stored core listing
+    middle.mux.outbox (ap (λ (m : Mux). m.outbox) put.mux) middle.mux.sent sent frames texts left value go written tells
 
--- the requests are counted
-put_counted : (old new : Session) (message : Message) (acts : List Act) (after : Mux) (x : Exchange) → old.mux.outbox.requests ≡ old.core.requests → Answers message acts → x.puts ≡ messages_from (old.core.requests + 1) acts
-    → new.core.requests ≡ requests_among x.puts + old.core.requests → after ≡ put_all acts old.mux → after.outbox.requests ≡ new.core.requests
-put_counted old new message acts after x requests answers puts counted is =
-    ap (λ (m : Mux). m.outbox.requests) is ∙ acts_counted message acts old.mux answers
-    ∙ ap (λ n. n + old.mux.outbox.requests) (count_puts (old.core.requests + 1) message acts answers ∙ ap requests_among (sym puts))
-    ∙ ap (λ n. requests_among x.puts + n) requests ∙ sym counted
+goes_by : PicksApart → (old middle new : Session) (first : Option Event) (before final : Moment) (told told_after : Option Traffic) (steps : List Step) (g : Gave) (result : Option End)
+    → Puts old middle first before final steps → HasRead final final → new.core ≡ middle.core → new.listing ≡ middle.listing → middle.mux.sent ≡ old.mux.sent
+    → new.mux.inbox ≡ middle.mux.inbox
+    → HaveGone middle.mux.outbox middle.mux.sent.value told told_after g new.mux.outbox new.mux.sent.value → IsEndOf g result
+    → GoesOn old new first before final told told_after result
+goes_by law old middle new first before final told told_after steps gave.Done result put read core listing sent inbox (frames, texts, left, value, go, written, tells, (idle, left_is, value_is)) e =
+    let gone : ArePicked middle.mux.outbox frames new.mux.outbox = subst (ArePicked middle.mux.outbox frames) left_is go in
+    subst (GoesOn old new first before final told told_after) (sym e) (
+      steps,
+      puts_went old middle new first before final told told_after steps [] put read core listing sent frames texts new.mux.outbox value gone written tells,
+      value_is,
+      rested law middle new frames left put.rest put.ready core inbox go idle left_is,
+      refl,
+      inbox ∙ ap (λ (m : Mux). m.inbox) put.mux,
+      subst (λ (m : Machine). feed_front m.feed ≤ final.lowest) (sym core) put.front,
+      subst (λ (m : Machine). m.requests ≤ old.core.requests + 30003) (sym core) put.few,
+    )
+goes_by law old middle new first before final told told_after steps gave.Failed result put read core listing sent inbox (frames, texts, left, value, go, written, tells, is_left) e =
+    subst (GoesOn old new first before final told told_after) (sym e) (
+      steps,
+      left,
+      puts_went old middle new first before final told told_after steps (gave.Failed ∷ []) put read core listing sent frames texts left value go written tells,
+      ap (λ (m : Machine). m.pending) core ∙ put.rest,
+    )
+goes_by law old middle new first before final told told_after steps gave.Memory result put read core listing sent inbox (frames, texts, left, value, go, written, tells, is_left) e =
+    subst (GoesOn old new first before final told told_after) (sym e)
+    (steps, [], left, puts_went old middle new first before final told told_after steps [] put read core listing sent frames texts left value go written tells)
 
-made_own : (old new : Session) (boards : List BoardState) (message : Message) (acts : List Act) (x : Exchange) → Makes old.core message x.looks acts boards new.core x → new.looks ≡ old.looks ++ x.looks → IsMade old new boards (Some x)
-made_own old new boards message acts x made looks = (acts, subst (λ m. Makes old.core m x.looks acts boards new.core x) (sym made.message_is) made, looks)
+-- ---- an event
 
-pub answered : PutsApart → PicksApart → (old new : Session) (message : Message) (boards : List BoardState) (told told_after : Option Traffic) (acts : List Act) (after : Mux) (g : Gave) (result : Option End)
-    → old.mux.outbox.requests ≡ old.core.requests → AreApart old.mux.inbox old.mux.outbox → (is_request message.kind ≡ true → HasCome old.mux.inbox message.number)
-    → Answers message acts
-    → ((x : Exchange) × Makes old.core message x.looks acts boards new.core x × (new.looks ≡ old.looks ++ x.looks))
-    → new.frames ≡ old.frames + 1 → new.core.pending ≡ pending.Nothing
-    → after ≡ put_all acts old.mux → after.received ≡ old.mux.received → after.sent ≡ old.mux.sent
-    → new.mux.inbox ≡ after.inbox → new.mux.received ≡ after.received
-    → HaveGone after.outbox after.sent.value told told_after g new.mux.outbox new.mux.sent.value → IsEndOf g result
-    → GoesOn old new (Some message) boards told told_after result
-answered puts_law law old new message boards told told_after acts after g result requests apart come answers (x, made, looks) count rest is received sent inbox received_after gone e =
-    let put : after ≡ put_as old.mux x.puts = put_for old message acts after x requests answers made.puts_are is in
-    goes law old new (Some message) boards told told_after (Some x) after.outbox g result
-    (ap Some made.message_is)
-    (made_own old new boards message acts x made looks)
-    count
-    (received_after ∙ received)
-    (ap (λ (m : Mux). m.outbox) put)
-    (inbox ∙ ap (λ (m : Mux). m.inbox) put)
-    rest
-    (put_counted old new message acts after x requests answers made.puts_are made.requests is)
-    (subst (λ s. AreApart s after.outbox) (sym inbox) (subst (λ (m : Mux). AreApart m.inbox m.outbox) (sym is) (answers_apart puts_law message acts old.mux answers come apart)))
-    (subst (λ (c : Crc). HaveGone after.outbox c.value told told_after g new.mux.outbox new.mux.sent.value) sent gone)
-    e
+conversing_puts : (old middle : Session) (first : Event) (before final : Moment) (steps : List Step) → Conversing old middle first before final None steps → Puts old middle (Some first) before final steps
+conversing_puts old middle first before final steps so_far = record {
+  leads = so_far.conversed.leads;
+  called = so_far.conversed.exchange;
+  answered = so_far.conversed.answered;
+  looks = so_far.conversed.looks;
+  stored = so_far.conversed.stored;
+  mux = so_far.mux;
+  ready = so_far.ready;
+  rest = at_rest middle.core.feed middle.core.pending so_far.wants;
+  front = so_far.front;
+  few = omega (arith, so_far.room);
+}
 
--- where memory ran out as it was put
-pub not_put : (old new : Session) (message : Message) (boards : List BoardState) (told : Option Traffic) (acts : List Act)
-    → ((x : Exchange) × Makes old.core message x.looks acts boards new.core x × (new.looks ≡ old.looks ++ x.looks))
-    → new.frames ≡ old.frames + 1 → new.mux.received ≡ old.mux.received
-    → (left : Sending) × Goes old new (Some message) boards told told left
-not_put old new message boards told acts (x, made, looks) count received = (
-  after_deeds old.mux.outbox (puts_of (Some x)),
-  goes_partly old new (Some message) boards told told (Some x) (after_deeds old.mux.outbox (puts_of (Some x))) (ap Some made.message_is) (made_own old new boards message acts x made looks) count received refl
-      [] [] (after_deeds old.mux.outbox (puts_of (Some x))) old.mux.sent.value refl (none_written old.mux.sent.value) (tells_none told),
+pub event_goes : PicksApart → (old middle new : Session) (first : Event) (before final : Moment) (told told_after : Option Traffic) (g : Gave) (result : Option End)
+    → ((steps : List Step) × Conversing old middle first before final None steps) → HasRead final final → new.core ≡ middle.core → new.listing ≡ middle.listing → middle.mux.sent ≡ old.mux.sent
+    → new.mux.inbox ≡ middle.mux.inbox
+    → HaveGone middle.mux.outbox middle.mux.sent.value told told_after g new.mux.outbox new.mux.sent.value → IsEndOf g result
+    → GoesOn old new (Some first) before final told told_after result
+event_goes law old middle new first before final told told_after g result (steps, so_far) read core listing sent inbox gone e =
+    goes_by law old middle new (Some first) before final told told_after steps g result (conversing_puts old middle first before final steps so_far) read core listing sent inbox gone e
+
+-- memory ran out
+pub event_halts : (old new : Session) (first : Event) (before final : Moment) (told : Option Traffic) → Tells told [] [] [] told
+    → ((steps : List Step) × (halted : List Step) × (now : Moment) × Conversed old new first before now steps halted × HasRead now final)
+    → GoesOn old new (Some first) before final told told (Some end.Memory)
+event_halts old new first before final told tells (steps, halted, now, so_far, read) = (
+  steps,
+  halted,
+  after_deeds old.mux.outbox (puts_all (put_by steps)),
+  went_with old new new (Some first) before now final told told steps halted [] so_far.leads so_far.exchange so_far.answered read so_far.looks so_far.stored refl refl
+      (after_deeds old.mux.outbox (puts_all (put_by steps))) refl old.mux.sent refl [] [] (after_deeds old.mux.outbox (puts_all (put_by steps))) old.mux.sent.value refl (none_written old.mux.sent.value) tells,
 )
+
+-- no event
+pub nothing_goes : PicksApart → (old new : Session) (now : Moment) (told told_after : Option Traffic) (g : Gave) (result : Option End)
+    → old.core.pending ≡ pending.Nothing → IsReady old → feed_front old.core.feed ≤ now.lowest → HasRead now now → new.core ≡ old.core → new.listing ≡ old.listing
+    → new.mux.inbox ≡ old.mux.inbox
+    → old.listing.looks ≡ old.listing.looks ++ [] → old.listing.stored ≡ old.listing.stored ++ []
+    → HaveGone old.mux.outbox old.mux.sent.value told told_after g new.mux.outbox new.mux.sent.value → IsEndOf g result
+    → GoesOn old new None now now told told_after result
+nothing_goes law old new now told told_after g result rest ready front read core listing inbox looks stored gone e =
+    goes_by law old old new None now now told told_after [] g result
+    (record {
+      leads = refl;
+      called = refl;
+      answered = refl;
+      looks = looks;
+      stored = stored;
+      mux = refl;
+      ready = ready;
+      rest = rest;
+      front = front;
+      few = omega arith;
+    })
+    read core listing refl inbox gone e
 
 -- ---- what a frame gives
 
@@ -177,120 +213,211 @@ acknowledged_apart law s out (takens.Ack kind number bytes) apart = law s out ki
 acknowledged_apart law s out (takens.Owed kind number bytes) apart = apart
 acknowledged_apart law s out (takens.Whole message) apart = apart
 
-pub gives_apart : TakesApart → HearsApart → (m : Mux) (bytes : List ℕ) (given : Taken) (after : Mux) → Gives m bytes given after → AreApart m.inbox m.outbox → AreApart after.inbox after.outbox
-gives_apart takes hears m bytes given after gives apart =
-    subst (λ s. AreApart s after.outbox) (sym gives.inbox) (subst (AreApart (taken_after m.inbox gives.frame)) (sym gives.outbox)
-    (acknowledged_apart hears (taken_after m.inbox gives.frame) m.outbox given (takes m.inbox m.outbox gives.frame given gives.answer apart)))
-
-pub whole_may : WholeApart → (m : Mux) (bytes : List ℕ) (message : Message) (after : Mux) → Gives m bytes (takens.Whole message) after → AreApart m.inbox m.outbox → is_request message.kind ≡ true
-    → (list_any (is_reply_to message.number) after.outbox.waiting ≡ false) × HasCome after.inbox message.number
-whole_may law m bytes message after gives apart is =
-    let may : (list_any (is_reply_to message.number) m.outbox.waiting ≡ false) × HasCome (taken_after m.inbox gives.frame) message.number = law m.inbox m.outbox gives.frame message gives.answer is apart in (
-      ap (λ (s : Sending). list_any (is_reply_to message.number) s.waiting) gives.outbox ∙ may.0,
-      subst (λ s. HasCome s message.number) (sym gives.inbox) may.1,
-    )
-
 acknowledged_requests : (out : Sending) (given : Taken) → (after_deeds out (acknowledged_by given)).requests ≡ out.requests
 acknowledged_requests out takens.Nothing = refl
 acknowledged_requests out (takens.Ack kind number bytes) = refl
 acknowledged_requests out (takens.Owed kind number bytes) = refl
 acknowledged_requests out (takens.Whole message) = refl
 
-pub gives_requests : (m : Mux) (bytes : List ℕ) (given : Taken) (after : Mux) → Gives m bytes given after → after.outbox.requests ≡ m.outbox.requests
-gives_requests m bytes given after gives = ap (λ (s : Sending). s.requests) gives.outbox ∙ acknowledged_requests m.outbox given
+-- session and wire still agree
+pub gives_ready : TakesApart → HearsApart → (old middle : Session) (bytes : List ℕ) (given : Taken) → Gives old.mux bytes given middle.mux → middle.core ≡ old.core → IsReady old → IsReady middle
+gives_ready takes hears old middle bytes given gives core ready = record {
+  requests = ap (λ (s : Sending). s.requests) gives.outbox ∙ acknowledged_requests old.mux.outbox given ∙ ready.requests ∙ ap (λ (m : Machine). m.requests) (sym core);
+  apart = subst (λ s. AreApart s middle.mux.outbox) (sym gives.inbox) (subst (AreApart (taken_after old.mux.inbox gives.frame)) (sym gives.outbox)
+      (acknowledged_apart hears (taken_after old.mux.inbox gives.frame) old.mux.outbox given (takes old.mux.inbox old.mux.outbox gives.frame given gives.answer ready.apart)));
+}
 
-deeds_on : (s : Sending) (first second : List Deed) → after_deeds s (first ++ second) ≡ after_deeds (after_deeds s first) second
-deeds_on s [] second = refl
-deeds_on s (deed ∷ first) second = deeds_on (after_deed s deed) first second
+pub part_ready : TakesApart → HearsApart → (old middle : Session) (bytes : List ℕ) → ((given : Taken) × IsPart given × Gives old.mux bytes given middle.mux) → middle.core ≡ old.core → IsReady old → IsReady middle
+part_ready takes hears old middle bytes (given, part, gives) core ready = gives_ready takes hears old middle bytes given gives core ready
 
--- ---- the turn
+-- the reply to its message may be put
+may_by : (m : Mux) (message : Message) (p : Pending) (b : Bool) → is_request message.kind ≡ b
+    → (is_request message.kind ≡ true → (list_any (is_reply_to message.number) m.outbox.waiting ≡ false) × HasCome m.inbox message.number)
+    → MayReply m (due_at p (event.Whole message))
+may_by m message p true is may = rw is (may is)
+may_by m message p false is may = rw is tt
 
--- the session once the frame was taken, before what it gave is done with
-abbrev pub with_mux : Session → Mux → Session
-with_mux old mux = record { core = old.core; mux = mux; looks = old.looks; frames = old.frames }
+pub whole_may : WholeApart → (old : Session) (bytes : List ℕ) (message : Message) (after : Mux) (p : Pending) → Gives old.mux bytes (takens.Whole message) after → IsReady old → MayReply after (due_at p (event.Whole message))
+whole_may law old bytes message after p gives ready =
+    may_by after message p (is_request message.kind) refl
+    (λ is.
+    let may : (list_any (is_reply_to message.number) old.mux.outbox.waiting ≡ false) × HasCome (taken_after old.mux.inbox gives.frame) message.number =
+    law old.mux.inbox old.mux.outbox gives.frame message gives.answer is ready.apart in (
+      ap (λ (s : Sending). list_any (is_reply_to message.number) s.waiting) gives.outbox ∙ may.0,
+      subst (λ s. HasCome s message.number) (sym gives.inbox) may.1,
+    ))
 
-own_made : (old new : Session) (mux : Mux) (boards : List BoardState) (x : Option Exchange) → IsMade (with_mux old mux) new boards x → IsMade old new boards x
-own_made old new mux boards None made = made
-own_made old new mux boards (Some x) made = made
+-- ---- the turn of a frame
 
-abbrev turn_of : (old new : Session) (mux : Mux) (bytes : List ℕ) (boards : List BoardState) (told told_after : Option Traffic) (given : Taken) (left : Sending)
-    → (gives : Gives old.mux bytes given mux) → mux.sent ≡ old.mux.sent → (went : Goes (with_mux old mux) new (message_in given) boards told told_after left)
-    → Turns old new bytes boards told told_after (record { frame = gives.frame; given = given; exchange = went.exchange }) left
-turn_of old new mux bytes boards told told_after given left gives sent went = record {
+-- what a frame gave calls for what was done
+abbrev Calls : Taken → Option Event → Type 0
+Calls given first = (steps : List Step) → IsCalled first steps → IsForTaken given steps
+
+abbrev turn_of : (old middle new : Session) (bytes : List ℕ) (given : Taken) (first : Option Event) (before final : Moment) (told told_after : Option Traffic) (steps halted : List Step) (left : Sending) (failed : List Gave)
+    → (gives : Gives old.mux bytes given middle.mux) → Calls given first → middle.core ≡ old.core → middle.listing ≡ old.listing → middle.mux.sent ≡ old.mux.sent
+    → new.mux.received ≡ middle.mux.received → new.frames ≡ old.frames + 1
+    → Went middle new first before final told told_after steps halted left failed
+    → Turned old new (got.Frame bytes) before final told told_after (record { frame = Some gives.frame; given = given; steps = steps }) halted left failed
+turn_of old middle new bytes given first before final told told_after steps halted left failed gives calls core listing sent received count went = record {
+  now = went.now;
   frames = went.frames;
   sent = went.sent;
   value = went.value;
-  read = gives.read ∙ ap (λ (c : Crc). Ok (gives.frame, c.value)) (sym went.received);
-  answer = gives.answer;
-  given = went.given;
-  made = own_made old new mux boards went.exchange went.made;
-  count = went.count;
+  read = (subst (λ (c : Crc). frame_at old.mux.received.value bytes ≡ Ok (gives.frame, c.value)) (sym received) gives.read, gives.answer);
+  leads = subst (λ (m : Machine). Leads m steps new.core) core went.leads;
+  called = calls (halted ++ steps) went.called;
+  answered = subst (λ (m : Machine). AreAnswered before m.user m.strict (halted ++ steps) went.now) core went.answered;
+  reads = went.reads;
+  looks = went.looks ∙ ap (λ l. l.looks ++ looks_of (halted ++ steps)) listing;
+  stored = went.stored ∙ ap (λ l. l.stored ++ stored_of (halted ++ steps)) listing;
+  count = count;
   heard = gives.heard;
-  go = subst (λ s. ArePicked s went.frames left) (ap (λ s. after_deeds s (puts_of went.exchange)) gives.outbox ∙ sym (deeds_on old.mux.outbox (acknowledged_by given) (puts_of went.exchange))) went.go;
+  go = subst (λ s. ArePicked s went.frames left) (ap (λ s. after_deeds s (puts_all (put_by steps))) gives.outbox ∙ sym (deeds_on old.mux.outbox (acknowledged_by given) (puts_all (put_by steps)))) went.go;
   written = subst (λ (c : Crc). AreWrittenFrom c.value went.frames went.sent went.value) sent went.written;
   tells = went.tells;
 }
 
-memory_takes : (old new : Session) (mux : Mux) (bytes : List ℕ) (boards : List BoardState) (told told_after : Option Traffic) (given : Taken)
-    → Gives old.mux bytes given mux → mux.sent ≡ old.mux.sent → GoesOn (with_mux old mux) new (message_in given) boards told told_after (Some end.Memory)
-    → Takes old new bytes boards told told_after (Some end.Memory)
-memory_takes old new mux bytes boards told told_after given gives sent (inl (left, went)) =
-    inl (record { frame = gives.frame; given = given; exchange = went.exchange }, left, turn_of old new mux bytes boards told told_after given left gives sent went)
-memory_takes old new mux bytes boards told told_after given gives sent (inr leaves) = inr leaves
-
-pub frame_takes : (old new : Session) (mux : Mux) (bytes : List ℕ) (boards : List BoardState) (told told_after : Option Traffic) (given : Taken) (result : Option End)
-    → Gives old.mux bytes given mux → mux.sent ≡ old.mux.sent → GoesOn (with_mux old mux) new (message_in given) boards told told_after result
-    → Takes old new bytes boards told told_after result
-frame_takes old new mux bytes boards told told_after given None gives sent (went, value, rest, inbox) = (
-  record { frame = gives.frame; given = given; exchange = went.exchange },
-  turn_of old new mux bytes boards told told_after given new.mux.outbox gives sent went,
+frame_goes : (old middle new : Session) (bytes : List ℕ) (given : Taken) (first : Option Event) (before final : Moment) (told told_after : Option Traffic) (result : Option End)
+    → (gives : Gives old.mux bytes given middle.mux) → Calls given first → middle.core ≡ old.core → middle.listing ≡ old.listing → middle.mux.sent ≡ old.mux.sent
+    → new.mux.received ≡ middle.mux.received → new.frames ≡ old.frames + 1
+    → GoesOn middle new first before final told told_after result
+    → Takes old new (got.Frame bytes) before final told told_after result
+frame_goes old middle new bytes given first before final told told_after None gives calls core listing sent received count (steps, went, value, rest, now, inbox, front, few) = (
+  record { frame = Some gives.frame; given = given; steps = steps },
+  turn_of old middle new bytes given first before final told told_after steps [] new.mux.outbox [] gives calls core listing sent received count went,
   value,
   rest,
-  inbox ∙ ap (expecting_all (puts_in went.exchange)) gives.inbox,
+  now,
+  inbox ∙ ap (expecting_all (put_by steps)) gives.inbox,
+  front,
+  subst (λ (m : Machine). new.core.requests ≤ m.requests + 30003) core few,
 )
-frame_takes old new mux bytes boards told told_after given (Some end.Closed) gives sent goes = absurd goes
-frame_takes old new mux bytes boards told told_after given (Some end.WireFault) gives sent (left, went) =
-    (record { frame = gives.frame; given = given; exchange = went.exchange }, left, turn_of old new mux bytes boards told told_after given left gives sent went)
-frame_takes old new mux bytes boards told told_after given (Some (end.BadFrame index why)) gives sent goes = absurd goes
-frame_takes old new mux bytes boards told told_after given (Some end.TurnsFull) gives sent goes = absurd goes
-frame_takes old new mux bytes boards told told_after given (Some end.Memory) gives sent goes = memory_takes old new mux bytes boards told told_after given gives sent goes
+frame_goes old middle new bytes given first before final told told_after (Some end.Closed) gives calls core listing sent received count goes = absurd goes
+frame_goes old middle new bytes given first before final told told_after (Some end.WireFault) gives calls core listing sent received count (steps, left, went, rest) = (
+  record { frame = Some gives.frame; given = given; steps = steps },
+  left,
+  turn_of old middle new bytes given first before final told told_after steps [] left (gave.Failed ∷ []) gives calls core listing sent received count went,
+  rest,
+)
+frame_goes old middle new bytes given first before final told told_after (Some (end.BadFrame index w)) gives calls core listing sent received count goes = absurd goes
+frame_goes old middle new bytes given first before final told told_after (Some end.TurnsFull) gives calls core listing sent received count goes = absurd goes
+frame_goes old middle new bytes given first before final told told_after (Some end.Memory) gives calls core listing sent received count (steps, halted, left, went) =
+    inl (
+      record { frame = Some gives.frame; given = given; steps = steps },
+      halted,
+      left,
+      turn_of old middle new bytes given first before final told told_after steps halted left [] gives calls core listing sent received count went,
+    )
 
-rest_in : (old new : Session) (message : Option Message) (boards : List BoardState) (told told_after : Option Traffic) → GoesOn old new message boards told told_after None → IsAtRest new
-rest_in old new message boards told told_after (went, value, rest, inbox) = rest
+-- a frame whose message was answered
+pub whole_takes : (old middle new : Session) (bytes : List ℕ) (message : Message) (before final : Moment) (told told_after : Option Traffic) (result : Option End)
+    → Gives old.mux bytes (takens.Whole message) middle.mux → middle.core ≡ old.core → middle.listing ≡ old.listing → middle.mux.sent ≡ old.mux.sent
+    → new.mux.received ≡ middle.mux.received → new.frames ≡ old.frames + 1
+    → GoesOn middle new (Some (event.Whole message)) before final told told_after result
+    → Takes old new (got.Frame bytes) before final told told_after result
+whole_takes old middle new bytes message before final told told_after result gives core listing sent received count goes =
+    frame_goes old middle new bytes (takens.Whole message) (Some (event.Whole message)) before final told told_after result gives (λ steps called. called) core listing sent received count goes
 
-count_in : (old new : Session) (message : Option Message) (boards : List BoardState) (told told_after : Option Traffic) → GoesOn old new message boards told told_after None → new.frames ≡ old.frames + 1
-count_in old new message boards told told_after (went, value, rest, inbox) = went.count
+part_calls : (given : Taken) → IsPart given → Calls given None
+part_calls takens.Nothing part steps called = called
+part_calls (takens.Ack kind number bytes) part steps called = called
+part_calls (takens.Owed kind number bytes) part steps called = called
+part_calls (takens.Whole message) part steps called = absurd part
 
-pub rest_after : (old new : Session) (message : Option Message) (boards : List BoardState) (told told_after : Option Traffic) (result : Option End) → GoesOn old new message boards told told_after result → result ≡ None → IsAtRest new
-rest_after old new message boards told told_after result goes e = rest_in old new message boards told told_after (subst (GoesOn old new message boards told told_after) e goes)
+-- a frame that gave none
+pub part_takes : (old middle new : Session) (bytes : List ℕ) (before final : Moment) (told told_after : Option Traffic) (result : Option End)
+    → ((given : Taken) × IsPart given × Gives old.mux bytes given middle.mux) → middle.core ≡ old.core → middle.listing ≡ old.listing → middle.mux.sent ≡ old.mux.sent
+    → new.mux.received ≡ middle.mux.received → new.frames ≡ old.frames + 1
+    → GoesOn middle new None before final told told_after result
+    → Takes old new (got.Frame bytes) before final told told_after result
+part_takes old middle new bytes before final told told_after result (given, part, gives) core listing sent received count goes =
+    frame_goes old middle new bytes given None before final told told_after result gives (part_calls given part) core listing sent received count goes
 
-pub count_after : (old new : Session) (message : Option Message) (boards : List BoardState) (told told_after : Option Traffic) (result : Option End) → GoesOn old new message boards told told_after result → result ≡ None → new.frames ≡ old.frames + 1
-count_after old new message boards told told_after result goes e = count_in old new message boards told told_after (subst (GoesOn old new message boards told told_after) e goes)
+-- ---- the turn of an idle moment
 
--- ---- a frame that gave no message
+abbrev idle_turn : (old new : Session) (front : ℕ) (before final : Moment) (told told_after : Option Traffic) (steps halted : List Step) (left : Sending) (failed : List Gave)
+    → waits old.core.feed ≡ true → new.mux.received ≡ old.mux.received → new.frames ≡ old.frames
+    → Went old new (Some (event.Idle front)) before final told told_after steps halted left failed
+    → Turned old new got.Idle before final told told_after (record { frame = None; given = takens.Nothing; steps = steps }) halted left failed
+idle_turn old new front before final told told_after steps halted left failed waiting received count went = record {
+  now = went.now;
+  frames = went.frames;
+  sent = went.sent;
+  value = went.value;
+  read = (received, refl);
+  leads = went.leads;
+  called = (refl, subst (λ b. IsForIdle b (halted ++ steps)) (sym waiting) (front, went.called));
+  answered = went.answered;
+  reads = went.reads;
+  looks = went.looks;
+  stored = went.stored;
+  count = omega (arith, count);
+  heard = tt;
+  go = went.go;
+  written = went.written;
+  tells = went.tells;
+}
 
-pub part_apart : TakesApart → HearsApart → (m : Mux) (bytes : List ℕ) (after : Mux) → ((given : Taken) × IsPart given × Gives m bytes given after) → AreApart m.inbox m.outbox → AreApart after.inbox after.outbox
-part_apart takes hears m bytes after (given, part, gives) apart = gives_apart takes hears m bytes given after gives apart
+-- a feed waits, and the front was loaded
+pub idle_takes : (old new : Session) (front : ℕ) (before final : Moment) (told told_after : Option Traffic) (result : Option End)
+    → waits old.core.feed ≡ true → new.mux.received ≡ old.mux.received → new.frames ≡ old.frames
+    → GoesOn old new (Some (event.Idle front)) before final told told_after result
+    → Takes old new got.Idle before final told told_after result
+idle_takes old new front before final told told_after None waiting received count (steps, went, value, rest, now, inbox, at, few) = (
+  record { frame = None; given = takens.Nothing; steps = steps },
+  idle_turn old new front before final told told_after steps [] new.mux.outbox [] waiting received count went,
+  value,
+  rest,
+  now,
+  inbox,
+  at,
+  few,
+)
+idle_takes old new front before final told told_after (Some end.Closed) waiting received count goes = absurd goes
+idle_takes old new front before final told told_after (Some end.WireFault) waiting received count (steps, left, went, rest) = (
+  record { frame = None; given = takens.Nothing; steps = steps },
+  left,
+  idle_turn old new front before final told told_after steps [] left (gave.Failed ∷ []) waiting received count went,
+  rest,
+)
+idle_takes old new front before final told told_after (Some (end.BadFrame index w)) waiting received count goes = absurd goes
+idle_takes old new front before final told told_after (Some end.TurnsFull) waiting received count goes = absurd goes
+idle_takes old new front before final told told_after (Some end.Memory) waiting received count (steps, halted, left, went) =
+    inl (
+      record { frame = None; given = takens.Nothing; steps = steps },
+      halted,
+      left,
+      idle_turn old new front before final told told_after steps halted left [] waiting received count went,
+    )
 
-part_none : (given : Taken) → IsPart given → None ≡ message_in given
-part_none takens.Nothing part = refl
-part_none (takens.Ack kind number bytes) part = refl
-part_none (takens.Owed kind number bytes) part = refl
-part_none (takens.Whole message) part = absurd part
-
-pub part_takes : (old new : Session) (mux : Mux) (bytes : List ℕ) (boards : List BoardState) (told told_after : Option Traffic) (result : Option End)
-    → ((given : Taken) × IsPart given × Gives old.mux bytes given mux) → mux.sent ≡ old.mux.sent → GoesOn (with_mux old mux) new None boards told told_after result
-    → Takes old new bytes boards told told_after result
-part_takes old new mux bytes boards told told_after result (given, part, gives) sent goes =
-    frame_takes old new mux bytes boards told told_after given result gives sent (subst (λ m. GoesOn (with_mux old mux) new m boards told told_after result) (part_none given part) goes)
-
--- ---- room for what is put
-
-pub room_for : (old new : Session) (mux : Mux) (message : Message) (boards : List BoardState) (acts : List Act) → mux ≡ old.mux → old.mux.outbox.requests ≡ old.core.requests → Answers message acts
-    → ((x : Exchange) × Makes old.core message x.looks acts boards new.core x × (new.looks ≡ old.looks ++ x.looks))
-    → new.core.requests ≤ old.core.requests + 10001 → old.core.requests ≤ 9223372036854775808
-    → mux.outbox.requests + requests_in acts < 18446744073709551615
-room_for old new mux message boards acts same requests answers (x, made, looks) few room =
-    let count : requests_in acts ≡ requests_among x.puts = count_puts (old.core.requests + 1) message acts answers ∙ ap requests_among (sym made.puts_are) in
-    let equal : mux.outbox.requests ≡ old.core.requests = ap (λ (m : Mux). m.outbox.requests) same ∙ requests in
-    omega (arith, equal, few, room, made.requests, count)
+-- no feed waits
+pub idle_passes : (old : Session) (now : Moment) (told : Option Traffic) → waits old.core.feed ≡ false → IsAtRest old → feed_front old.core.feed ≤ now.lowest → HasRead now now → Tells told [] [] [] told
+    → old.listing.looks ≡ old.listing.looks ++ [] → old.listing.stored ≡ old.listing.stored ++ []
+    → Takes old old got.Idle now now told told None
+idle_passes old now told waiting rest front read tells looks stored = (
+  record { frame = None; given = takens.Nothing; steps = [] },
+  record {
+    now = now;
+    frames = [];
+    sent = [];
+    value = old.mux.sent.value;
+    read = (refl, refl);
+    leads = refl;
+    called = (refl, subst (λ b. IsForIdle b []) (sym waiting) refl);
+    answered = refl;
+    reads = read;
+    looks = looks;
+    stored = stored;
+    count = omega arith;
+    heard = tt;
+    go = refl;
+    written = none_written old.mux.sent.value;
+    tells = tells;
+  },
+  refl,
+  rest,
+  refl,
+  refl,
+  front,
+  omega arith,
+)

@@ -1,143 +1,221 @@
--- What a session that runs has, and what one frame changes.
-use Rattle.std.specs.Prelude.{◌≡◌, ◌⊎◌, ℕ, ◌+◌, true, List, [], ◌++◌, length, option_map, Option, Some, None, Ok}
+-- What only proofs need: what a session that runs has, and what one result of the wire changes.
+use Rattle.std.specs.Prelude.{◌≡◌, ◌⊎◌, ◌≤◌, ℕ, ◌+◌, ◌*◌, true, List, [], ◌∷◌, ◌++◌, length, Option, Some, None, Ok}
 use Rattle.sg_outside.specs.Wire.{Traffic}
 use Rattle.sg_outside.specs.declared.sink.Gave.{Gave}
 use Rattle.sg_outside.specs.declared.sink.Gave.TheVariants as gave
 use Rattle.sg_outside.specs.declared.wire.Got.{Got}
+use Rattle.sg_outside.specs.declared.wire.Got.TheVariants as got
 use Rattle.blip_frame.specs.Checksum.{checksum}
 use Rattle.blip_frame.specs.Frame.{FrameParts, frame_at, frames_at, with_front, AreWrittenAfter, all_sent}
-use Rattle.blip_mux.specs.declared.message.Message.{Message}
+use Rattle.blip_mux.specs.declared.inbox.Taken.{Taken}
+use Rattle.blip_mux.specs.declared.inbox.Taken.TheVariants as takens
 use Rattle.blip_mux.specs.Apart.{AreApart}
 use Rattle.blip_mux.specs.Cutting.{ArePicked, after_deeds}
+use Rattle.blip_mux.specs.Remembered.{Standing}
 use Rattle.blip_mux.specs.Standing.{answer_at, taken_after, StandsFor}
 use Rattle.blip_mux.specs.Sending.{Sending, picked}
-use Rattle.sg_history.specs.declared.entries.Entry.{Entry}
-use Rattle.sg_history.specs.Board.{BoardState}
-use Rattle.repl_messages.specs.declared.request.Version.{Version}
-use Rattle.session_core.specs.declared.act.Act.{Act}
+use Rattle.session_core.specs.declared.act.Want.{Want}
+use Rattle.session_core.specs.declared.event.Event.{Event}
 use Rattle.session_core.specs.declared.machine.Pending.TheVariants as pending
-use Rattle.session_core.specs.Conduct.{led_to}
-use Rattle.session_core.specs.Exchange.{Exchange, requests_put}
-use Rattle.session_core.specs.Session.{AreExchanged, looks_of}
-use Rattle.write_path.specs.Reads.{IsLaterThanAll}
+use Rattle.session_core.specs.Conduct.{due_with, feed_front, most_answers, WantsFor, AreWithin}
+use Rattle.session_core.specs.Fronts.{looks_of, stored_of, front_told}
+use Rattle.session_core.specs.State.{new_machine}
+use Rattle.session_core.specs.Steps.{Step, Steps, Leads, put_by, wanted_after}
+use Rattle.session_mux.specs.declared.mux.Mux.{Mux}
+use Rattle.session_mux.specs.Frames.{IsBadFrame}
+use Rattle.session_mux.specs.Muxed.{IsHeard}
+use Rattle.session_mux.specs.Sent.{AreWrittenFrom, Tells, expecting_all}
 use Rattle.session_run.specs.declared.ended.End.{End}
 use Rattle.session_run.specs.declared.ended.End.TheVariants as end
-use Rattle.session_run.specs.declared.ended.Ended.{Ended}
+use Rattle.session_run.specs.declared.serve.Setup.{Setup}
 use Rattle.session_run.specs.declared.session.Session.{Session}
-use Rattle.session_run.specs.Exchanges.{Makes}
-use Rattle.session_run.specs.Frames.{IsBadFrame}
-use Rattle.session_run.specs.Sent.{AreWrittenFrom, Tells, expecting_all}
-use Rattle.session_run.specs.Served.{are_frames, bytes_of, IsSession}
-use Rattle.session_run.specs.Turns.{Turn, message_in, puts_in, puts_of, exchanges_of, frames_of, events_of, deeds_of, IsHeard, AreJoined, AreSent}
+use Rattle.session_run.specs.Answered.{Moment, HasRead, AreAnswered}
+use Rattle.session_run.specs.Putting.{put_as, MayReply}
+use Rattle.session_run.specs.Served.{are_frames, bytes_of, IsServed}
+use Rattle.session_run.specs.Turns.{Turn, steps_of, frames_of, framed, framed_by, events_of, IsExchange, IsFor, AreLed, AreJoined, AreSent, puts_all, done_in}
 
--- nothing waits that may be sent, machine and outbox count the same requests, and the replies that wait are to requests that have come
-pub record IsAtRest (s : Session) : Type 0 where
-  pub pending : s.core.pending ≡ pending.Nothing
+-- ---- steps
+
+-- machine and outbox count the same requests, and the replies that wait are to requests that have come
+pub record IsReady (s : Session) : Type 0 where
   pub requests : s.mux.outbox.requests ≡ s.core.requests
-  pub idle : picked s.mux.outbox ≡ None
   pub apart : AreApart s.mux.inbox s.mux.outbox
 
+-- an event was taken, and what is put for it was put
+pub record Makes (old new : Session) (event : Event) (want : Option Want) : Type 0 where
+  pub step : Step
+  pub steps : Steps old.core step new.core
+  pub event_is : step.event ≡ event
+  pub want_is : step.want ≡ want
+  pub mux : new.mux ≡ put_as old.mux step.puts
+  pub user : new.core.user ≡ old.core.user
+  pub strict : new.core.strict ≡ old.core.strict
+  pub front : (most : ℕ) → feed_front old.core.feed ≤ most → AreWithin most (front_told event) → feed_front new.core.feed ≤ most
+
+-- memory ran out as an event was taken: nothing was done for it, or it was taken and not all was put
+abbrev pub Halts : Session → Session → Event → Type 0
+Halts old new event = (new.core ≡ old.core) ⊎ ((s : Step) × Steps old.core s new.core × (s.event ≡ event))
+
+-- steps were made for an event; in the last one, where memory ran out, nothing more was done
+pub record Conversed (old new : Session) (first : Event) (before now : Moment) (steps halted : List Step) : Type 0 where
+  pub leads : Leads old.core steps new.core
+  pub exchange : IsExchange first (halted ++ steps)
+  pub answered : AreAnswered before old.core.user old.core.strict (halted ++ steps) now
+  pub looks : new.listing.looks ≡ old.listing.looks ++ looks_of (halted ++ steps)
+  pub stored : new.listing.stored ≡ old.listing.stored ++ stored_of (halted ++ steps)
+
+-- so far all went well, and this is wanted
+pub record Conversing (old new : Session) (first : Event) (before now : Moment) (want : Option Want) (steps : List Step) : Type 0 where
+  pub conversed : Conversed old new first before now steps []
+  pub user : new.core.user ≡ old.core.user
+  pub strict : new.core.strict ≡ old.core.strict
+  pub want_is : wanted_after steps ≡ want
+  pub wants : WantsFor new.core.feed new.core.pending want
+  pub mux : new.mux ≡ put_as old.mux (put_by steps)
+  pub ready : IsReady new
+  pub may : MayReply new.mux (due_with new.core.pending)
+  pub front : feed_front new.core.feed ≤ now.lowest
+  pub room : new.core.requests + 10001 * most_answers new.core.pending ≤ old.core.requests + 30003
+
+-- ---- turns
+
+-- nothing waits that may be sent, no answer is awaited, and session and wire agree
+pub record IsAtRest (s : Session) : Type 0 where
+  pub pending : s.core.pending ≡ pending.Nothing
+  pub ready : IsReady s
+  pub idle : picked s.mux.outbox ≡ None
+
+abbrev pub IsCalled : Option Event → List Step → Type 0
+IsCalled None steps = steps ≡ []
+IsCalled (Some first) steps = IsExchange first steps
+
+-- steps were made for an event, if there was one, and frames were sent, until this was left
+pub record Went (old new : Session) (first : Option Event) (before final : Moment) (told told_after : Option Traffic) (steps halted : List Step) (left : Sending) (failed : List Gave) : Type 0 where
+  pub now : Moment
+  pub frames : List FrameParts
+  pub sent : List (List ℕ)
+  pub value : ℕ
+  pub leads : Leads old.core steps new.core
+  pub called : IsCalled first (halted ++ steps)
+  pub answered : AreAnswered before old.core.user old.core.strict (halted ++ steps) now
+  pub reads : HasRead now final
+  pub looks : new.listing.looks ≡ old.listing.looks ++ looks_of (halted ++ steps)
+  pub stored : new.listing.stored ≡ old.listing.stored ++ stored_of (halted ++ steps)
+  pub go : ArePicked (after_deeds old.mux.outbox (puts_all (put_by steps))) frames left
+  pub written : AreWrittenFrom old.mux.sent.value frames sent value
+  pub tells : Tells told [] sent failed told_after
+
+-- all was sent that may be sent, or the session ends
+abbrev pub GoesOn : Session → Session → Option Event → Moment → Moment → Option Traffic → Option Traffic → Option End → Type 0
+GoesOn old new first before final told told_after None =
+    (steps : List Step) × (went : Went old new first before final told told_after steps [] new.mux.outbox []) × (went.value ≡ new.mux.sent.value) × IsAtRest new
+    × (went.now ≡ final) × (new.mux.inbox ≡ expecting_all (put_by steps) old.mux.inbox) × (feed_front new.core.feed ≤ final.lowest)
+    × (new.core.requests ≤ old.core.requests + 30003)
+GoesOn old new first before final told told_after (Some end.WireFault) =
+    (steps : List Step) × (left : Sending) × Went old new first before final told told_after steps [] left (gave.Failed ∷ []) × (new.core.pending ≡ pending.Nothing)
+GoesOn old new first before final told told_after (Some end.Memory) =
+    (steps : List Step) × (halted : List Step) × (left : Sending) × Went old new first before final told told_after steps halted left []
+GoesOn old new first before final told told_after (Some other) = ⊥
+
+-- the frame was read and gave this, or the moment was idle
+abbrev pub IsRead : Got → Mux → Mux → Option FrameParts → Taken → Type 0
+IsRead (got.Frame bytes) old new (Some f) given = (frame_at old.received.value bytes ≡ Ok (f, new.received.value)) × (answer_at old.inbox f ≡ Ok given)
+IsRead got.Idle old new None given = (new.received ≡ old.received) × (given ≡ takens.Nothing)
+IsRead other old new frame given = ⊥
+
+-- how many frames a turn has taken
+abbrev pub counted : Option FrameParts → ℕ
+counted None = 0
+counted (Some f) = 1
+
+-- a result of the wire was taken in a turn, and this is left of what was to be sent
+pub record Turned (old new : Session) (result : Got) (before final : Moment) (told told_after : Option Traffic) (t : Turn) (halted : List Step) (left : Sending) (failed : List Gave) : Type 0 where
+  pub now : Moment
+  pub frames : List FrameParts
+  pub sent : List (List ℕ)
+  pub value : ℕ
+  pub read : IsRead result old.mux new.mux t.frame t.given
+  pub leads : Leads old.core t.steps new.core
+  pub called : IsFor old.core t.frame t.given (halted ++ t.steps)
+  pub answered : AreAnswered before old.core.user old.core.strict (halted ++ t.steps) now
+  pub reads : HasRead now final
+  pub looks : new.listing.looks ≡ old.listing.looks ++ looks_of (halted ++ t.steps)
+  pub stored : new.listing.stored ≡ old.listing.stored ++ stored_of (halted ++ t.steps)
+  pub count : new.frames ≡ old.frames + counted t.frame
+  pub heard : IsHeard t.given old.mux.outbox
+  pub go : ArePicked (after_deeds old.mux.outbox (done_in t)) frames left
+  pub written : AreWrittenFrom old.mux.sent.value frames sent value
+  pub tells : Tells told [] sent failed told_after
+
+-- the inbox once a frame was taken
+abbrev pub inbox_after : Standing → Option FrameParts → Standing
+inbox_after s None = s
+inbox_after s (Some f) = taken_after s f
+
+-- the result did nothing that shows
+pub record Leaves (old new : Session) (before final : Moment) (told told_after : Option Traffic) : Type 0 where
+  pub core : new.core ≡ old.core
+  pub looks : new.listing.looks ≡ old.listing.looks
+  pub stored : new.listing.stored ≡ old.listing.stored
+  pub same : final ≡ before
+  pub tells : Tells told [] [] [] told_after
+
+-- a result was taken and all was sent that may be sent, or the session ends by it
+abbrev pub Takes : Session → Session → Got → Moment → Moment → Option Traffic → Option Traffic → Option End → Type 0
+Takes old new result before final told told_after None =
+    (t : Turn) × (did : Turned old new result before final told told_after t [] new.mux.outbox []) × (did.value ≡ new.mux.sent.value) × IsAtRest new
+    × (did.now ≡ final) × (new.mux.inbox ≡ expecting_all (put_by t.steps) (inbox_after old.mux.inbox t.frame)) × (feed_front new.core.feed ≤ final.lowest)
+    × (new.core.requests ≤ old.core.requests + 30003)
+Takes old new result before final told told_after (Some end.WireFault) =
+    (t : Turn) × (left : Sending) × Turned old new result before final told told_after t [] left (gave.Failed ∷ []) × (new.core.pending ≡ pending.Nothing)
+Takes old new result before final told told_after (Some (end.BadFrame index w)) =
+    (bytes : List ℕ) × (result ≡ got.Frame bytes) × (index ≡ old.frames + 1)
+    × IsBadFrame (frame_at old.mux.received.value bytes) (answer_at old.mux.inbox) old.mux.outbox w × Leaves old new before final told told_after
+Takes old new result before final told told_after (Some end.Memory) =
+    ((t : Turn) × (halted : List Step) × (left : Sending) × Turned old new result before final told told_after t halted left [])
+    ⊎ ((bytes : List ℕ) × (result ≡ got.Frame bytes) × Leaves old new before final told told_after)
+Takes old new result before final told told_after (Some other) = ⊥
+
+-- ---- from the beginning
+
 -- a session that runs, after these turns, which took these results and sent these frames
-pub record Holds (user : List ℕ) (version : Version) (boards : List BoardState) (s : Session) (turns : List Turn) (frames : List FrameParts) (got : List Got) (sent : List (List ℕ)) : Type 0 where
-  pub user_is : s.core.user ≡ user
-  pub version_is : s.core.version ≡ version
-  pub requests : s.core.requests ≡ requests_put (exchanges_of turns)
+pub record Holds (setup : Setup) (start now : Moment) (s : Session) (turns : List Turn) (frames : List FrameParts) (results : List Got) (sent : List (List ℕ)) : Type 0 where
+  pub user : s.core.user ≡ setup.user
+  pub strict : s.core.strict ≡ setup.strict
+  pub led : AreLed (new_machine setup.user setup.version setup.strict) [] turns s.core
   pub rest : IsAtRest s
-  pub exchanged : (h : List Entry) → IsLaterThanAll boards h → AreExchanged h user version (exchanges_of turns)
-  pub led : (h : List Entry) → IsLaterThanAll boards h → s.core ≡ led_to h user version (exchanges_of turns)
+  pub wanted : wanted_after (steps_of turns) ≡ None
+  pub answered : AreAnswered start setup.user setup.strict (steps_of turns) now
   pub joined : AreJoined turns
   pub inbox : StandsFor s.mux.inbox (events_of turns)
-  pub looks : s.looks ≡ looks_of (exchanges_of turns)
-  pub count : s.frames ≡ length turns
-  pub taken : are_frames got ≡ true
-  pub read : (later : List (List ℕ)) → frames_at 0 (bytes_of got ++ later) ≡ with_front (frames_of turns) (frames_at s.mux.received.value later)
+  pub looks : s.listing.looks ≡ looks_of (steps_of turns)
+  pub stored : s.listing.stored ≡ stored_of (steps_of turns)
+  pub count : s.frames ≡ length (frames_of turns)
+  pub taken : are_frames results ≡ true
+  pub kinds : framed_by results ≡ framed turns
+  pub read : (later : List (List ℕ)) → frames_at 0 (bytes_of results ++ later) ≡ with_front (frames_of turns) (frames_at s.mux.received.value later)
   pub put : AreSent turns frames s.mux.outbox
   pub written : AreWrittenAfter [] sent frames
   pub checked : s.mux.sent.value ≡ checksum (all_sent [] frames)
 
--- no exchange was begun, or this one was
-abbrev pub IsMade : Session → Session → List BoardState → Option Exchange → Type 0
-IsMade old new boards None = (new.core ≡ old.core) × (new.looks ≡ old.looks)
-IsMade old new boards (Some x) = (acts : List Act) × Makes old.core x.message x.looks acts boards new.core x × (new.looks ≡ old.looks ++ x.looks)
-
--- a frame was taken in a turn, and this is left of what was to be sent
-pub record Turns (old new : Session) (bytes : List ℕ) (boards : List BoardState) (told told_after : Option Traffic) (t : Turn) (left : Sending) : Type 0 where
+-- the session runs, after so many results, of which the wire tells
+pub record Runs (setup : Setup) (start now : Moment) (told : Option Traffic) (s : Session) (told_now : Option Traffic) (count : ℕ) : Type 0 where
+  pub turns : List Turn
   pub frames : List FrameParts
+  pub results : List Got
   pub sent : List (List ℕ)
-  pub value : ℕ
-  pub read : frame_at old.mux.received.value bytes ≡ Ok (t.frame, new.mux.received.value)
-  pub answer : answer_at old.mux.inbox t.frame ≡ Ok t.given
-  pub given : option_map (λ x. x.message) t.exchange ≡ message_in t.given
-  pub made : IsMade old new boards t.exchange
-  pub count : new.frames ≡ old.frames + 1
-  pub heard : IsHeard t.given old.mux.outbox
-  pub go : ArePicked (after_deeds old.mux.outbox (deeds_of t)) frames left
-  pub written : AreWrittenFrom old.mux.sent.value frames sent value
-  pub tells : Tells told [] sent told_after
+  pub holds : Holds setup start now s turns frames results sent
+  pub tells : Tells told results sent [] told_now
+  pub counted : length results ≡ count
 
--- what a frame gave is done with: its message, where it gave one, was exchanged, and this is left of what was to be sent
-pub record Goes (old new : Session) (message : Option Message) (boards : List BoardState) (told told_after : Option Traffic) (left : Sending) : Type 0 where
-  pub exchange : Option Exchange
-  pub frames : List FrameParts
-  pub sent : List (List ℕ)
-  pub value : ℕ
-  pub given : option_map (λ x. x.message) exchange ≡ message
-  pub made : IsMade old new boards exchange
-  pub count : new.frames ≡ old.frames + 1
-  pub received : new.mux.received ≡ old.mux.received
-  pub go : ArePicked (after_deeds old.mux.outbox (puts_of exchange)) frames left
-  pub written : AreWrittenFrom old.mux.sent.value frames sent value
-  pub tells : Tells told [] sent told_after
-
--- the frame did nothing that shows
-abbrev pub Leaves : Session → Session → Option Traffic → Option Traffic → Type 0
-Leaves old new told told_after = (new.looks ≡ old.looks) × Tells told [] [] told_after
+-- and goes on, or ends
+abbrev pub RunsOn : Setup → Moment → Moment → Option Traffic → Session → Option Traffic → ℕ → Option End → Type 0
+RunsOn setup start final told s told_now count None = Runs setup start final told s told_now (count + 1)
+RunsOn setup start final told s told_now count (Some e) =
+    IsServed setup start final told (record { end = e; looks = s.listing.looks; stored = s.listing.stored }) told_now
 
 -- a frame that was not sent ends the session
 abbrev pub IsEndOf : Gave → Option End → Type 0
 IsEndOf gave.Done result = result ≡ None
 IsEndOf gave.Failed result = result ≡ Some end.WireFault
 IsEndOf gave.Memory result = result ≡ Some end.Memory
-
--- all was sent that may be sent, or the session ends
-abbrev pub GoesOn : Session → Session → Option Message → List BoardState → Option Traffic → Option Traffic → Option End → Type 0
-GoesOn old new message boards told told_after None =
-    (went : Goes old new message boards told told_after new.mux.outbox) × (went.value ≡ new.mux.sent.value) × IsAtRest new
-    × (new.mux.inbox ≡ expecting_all (puts_in went.exchange) old.mux.inbox)
-GoesOn old new message boards told told_after (Some end.Closed) = ⊥
-GoesOn old new message boards told told_after (Some end.WireFault) = (left : Sending) × Goes old new message boards told told_after left
-GoesOn old new message boards told told_after (Some (end.BadFrame index w)) = ⊥
-GoesOn old new message boards told told_after (Some end.TurnsFull) = ⊥
-GoesOn old new message boards told told_after (Some end.Memory) =
-    ((left : Sending) × Goes old new message boards told told_after left) ⊎ Leaves old new told told_after
-
--- a frame was taken and all was sent that may be sent, or the session ends by it
-abbrev pub Takes : Session → Session → List ℕ → List BoardState → Option Traffic → Option Traffic → Option End → Type 0
-Takes old new bytes boards told told_after None =
-    (t : Turn) × (did : Turns old new bytes boards told told_after t new.mux.outbox) × (did.value ≡ new.mux.sent.value) × IsAtRest new
-    × (new.mux.inbox ≡ expecting_all (puts_in t.exchange) (taken_after old.mux.inbox t.frame))
-Takes old new bytes boards told told_after (Some end.Closed) = ⊥
-Takes old new bytes boards told told_after (Some end.WireFault) = (t : Turn) × (left : Sending) × Turns old new bytes boards told told_after t left
-Takes old new bytes boards told told_after (Some (end.BadFrame index w)) =
-    (index ≡ old.frames + 1) × IsBadFrame (frame_at old.mux.received.value bytes) (answer_at old.mux.inbox) old.mux.outbox w × Leaves old new told told_after
-Takes old new bytes boards told told_after (Some end.TurnsFull) = ⊥
-Takes old new bytes boards told told_after (Some end.Memory) =
-    ((t : Turn) × (left : Sending) × Turns old new bytes boards told told_after t left) ⊎ Leaves old new told told_after
-
--- ---- from the beginning
-
--- the session runs, after so many results, of which the wire tells
-abbrev pub Runs : List ℕ → Version → List BoardState → Option Traffic → Session → Option Traffic → ℕ → Type 0
-Runs user version boards told s told_now count =
-    (turns : List Turn) × (frames : List FrameParts) × (got : List Got) × (sent : List (List ℕ))
-    × Holds user version boards s turns frames got sent × Tells told got sent told_now × (length got ≡ count)
-
--- the session has ended, by results and frames of which the wire tells
-abbrev pub Ends : List ℕ → Version → List BoardState → Option Traffic → Ended → Option Traffic → Type 0
-Ends user version boards told ended told_now =
-    (got : List Got) × (sent : List (List ℕ)) × IsSession user version boards ended got sent × Tells told got sent told_now
-
--- one result more was received: the session runs on, or ends
-abbrev pub RunsOn : List ℕ → Version → List BoardState → Option Traffic → Session → Option Traffic → ℕ → Option End → Type 0
-RunsOn user version boards told s told_now count None = Runs user version boards told s told_now (count + 1)
-RunsOn user version boards told s told_now count (Some e) = Ends user version boards told (record { end = e; looks = s.looks }) told_now

@@ -1,8 +1,7 @@
-pub mod Exchanges
-pub mod Frames
-pub mod Sent
-pub mod Turns
-pub mod Muxed
-pub mod Own
-pub mod Served
+pub mod Answered
 pub mod Held
+pub mod Listed
+pub mod Own
+pub mod Putting
+pub mod Served
+pub mod Turns

@@ -1,26 +1,28 @@
--- What a session was, from the first frame to its end.
-use Rattle.std.specs.Prelude.{◌≡◌, ◌⊎◌, ℕ, ◌+◌, Bool, true, false, List, [], ◌∷◌, ◌++◌, length, Option, None, Result, Ok, Err}
+-- What a session was, from the first result of the wire to its end.
+use Rattle.std.specs.Prelude.{◌≡◌, ◌⊎◌, ◌≤◌, ℕ, ◌+◌, Bool, true, false, List, [], ◌∷◌, ◌++◌, length, Option, None, Result, Ok, Err}
 use Rattle.sg_outside.specs.Wire.{Traffic}
+use Rattle.sg_outside.specs.declared.sink.Gave.{Gave}
+use Rattle.sg_outside.specs.declared.sink.Gave.TheVariants as gave
 use Rattle.sg_outside.specs.declared.wire.Got.{Got}
 use Rattle.sg_outside.specs.declared.wire.Got.TheVariants as got
 use Rattle.blip_frame.specs.Frame.{FrameParts, frames_at, AreWrittenAfter}
 use Rattle.blip_frame.specs.declared.frame.FrameFault.{FrameFault}
 use Rattle.blip_mux.specs.Joining.{answer_in}
 use Rattle.blip_mux.specs.Sending.{Sending, picked}
-use Rattle.sg_history.specs.declared.entries.Entry.{Entry}
-use Rattle.sg_history.specs.Board.{BoardState}
-use Rattle.repl_messages.specs.declared.request.Version.{Version}
-use Rattle.session_core.specs.Session.{AreExchanged, looks_of}
-use Rattle.write_path.specs.Reads.{IsLaterThanAll}
+use Rattle.session_core.specs.declared.machine.Pending.TheVariants as pending
+use Rattle.session_core.specs.Fronts.{looks_of, stored_of}
+use Rattle.session_core.specs.State.{Machine, new_machine}
+use Rattle.session_core.specs.Steps.{Step}
+use Rattle.session_mux.specs.declared.frame_why.FrameWhy.{FrameWhy}
+use Rattle.session_mux.specs.declared.frame_why.FrameWhy.TheVariants as why
+use Rattle.session_mux.specs.Frames.{IsBadTaken, why_of}
+use Rattle.session_mux.specs.Sent.{Tells}
 use Rattle.session_run.specs.declared.ended.End.{End}
 use Rattle.session_run.specs.declared.ended.End.TheVariants as end
 use Rattle.session_run.specs.declared.ended.Ended.{Ended}
-use Rattle.session_run.specs.declared.ended.FrameWhy.{FrameWhy}
-use Rattle.session_run.specs.declared.ended.FrameWhy.TheVariants as why
-use Rattle.session_run.specs.Frames.{IsBadTaken, why_of}
-use Rattle.session_run.specs.Own.{HaveOwnBodies}
-use Rattle.session_run.specs.Sent.{Tells}
-use Rattle.session_run.specs.Turns.{Turn, exchanges_of, frames_of, events_of, AreJoined, AreSent}
+use Rattle.session_run.specs.declared.serve.Setup.{Setup}
+use Rattle.session_run.specs.Answered.{Moment, HasRead, AreAnswered}
+use Rattle.session_run.specs.Turns.{Turn, steps_of, frames_of, framed, framed_by, events_of, AreLed, AreJoined, AreSent}
 
 -- ---- what was received
 
@@ -60,18 +62,20 @@ IsBad turns left before got.End w = ⊥
 IsBad turns left before got.Failed w = ⊥
 IsBad turns left before got.Memory w = ⊥
 
+-- how many results a session receives at most
 abbrev pub most_results : ℕ
 most_results = 1099511627776
 
--- The end, by the results that were taken in these turns, and the last one: the wire's end; its fault, or none where sending failed;
--- the frame after those of the turns, which is at fault; none, where all results that a session receives were taken; at want of
--- memory a frame or none.
-abbrev pub EndsBy : List Turn → Sending → End → List Got → List Got → Type 0
-EndsBy turns left end.Closed taken last = last ≡ got.End ∷ []
-EndsBy turns left end.WireFault taken last = (last ≡ got.Failed ∷ []) ⊎ (last ≡ [])
-EndsBy turns left (end.BadFrame index w) taken last = (index ≡ length turns + 1) × (bad : Got) × (last ≡ bad ∷ []) × IsBad turns left (bytes_of taken) bad w
-EndsBy turns left end.TurnsFull taken last = (last ≡ []) × (length taken ≡ most_results)
-EndsBy turns left end.Memory taken last = ((bytes : List ℕ) × (last ≡ got.Frame bytes ∷ [])) ⊎ (last ≡ [])
+-- The end, by the results that were taken in these turns, the last one, and the sending that failed: the wire's end; its fault as it
+-- received or as it sent; the frame after those of the turns, which is at fault; none, where all results that a session receives were
+-- taken; at want of memory a frame or none.
+abbrev pub EndsBy : List Turn → Sending → End → List Got → List Got → List Gave → Type 0
+EndsBy turns left end.Closed taken last failed = (last ≡ got.End ∷ []) × (failed ≡ [])
+EndsBy turns left end.WireFault taken last failed = ((last ≡ got.Failed ∷ []) × (failed ≡ [])) ⊎ ((last ≡ []) × (failed ≡ gave.Failed ∷ []))
+EndsBy turns left (end.BadFrame index w) taken last failed =
+    (index ≡ length (frames_of turns) + 1) × (bad : Got) × (last ≡ bad ∷ []) × IsBad turns left (bytes_of taken) bad w × (failed ≡ [])
+EndsBy turns left end.TurnsFull taken last failed = (last ≡ []) × (length taken ≡ most_results) × (failed ≡ [])
+EndsBy turns left end.Memory taken last failed = (((bytes : List ℕ) × (last ≡ got.Frame bytes ∷ [])) ⊎ (last ≡ [])) × (failed ≡ [])
 
 -- all was sent that may be sent, unless the wire failed or memory ran out
 abbrev pub IsSentAt : End → Sending → Type 0
@@ -81,30 +85,47 @@ IsSentAt (end.BadFrame index w) left = picked left ≡ None
 IsSentAt end.TurnsFull left = picked left ≡ None
 IsSentAt end.Memory left = Unit {0}
 
+-- no answer is awaited, unless memory ran out
+abbrev pub IsClosedAt : End → Machine → List Step → Type 0
+IsClosedAt end.Memory m halted = Unit {0}
+IsClosedAt other m halted = (m.pending ≡ pending.Nothing) × (halted ≡ [])
+
 -- ---- the whole
 
--- A session of this user: of the results that were received those before the last are the frames of turns; each message that they gave was
--- exchanged as a session over every history calls for that is later than all boards read; what was sent are the frames of what was put,
--- after each turn as many as may be sent; the looks are those that the exchanges took.
-pub record IsSession (user : List ℕ) (version : Version) (boards : List BoardState) (ended : Ended) (results : List Got) (sent : List (List ℕ)) : Type 0 where
+-- A session: of the results that were received those before the last are the frames and idle moments of turns; each message that
+-- they gave, and each idle moment, was dealt with as a session of this setup does, by answers of boards that were read one after another
+-- and each for its step; what was sent are the frames of what was put, after each turn as many as may be sent; the looks and the stored
+-- sequences are those of the steps. Where memory ran out, the last event may be one for which nothing more was done.
+pub record IsSession (setup : Setup) (start final : Moment) (ended : Ended) (results : List Got) (sent : List (List ℕ)) (failed : List Gave) : Type 0 where
   pub turns : List Turn
+  pub halted : List Step
   pub taken : List Got
   pub last : List Got
   pub frames : List FrameParts
   pub left : Sending
+  pub machine : Machine
+  pub now : Moment
   pub results_are : results ≡ taken ++ last
+  pub count : length results ≤ most_results
   pub taken_are : are_frames taken ≡ true
+  pub kinds : framed_by taken ≡ framed turns
   pub read : frames_at 0 (bytes_of taken) ≡ Ok (frames_of turns)
   pub joined : AreJoined turns
-  pub exchanged : (h : List Entry) → IsLaterThanAll boards h → AreExchanged h user version (exchanges_of turns)
-  pub looks : ended.looks ≡ looks_of (exchanges_of turns)
+  pub led : AreLed (new_machine setup.user setup.version setup.strict) halted turns machine
+  pub closed : IsClosedAt ended.end machine halted
+  pub answered : AreAnswered start setup.user setup.strict (halted ++ steps_of turns) now
+  pub reads : HasRead now final
+  pub looks : ended.looks ≡ looks_of (halted ++ steps_of turns)
+  pub stored : ended.stored ≡ stored_of (halted ++ steps_of turns)
   pub put : AreSent turns frames left
   pub written : AreWrittenAfter [] sent frames
   pub whole : IsSentAt ended.end left
-  pub ends : EndsBy turns left ended.end taken last
+  pub ends : EndsBy turns left ended.end taken last failed
 
--- The wire, as far as it tells, was served with a session of this user, in which no body was put that is not shown to the user.
-abbrev pub IsServed : List ℕ → Version → List BoardState → Option Traffic → Ended → Option Traffic → Type 0
-IsServed user version boards told ended told_after =
-    (results : List Got) × (sent : List (List ℕ)) × (session : IsSession user version boards ended results sent) × Tells told results sent told_after
-    × ((h : List Entry) → IsLaterThanAll boards h → HaveOwnBodies h user (exchanges_of session.turns))
+-- The wire, as far as it tells, was served with a session.
+pub record IsServed (setup : Setup) (start final : Moment) (told : Option Traffic) (ended : Ended) (told_after : Option Traffic) : Type 0 where
+  pub results : List Got
+  pub sent : List (List ℕ)
+  pub failed : List Gave
+  pub session : IsSession setup start final ended results sent failed
+  pub tells : Tells told results sent failed told_after

@@ -1,46 +1,91 @@
--- A session, frame by frame.
-use Rattle.std.specs.Prelude.{◌≡◌, false, ◌&&◌, not, List, [], ◌∷◌, ◌++◌, map, option_map, Option, Some, None, Ok, if◌then◌else◌}
+-- A session, turn by turn: a frame or an idle moment, what was done for it, and what was sent.
+use Rattle.std.specs.Prelude.{◌≡◌, ℕ, Bool, true, false, ◌&&◌, not, List, [], ◌∷◌, ◌++◌, map, Option, Some, None, Ok, if◌then◌else◌}
+use Rattle.sg_outside.specs.declared.wire.Got.{Got}
+use Rattle.sg_outside.specs.declared.wire.Got.TheVariants as got
 use Rattle.blip_frame.specs.Frame.{FrameParts}
 use Rattle.blip_mux.specs.declared.message.Message.{Message}
 use Rattle.blip_mux.specs.declared.inbox.Taken.{Taken}
 use Rattle.blip_mux.specs.declared.inbox.Taken.TheVariants as takens
 use Rattle.blip_mux.specs.Between.{waiting_of}
-use Rattle.blip_mux.specs.Cutting.{Deed, puts, owes, hears, after_deeds, ArePicked}
+use Rattle.blip_mux.specs.Cutting.{Deed, puts, after_deeds, ArePicked}
 use Rattle.blip_mux.specs.Joining.{Event, came, expected, is_request, answer_in}
-use Rattle.blip_mux.specs.Sending.{Sending, new_sending, picked, is_bad_ack}
-use Rattle.session_core.specs.Exchange.{Exchange}
+use Rattle.blip_mux.specs.Sending.{Sending, new_sending, picked}
+use Rattle.session_core.specs.declared.event.Event as session
+use Rattle.session_core.specs.declared.event.Event.TheVariants as event
+use Rattle.session_core.specs.Conduct.{is_answer}
+use Rattle.session_core.specs.Running.{waits}
+use Rattle.session_core.specs.State.{Machine}
+use Rattle.session_core.specs.Steps.{Step, Leads, put_by}
+use Rattle.session_mux.specs.Muxed.{acknowledged_by, IsHeard}
 
--- a frame that was taken, what it gave, and the exchange that its message began, where it gave one
+-- a frame that was taken and what it gave, or an idle moment, which gave nothing; and the steps that the session made for it, the last
+-- of which is the first of the list
 pub record Turn : Type 0 where
-  pub frame : FrameParts
+  pub frame : Option FrameParts
   pub given : Taken
-  pub exchange : Option Exchange
+  pub steps : List Step
 
--- the message that a frame gave
-abbrev pub message_in : Taken → Option Message
-message_in takens.Nothing = None
-message_in (takens.Ack kind number bytes) = None
-message_in (takens.Owed kind number bytes) = None
-message_in (takens.Whole message) = Some message
+-- all steps, the last of which is the first of the list, as of the turns
+abbrev pub steps_of : List Turn → List Step
+steps_of [] = []
+steps_of (t ∷ earlier) = t.steps ++ steps_of earlier
 
--- what was put in a turn
-abbrev pub puts_in : Option Exchange → List Message
-puts_in None = []
-puts_in (Some x) = x.puts
-
-abbrev pub with_exchange : Option Exchange → List Exchange → List Exchange
-with_exchange None earlier = earlier
-with_exchange (Some x) earlier = x ∷ earlier
-
--- the exchanges, the last of which is the first of the list, as of the turns
-abbrev pub exchanges_of : List Turn → List Exchange
-exchanges_of [] = []
-exchanges_of (t ∷ earlier) = with_exchange t.exchange (exchanges_of earlier)
+abbrev pub frame_in : Option FrameParts → List FrameParts
+frame_in None = []
+frame_in (Some f) = f ∷ []
 
 -- the frames that were taken, in order
 abbrev pub frames_of : List Turn → List FrameParts
 frames_of [] = []
-frames_of (t ∷ earlier) = frames_of earlier ++ t.frame ∷ []
+frames_of (t ∷ earlier) = frames_of earlier ++ frame_in t.frame
+
+-- ---- which turns are idle
+
+abbrev pub is_frame : Option FrameParts → Bool
+is_frame None = false
+is_frame (Some f) = true
+
+-- of each turn whether it is a frame's, in order
+abbrev pub framed : List Turn → List Bool
+framed [] = []
+framed (t ∷ earlier) = framed earlier ++ is_frame t.frame ∷ []
+
+-- the same of the results that were received
+abbrev pub framed_by : List Got → List Bool
+framed_by [] = []
+framed_by (got.Frame bytes ∷ results) = true ∷ framed_by results
+framed_by (result ∷ results) = false ∷ framed_by results
+
+-- ---- what a turn calls for
+
+-- the first step is by this event, and all later ones are by answers
+abbrev pub IsExchange : session.Event → List Step → Type 0
+IsExchange first [] = ⊥
+IsExchange first (s ∷ []) = s.event ≡ first
+IsExchange first (s ∷ t ∷ earlier) = (is_answer s.event ≡ true) × IsExchange first (t ∷ earlier)
+
+-- a frame that gave a message calls for an exchange by it; every other frame for nothing
+abbrev pub IsForTaken : Taken → List Step → Type 0
+IsForTaken takens.Nothing steps = steps ≡ []
+IsForTaken (takens.Ack kind number bytes) steps = steps ≡ []
+IsForTaken (takens.Owed kind number bytes) steps = steps ≡ []
+IsForTaken (takens.Whole message) steps = IsExchange (event.Whole message) steps
+
+-- an idle moment calls for one by the loaded front where a feed waits, else for nothing
+abbrev pub IsForIdle : Bool → List Step → Type 0
+IsForIdle true steps = (front : ℕ) × IsExchange (event.Idle front) steps
+IsForIdle false steps = steps ≡ []
+
+abbrev pub IsFor : Machine → Option FrameParts → Taken → List Step → Type 0
+IsFor m (Some f) given steps = IsForTaken given steps
+IsFor m None given steps = (given ≡ takens.Nothing) × IsForIdle (waits m.feed) steps
+
+-- The turns lead the machine from one state to another, each by what it calls for; but in the last turn, where memory ran out, nothing
+-- more was done for this last event.
+abbrev pub AreLed : Machine → List Step → List Turn → Machine → Type 0
+AreLed start halted [] m = (m ≡ start) × (halted ≡ [])
+AreLed start halted (t ∷ earlier) m =
+    (before : Machine) × AreLed start [] earlier before × Leads before t.steps m × IsFor before t.frame t.given (halted ++ t.steps)
 
 -- ---- what came
 
@@ -52,39 +97,32 @@ abbrev pub all_put_after : List Message → List Event → List Event
 all_put_after [] before = before
 all_put_after (m ∷ messages) before = all_put_after messages (put_after m before)
 
+abbrev pub came_after : Option FrameParts → List Event → List Event
+came_after None before = before
+came_after (Some f) before = came f ∷ before
+
 -- what has come, and which replies are expected; the last event is the first of the list
 abbrev pub events_of : List Turn → List Event
 events_of [] = []
-events_of (t ∷ earlier) = all_put_after (puts_in t.exchange) (came t.frame ∷ events_of earlier)
+events_of (t ∷ earlier) = all_put_after (put_by t.steps) (came_after t.frame (events_of earlier))
 
--- each frame gave what joining says, by all that came before it; each message that was given began an exchange
+abbrev pub IsJoined : Option FrameParts → Taken → List Event → Type 0
+IsJoined None given before = given ≡ takens.Nothing
+IsJoined (Some f) given before = answer_in before f ≡ Ok given
+
+-- each frame gave what joining says, by all that came before it
 abbrev pub AreJoined : List Turn → Type 0
 AreJoined [] = Unit {0}
-AreJoined (t ∷ earlier) = (answer_in (events_of earlier) t.frame ≡ Ok t.given) × (option_map (λ x. x.message) t.exchange ≡ message_in t.given) × AreJoined earlier
+AreJoined (t ∷ earlier) = IsJoined t.frame t.given (events_of earlier) × AreJoined earlier
 
 -- ---- what went
 
--- what a frame's acknowledgement does to what is to be sent: one that has come is heard, one that is owed waits
-abbrev pub acknowledged_by : Taken → List Deed
-acknowledged_by takens.Nothing = []
-acknowledged_by (takens.Ack kind number bytes) = hears kind number bytes ∷ []
-acknowledged_by (takens.Owed kind number bytes) = owes (record { kind = kind; number = number; bytes = bytes }) ∷ []
-acknowledged_by (takens.Whole message) = []
+-- what all of a turn does to what is to be sent: the acknowledgement of its frame, and what is put
+abbrev pub puts_all : List Message → List Deed
+puts_all messages = map (λ m. puts (waiting_of m)) messages
 
--- what an exchange does: its messages are put
-abbrev pub puts_of : Option Exchange → List Deed
-puts_of x = map (λ m. puts (waiting_of m)) (puts_in x)
-
--- and what all of a turn does
-abbrev pub deeds_of : Turn → List Deed
-deeds_of t = acknowledged_by t.given ++ puts_of t.exchange
-
--- an acknowledgement that has come can be true of what was sent
-abbrev pub IsHeard : Taken → Sending → Type 0
-IsHeard takens.Nothing s = Unit {0}
-IsHeard (takens.Ack kind number bytes) s = is_bad_ack kind number bytes s ≡ false
-IsHeard (takens.Owed kind number bytes) s = Unit {0}
-IsHeard (takens.Whole message) s = Unit {0}
+abbrev pub done_in : Turn → List Deed
+done_in t = acknowledged_by t.given ++ puts_all (put_by t.steps)
 
 -- The frames that went: after each turn those that are picked, one after another, until there is none; but for the last turn, after
 -- which this is left.
@@ -92,4 +130,4 @@ abbrev pub AreSent : List Turn → List FrameParts → Sending → Type 0
 AreSent [] frames left = (frames ≡ []) × (left ≡ new_sending)
 AreSent (t ∷ earlier) frames left =
     (before : List FrameParts) × (last : List FrameParts) × (s : Sending) × (frames ≡ before ++ last)
-    × AreSent earlier before s × (picked s ≡ None) × IsHeard t.given s × ArePicked (after_deeds s (deeds_of t)) last left
+    × AreSent earlier before s × (picked s ≡ None) × IsHeard t.given s × ArePicked (after_deeds s (done_in t)) last left

@@ -1,35 +1,8 @@
 //! How a session ends.
 
-use blip_frame::PayloadFault;
-use blip_mux::BadAck;
 use session_core::Looks;
-
-/// Why a frame is at fault.
-#[derive(Clone, Copy, Debug, PartialEq, Eq)]
-pub enum FrameWhy {
-    /// It ends too early.
-    Short,
-    /// A number in it has no value below 2^64 in ten bytes.
-    BadVarint,
-    /// Its flags name no kind, or are above 127.
-    BadType { flags: u64 },
-    /// It is compressed.
-    Compressed,
-    /// Its payload has this many bytes, which are too many.
-    FrameTooLong { bytes: u64 },
-    /// Its checksum is `kept`, where that of its direction is `computed`.
-    BadChecksum { kept: u32, computed: u32 },
-    /// A frame of this number may not come now.
-    OutOfOrder { number: u64 },
-    /// The payload of its message is none.
-    Payload(PayloadFault),
-    /// The payload of an acknowledgement is not one varint.
-    BadAckPayload,
-    /// It is an acknowledgement that can't be true of what was sent.
-    BadAck(BadAck),
-    /// It is a text message.
-    NotBinary,
-}
+use session_mux::FrameWhy;
+use sg_names::List;
 
 /// How a session ends.
 #[derive(Clone, Copy, Debug, PartialEq, Eq)]
@@ -42,13 +15,18 @@ pub enum End {
     BadFrame { index: u64, why: FrameWhy },
     /// So many results were received as a session receives at most: 2^40.
     TurnsFull,
-    /// Want of memory.
+    /// Out of memory.
     Memory,
 }
 
-/// A session that has ended: how, and at which lengths of the history it looked, in order.
+/// A list of sequences.
+pub type Sequences = List<u64>;
+
+/// A session that has ended: how; at which lengths of the history it looked, in order; and at which sequences its revisions
+/// were stored, in order.
 #[derive(Drop)]
 pub struct Ended {
     pub end: End,
     pub looks: Looks,
+    pub stored: Sequences,
 }

@@ -1,57 +1,55 @@
-//! A session that runs: frame by frame.
+//! A session that runs: result by result.
 
-ghost use Rattle.std.specs.Prelude.{◌≡◌, ◌≤◌, ◌<◌, ◌+◌, ◌++◌, [], true, false, List, ℕ, Option, None, Some, IfOk, OnOk, OnErr};
-ghost use Rattle.std.specs.Option.{option_to_list};
-ghost use Rattle.std.specs.List.{list_any};
+ghost use Rattle.std.specs.Prelude.{◌≡◌, ◌⊎◌, ◌≤◌, ◌<◌, ◌+◌, ◌++◌, [], true, false, List, ℕ, Option, None, Some, IfOk, OnOk, IfErr, OnErr};
+ghost use Rattle.blip_mux.specs.Apart.{AreApart};
+ghost use Rattle.blip_mux.specs.Sending.{picked};
 ghost use Rattle.sg_outside.specs.Wire.{Traffic};
-ghost use Rattle.blip_mux.specs.Apart.{AreApart, HasCome};
-ghost use Rattle.blip_mux.specs.Joining.{is_request};
-ghost use Rattle.blip_mux.specs.Sending.{is_reply_to};
-ghost use Rattle.sg_history.specs.declared.entries.Entry.{Entry};
-ghost use Rattle.repl_messages.specs.declared.request.Version.{Version};
 ghost use Rattle.session_core.specs.declared.machine.Pending.{Pending};
-ghost use Rattle.session_core.specs.Exchange.{Exchange};
-ghost use Rattle.session_core.specs.Session.{RiseBetween};
-ghost use Rattle.sg_history.specs.Board.{BoardState};
-ghost use Rattle.write_path.specs.Reads as reads;
+ghost use Rattle.session_core.specs.Conduct.{feed_front, due_at, due_with, WantsFor, most_answers, is_answer, AreWithin};
+ghost use Rattle.session_core.specs.Fronts.{look_of, stored_by, front_told};
+ghost use Rattle.session_core.specs.State.{Awaits, new_machine};
+ghost use Rattle.session_core.specs.Steps.{Step};
 ghost use Rattle.session_run.specs.declared.ended.End.{End};
-ghost use Rattle.session_run.specs.Exchanges.{Makes, AreAtLength, Answers};
-ghost use Rattle.session_run.specs.Held.{IsAtRest, IsEndOf, Holds, GoesOn, Takes, Runs, RunsOn};
+ghost use Rattle.session_run.specs.declared.serve.Setup.{Setup};
+ghost use Rattle.session_run.specs.Answered.{Moment, HasRead, IsAnswered};
+ghost use Rattle.session_run.specs.Held.{IsAtRest, IsReady, Makes, Halts, Conversed, Conversing, IsEndOf, Holds, GoesOn, Takes, Runs, RunsOn};
+ghost use Rattle.session_run.specs.Putting.{MayReply};
 
-use crate::ended::{End, Ended, FrameWhy};
-use crate::exchange::exchange;
-use crate::mux::{Mux, Took};
+use crate::ended::{End, Ended};
+use crate::listing::Listing;
+use crate::putting::put;
+use crate::reading::read;
 use blip_mux::Message;
 use repl_messages::Version;
-use session_core::{Acts, Core, Look, Looks};
+use session_core::{Acts, Core, Event, Want};
+use session_mux::{FrameWhy, Mux, Took};
 use sg_history::Name;
 use sg_outside::{Gave, Got, Memory, Wire};
 use std::alloc::Global;
 use write_path::Ground;
 
-/// The session's machine, the wire's two directions, the looks that were taken, and how many frames were taken.
+/// The session's machine, the wire's two directions, the looks and stored sequences, and how many frames were taken.
 #[derive(Drop)]
 pub(crate) struct Session {
     pub(crate) core: Core,
     pub(crate) mux: Mux,
-    pub(crate) looks: Looks,
+    pub(crate) listing: Listing,
     pub(crate) frames: u64,
 }
 
 impl Session {
-    /// A session to which nothing has come. Takes no memory.
-    pub(crate) fn new(alloc: Global, user: Name, version: Version) -> Session
-        ensures new { (history : List BoardState) → Holds user version history result [] [] [] [] }
-        ensures looks { result.looks ≡ [] }
-        ensures requests { result.core.requests ≡ 0 }
+    /// A session to which nothing has come. Allocates nothing.
+    pub(crate) fn new(alloc: Global, user: Name, version: Version, strict: bool) -> Session
+        ensures holds { (now : Moment) → Holds (record { user = user; version = version; strict = strict }) now now result [] [] [] [] }
+        ensures core { result.core ≡ new_machine user version strict }
         ensures frames { result.frames ≡ 0 }
     {
         blip_mux::laws::standing();
         blip_mux::laws::replies();
         Session {
-            core: Core::new(user, version),
+            core: Core::new(user, version, strict),
             mux: Mux::new(alloc),
-            looks: Looks::new(alloc),
+            listing: Listing::new(alloc),
             frames: 0,
         }
     }
@@ -65,82 +63,124 @@ impl Session {
 
     /// The end of the session.
     pub(crate) fn ended(self, end: End) -> Ended
-        ensures { result ≡ record { end = end; looks = self.looks } }
+        ensures { result ≡ record { end = end; looks = self.listing.looks; stored = self.listing.stored } }
     {
-        Ended {
-            end,
-            looks: self.looks,
-        }
+        let (looks, stored) = self.listing.into_lists();
+        Ended { end, looks, stored }
     }
 
-    /// Lists the look that was taken, if one was.
-    fn list(&mut self, look: Option<Look>) -> Result<(), Memory>
-        ensures ok { OnOk result (self.new ≡ record self.old { looks = self.old.looks ++ option_to_list look }) }
-        ensures err { OnErr result (self.new ≡ self.old) }
+    /// Takes an event, and puts what is put for it. Answers what is then wanted.
+    fn take_event(&mut self, alloc: Global, event: Event) -> Result<Option<Want>, Memory>
+        requires awaited { Awaits self.old.core event }
+        requires room { self.old.core.requests ≤ 9223372036854775808 }
+        requires ready { IsReady self.old }
+        requires may { MayReply self.old.mux (due_at self.old.core.pending event) }
+        ensures ok { IfOk result (λ want. Makes self.old self.new event want) }
+        ensures wants { IfOk result (λ want. WantsFor self.new.core.feed self.new.core.pending want) }
+        ensures ready { OnOk result (IsReady self.new) }
+        ensures may { OnOk result (MayReply self.new.mux (due_with self.new.core.pending)) }
+        ensures few { OnOk result (self.new.core.requests ≤ self.old.core.requests + 10001) }
+        ensures fewer { OnOk result (is_answer event ≡ true → most_answers self.new.core.pending < most_answers self.old.core.pending) }
+        ensures halted { OnErr result (Halts self.old self.new event) }
+        ensures listing { self.new.listing ≡ self.old.listing }
+        ensures frames { self.new.frames ≡ self.old.frames }
+        ensures received { self.new.mux.received ≡ self.old.mux.received }
+        ensures sent { self.new.mux.sent ≡ self.old.mux.sent }
     {
-        if let Some(look) = look {
-            self.looks.push(look)?;
+        session_core::laws::conduct();
+        blip_mux::laws::replies();
+        let Acts { puts, want } = self.core.step(alloc, event)?;
+        put(&mut self.mux, puts)?;
+        Ok(want)
+    }
+
+    /// Reads the history for what is wanted, and lists the look. Out of memory it may have read, or not.
+    fn answer<G: Ground>(
+        &mut self,
+        alloc: Global,
+        ground: &mut G,
+        want: Want,
+    ) -> Result<Event, Memory>
+        requires wants { WantsFor self.old.core.feed self.old.core.pending (Some want) }
+        requires front { feed_front self.old.core.feed ≤ G.floor ground.old }
+        ensures answered { IfOk result (λ event. IsAnswered (record { read = G.read ground.old; lowest = G.floor ground.old; recorded = G.recorded ground.old; own = G.own ground.old }) self.old.core.user self.old.core.strict (Some want) event (record { read = G.read ground.new; lowest = G.floor ground.new; recorded = G.recorded ground.new; own = G.own ground.new })) }
+        ensures awaited { IfOk result (λ event. Awaits self.old.core event) }
+        ensures answer { IfOk result (λ event. is_answer event ≡ true) }
+        ensures looks { IfOk result (λ event. self.new.listing.looks ≡ self.old.listing.looks ++ look_of event) }
+        ensures stored { IfOk result (λ event. self.new.listing.stored ≡ self.old.listing.stored ++ stored_by event) }
+        ensures read { OnErr result (HasRead (record { read = G.read ground.old; lowest = G.floor ground.old; recorded = G.recorded ground.old; own = G.own ground.old }) (record { read = G.read ground.new; lowest = G.floor ground.new; recorded = G.recorded ground.new; own = G.own ground.new })) }
+        ensures same_looks { OnErr result (self.new.listing.looks ≡ self.old.listing.looks) }
+        ensures same_stored { OnErr result (self.new.listing.stored ≡ self.old.listing.stored) }
+        ensures core { self.new.core ≡ self.old.core }
+        ensures mux { self.new.mux ≡ self.old.mux }
+        ensures frames { self.new.frames ≡ self.old.frames }
+    {
+        self.listing.reserve()?;
+        let event = read(alloc, ground, &self.core, want)?;
+        self.listing.list(&event);
+        Ok(event)
+    }
+
+    /// Takes an event, and the answers of all reads that are wanted for it, one after another.
+    fn converse<G: Ground>(
+        &mut self,
+        alloc: Global,
+        ground: &mut G,
+        event: Event,
+    ) -> Result<(), Memory>
+        requires awaited { Awaits self.old.core event }
+        requires first { is_answer event ≡ false }
+        requires room { self.old.core.requests ≤ 9223372036854745800 }
+        requires ready { IsReady self.old }
+        requires may { MayReply self.old.mux (due_at self.old.core.pending event) }
+        requires front { feed_front self.old.core.feed ≤ G.floor ground.old }
+        requires seen { AreWithin (G.floor ground.old) (front_told event) }
+        ensures ok { (before : Moment) → IsAnswered before self.old.core.user self.old.core.strict None event (record { read = G.read ground.old; lowest = G.floor ground.old; recorded = G.recorded ground.old; own = G.own ground.old })
+            → OnOk result ((steps : List Step) × Conversing self.old self.new event before (record { read = G.read ground.new; lowest = G.floor ground.new; recorded = G.recorded ground.new; own = G.own ground.new }) None steps) }
+        ensures halted { (before : Moment) → IsAnswered before self.old.core.user self.old.core.strict None event (record { read = G.read ground.old; lowest = G.floor ground.old; recorded = G.recorded ground.old; own = G.own ground.old })
+            → OnErr result ((steps : List Step) × (halted : List Step) × (now : Moment) × Conversed self.old self.new event before now steps halted × HasRead now (record { read = G.read ground.new; lowest = G.floor ground.new; recorded = G.recorded ground.new; own = G.own ground.new })) }
+        ensures frames { self.new.frames ≡ self.old.frames }
+        ensures received { self.new.mux.received ≡ self.old.mux.received }
+        ensures sent { self.new.mux.sent ≡ self.old.mux.sent }
+    {
+        sg_history::laws::later();
+        doc_board::laws::later_boards();
+        write_path::laws::reads();
+        write_path::laws::later();
+        write_path::laws::was_read();
+        let mut want = self.take_event(alloc, event)?;
+        while let Some(wanted) = want {
+            let answer = self.answer(alloc, ground, wanted)?;
+            want = self.take_event(alloc, answer)?;
         }
         Ok(())
     }
 
-    /// Takes the message of a frame: with a look at the history where it wants one, which is listed. Says what is to
-    /// be put.
-    fn take_message<G: Ground>(
-        &mut self,
-        alloc: Global,
-        ground: &mut G,
-        message: Message,
-    ) -> Result<Acts, Memory>
-        requires rest { self.old.core.pending ≡ Pending.Nothing }
-        requires room { self.old.core.requests ≤ 9223372036854775808 }
-        requires count { self.old.frames < 18446744073709551615 }
-        ensures reads { reads.Reads (G.read ground.old) (G.read ground.new) (G.floor ground.old) (G.floor ground.new) }
-        ensures recorded { G.recorded ground.new ≡ G.recorded ground.old }
-        ensures made { IfOk result (λ acts. (x : Exchange) × Makes self.old.core message x.looks acts (G.read ground.new) self.new.core x × (self.new.looks ≡ self.old.looks ++ x.looks)) }
-        ensures rises { (low : ℕ) → RiseBetween low self.old.looks (G.floor ground.old) → RiseBetween low self.new.looks (G.floor ground.new) }
-        ensures at_length { AreAtLength (G.recorded ground.old) self.old.looks → AreAtLength (G.recorded ground.old) self.new.looks }
-        ensures rest { OnOk result (self.new.core.pending ≡ Pending.Nothing) }
-        ensures answers { IfOk result (λ acts. Answers message acts) }
-        ensures few { OnOk result (self.new.core.requests ≤ self.old.core.requests + 10001) }
-        ensures count { OnOk result (self.new.frames ≡ self.old.frames + 1) }
-        ensures mux { self.new.mux ≡ self.old.mux }
-        ensures err { OnErr result (self.new.looks ≡ self.old.looks) }
-    {
-        let (acts, look) = exchange(alloc, ground, &mut self.core, message)?;
-        self.list(look)?;
-        self.frames += 1;
-        Ok(acts)
-    }
-
-    /// Answers a message that became whole, and sends what may be sent. Answers how the session ends, where it ends here.
-    fn answer<W: Wire, G: Ground>(
+    /// Answers an event, and sends what may be sent. Answers how the session ends, where it ends here.
+    fn exchange<W: Wire, G: Ground>(
         &mut self,
         alloc: Global,
         ground: &mut G,
         wire: &mut W,
-        message: Message,
+        event: Event,
     ) -> Option<End>
-        requires rest { self.old.core.pending ≡ Pending.Nothing }
-        requires requests { self.old.mux.outbox.requests ≡ self.old.core.requests }
-        requires apart { AreApart self.old.mux.inbox self.old.mux.outbox }
-        requires reply { is_request message.kind ≡ true → (list_any (is_reply_to message.number) self.old.mux.outbox.waiting ≡ false) × HasCome self.old.mux.inbox message.number }
-        requires room { self.old.core.requests ≤ 9223372036854775808 }
-        requires count { self.old.frames < 18446744073709551615 }
-        ensures reads { reads.Reads (G.read ground.old) (G.read ground.new) (G.floor ground.old) (G.floor ground.new) }
-        ensures recorded { G.recorded ground.new ≡ G.recorded ground.old }
-        ensures goes { GoesOn self.old self.new (Some message) (G.read ground.new) (W.told wire.old) (W.told wire.new) result }
-        ensures rises { (low : ℕ) → RiseBetween low self.old.looks (G.floor ground.old) → RiseBetween low self.new.looks (G.floor ground.new) }
-        ensures at_length { AreAtLength (G.recorded ground.old) self.old.looks → AreAtLength (G.recorded ground.old) self.new.looks }
+        requires awaited { Awaits self.old.core event }
+        requires first { is_answer event ≡ false }
+        requires room { self.old.core.requests ≤ 9223372036854745800 }
+        requires ready { IsReady self.old }
+        requires may { MayReply self.old.mux (due_at self.old.core.pending event) }
+        requires front { feed_front self.old.core.feed ≤ G.floor ground.old }
+        requires seen { AreWithin (G.floor ground.old) (front_told event) }
+        ensures goes { (before : Moment) → IsAnswered before self.old.core.user self.old.core.strict None event (record { read = G.read ground.old; lowest = G.floor ground.old; recorded = G.recorded ground.old; own = G.own ground.old })
+            → GoesOn self.old self.new (Some event) before (record { read = G.read ground.new; lowest = G.floor ground.new; recorded = G.recorded ground.new; own = G.own ground.new }) (W.told wire.old) (W.told wire.new) result }
         ensures faults { W.faults wire.old ≤ W.faults wire.new }
         ensures fault { result ≡ Some End.WireFault → W.faults wire.old < W.faults wire.new }
-        ensures few { result ≡ None → self.new.core.requests ≤ self.old.core.requests + 10001 }
+        ensures frames { self.new.frames ≡ self.old.frames }
+        ensures received { self.new.mux.received ≡ self.old.mux.received }
     {
         blip_mux::laws::replies();
-        let Ok(acts) = self.take_message(alloc, ground, message) else {
-            return Some(End::Memory);
-        };
-        match self.mux.put(acts) {
+        session_mux::laws::traffic();
+        match self.converse(alloc, ground, event) {
             Ok(()) => end_of(self.mux.send_all(wire)),
             Err(_) => Some(End::Memory),
         }
@@ -148,18 +188,15 @@ impl Session {
 
     /// Goes on after a frame that gave no message: sends what may be sent.
     fn go_on<W: Wire>(&mut self, wire: &mut W) -> Option<End>
-        requires rest { self.old.core.pending ≡ Pending.Nothing }
-        requires requests { self.old.mux.outbox.requests ≡ self.old.core.requests }
-        requires apart { AreApart self.old.mux.inbox self.old.mux.outbox }
-        requires count { self.old.frames < 18446744073709551615 }
-        ensures goes { (boards : List BoardState) → GoesOn self.old self.new None boards (W.told wire.old) (W.told wire.new) result }
+        requires pending { self.old.core.pending ≡ Pending.Nothing }
+        requires ready { IsReady self.old }
+        ensures goes { (now : Moment) → feed_front self.old.core.feed ≤ now.lowest → GoesOn self.old self.new None now now (W.told wire.old) (W.told wire.new) result }
         ensures faults { W.faults wire.old ≤ W.faults wire.new }
         ensures fault { result ≡ Some End.WireFault → W.faults wire.old < W.faults wire.new }
-        ensures core { self.new.core ≡ self.old.core }
-        ensures looks { self.new.looks ≡ self.old.looks }
+        ensures frames { self.new.frames ≡ self.old.frames }
+        ensures received { self.new.mux.received ≡ self.old.mux.received }
     {
         blip_mux::laws::replies();
-        self.frames += 1;
         end_of(self.mux.send_all(wire))
     }
 
@@ -173,27 +210,52 @@ impl Session {
         bytes: &[u8],
     ) -> Option<End>
         requires rest { IsAtRest self.old }
-        requires room { self.old.core.requests ≤ 9223372036854775808 }
+        requires room { self.old.core.requests ≤ 9223372036854745800 }
         requires count { self.old.frames < 18446744073709551615 }
-        ensures reads { reads.Reads (G.read ground.old) (G.read ground.new) (G.floor ground.old) (G.floor ground.new) }
-        ensures recorded { G.recorded ground.new ≡ G.recorded ground.old }
-        ensures takes { Takes self.old self.new bytes.now (G.read ground.new) (W.told wire.old) (W.told wire.new) result }
-        ensures rises { (low : ℕ) → RiseBetween low self.old.looks (G.floor ground.old) → RiseBetween low self.new.looks (G.floor ground.new) }
-        ensures at_length { AreAtLength (G.recorded ground.old) self.old.looks → AreAtLength (G.recorded ground.old) self.new.looks }
+        requires front { feed_front self.old.core.feed ≤ G.floor ground.old }
+        ensures takes { Takes self.old self.new (Got.Frame bytes.now) (record { read = G.read ground.old; lowest = G.floor ground.old; recorded = G.recorded ground.old; own = G.own ground.old }) (record { read = G.read ground.new; lowest = G.floor ground.new; recorded = G.recorded ground.new; own = G.own ground.new }) (W.told wire.old) (W.told wire.new) result }
         ensures faults { W.faults wire.old ≤ W.faults wire.new }
         ensures fault { result ≡ Some End.WireFault → W.faults wire.old < W.faults wire.new }
-        ensures rest { result ≡ None → IsAtRest self.new }
-        ensures few { result ≡ None → self.new.core.requests ≤ self.old.core.requests + 10001 }
-        ensures count { result ≡ None → self.new.frames ≡ self.old.frames + 1 }
+        ensures count { self.new.frames ≤ self.old.frames + 1 }
     {
         blip_mux::laws::replies();
-        write_path::laws::reads();
+        session_mux::laws::traffic();
         match self.mux.take(bytes) {
-            Took::Whole(message) => self.answer(alloc, ground, wire, message),
-            Took::Part => self.go_on(wire),
+            Took::Whole(message) => {
+                self.frames += 1;
+                self.exchange(alloc, ground, wire, Event::Whole(message))
+            }
+            Took::Part => {
+                self.frames += 1;
+                self.go_on(wire)
+            }
             Took::Bad(why) => Some(self.bad_frame(why)),
             Took::Memory => Some(End::Memory),
         }
+    }
+
+    /// Takes an idle moment: where a feed waits, the length of the history is loaded, and the feed goes on where that has grown.
+    fn take_idle<W: Wire, G: Ground>(
+        &mut self,
+        alloc: Global,
+        ground: &mut G,
+        wire: &mut W,
+    ) -> Option<End>
+        requires rest { IsAtRest self.old }
+        requires room { self.old.core.requests ≤ 9223372036854745800 }
+        requires front { feed_front self.old.core.feed ≤ G.floor ground.old }
+        ensures takes { Takes self.old self.new Got.Idle (record { read = G.read ground.old; lowest = G.floor ground.old; recorded = G.recorded ground.old; own = G.own ground.old }) (record { read = G.read ground.new; lowest = G.floor ground.new; recorded = G.recorded ground.new; own = G.own ground.new }) (W.told wire.old) (W.told wire.new) result }
+        ensures faults { W.faults wire.old ≤ W.faults wire.new }
+        ensures fault { result ≡ Some End.WireFault → W.faults wire.old < W.faults wire.new }
+        ensures count { self.new.frames ≡ self.old.frames }
+    {
+        session_mux::laws::traffic();
+        write_path::laws::reads();
+        if !self.core.waits() {
+            return None;
+        }
+        let front = ground.front();
+        self.exchange(alloc, ground, wire, Event::Idle { front })
     }
 
     /// Receives one result and takes it. Answers how the session ends, where it ends by it.
@@ -204,26 +266,26 @@ impl Session {
         wire: &mut W,
     ) -> Option<End>
         requires rest { IsAtRest self.old }
-        requires room { self.old.core.requests ≤ 9223372036854775808 }
+        requires room { self.old.core.requests ≤ 9223372036854745800 }
         requires count { self.old.frames < 18446744073709551615 }
-        ensures reads { reads.Reads (G.read ground.old) (G.read ground.new) (G.floor ground.old) (G.floor ground.new) }
-        ensures recorded { G.recorded ground.new ≡ G.recorded ground.old }
-        ensures runs { (user : List ℕ) (version : Version) (told : Option Traffic) (count : ℕ) → Runs user version (G.read ground.old) told self.old (W.told wire.old) count
-            → RunsOn user version (G.read ground.new) told self.new (W.told wire.new) count result }
-        ensures rises { (low : ℕ) → RiseBetween low self.old.looks (G.floor ground.old) → RiseBetween low self.new.looks (G.floor ground.new) }
-        ensures at_length { AreAtLength (G.recorded ground.old) self.old.looks → AreAtLength (G.recorded ground.old) self.new.looks }
+        requires front { feed_front self.old.core.feed ≤ G.floor ground.old }
+        ensures runs { (setup : Setup) (start : Moment) (told : Option Traffic) (count : ℕ)
+            → Runs setup start (record { read = G.read ground.old; lowest = G.floor ground.old; recorded = G.recorded ground.old; own = G.own ground.old }) told self.old (W.told wire.old) count → count < 1099511627776
+            → RunsOn setup start (record { read = G.read ground.new; lowest = G.floor ground.new; recorded = G.recorded ground.new; own = G.own ground.new }) told self.new (W.told wire.new) count result }
+        ensures rest { result ≡ None → IsAtRest self.new }
+        ensures front { result ≡ None → feed_front self.new.core.feed ≤ G.floor ground.new }
+        ensures few { result ≡ None → self.new.core.requests ≤ self.old.core.requests + 30003 }
+        ensures count { self.new.frames ≤ self.old.frames + 1 }
         ensures faults { W.faults wire.old ≤ W.faults wire.new }
         ensures fault { result ≡ Some End.WireFault → W.faults wire.old < W.faults wire.new }
-        ensures rest { result ≡ None → IsAtRest self.new }
-        ensures few { result ≡ None → self.new.core.requests ≤ self.old.core.requests + 10001 }
-        ensures count { result ≡ None → self.new.frames ≤ self.old.frames + 1 }
     {
         blip_mux::laws::standing();
-        write_path::laws::reads();
+        session_mux::laws::traffic();
+        session_core::laws::conduct();
         match wire.recv() {
             Got::Frame(bytes) => self.take_frame(alloc, ground, wire, bytes.as_slice()),
             Got::Text => Some(self.bad_frame(FrameWhy::NotBinary)),
-            Got::Idle => None,
+            Got::Idle => self.take_idle(alloc, ground, wire),
             Got::End => Some(End::Closed),
             Got::Failed => Some(End::WireFault),
             Got::Memory => Some(End::Memory),

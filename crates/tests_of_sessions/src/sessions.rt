@@ -4,7 +4,7 @@ use crate::grounds::ground_of;
 use repl_messages::Version;
 use session_core::Purpose;
 use session_run::{Ended, Setup, serve_session};
-use sg_history::{Name, TextFault, from_hex, read_decimal, write_hex};
+use sg_history::{Name, TextFault, from_hex, read_decimal, write_decimal, write_hex};
 use sg_outside::{Bytes, Got, Input, MemWire, ScriptedWire, Wire};
 use std::alloc::{AllocError, Global};
 use std::test::Fail;
@@ -13,17 +13,21 @@ use std::test::Fail;
 const JOURNAL: &str =
     "U|ann|A|-;W|d1|1-a|-|0|7b7d|-|1|1-a|A|-|-;W|d2|1-b|-|0|7b7d|-|2|1-b|B|-|-;W|d3|1-c|-|0|7b7d|-|3|1-c|!|-|-;";
 
+/// A user's channel, and no more.
+const ANN: &str = "U|ann|A|-;";
+
 /// Seven entries.
 const SEVEN: &str = "U|ann|A|-;U|ann|A|-;U|ann|A|-;U|ann|A|-;U|ann|A|-;U|ann|A|-;U|ann|A|-;";
 
 /// subChanges with since 0, as request 1.
 const ASK: &str = "01001b50726f66696c65007375624368616e6765730073696e6365003000952c1fb6";
 
-/// Serves ann's device over a wire.
-fn serve<W: Wire>(alloc: Global, journal: &str, wire: &mut W) -> Result<Ended, Fail> {
+/// Serves ann's device over a wire, with conflicts off where it is strict.
+fn serve<W: Wire>(alloc: Global, journal: &str, strict: bool, wire: &mut W) -> Result<Ended, Fail> {
     let setup = Setup {
         user: Name::parse(alloc, "ann")?,
         version: Version::Three,
+        strict,
     };
     let (_ground, ended) = serve_session(alloc, ground_of(alloc, journal)?, setup, wire);
     Ok(ended)
@@ -65,17 +69,30 @@ fn purpose_text(purpose: &Purpose) -> &'static str {
     match purpose {
         Purpose::Feed => "feed",
         Purpose::Bodies => "bodies",
+        Purpose::Push => "push",
+        Purpose::Ask => "ask",
     }
 }
 
-/// How a session ended, and the looks, each as its purpose and front.
+/// How a session ended, the looks, each as its purpose and front, and the sequences at which revisions were stored.
 fn ended_text(alloc: Global, ended: &Ended) -> Result<String, AllocError> {
     let mut text = format!(in alloc; "{:?} ", ended.end)?;
     for look in ended.looks.as_slice() {
         let purpose = purpose_text(&look.purpose);
         text.push_str(format!(in alloc; "{purpose} {} ", look.front)?.as_str())?;
     }
+    push_stored(alloc, ended.stored.as_slice(), &mut text)?;
     Ok(text)
+}
+
+fn push_stored(alloc: Global, stored: &[u64], text: &mut String) -> Result<(), AllocError> {
+    if !stored.is_empty() {
+        text.push_str("stored ")?;
+    }
+    for sequence in stored {
+        text.push_str(format!(in alloc; "{sequence} ")?.as_str())?;
+    }
+    Ok(())
 }
 
 /// Sessions, each of five lines: what it shows, its journal, what comes, what is sent, and how it ends with the looks that it takes.
@@ -110,15 +127,34 @@ three\n\
 01401b50726f66696c65007361726173 02001f50726f66696c6500676574436865636b706f696e7400636c69656e7400630099dfe271 010075624368616e6765730073696e6365003000bc34d619\n\
 sent 0202214572726f722d446f6d61696e00424c4950004572726f722d436f646500343034006e6f2068616e646c657277cfe84b 010100337bb87d 01001050726f66696c65006368616e676573005b5b322c226431222c22312d61225d2c5b342c226433222c22312d63225d5dd877b665 \n\
 Closed feed 4 \n\n\
+a feed that stays, a revision, and offers\n\
+ann\n\
+01002b50726f66696c65007375624368616e6765730073696e6365003000636f6e74696e756f7573007472756500c7854a86 02001a50726f66696c65007265760069640064310072657600312d61007b7d0e1e6146 idle 03001750726f66696c650070726f706f73654368616e676573005b5b226431222c22312d61225d2c5b226431222c22322d62222c22312d61225d2c5b226431222c22322d62222c22312d7a225d5d91674bc4 04001050726f66696c65006368616e676573005b5b312c226431222c22312d61225d2c5b322c226431222c22322d62222c66616c73652c3132305d5d88715069\n\
+sent 010100d202ef8d 01201050726f66696c65006368616e676573005b5d82f2cb1a 0201002fe2e43c 02001050726f66696c65006368616e676573005b5b322c226431222c22312d61225d5d4af397c1 0301005b3330342c302c3430395d4ff84a1f 0401005b302c5b22312d61225d5d6022a8fd \n\
+Closed feed 1 push 1 feed 2 ask 2 ask 2 stored 2 \n\n\
+changes without conflicts, a second feed, and idle moments at which nothing grew\n\
+strict\n\
+01001050726f66696c65006368616e676573005b5b312c226431222c22312d61225d5d83e03234 02002350726f66696c65007375624368616e67657300636f6e74696e756f75730074727565001635d666 03001350726f66696c65007375624368616e676573004ab2dff2 idle idle\n\
+sent 0102214572726f722d446f6d61696e0048545450004572726f722d436f646500343039007573652070726f706f73654368616e6765732368d0ee 02010095934822 01201050726f66696c65006368616e676573005b5d9607301c 0302214572726f722d446f6d61696e0048545450004572726f722d436f64650034303900666565642069732072756e6e696e67c9667987 \n\
+Closed feed 1 \n\n\
+revisions stored, known and refused, and one that wants no reply\n\
+ann\n\
+01001a50726f66696c65007265760069640064310072657600312d61007b7dce816d8e 02001a50726f66696c65007265760069640064310072657600312d61007b7d41011479 03002b50726f66696c65007265760069640064310072657600312d62006e6f636f6e666c696374730074727565007b7d80b7eb2a 04002650726f66696c65007265760069640064310072657600322d6200686973746f727900332d61007b7d30a11f0f 05002650726f66696c65007265760069640064310072657600322d6200686973746f727900312d61005b05e8d141 06202650726f66696c65007265760069640064310072657600322d6200686973746f727900312d61002cc7a12d\n\
+sent 010100d202ef8d 02010041d912ff 0302214572726f722d446f6d61696e0048545450004572726f722d436f64650034303900636f6e666c69637420312d617cc1571f 0402214572726f722d446f6d61696e0048545450004572726f722d436f6465003430300062616420686973746f72796ae8686d 0502214572726f722d446f6d61696e0048545450004572726f722d436f6465003430300062616420626f64798f49ff2a \n\
+Closed push 1 push 2 push 2 push 2 push 2 stored 2 3 \n\n\
 nothing comes\n\
 three\n\
 idle\n\
 sent \n\
 Closed ";
 
-/// The journal of this name.
+/// The journal of this name; `strict` stands for that of ann alone, with conflicts off.
 fn journal_of(name: &str) -> &'static str {
-    if name == "seven" { SEVEN } else { JOURNAL }
+    match name {
+        "seven" => SEVEN,
+        "ann" | "strict" => ANN,
+        _ => JOURNAL,
+    }
 }
 
 /// What was sent in a session, and how it ended.
@@ -131,7 +167,7 @@ fn served_text(alloc: Global, sent: &[Bytes], ended: &Ended) -> Result<String, A
 
 fn session_text(alloc: Global, journal: &str, frames: &str) -> Result<String, Fail> {
     let mut wire = MemWire::new(alloc, inputs_of(alloc, frames)?);
-    let ended = serve(alloc, journal_of(journal), &mut wire)?;
+    let ended = serve(alloc, journal_of(journal), journal == "strict", &mut wire)?;
     Ok(served_text(alloc, wire.sent.as_slice(), &ended)?)
 }
 
@@ -214,7 +250,7 @@ fn wire_of(alloc: Global, fails: u64, words: &str) -> Result<ScriptedWire, Fail>
 
 /// How a session ends, and how many frames are sent.
 fn end_text(alloc: Global, wire: &mut ScriptedWire) -> Result<String, Fail> {
-    let ended = serve(alloc, JOURNAL, wire)?;
+    let ended = serve(alloc, JOURNAL, false, wire)?;
     Ok(format!(in alloc; "{:?}, {}", ended.end, wire.sent.len())?)
 }
 
@@ -235,5 +271,55 @@ fn each_end_has_its_cause(rt: HostRuntime) -> Result<(), Fail> {
     for line in ENDS.split('\n') {
         assert!(rt; ends_so(rt.alloc(), line)?, "{line}");
     }
+    Ok(())
+}
+
+/// What comes in a session that pulls 250 documents, takes one body, pushes three revisions and waits.
+const AFTERNOON: &str =
+    "01002b50726f66696c65007375624368616e6765730073696e6365003000636f6e74696e756f7573007472756500c7854a86 0101005b5b5d5d0942d536 0301005b5df7aff809 02001a50726f66696c6500726576006964006e300072657600312d61007b7d6cbda11f 03001a50726f66696c6500726576006964006e310072657600312d61007b7d460efd65 04001a50726f66696c6500726576006964006e320072657600312d61007b7d020b2bdf idle 0501005b5dd4a3262a";
+
+/// The bytes and the checksum of each frame that is sent in it.
+const AFTERNOON_SENT: &str =
+    "7:d202ef8d 3718:53160329 48:094109ec 974:2858a641 25:f8bf4099 7:5b297b2d 7:97869a83 7:a624bb8d 75:ffb804a2 ";
+
+const AFTERNOON_ENDED: &str =
+    "Closed feed 251 bodies 251 feed 251 push 251 push 252 push 253 feed 254 feed 254 stored 252 253 254 ";
+
+/// A user with a channel, and 250 documents in it.
+fn many_documents(alloc: Global) -> Result<String, AllocError> {
+    let mut lines = String::from_str(alloc, ANN)?;
+    for sequence in 2..252 {
+        let at = sequence - 1;
+        let write = format!(in alloc; "W|d{sequence:03}|1-a|-|0|7b7d|-|{at}|1-a|A|-|-;")?;
+        lines.push_str(write.as_str())?;
+    }
+    Ok(lines)
+}
+
+/// How many bytes each frame has, and its last four bytes, each with a blank after it.
+fn ends_of_frames(alloc: Global, frames: &[Bytes]) -> Result<Bytes, AllocError> {
+    let mut text = Bytes::new(alloc);
+    for frame in frames {
+        write_decimal(frame.as_slice().len() as u64, &mut text)?;
+        text.push(b':')?;
+        write_hex(last_four(frame.as_slice()), &mut text)?;
+        text.push(b' ')?;
+    }
+    Ok(text)
+}
+
+fn last_four(bytes: &[u8]) -> &[u8] {
+    &bytes[bytes.len().saturating_sub(4)..]
+}
+
+#[test]
+fn a_device_that_pulls_pushes_and_stays(rt: HostRuntime) -> Result<(), Fail> {
+    let alloc = rt.alloc();
+    let journal = many_documents(alloc)?;
+    let mut wire = MemWire::new(alloc, inputs_of(alloc, AFTERNOON)?);
+    let ended = serve(alloc, journal.as_str(), false, &mut wire)?;
+    assert!(rt; ended_text(alloc, &ended)?.as_str() == AFTERNOON_ENDED);
+    let sent = ends_of_frames(alloc, wire.sent.as_slice())?;
+    assert!(rt; sent.as_slice() == AFTERNOON_SENT.as_bytes());
     Ok(())
 }

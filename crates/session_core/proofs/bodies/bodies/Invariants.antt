@@ -1,5 +1,5 @@
 use Rattle.std.proofs.Common.{◌≡◌, ◌++◌, length}
-use Rattle.session_core.specs.Machine.{body_acts}
+use Rattle.session_core.specs.Acts.{body_acts}
 use Rattle.session_core.proofs.bodies.bodies.Given as goal
 
 abbrev pub decreases-loop-rows : goal.decreases-loop-rows

@@ -1,4 +1,4 @@
-use Rattle.session_core.specs.Puts.{chosen}
+use Rattle.session_core.specs.Acts.{chosen}
 use Rattle.session_core.proofs.Chosen.{chosen_part}
 use Rattle.session_core.proofs.bodies.choose.Goals as goal
 

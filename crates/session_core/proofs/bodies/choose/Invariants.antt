@@ -1,5 +1,5 @@
 use Rattle.std.proofs.Common.{◌≡◌, ◌++◌, length}
-use Rattle.session_core.specs.Puts.{chosen}
+use Rattle.session_core.specs.Acts.{chosen}
 use Rattle.session_core.proofs.bodies.choose.Given as goal
 
 abbrev pub decreases-loop-rows : goal.decreases-loop-rows

@@ -1,19 +1,16 @@
-use Rattle.std.proofs.Common.{◌≡◌, ◌≤◌, ◌*◌}
-use Rattle.session_core.specs.Session.{RiseBetween}
-use Rattle.write_path.specs.Reads.{Reads}
-use Rattle.session_run.specs.Exchanges.{AreAtLength}
+use Rattle.std.proofs.Common.{◌≤◌, ◌*◌}
+use Rattle.session_core.specs.Conduct.{feed_front}
 use Rattle.session_run.specs.Held.{IsAtRest, Runs}
 use Rattle.session_run.proofs.serve.serve_session.Given as goal
 
 abbrev pub invariant-loop-received : goal.invariant-loop-received
 invariant-loop-received g l = record {
-  runs : Runs l.fn.setup.user l.fn.setup.version (g.G.Ground.read l.ground) (g.W.Wire.told l.initial.wire) l.session (g.W.Wire.told l.wire) l.received;
+  runs : Runs l.fn.setup (record { read = g.G.Ground.read l.initial.ground; lowest = g.G.Ground.floor l.initial.ground; recorded = g.G.Ground.recorded l.initial.ground; own = g.G.Ground.own l.initial.ground })
+      (record { read = g.G.Ground.read l.ground; lowest = g.G.Ground.floor l.ground; recorded = g.G.Ground.recorded l.ground; own = g.G.Ground.own l.ground })
+      (g.W.Wire.told l.initial.wire) l.session (g.W.Wire.told l.wire) l.received;
   rest : IsAtRest l.session;
-  room : l.session.core.requests ≤ l.received * 10001;
+  front : feed_front l.session.core.feed ≤ g.G.Ground.floor l.ground;
+  room : l.session.core.requests ≤ l.received * 30003;
   count : l.session.frames ≤ l.received;
-  reads : Reads (g.G.Ground.read l.initial.ground) (g.G.Ground.read l.ground) (g.G.Ground.floor l.initial.ground) (g.G.Ground.floor l.ground);
-  recorded : g.G.Ground.recorded l.ground ≡ g.G.Ground.recorded l.initial.ground;
-  rise : RiseBetween (g.G.Ground.floor l.initial.ground) l.session.looks (g.G.Ground.floor l.ground);
-  at_length : AreAtLength (g.G.Ground.recorded l.initial.ground) l.session.looks;
   faults : g.W.Wire.faults l.initial.wire ≤ g.W.Wire.faults l.wire;
 }

@@ -1,0 +1,3 @@
+pub mod Fitting
+pub mod Sending
+pub mod Telling

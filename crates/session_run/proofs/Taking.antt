@@ -1,0 +1,140 @@
+-- One event, and what is put for it.
+use Rattle.std.proofs.Common.{◌≡◌, inl, inr, ◌≤◌, ◌<◌, ℕ, ◌+◌, true, Option, Result, Ok, Err, refl, sym, ◌∙◌, ap, subst, arith}
+use Rattle.std.specs.Prelude.{OnErr}
+use Rattle.session_core.specs.declared.act.Acts.{Acts}
+use Rattle.session_core.specs.declared.event.Event.{Event}
+use Rattle.session_core.specs.Acts.{messages_from}
+use Rattle.session_core.specs.Conduct.{AreAnswers, due_at, due_with, IsStillDue, WantsFor, most_answers, is_answer, IsKept, requests_in, feed_front, AreWithin}
+use Rattle.session_core.specs.Fronts.{front_told}
+use Rattle.session_core.specs.State.{Machine, Awaits}
+use Rattle.session_core.specs.Steps.{Step, Steps}
+use Rattle.session_core.specs.Transitions.{Done, Does, IsDoneBy}
+use Rattle.session_mux.specs.declared.mux.Mux.{Mux}
+use Rattle.blip_mux.specs.Apart.{AreApart}
+use Rattle.session_run.specs.declared.session.Session.{Session}
+use Rattle.session_run.specs.Held.{IsReady, Makes, Halts}
+use Rattle.session_run.specs.Putting.{MayPutAll, MayReply, put_all, put_as}
+use Rattle.session_run.proofs.ActsPut.{PutsApart, acts_put, acts_counted, answers_may, answers_apart}
+
+-- what the laws of a session say
+abbrev pub Puts : Type 0
+Puts = (m : Machine) (event : Event) (done : Done) → Awaits m event → Does m event done → AreAnswers (due_at m.pending event) done.acts
+
+abbrev pub Due : Type 0
+Due = (m : Machine) (event : Event) (done : Done) → Awaits m event → Does m event done → IsStillDue (due_at m.pending event) done
+
+abbrev pub Wants : Type 0
+Wants = (m : Machine) (event : Event) (done : Done) → Awaits m event → Does m event done → WantsFor done.after.feed done.after.pending done.want
+
+abbrev pub Fewer : Type 0
+Fewer = (m : Machine) (event : Event) (done : Done) → Awaits m event → Does m event done → is_answer event ≡ true → most_answers done.after.pending < most_answers m.pending
+
+abbrev pub Kept : Type 0
+Kept = (m : Machine) (event : Event) (done : Done) → Awaits m event → Does m event done → IsKept m event done
+
+-- what the machine's step answers
+abbrev pub Stepped : Machine → Event → Machine → Acts → Type 0
+Stepped old event new acts = IsDoneBy (λ (done : Done). Does old event done) new acts
+
+pub answers_of : Puts → (old new : Machine) (event : Event) (acts : Acts) → Awaits old event → Stepped old event new acts → AreAnswers (due_at old.pending event) acts.puts.items
+answers_of law old new event acts awaits (done, does, (after, puts, want)) = subst (AreAnswers (due_at old.pending event)) puts (law old event done awaits does)
+
+pub counted_of : Kept → (old new : Machine) (event : Event) (acts : Acts) → Awaits old event → Stepped old event new acts → new.requests ≡ old.requests + requests_in acts.puts.items
+counted_of law old new event acts awaits (done, does, (after, puts, want)) =
+    ap (λ (m : Machine). m.requests) (sym after) ∙ (law old event done awaits does).requests ∙ ap (λ acts. old.requests + requests_in acts) puts
+
+pub wants_of : Wants → (old new : Machine) (event : Event) (acts : Acts) → Awaits old event → Stepped old event new acts → WantsFor new.feed new.pending acts.want
+wants_of law old new event acts awaits (done, does, (after, puts, want)) =
+    subst (λ (m : Machine). WantsFor m.feed m.pending acts.want) after (subst (WantsFor done.after.feed done.after.pending) want (law old event done awaits does))
+
+pub fewer_of : Fewer → (old new : Machine) (event : Event) (acts : Acts) → Awaits old event → Stepped old event new acts → is_answer event ≡ true → most_answers new.pending < most_answers old.pending
+fewer_of law old new event acts awaits (done, does, (after, puts, want)) is =
+    subst (λ (m : Machine). most_answers m.pending < most_answers old.pending) after (law old event done awaits does is)
+
+-- the step
+abbrev StepOf : Machine → Event → Machine → Acts → Type 0
+StepOf old event new acts =
+    (s : Step) × Steps old s new × (s.event ≡ event) × (s.want ≡ acts.want) × (s.puts ≡ messages_from (old.requests + 1) acts.puts.items)
+
+step_of : (old new : Machine) (event : Event) (acts : Acts) → Awaits old event → Stepped old event new acts → StepOf old event new acts
+step_of old new event acts awaits (done, does, (after, puts, want)) = (
+  record { event = event; puts = messages_from (old.requests + 1) done.acts; want = done.want },
+  record { awaited = awaits; done = done; does = does; leads = sym after; puts = refl; want = refl },
+  refl,
+  want,
+  ap (messages_from (old.requests + 1)) puts,
+)
+
+-- what stays
+abbrev KeptBy : Machine → Event → Machine → Type 0
+KeptBy old event new =
+    (new.user ≡ old.user) × (new.strict ≡ old.strict)
+    × ((most : ℕ) → feed_front old.feed ≤ most → AreWithin most (front_told event) → feed_front new.feed ≤ most)
+
+kept_by : Kept → (old new : Machine) (event : Event) (acts : Acts) → Awaits old event → Stepped old event new acts → KeptBy old event new
+kept_by law old new event acts awaits (done, does, (after, puts, want)) =
+    let kept : IsKept old event done = law old event done awaits does in
+    subst (λ (m : Machine). KeptBy old event m) after (kept.user, kept.strict, kept.front)
+
+-- not all was put
+pub halts_after : (old new : Session) (event : Event) (acts : Acts) → Awaits old.core event → Stepped old.core event new.core acts → Halts old new event
+halts_after old new event acts awaits stepped =
+    let found : StepOf old.core event new.core acts = step_of old.core new.core event acts awaits stepped in
+    inr (found.0, found.1, found.2)
+
+-- all was put
+made : (old new : Session) (event : Event) (acts : Acts) → KeptBy old.core event new.core → StepOf old.core event new.core acts → AreAnswers (due_at old.core.pending event) acts.puts.items → old.mux.outbox.requests ≡ old.core.requests
+    → new.mux ≡ put_all acts.puts.items old.mux → Makes old new event acts.want
+made old new event acts (user, strict, front) (s, steps, event_is, want_is, puts) answers requests mux = record {
+  user = user;
+  strict = strict;
+  front = front;
+  step = s;
+  steps = steps;
+  event_is = event_is;
+  want_is = want_is;
+  mux = mux ∙ acts_put (due_at old.core.pending event) acts.puts.items old.mux answers
+      ∙ ap (λ n. put_as old.mux (messages_from (n + 1) acts.puts.items)) requests ∙ ap (put_as old.mux) (sym puts);
+}
+
+pub makes_after : Puts → Kept → (old new : Session) (event : Event) (acts : Acts) → Awaits old.core event → Stepped old.core event new.core acts → IsReady old
+    → new.mux ≡ put_all acts.puts.items old.mux → Makes old new event acts.want
+makes_after law kept old new event acts awaits stepped ready mux =
+    made old new event acts (kept_by kept old.core new.core event acts awaits stepped) (step_of old.core new.core event acts awaits stepped) (answers_of law old.core new.core event acts awaits stepped) ready.requests mux
+
+pub ready_after : Puts → Kept → PutsApart → (old new : Session) (event : Event) (acts : Acts) → Awaits old.core event → Stepped old.core event new.core acts → IsReady old → MayReply old.mux (due_at old.core.pending event)
+    → new.mux ≡ put_all acts.puts.items old.mux → IsReady new
+ready_after law kept apart_law old new event acts awaits stepped ready may mux =
+    let answers : AreAnswers (due_at old.core.pending event) acts.puts.items = answers_of law old.core new.core event acts awaits stepped in
+    record {
+      requests = ap (λ (m : Mux). m.outbox.requests) mux ∙ acts_counted (due_at old.core.pending event) acts.puts.items old.mux answers
+          ∙ omega (arith, ready.requests, counted_of kept old.core new.core event acts awaits stepped);
+      apart = subst (λ (m : Mux). AreApart m.inbox m.outbox) (sym mux) (answers_apart apart_law (due_at old.core.pending event) acts.puts.items old.mux answers may ready.apart);
+    }
+
+still_may : (old new : Session) (due : Option ℕ) (acts : Acts) (done : Done) → IsStillDue due done → done.after ≡ new.core → done.acts ≡ acts.puts.items → MayReply old.mux due
+    → new.mux ≡ put_all acts.puts.items old.mux → MayReply new.mux (due_with new.core.pending)
+still_may old new due acts done (inl none) after puts may mux =
+    subst (λ (m : Machine). MayReply new.mux (due_with m.pending)) after (subst (MayReply new.mux) (sym none) tt)
+still_may old new due acts done (inr (same, nothing)) after puts may mux =
+    subst (λ (m : Machine). MayReply new.mux (due_with m.pending)) after
+    (subst (MayReply new.mux) (sym same) (subst (λ (m : Mux). MayReply m due) (sym (mux ∙ ap (λ acts. put_all acts old.mux) (sym puts ∙ nothing))) may))
+
+pub may_after : Due → (old new : Session) (event : Event) (acts : Acts) → Awaits old.core event → Stepped old.core event new.core acts → MayReply old.mux (due_at old.core.pending event)
+    → new.mux ≡ put_all acts.puts.items old.mux → MayReply new.mux (due_with new.core.pending)
+may_after law old new event acts awaits (done, does, (after, puts, want)) may mux =
+    still_may old new (due_at old.core.pending event) acts done (law old.core event done awaits does) after puts may mux
+
+-- may it be put, and is there room?
+pub may_put : Puts → (old : Session) (new : Machine) (event : Event) (acts : Acts) → Awaits old.core event → Stepped old.core event new acts → MayReply old.mux (due_at old.core.pending event)
+    → MayPutAll old.mux.outbox.waiting acts.puts.items
+may_put law old new event acts awaits stepped may = answers_may (due_at old.core.pending event) old.mux acts.puts.items may (answers_of law old.core new event acts awaits stepped)
+
+pub room_for : Kept → (old : Session) (new : Machine) (event : Event) (acts : Acts) → Awaits old.core event → Stepped old.core event new acts → IsReady old
+    → old.core.requests ≤ 9223372036854775808 → new.requests ≤ old.core.requests + 10001 → old.mux.outbox.requests + requests_in acts.puts.items < 18446744073709551615
+room_for law old new event acts awaits stepped ready room few = omega (arith, ready.requests, room, few, counted_of law old.core new event acts awaits stepped)
+
+-- where it failed
+pub on_err : {A B : Type 0} (r : Result A B) (P : Type 0) → P → OnErr r P
+on_err (Ok x) P p = tt
+on_err (Err e) P p = p

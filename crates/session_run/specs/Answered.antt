@@ -1,0 +1,92 @@
+-- What a ground answers to a session, read by read.
+use Rattle.std.specs.Prelude.{◌≡◌, ◌≤◌, ◌||◌, ℕ, Bool, List, [], ◌∷◌, Option, Some, None, IfSome}
+use Rattle.sg_history.specs.declared.book.Waiting.{Waiting}
+use Rattle.sg_history.specs.Board.{BoardState}
+use Rattle.repl_messages.specs.declared.revision.Revision.{Revision}
+use Rattle.doc_board.specs.declared.outcome.Outcome.{Outcome}
+use Rattle.session_core.specs.declared.act.Want.{Want}
+use Rattle.session_core.specs.declared.act.Want.TheVariants as want
+use Rattle.session_core.specs.declared.event.Event.{Event}
+use Rattle.session_core.specs.declared.event.Event.TheVariants as event
+use Rattle.session_core.specs.Fronts.{front_told}
+use Rattle.session_core.specs.Steps.{Step, wanted_after}
+use Rattle.write_path.specs.Asks.{AskedAt}
+use Rattle.write_path.specs.Bodies.{BodiesAt}
+use Rattle.write_path.specs.Feed.{FeedAt}
+use Rattle.write_path.specs.Proposals.{Stores, recorded_after}
+use Rattle.write_path.specs.Reads.{Reads, WasRead, HasLength}
+
+-- what a ground tells at a moment: the boards that it has read, the newest first; its lowest front; the length of the log, where it
+-- is recorded; and its own entries, the newest first
+pub record Moment : Type 0 where
+  pub read : List BoardState
+  pub lowest : ℕ
+  pub recorded : Option ℕ
+  pub own : List Waiting
+
+-- the ground has read, and nothing more
+pub record HasRead (before after : Moment) : Type 0 where
+  pub reads : Reads before.read after.read before.lowest after.lowest
+  pub recorded : after.recorded ≡ before.recorded
+  pub own : after.own ≡ before.own
+
+-- a board was read in between, of the recorded length, of which this holds
+abbrev pub Saw : Moment → Moment → (BoardState → Type 0) → Type 0
+Saw before after Holds = (b : BoardState) × WasRead before.read after.read b × HasLength before.recorded b × Holds b
+
+-- the length of the log was loaded, without a read
+pub record IsLoaded (before : Moment) (front : ℕ) (after : Moment) : Type 0 where
+  pub read : after.read ≡ before.read
+  pub rises : before.lowest ≤ front
+  pub lowest : after.lowest ≡ front
+  pub recorded : after.recorded ≡ before.recorded
+  pub own : after.own ≡ before.own
+  pub length : IfSome before.recorded (λ n. front ≡ n)
+
+-- a revision was proposed
+pub record IsProposed (before : Moment) (user : List ℕ) (strict : Bool) (r : Revision) (answer : Outcome) (after : Moment) : Type 0 where
+  pub stores : Stores before.read after.read before.lowest after.lowest before.own after.own before.recorded strict (Some user) r answer
+  pub recorded : after.recorded ≡ recorded_after before.recorded answer
+
+-- What was wanted is answered by this event: by a board that was read for it, and for nothing else. Where nothing was wanted the event
+-- is a message, or an idle moment at which the length of the log was loaded.
+abbrev pub IsAnswered : Moment → List ℕ → Bool → Option Want → Event → Moment → Type 0
+IsAnswered before user strict None (event.Whole message) after = after ≡ before
+IsAnswered before user strict None (event.Idle front) after = IsLoaded before front after
+IsAnswered before user strict (Some (want.Feed since options)) (event.Fed answer) after =
+    HasRead before after × Saw before after (λ b. FeedAt b.log user since options answer)
+IsAnswered before user strict (Some (want.Bodies options rows most)) (event.Bodies answer) after =
+    HasRead before after × Saw before after (λ b. BodiesAt b user options rows most answer)
+IsAnswered before user strict (Some (want.Ask offers)) (event.Asked answer) after =
+    HasRead before after × Saw before after (λ b. AskedAt b offers answer)
+IsAnswered before user strict (Some (want.Propose r)) (event.Judged answer) after = IsProposed before user (strict || r.noconflicts) r answer after
+IsAnswered before user strict wanted other after = ⊥
+
+-- the events of steps were answered one after another, from one moment to another; the last step is the first of the list
+abbrev pub AreAnswered : Moment → List ℕ → Bool → List Step → Moment → Type 0
+AreAnswered start user strict [] now = now ≡ start
+AreAnswered start user strict (s ∷ earlier) now =
+    (between : Moment) × AreAnswered start user strict earlier between × IsAnswered between user strict (wanted_after earlier) s.event now
+
+-- ---- the recorded length
+
+-- a length once an event has come: one more where a revision was stored
+abbrev pub length_after : Option ℕ → Event → Option ℕ
+length_after n (event.Judged answer) = recorded_after n answer
+length_after n other = n
+
+-- a recorded length once steps were made
+abbrev pub recorded_by : Option ℕ → List Step → Option ℕ
+recorded_by n [] = n
+recorded_by n (s ∷ earlier) = length_after (recorded_by n earlier) s.event
+
+-- each of these fronts is the length, where one is recorded
+abbrev pub AreLength : Option ℕ → List ℕ → Type 0
+AreLength None fronts = Unit {0}
+AreLength (Some n) [] = Unit {0}
+AreLength (Some n) (front ∷ fronts) = (front ≡ n) × AreLength (Some n) fronts
+
+-- where a length is recorded at the start, each look and each load is at that length and the entries stored by then
+abbrev pub AreAtLength : Option ℕ → List Step → Type 0
+AreAtLength n [] = Unit {0}
+AreAtLength n (s ∷ earlier) = AreLength (recorded_by n earlier) (front_told s.event) × AreAtLength n earlier

@@ -1,0 +1,10 @@
+-- The lists of a session, with their spare room.
+use Rattle.std.specs.Prelude.{ℕ, List}
+use Rattle.session_core.specs.declared.look.Look.{Look}
+
+-- the looks that were taken and the sequences at which revisions were stored, and for how many more of each there is room
+pub record Listed : Type 0 where
+  pub looks : List Look
+  pub stored : List ℕ
+  pub spare_looks : ℕ
+  pub spare_stored : ℕ

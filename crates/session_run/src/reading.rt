@@ -1,0 +1,54 @@
+//! Reads of the history, by what is wanted.
+
+ghost use Rattle.std.specs.Prelude.{◌≡◌, ◌≤◌, true, Some, IfOk, OnErr};
+ghost use Rattle.repl_messages.specs.Looks as looks;
+ghost use Rattle.session_core.specs.Conduct.{WantsFor, is_answer, feed_front};
+ghost use Rattle.session_core.specs.State.{Awaits};
+ghost use Rattle.session_run.specs.Answered.{HasRead, IsAnswered};
+
+use repl_messages::{Offers, Revision};
+use session_core::{Core, Event, Want};
+use sg_history::{Key, Options, Rows};
+use sg_outside::Memory;
+use std::alloc::Global;
+use write_path::Ground;
+
+/// Reads the history for what is wanted. Out of memory it may have read, or not.
+pub(crate) fn read<G: Ground>(
+    alloc: Global,
+    ground: &mut G,
+    core: &Core,
+    want: Want,
+) -> Result<Event, Memory>
+    requires wants { WantsFor core.now.feed core.now.pending (Some want) }
+    requires front { feed_front core.now.feed ≤ G.floor ground.old }
+    ensures answered { IfOk result (λ event. IsAnswered
+        (record { read = G.read ground.old; lowest = G.floor ground.old; recorded = G.recorded ground.old; own = G.own ground.old })
+        core.now.user core.now.strict (Some want) event
+        (record { read = G.read ground.new; lowest = G.floor ground.new; recorded = G.recorded ground.new; own = G.own ground.new })) }
+    ensures awaited { IfOk result (λ event. Awaits core.now event) }
+    ensures answer { IfOk result (λ event. is_answer event ≡ true) }
+    ensures err { OnErr result (HasRead
+        (record { read = G.read ground.old; lowest = G.floor ground.old; recorded = G.recorded ground.old; own = G.own ground.old })
+        (record { read = G.read ground.new; lowest = G.floor ground.new; recorded = G.recorded ground.new; own = G.own ground.new })) }
+{
+    match want {
+        Want::Feed { since, options } => {
+            write_path::laws::was_read();
+            Ok(Event::Fed(ground.feed(alloc, core.user(), &since, &options)?))
+        }
+        Want::Bodies {
+            options,
+            rows,
+            most,
+        } => {
+            let bodies = ground.bodies(alloc, core.user(), &options, rows.as_slice(), most)?;
+            Ok(Event::Bodies(bodies))
+        }
+        Want::Ask { offers } => Ok(Event::Asked(ground.ask(alloc, offers.as_slice())?)),
+        Want::Propose { revision } => {
+            let outcome = ground.propose(alloc, Some(core.user()), core.strict(), revision);
+            Ok(Event::Judged(outcome))
+        }
+    }
+}
