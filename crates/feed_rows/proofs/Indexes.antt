@@ -21,7 +21,7 @@ use Rattle.sg_history.specs.History.{among}
 use Rattle.sg_history.specs.Current.{rev_or}
 use Rattle.feed_rows.specs.declared.document.Document.{Document}
 use Rattle.feed_rows.specs.Index.{place_in, IsIndex, write_in}
-use Rattle.feed_rows.specs.Kept.{PlacedBy}
+use Rattle.feed_rows.specs.Known.{PlacedBy}
 use Rattle.feed_rows.proofs.Names.{same_texts}
 
 -- what an index has after a place was put in

@@ -1,16 +1,16 @@
 mod AnyDevice
 mod AnyFeed
 mod Changes
-pub mod ChannelLists
 mod Indexes
 mod Keys
-mod Looks
 mod Loops
 mod Names
-mod Numberings
 mod Ordered
 mod Passes
+mod PeriodSpans
 mod Places
 mod RowLists
+mod Settled
 mod ShownRows
 mod Steps
+mod Switches

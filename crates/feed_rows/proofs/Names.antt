@@ -1,4 +1,4 @@
--- names, each once, and what is kept of each
+-- names, each once, and what is known of each
 use Rattle.std.proofs.Common.{◌≡◌, ℕ, refl, sym, ◌∙◌, ap, subst, Bool, true, false, ◌||◌, if◌then◌else◌, List, [], ◌∷◌, ◌++◌, map, Some, zero, suc}
 use Rattle.std.specs.Prelude.{slice_get, slice_set, slice_index_or}
 use Rattle.std.specs.List.{list_any}
@@ -8,7 +8,7 @@ use Rattle.std.proofs.lemmas.Option.{none-some, same_Some}
 use Rattle.std.proofs.lemmas.List.Folds.{list_any-append}
 use Rattle.std.proofs.lemmas.Slice.Eq.{bytes_eq-Decides}
 use Rattle.sg_history.specs.History.{among}
-use Rattle.feed_rows.specs.Kept.{Kept, add_name, distinct_of, blank, changed_at}
+use Rattle.feed_rows.specs.Known.{add_name, distinct_of}
 
 pub same_texts : (a b : List ℕ) → bytes_eq a b ≡ true → a ≡ b
 same_texts a b h = (bytes_eq-Decides a b).0 h
@@ -123,10 +123,3 @@ added_there name names h = ap (λ (b : Bool). if b then names else names ++ name
 
 pub added_new : (name : List ℕ) (names : List (List ℕ)) → among names name ≡ false → add_name name names ≡ names ++ name ∷ []
 added_new name names h = ap (λ (b : Bool). if b then names else names ++ name ∷ []) h
-
--- one document changed, where all others are already what they are to be
-pub changed_there : (f g : List ℕ → Kept) (change : Kept → Kept) (name : List ℕ) (names : List (List ℕ)) (k : ℕ) → Distinct names → slice_get names k ≡ Some name → ((n : List ℕ) → bytes_eq n name ≡ false → f n ≡ g n) → change (f name) ≡ g name → changed_at k change (map f names) ≡ map g names
-changed_there f g change name names k d h others is =
-    ap (λ x. slice_set (map f names) k (change x)) (get_there f name names k (blank []) h)
-    ∙ ap (λ x. slice_set (map f names) k x) is
-    ∙ set_there f g name names k d h others

@@ -19,7 +19,7 @@ use Rattle.sg_history.specs.declared.row.Options.{Options}
 use Rattle.sg_history.specs.History.{among, documents}
 use Rattle.sg_history.specs.Feed.{feed, keeps, row_of, rows_of}
 use Rattle.feed_rows.specs.Laws.{HasRow, IsBelow, Precedes, Rising}
-use Rattle.feed_rows.specs.Kept.{Kept, kept_at, written_names}
+use Rattle.feed_rows.specs.Known.{written_names}
 use Rattle.feed_rows.specs.Ordered.{put_over, insert_over, insert_asked, asked_rows, under_key}
 use Rattle.feed_rows.proofs.Keys.{same_from_tie, not_below_itself, below_trans}
 use Rattle.feed_rows.proofs.RowLists.{Has, above_is_below, first_below, ordered_rises}
@@ -81,9 +81,9 @@ asked_rises options since (Some row) rows r = go (keeps options since row)
     go true = put_rises row rows r
     go false = r
 
-rows_rise : (options : Options) (since : Key) (kept : List Kept) → Rising (asked_rows options since kept)
+rows_rise : (options : Options) (since : Key) (rows : List (Option Row)) → Rising (asked_rows options since rows)
 rows_rise options since [] = tt
-rows_rise options since (k ∷ ks) = asked_rises options since k.row (asked_rows options since ks) (rows_rise options since ks)
+rows_rise options since (k ∷ ks) = asked_rises options since k (asked_rows options since ks) (rows_rise options since ks)
 
 -- what an insertion has, where rows of one key are one
 over_had : (o : Ordering) (row first : Row) (others after : List Row) (r : Row) → (HasRow after r → (row ≡ r) ⊎ HasRow others r) → HasRow (put_over o row first others after) r → (row ≡ r) ⊎ ((first ≡ r) ⊎ HasRow others r)
@@ -148,10 +148,10 @@ module _ (es : List Entry) (user : List ℕ) (since : Key) (options : Options) w
       go true e k = ⊎_elim (λ same. inl (ap (λ (x : Row). Some x) same, sym (ap (keeps options since) same) ∙ e)) (λ t. inr t) (put_had row rows r k)
       go false e k = inr k
 
-  had : (docs : List (List ℕ)) (r : Row) → HasRow (asked_rows options since (map (kept_at es user options.filter) docs)) r → (doc : List ℕ) × (row_of es user options.filter doc ≡ Some r) × IsTrue (keeps options since r)
+  had : (docs : List (List ℕ)) (r : Row) → HasRow (asked_rows options since (map (row_of es user options.filter) docs)) r → (doc : List ℕ) × (row_of es user options.filter doc ≡ Some r) × IsTrue (keeps options since r)
   had [] r h = absurd h
   had (d ∷ ds) r h =
-      ⊎_elim (λ x. (d, x.0, x.1)) (had ds r) (had_one (row_of es user options.filter d) (asked_rows options since (map (kept_at es user options.filter) ds)) r h)
+      ⊎_elim (λ x. (d, x.0, x.1)) (had ds r) (had_one (row_of es user options.filter d) (asked_rows options since (map (row_of es user options.filter) ds)) r h)
 
   -- rows of one key are one
   one_row : (a b : List ℕ) (r s : Row) → row_of es user options.filter a ≡ Some r → row_of es user options.filter b ≡ Some s → key_cmp r.key s.key ≡ Equal → r ≡ s
@@ -159,11 +159,11 @@ module _ (es : List Entry) (user : List ℕ) (since : Key) (options : Options) w
       let d = (feed_facts user options.filter).apart es a b r s h k (same_from_tie r.key s.key e) in
       same_Some r s (sym h ∙ ap (row_of es user options.filter) d ∙ k)
 
-  has_one : (d : List ℕ) (o : Option Row) (ds : List (List ℕ)) (r : Row) → row_of es user options.filter d ≡ o → HasRow (asked_rows options since (map (kept_at es user options.filter) ds)) r → HasRow (insert_asked options since o (asked_rows options since (map (kept_at es user options.filter) ds))) r
+  has_one : (d : List ℕ) (o : Option Row) (ds : List (List ℕ)) (r : Row) → row_of es user options.filter d ≡ o → HasRow (asked_rows options since (map (row_of es user options.filter) ds)) r → HasRow (insert_asked options since o (asked_rows options since (map (row_of es user options.filter) ds))) r
   has_one d None ds r e h = h
   has_one d (Some row) ds r e h = go (keeps options since row)
     where
-      go : (b : Bool) → HasRow (if b then insert_over row (asked_rows options since (map (kept_at es user options.filter) ds)) else asked_rows options since (map (kept_at es user options.filter) ds)) r
+      go : (b : Bool) → HasRow (if b then insert_over row (asked_rows options since (map (row_of es user options.filter) ds)) else asked_rows options since (map (row_of es user options.filter) ds)) r
       go true = put_keeps row _ r (λ s t tie. let x = had ds s t in one_row d x.0 row s e x.1 tie) h
       go false = h
 
@@ -177,7 +177,7 @@ module _ (es : List Entry) (user : List ℕ) (since : Key) (options : Options) w
       go true p q = let P : Row → Type 0 = λ x. HasRow (insert_over row rows) x in subst P q (put_adds row rows)
       go false p q = absurd (false≢true p)
 
-  has : (docs : List (List ℕ)) (doc : List ℕ) (r : Row) → among docs doc ≡ true → row_of es user options.filter doc ≡ Some r → IsTrue (keeps options since r) → HasRow (asked_rows options since (map (kept_at es user options.filter) docs)) r
+  has : (docs : List (List ℕ)) (doc : List ℕ) (r : Row) → among docs doc ≡ true → row_of es user options.filter doc ≡ Some r → IsTrue (keeps options since r) → HasRow (asked_rows options since (map (row_of es user options.filter) docs)) r
   has [] doc r h e k = absurd (false≢true h)
   has (d ∷ ds) doc r h e k =
       ⊎_elim
@@ -185,9 +185,9 @@ module _ (es : List Entry) (user : List ℕ) (since : Key) (options : Options) w
       (λ t. has_one d (row_of es user options.filter d) ds r refl (has ds doc r t e k))
       (or_cases (bytes_eq d doc) (among ds doc) h)
 
-  pub is_feed : asked_rows options since (map (kept_at es user options.filter) (reverse (written_names es))) ≡ feed es user since options
+  pub is_feed : asked_rows options since (map (row_of es user options.filter) (reverse (written_names es))) ≡ feed es user since options
   is_feed =
-      rising_same _ _ (rows_rise options since (map (kept_at es user options.filter) (reverse (written_names es)))) (ordered_rises (filter (λ row. keeps options since row) (rows_of es user options.filter (documents es))))
+      rising_same _ _ (rows_rise options since (map (row_of es user options.filter) (reverse (written_names es)))) (ordered_rises (filter (λ row. keeps options since row) (rows_of es user options.filter (documents es))))
       (λ r h. feed_has _ _ (feed_facts user options.filter) es since options r (had (reverse (written_names es)) r h))
       (λ r h. let x = feed_had _ _ (feed_facts user options.filter) es since options r h in has (reverse (written_names es)) x.0 r (listed x.0 ((feed_facts user options.filter).written es x.0 r x.1)) x.1 x.2)
     where

@@ -1,8 +1,10 @@
 -- the entries up to places of a history, and of one that goes on from it
-use Rattle.std.proofs.Common.{◌≡◌, ℕ, ◌≤◌, sym, ◌∙◌, ap, List, ◌++◌, length, take, drop, reverse}
+use Rattle.std.proofs.Common.{◌≡◌, ℕ, zero, suc, ◌+◌, ◌<◌, ◌≤◌, refl, sym, ◌∙◌, ap, subst, arith, Bool, List, [], ◌∷◌, ◌++◌, length, get_or, take, drop, reverse}
 use Rattle.std.proofs.lemmas.List.{reverse-append, take-append-drop, take-take, take-append-le, length-reverse, length-take-le}
 use Rattle.sg_history.specs.declared.entries.Entry.{Entry}
 use Rattle.sg_history.specs.History.{past}
+use Rattle.sg_history.specs.Principals.{has_channel}
+use Rattle.feed_rows.specs.PassAt.{Dated, IsNow}
 
 pub past_length : (xs : List Entry) (f : ℕ) → f ≤ length xs → length (past xs f) ≡ f
 past_length xs f h = length-reverse (take f xs) ∙ length-take-le f xs h
@@ -14,3 +16,44 @@ past_extends xs more f g h k =
     let first : take f upto ≡ take f xs = take-take f g (xs ++ more) h ∙ take-append-le f xs more k in
     let split : upto ≡ take f xs ++ drop f upto = sym (take-append-drop f upto) ∙ ap (λ (ys : List Entry). ys ++ drop f upto) first in
     (reverse (drop f upto), ap (λ (ys : List Entry). reverse ys) split ∙ reverse-append (take f xs) (drop f upto))
+
+-- the entries up to one place more
+take_more : (xs : List Entry) (n : ℕ) → n < length xs → (e : Entry) × (take (suc n) xs ≡ take n xs ++ e ∷ [])
+take_more [] n h = absurd (omega (arith, h))
+take_more (x ∷ xs) zero h = (x, refl)
+take_more (x ∷ xs) (suc n) h = let rest = take_more xs n (omega (arith, h)) in (rest.0, ap (λ (l : List Entry). x ∷ l) rest.1)
+
+past_more : (xs : List Entry) (n : ℕ) → n < length xs → (e : Entry) × (past xs (suc n) ≡ e ∷ past xs n)
+past_more xs n h =
+    let more = take_more xs n h in
+    (more.0, ap (λ (l : List Entry). reverse l) more.1 ∙ reverse-append (take n xs) (more.0 ∷ []))
+
+-- what holds at each place holds at each of the entries up to one
+pub dated : (has : List ℕ → ℕ → Bool) (user : List ℕ) (xs : List Entry) (front : ℕ) → front ≤ length xs → ((c : List ℕ) (k : ℕ) → k ≤ front → has c k ≡ has_channel (past xs k) user c) → (n : ℕ) → n ≤ front → Dated has user (past xs n)
+dated has user xs front high says zero le = λ c. says c 0 le
+dated has user xs front high says (suc n) le =
+    let more = past_more xs n (omega (arith, high, le)) in
+    let count : length (more.0 ∷ past xs n) ≡ suc n = sym (ap length more.1) ∙ past_length xs (suc n) (omega (arith, high, le)) in
+    let now : IsNow has user (more.0 ∷ past xs n) = λ c.
+    ap (has c) count ∙ says c (suc n) le ∙ ap (λ (es : List Entry). has_channel es user c) more.1 in
+    subst (λ (es : List Entry). Dated has user es) (sym more.1) (now, dated has user xs front high says n (omega (arith, le)))
+
+-- what is dated is so at earlier places
+dated_before : (has : List ℕ → ℕ → Bool) (user : List ℕ) (newer older : List Entry) → Dated has user (newer ++ older) → Dated has user older
+dated_before has user [] older h = h
+dated_before has user (e ∷ newer) older h = dated_before has user newer older h.1
+
+pub dated_within : (has : List ℕ → ℕ → Bool) (user : List ℕ) (xs : List Entry) (m : ℕ) → Dated has user (reverse xs) → Dated has user (reverse (take m xs))
+dated_within has user xs m h =
+    dated_before has user (reverse (drop m xs)) (reverse (take m xs))
+    (subst (λ (es : List Entry). Dated has user es) (ap (λ (l : List Entry). reverse l) (sym (take-append-drop m xs)) ∙ reverse-append (take m xs) (drop m xs)) h)
+
+pub reverse_next : (xs : List Entry) (i : ℕ) (e : Entry) → i < length xs → e ≡ get_or xs i e → reverse (take (i + 1) xs) ≡ e ∷ reverse (take i xs)
+reverse_next xs i e h is =
+    let one : ◌≡◌ {A = ℕ} (i + 1) (suc i) = omega arith in
+    ap (λ (n : ℕ). reverse (take n xs)) one ∙ ap (λ (l : List Entry). reverse l) (next xs i h is) ∙ reverse-append (take i xs) (e ∷ [])
+  where
+    next : (ys : List Entry) (n : ℕ) → n < length ys → e ≡ get_or ys n e → take (suc n) ys ≡ take n ys ++ e ∷ []
+    next [] n lt at = absurd (omega (arith, lt))
+    next (y ∷ ys) zero lt at = ap (λ (x : Entry). x ∷ []) (sym at)
+    next (y ∷ ys) (suc n) lt at = ap (λ (l : List Entry). y ∷ l) (next ys n (omega (arith, lt)) at)

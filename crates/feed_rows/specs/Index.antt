@@ -10,7 +10,7 @@ use Rattle.sg_names.specs.declared.rev_id.RevId.{RevId}
 use Rattle.sg_history.specs.declared.entries.Entry.{Entry}
 use Rattle.sg_history.specs.declared.entries.Write.{Write}
 use Rattle.sg_history.specs.Current.{write_of_rev, write_alone}
-use Rattle.feed_rows.specs.Kept.{PlacedBy}
+use Rattle.feed_rows.specs.Known.{PlacedBy}
 
 -- the place that an index has for a name
 abbrev pub place_in : BTreeMap (Bor (List ℕ)) ℕ → List ℕ → Option ℕ

@@ -1,10 +1,8 @@
-pub mod Channels
 pub mod Index
-pub mod Kept
+pub mod Known
 pub mod Latest
 pub mod Laws
-pub mod Numbers
 pub mod Ordered
-pub mod Pass
 pub mod PassAt
-pub mod To
+pub mod Shown
+pub mod Spans

@@ -1,4 +1,4 @@
--- the rows that are asked for of what is kept of documents, in the order of their keys
+-- the rows that are asked for, in the order of their keys
 use Rattle.std.specs.Prelude.{ℕ, List, [], ◌∷◌, Option, Some, None, if◌then◌else◌}
 use Rattle.std.specs.declared.cmp.Ordering.{Ordering}
 use Rattle.std.specs.declared.cmp.Ordering.TheVariants.{Less, Equal, Greater}
@@ -7,7 +7,6 @@ use Rattle.sg_names.specs.Key.{key_cmp}
 use Rattle.sg_history.specs.declared.row.Row.{Row}
 use Rattle.sg_history.specs.declared.row.Options.{Options}
 use Rattle.sg_history.specs.Feed.{keeps}
-use Rattle.feed_rows.specs.Kept.{Kept}
 
 -- a row before these, in place of the first, or behind it, by the order of its key and the first one's
 abbrev pub put_over : Ordering → Row → Row → List Row → List Row → List Row
@@ -25,10 +24,10 @@ abbrev pub insert_asked : Options → Key → Option Row → List Row → List R
 insert_asked options since None rows = rows
 insert_asked options since (Some row) rows = if keeps options since row then insert_over row rows else rows
 
--- the rows of these documents that are asked for, in the order of their keys
-abbrev pub asked_rows : Options → Key → List Kept → List Row
+-- those of these rows that are asked for, in the order of their keys
+abbrev pub asked_rows : Options → Key → List (Option Row) → List Row
 asked_rows options since [] = []
-asked_rows options since (kept ∷ others) = insert_asked options since kept.row (asked_rows options since others)
+asked_rows options since (row ∷ others) = insert_asked options since row (asked_rows options since others)
 
 -- a row under its key, as a map has it
 abbrev pub under_key : Row → (ℕ × ℕ) × Row

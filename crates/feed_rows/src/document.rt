@@ -1,22 +1,26 @@
 //! What the pass over the log keeps of a document.
 
-ghost use Rattle.std.specs.Prelude.{◌≡◌, ◌<◌, map, length, slice_set, Option, Some};
-ghost use Rattle.std.specs.List.{list_any};
-ghost use Rattle.std.specs.Option.{ForSome};
-ghost use Rattle.std.specs.Str.{bytes_eq};
-ghost use Rattle.sg_history.specs.Feed as feed;
-ghost use Rattle.feed_rows.specs.Index.{winner_among};
-ghost use Rattle.feed_rows.specs.Latest.{written_as, current_in, shown_in, winner_in};
-ghost use Rattle.feed_rows.specs.Kept as kept;
-ghost use Rattle.feed_rows.specs.Numbers.{is_held};
-ghost use Rattle.feed_rows.specs.Pass as pass;
+ghost use Rattle.std.specs.Prelude.{◌≡◌, ◌<◌, ◌∷◌, ℕ, List, length, map, slice_set, is_some};
+ghost use Rattle.sg_history.specs.declared.entries.Entry.{Entry};
+ghost use Rattle.sg_history.specs.declared.entries.Entry.TheVariants as kinds;
+ghost use Rattle.sg_history.specs.Current.{current};
+ghost use Rattle.sg_history.specs.Feed.{row_of};
+ghost use Rattle.sg_history.specs.View.{view};
+ghost use Rattle.sg_history.specs.declared.entries.Write.{Write};
+ghost use Rattle.feed_rows.specs.Known.{known_at, known_in, row_before, row_in, there};
+ghost use Rattle.feed_rows.specs.Latest.{current_in};
+ghost use Rattle.feed_rows.specs.PassAt.{IsViewer, IsWritten};
+ghost use Rattle.feed_rows.specs.Spans.{RiseAll};
 
-use crate::documents::{Latest, write_in};
-use crate::index::winner_of;
-use crate::views::is_same;
-use sg_history::{DocId, Entry, Grant, Grantee, RoleGrant, Write};
-use smallvec::SmallVec;
-use std::collections::BTreeMap;
+use crate::shown::{Viewer, last_switch, lasting_shown};
+use sg_history::{DocId, Write};
+
+/// A document's winner, with the sequence of its last write.
+#[derive(Clone, Copy)]
+pub struct Latest<'a> {
+    pub seq: u64,
+    pub write: &'a Write,
+}
 
 /// The last change of what is shown of a document: at which place, what the document was there, whether it was
 /// shown from then on, and whether the entry there wrote it.
@@ -28,249 +32,118 @@ pub struct Change<'a> {
     pub wrote: bool,
 }
 
-/// What is shown of a document: nothing, what it is now, or what it was before.
+/// A document: what it is, and its last change up to its last write.
 #[derive(Clone, Copy)]
-pub enum Seen<'a> {
-    Nothing,
-    Now,
-    Earlier(Latest<'a>),
-}
-
-/// A document at a place of the log: what it is, what is shown of it, and its last change. Beside these stands what
-/// is needed where the user's channels change, so that no write is read then: the numbers of the channels under
-/// which it is sought, and whether it is quiet, granting nothing that reaches the user.
-#[derive(Drop)]
 pub struct Document<'a> {
     pub name: &'a DocId,
     pub latest: Option<Latest<'a>>,
-    pub seen: Seen<'a>,
     pub change: Option<Change<'a>>,
-    pub numbers: SmallVec<usize, 4>,
-    pub quiet: bool,
 }
 
-/// What a document is after a write that stands at this place, given the last writes of the revisions before it.
-pub fn latest_after<'a>(
-    writes: &BTreeMap<(&'a str, u32, &'a str), &'a Write>,
-    write: &'a Write,
-    seq: u64,
-) -> Latest<'a>
-    ensures { winner_in result ≡ written_as seq (winner_among writes.now write.now) }
+/// The last change of a document up to a place, given that up to its last write.
+pub fn change_up_to<'a>(
+    viewer: &Viewer<'_>,
+    latest: Option<Latest<'a>>,
+    change: Option<Change<'a>>,
+    to: u64,
+) -> Option<Change<'a>>
+    requires { RiseAll viewer.now.spans }
+    ensures { (es : List Entry) (doc : List ℕ) → to ≡ length es → IsViewer viewer.now es
+        → current_in latest.entry ≡ current es doc
+        → row_in doc change.entry
+        ≡ row_before es viewer.now.user.now viewer.now.filter.now doc
+        → row_in doc result ≡ row_of es viewer.now.user.now viewer.now.filter.now doc }
 {
-    Latest {
-        seq,
-        write: winner_of(writes, write),
+    match latest {
+        None => change,
+        Some(latest) => match last_switch(viewer, latest.write, latest.seq, to) {
+            None => change,
+            Some(switch) => Some(Change {
+                by: switch.by,
+                latest,
+                is_shown: switch.is_shown,
+                wrote: false,
+            }),
+        },
     }
 }
 
-/// What is shown of a document, kept while the document changes.
-fn seen_before<'a>(latest: Option<Latest<'a>>, seen: Seen<'a>) -> Seen<'a>
-    ensures { (now : Option Latest) → pass.seen_in now result
-        ≡ pass.seen_in latest.entry seen.entry }
+/// Whether a document was shown at a place.
+fn was_shown(viewer: &Viewer<'_>, latest: Option<Latest<'_>>, k: u64) -> bool
+    requires { RiseAll viewer.now.spans }
+    ensures { (es : List Entry) (doc : List ℕ) → k ≡ length es → IsViewer viewer.now es
+        → current_in latest.entry ≡ current es doc
+        → result ≡ is_some (view es viewer.now.user.now viewer.now.filter.now doc) }
 {
-    match (seen, latest) {
-        (Seen::Now, Some(latest)) => Seen::Earlier(latest),
-        (Seen::Now, None) => Seen::Nothing,
-        (seen, _) => seen,
+    match latest {
+        None => false,
+        Some(latest) => lasting_shown(viewer, latest.write, k).holds,
     }
 }
 
-/// Brings a document up to date, and answers what it was.
-fn bring_up<'a>(
-    document: &mut Document<'a>,
+/// The last change of a document up to a write of it, after which it is this.
+fn change_by_write<'a>(
+    viewer: &Viewer<'_>,
+    before: Option<Latest<'a>>,
+    change: Option<Change<'a>>,
     latest: Latest<'a>,
-    numbers: SmallVec<usize, 4>,
-    quiet: bool,
-) -> Option<Latest<'a>>
-    ensures before { result ≡ document.old.latest }
-    ensures kept { pass.kept_in document.new ≡ kept.with_current (winner_in latest.entry)
-        (pass.kept_in document.old) }
-    ensures noted { pass.noted_in document.new ≡ pass.noted
-        (Some (winner_in latest.entry)) numbers.items quiet }
+) -> Option<Change<'a>>
+    requires rise { RiseAll viewer.now.spans }
+    requires seq { 0 < latest.seq }
+    ensures { (es : List Entry) (w : Write) → IsWritten viewer.now es w latest.entry
+        → current_in before.entry ≡ current es w.doc
+        → row_in w.doc change.entry
+        ≡ row_before es viewer.now.user.now viewer.now.filter.now w.doc
+        → row_in w.doc result ≡ row_of (kinds.Write w ∷ es) viewer.now.user.now
+        viewer.now.filter.now w.doc }
 {
-    let before = document.latest;
-    document.seen = seen_before(before, document.seen);
-    document.latest = Some(latest);
-    document.numbers = numbers;
-    document.quiet = quiet;
-    before
+    if lasting_shown(viewer, latest.write, latest.seq).holds {
+        return Some(Change {
+            by: latest.seq,
+            latest,
+            is_shown: true,
+            wrote: true,
+        });
+    }
+    if was_shown(viewer, before, latest.seq - 1) {
+        return Some(Change {
+            by: latest.seq,
+            latest,
+            is_shown: false,
+            wrote: true,
+        });
+    }
+    change_up_to(viewer, before, change, latest.seq - 1)
 }
 
-/// Brings the document in this place up to date, and answers what it was.
-pub fn set_latest<'a>(
+/// Brings a document up to a write of it, after which it is this.
+fn bring_up<'a>(viewer: &Viewer<'_>, document: &mut Document<'a>, latest: Latest<'a>)
+    requires rise { RiseAll viewer.now.spans }
+    requires seq { 0 < latest.seq }
+    ensures { (es : List Entry) (w : Write) → IsWritten viewer.now es w latest.entry
+        → known_in document.old ≡ known_at es viewer.now.user.now viewer.now.filter.now w.doc
+        → known_in document.new ≡ known_at (kinds.Write w ∷ es) viewer.now.user.now
+        viewer.now.filter.now w.doc }
+{
+    document.change = change_by_write(viewer, document.latest, document.change, latest);
+    document.latest = Some(latest);
+}
+
+/// Brings the document in this place up to a write of it, after which it is this.
+pub fn bring_up_at<'a>(
+    viewer: &Viewer<'_>,
     documents: &mut Vec<Document<'a>>,
     place: usize,
     latest: Latest<'a>,
-    numbers: SmallVec<usize, 4>,
-    quiet: bool,
-) -> Option<Latest<'a>>
-    requires { place < length documents.old.items }
-    ensures before { current_in result ≡ kept.current_there place
-        (map pass.kept_in documents.old.items) }
-    ensures documents { map pass.kept_in documents.new.items ≡ kept.changed_at place
-        (kept.with_current (winner_in latest.entry)) (map pass.kept_in documents.old.items) }
-    ensures noted { map pass.noted_in documents.new.items ≡ slice_set
-        (map pass.noted_in documents.old.items) place
-        (pass.noted (Some (winner_in latest.entry)) numbers.items quiet) }
-    ensures count { length documents.new.items ≡ length documents.old.items }
-{
-    bring_up(&mut documents[place], latest, numbers, quiet)
-}
-
-fn reaches(user: &[u8], to: &Grantee) -> bool
-    ensures { result ≡ kept.reaches user.now to.now }
-{
-    match to {
-        Grantee::User(name) => name.as_bytes() == user,
-        Grantee::Role(_) => true,
-    }
-}
-
-fn some_grant_reaches(user: &[u8], grants: &[Grant]) -> bool
-    ensures { result ≡ list_any (λ g. kept.reaches user.now g.to) grants.now }
-{
-    grants.iter().any(|g| reaches(user, &g.to))
-}
-
-fn some_role_is_given(user: &[u8], gifts: &[RoleGrant]) -> bool
-    ensures { result ≡ list_any (λ g. bytes_eq g.user user.now) gifts.now }
-{
-    gifts.iter().any(|g| g.user.as_bytes() == user)
-}
-
-/// Whether a document's current revision grants nothing to the user or to a role, and gives the user no role.
-pub fn is_quiet(user: &[u8], latest: Option<Latest<'_>>) -> bool
-    ensures { result ≡ kept.is_quiet user.now (current_in latest.entry) }
-{
-    match latest {
-        None => true,
-        Some(latest) => {
-            !some_grant_reaches(user, latest.write.grants.as_slice())
-                && !some_role_is_given(user, latest.write.roles.as_slice())
-        }
-    }
-}
-
-fn is_held(held: &[bool], number: usize) -> bool
-    ensures { result ≡ is_held held.now number }
-{
-    held.get(number).copied().unwrap_or(false)
-}
-
-/// Whether the user has a channel of one of these numbers.
-fn has_some(held: &[bool], numbers: &[usize]) -> bool
-    ensures { result ≡ list_any (λ n. is_held held.now n) numbers.now }
-{
-    numbers.iter().any(|n| is_held(held, *n))
-}
-
-/// Whether this is what is seen of a document already.
-fn is_settled(is_shown: bool, seen: Seen<'_>) -> bool
-    ensures { result ≡ pass.is_settled is_shown seen.entry }
-{
-    match seen {
-        Seen::Nothing => !is_shown,
-        Seen::Now => is_shown,
-        Seen::Earlier(_) => false,
-    }
-}
-
-fn seen_of<'a>(latest: Option<Latest<'a>>, seen: Seen<'a>) -> Option<Latest<'a>>
-    ensures { shown_in result ≡ pass.seen_in latest.entry seen.entry }
-{
-    match seen {
-        Seen::Nothing => None,
-        Seen::Now => latest,
-        Seen::Earlier(before) => Some(before),
-    }
-}
-
-fn seen_when<'a>(is_shown: bool) -> Seen<'a>
-    ensures { (latest : Option Latest) → pass.seen_in latest result ≡ kept.view_when is_shown
-        (current_in latest) }
-{
-    if is_shown { Seen::Now } else { Seen::Nothing }
-}
-
-fn change_of<'a>(
-    entry: &Entry,
-    by: u64,
-    name: &DocId,
-    is_shown: bool,
-    latest: Option<Latest<'a>>,
-) -> Option<Change<'a>>
-    ensures { pass.row_in name.now result ≡ feed.row_with by (feed.writes entry.now name.now)
-        (kept.view_when is_shown (current_in latest.entry)) name.now (current_in latest.entry) }
-{
-    let latest = latest?;
-    let wrote = write_in(entry, name).is_some();
-    Some(Change {
-        by,
-        latest,
-        is_shown,
-        wrote,
-    })
-}
-
-/// Shows a document or hides it after the entry at this place.
-fn show<'a>(is_shown: bool, by: u64, entry: &Entry, document: &mut Document<'a>)
-    ensures kept { pass.kept_in document.new ≡ kept.shown_at is_shown by entry.now
-        (pass.kept_in document.old) }
-    ensures noted { pass.noted_in document.new ≡ pass.noted_in document.old }
-{
-    let seen = seen_when(is_shown);
-    let now = seen_of(document.latest, seen);
-    let before = seen_of(document.latest, document.seen);
-    if !is_same(now, before) {
-        document.change = change_of(entry, by, document.name, is_shown, document.latest);
-    }
-    document.seen = seen;
-}
-
-/// Looks at a document anew after the entry at this place.
-fn look(held: &[bool], by: u64, entry: &Entry, document: &mut Document<'_>)
-    ensures kept { pass.kept_in document.new ≡ pass.looked_in held.now by entry.now document.old }
-    ensures noted { pass.noted_in document.new ≡ pass.noted_in document.old }
-{
-    let is_shown = has_some(held, document.numbers.as_slice());
-    if !is_settled(is_shown, document.seen) {
-        show(is_shown, by, entry, document);
-    }
-}
-
-fn look_at_each(held: &[bool], by: u64, entry: &Entry, documents: &mut [Document<'_>])
-    ensures kept { map pass.kept_in documents.new ≡ map
-        (λ d. pass.looked_in held.now by entry.now d) documents.old }
-    ensures noted { map pass.noted_in documents.new ≡ map pass.noted_in documents.old }
-{
-    for document in documents.iter_mut() {
-        look(held, by, entry, document);
-    }
-}
-
-/// Looks at all documents anew after the entry at this place.
-pub fn look_at_all(held: &[bool], by: u64, entry: &Entry, documents: &mut Vec<Document<'_>>)
-    ensures kept { map pass.kept_in documents.new.items ≡ map
-        (λ d. pass.looked_in held.now by entry.now d) documents.old.items }
-    ensures noted { map pass.noted_in documents.new.items ≡ map pass.noted_in documents.old.items }
-{
-    look_at_each(held, by, entry, documents.as_mut_slice());
-}
-
-/// Looks at the document that the entry at this place wrote, where it wrote one.
-pub fn look_at_written(
-    held: &[bool],
-    by: u64,
-    entry: &Entry,
-    place: Option<usize>,
-    documents: &mut Vec<Document<'_>>,
 )
-    requires { ForSome place (λ k. k < length documents.old.items) }
-    ensures kept { map pass.kept_in documents.new.items
-        ≡ pass.looked_there held.now by entry.now place documents.old.items }
-    ensures noted { map pass.noted_in documents.new.items ≡ map pass.noted_in documents.old.items }
+    requires rise { RiseAll viewer.now.spans }
+    requires seq { 0 < latest.seq }
+    requires within { place < length documents.old.items }
+    ensures { (es : List Entry) (w : Write) → IsWritten viewer.now es w latest.entry
+        → there place (map known_in documents.old.items)
+        ≡ known_at es viewer.now.user.now viewer.now.filter.now w.doc
+        → map known_in documents.new.items ≡ slice_set (map known_in documents.old.items) place
+        (known_at (kinds.Write w ∷ es) viewer.now.user.now viewer.now.filter.now w.doc) }
 {
-    if let Some(k) = place {
-        look(held, by, entry, &mut documents[k]);
-    }
+    bring_up(viewer, &mut documents[place], latest);
 }

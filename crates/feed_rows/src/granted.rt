@@ -1,46 +1,28 @@
-//! The channels of a user, as a list.
+//! The history of grants of a log, and the channels of a user by it.
 
-ghost use Rattle.std.specs.Prelude.{◌≡◌, ◌≤◌, ℕ, List, length, reverse, is_some, IfOk, IfSome};
+ghost use Rattle.std.specs.Prelude.{◌≡◌, ◌≤◌, ℕ, List, length, is_some, IfOk, IfSome};
 ghost use Rattle.sg_history.specs.History.{entries_of, past, among};
 ghost use Rattle.sg_history.specs.Principals as principals;
-ghost use Rattle.feed_rows.specs.Pass.{texts};
+ghost use Rattle.grant_history.specs.Stands.{StandsFor};
 
-use crate::grants::everyone;
-use crate::pass::pass_over;
-use sg_history::{ChannelName, Channels, Entry, Log, Name};
+use grant_history::GrantHistory;
+use sg_history::{Channels, Log, LogReads, Name};
 use std::alloc::{AllocError, Global};
 
-fn copies(alloc: Global, list: &[&ChannelName]) -> Result<Channels, AllocError>
-    ensures { IfOk result (λ channels. channels ≡ texts list.now) }
+/// The history of grants of a log up to a place.
+pub(crate) fn history_of(alloc: Global, log: &Log, front: u64) -> Result<GrantHistory, AllocError>
+    requires { front ≤ length (entries_of log.now) }
+    ensures stands { IfOk result (λ history. StandsFor history (entries_of log.now)) }
+    ensures applied { IfOk result (λ history. history.applied ≡ front) }
 {
-    let mut channels = Channels::new(alloc);
-    for channel in list {
-        channels.push(channel.copy(alloc)?)?;
-    }
-    Ok(channels)
+    let mut reads = LogReads::new(log);
+    let mut history = GrantHistory::new(alloc);
+    history.apply(&mut reads, front)?;
+    Ok(history)
 }
 
-fn channels_of_entries(
-    alloc: Global,
-    entries: &[Entry],
-    user: &[u8],
-) -> Result<Option<Channels>, AllocError>
-    ensures exists { IfOk result (λ found. is_some found ≡ principals.exists
-        (principals.user_at (reverse entries.now) user.now)) }
-    ensures channels { IfOk result (λ found. IfSome found
-        (λ channels. (channel : List ℕ) → among channels channel ≡ principals.has_channel
-        (reverse entries.now) user.now channel)) }
-{
-    let everyone = everyone(alloc)?;
-    let pass = pass_over(alloc, &everyone, entries, user, &None)?;
-    if pass.put.is_none() {
-        return Ok(None);
-    }
-    Ok(Some(copies(alloc, pass.channels.as_slice())?))
-}
-
-/// The channels that a user has at the end of the first `front` entries of a log, each once; none where the user does not
-/// exist there.
+/// The channels that a user has at the end of the first `front` entries of a log, each once, by rising bytes; none
+/// where the user does not exist there.
 pub fn channels_of(
     alloc: Global,
     log: &Log,
@@ -54,6 +36,10 @@ pub fn channels_of(
         (λ channels. (channel : List ℕ) → among channels channel ≡ principals.has_channel
         (past (entries_of log.now) front) user.now channel)) }
 {
-    let entries = &log.entries.as_slice()[..front as usize];
-    channels_of_entries(alloc, entries, user.as_bytes())
+    let history = history_of(alloc, log, front)?;
+    if !history.exists_at(user, front) {
+        return Ok(None);
+    }
+    let channels = history.channels_at(user, front)?;
+    Ok(Some(channels))
 }

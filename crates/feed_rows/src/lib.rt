@@ -1,19 +1,15 @@
-//! The rows of a user's changes feed, by one pass over the log.
+//! The rows of a user's changes feed: the periods of the user's channels, and one pass over the writes of the log.
 #![tactic(auto)]
 
 mod asked;
 mod document;
-mod documents;
 mod granted;
-mod grants;
 mod index;
 pub mod laws;
-mod numbers;
 mod pass;
-mod principals;
 mod scan;
-mod views;
+mod shown;
+mod spans;
 
-pub use documents::{Latest, write_of_rev};
 pub use granted::channels_of;
 pub use scan::rows;

@@ -1,53 +1,52 @@
 //! The rows of a feed.
 
-ghost use Rattle.std.specs.Prelude.{◌≡◌, ◌≤◌, length, IfOk};
+ghost use Rattle.std.specs.Prelude.{◌≡◌, ◌≤◌, ℕ, List, length, IfOk};
+ghost use Rattle.sg_history.specs.declared.entries.Entry.{Entry};
 ghost use Rattle.sg_history.specs.History.{entries_of, past};
+ghost use Rattle.sg_history.specs.Principals.{has_channel};
 ghost use Rattle.sg_history.specs.Feed as feed;
-ghost use Rattle.feed_rows.specs.Latest.{shown_in};
+ghost use Rattle.grant_history.specs.Periods.{ArePeriods};
+ghost use Rattle.feed_rows.specs.PassAt.{IsViewer};
 
 use crate::asked::rows_of_pass;
-use crate::documents::Latest;
-use sg_history::{Key, Log, Name, Options, Row, Rows};
+use crate::granted::history_of;
+use crate::shown::Viewer;
+use crate::spans::spans_in;
+use grant_history::{Period, Periods};
+use sg_history::{Channels, Key, Log, Name, Options, Rows};
 use std::alloc::{AllocError, Global};
 
-pub(crate) fn bits_of(shown: Option<Latest<'_>>, wrote: bool, deleted: bool) -> u8
-    ensures { result ≡ feed.bits_of (shown_in shown.entry) wrote deleted }
+/// The periods in which a user has channels, up to a place of a log.
+fn periods_of(alloc: Global, log: &Log, front: u64, user: &Name) -> Result<Periods, AllocError>
+    requires { front ≤ length (entries_of log.now) }
+    ensures { IfOk result (λ periods. ArePeriods periods
+        (λ c k. has_channel (past (entries_of log.now) k) user.now c) front) }
 {
-    match (shown, wrote, deleted) {
-        (Some(_), _, false) => 0,
-        (Some(_), _, true) => 1,
-        (None, true, false) => 4,
-        (None, true, true) => 5,
-        (None, false, _) => 2,
-    }
+    let history = history_of(alloc, log, front)?;
+    let periods = history.periods(user)?;
+    Ok(periods)
 }
 
-fn is_gone(bits: u8) -> bool
-    ensures { result ≡ feed.is_gone bits }
+/// A user with a filter, by the periods of the user's channels.
+fn viewer_of<'a>(
+    alloc: Global,
+    user: &'a Name,
+    filter: &'a Option<Channels>,
+    periods: &'a [Period],
+) -> Result<Viewer<'a>, AllocError>
+    ensures user { IfOk result (λ viewer. viewer.user.now ≡ user.now) }
+    ensures filter { IfOk result (λ viewer. viewer.filter.now ≡ filter.now) }
+    ensures viewer { IfOk result (λ viewer. (entries : List Entry) (front : ℕ)
+        → front ≤ length entries
+        → ArePeriods periods.now (λ c k. has_channel (past entries k) user.now c) front
+        → IsViewer viewer (past entries front)) }
 {
-    bits >= 2
-}
-
-fn is_deleted(bits: u8) -> bool
-    ensures { result ≡ feed.is_deleted bits }
-{
-    bits == 1 || bits == 5
-}
-
-fn is_start(key: &Key) -> bool
-    ensures { result ≡ feed.is_start key.now }
-{
-    key.by == 0 && key.seq == 0
-}
-
-/// Whether a row is asked for.
-pub(crate) fn keeps(options: &Options, since: &Key, row: &Row) -> bool
-    ensures { result ≡ feed.keeps options.now since.now row.now }
-{
-    since.order(&row.key).is_lt()
-        && (!is_start(since)
-            || !is_gone(row.bits) && !(options.active_only && is_deleted(row.bits)))
-        && (options.revocations || row.bits != 2)
+    let spans = spans_in(alloc, periods)?;
+    Ok(Viewer {
+        user,
+        filter,
+        spans,
+    })
 }
 
 /// The rows of a user's changes feed over the first `front` entries of a log, after a since key, in rising
@@ -64,6 +63,9 @@ pub fn rows(
     ensures { IfOk result (λ rows. rows ≡ feed.feed
         (past (entries_of log.now) front) user.now since.now options.now) }
 {
+    let periods = periods_of(alloc, log, front, user)?;
+    let viewer = viewer_of(alloc, user, &options.filter, periods.as_slice())?;
     let entries = &log.entries.as_slice()[..front as usize];
-    Ok(Rows::from_vec(rows_of_pass(alloc, entries, user.as_bytes(), since, options)?))
+    let rows = rows_of_pass(alloc, &viewer, entries, since, options)?;
+    Ok(Rows::from_vec(rows))
 }

@@ -1,0 +1,36 @@
+-- what lasts up to a place
+use Rattle.std.proofs.Common.{◌≡◌, ℕ, ◌+◌, ◌<◌, ◌≤◌, refl, sym, ◌∙◌, ap, arith, Bool, true, false, ◌||◌, List, [], ◌∷◌, length, get_or, take, zero, suc}
+use Rattle.std.specs.List.{list_any}
+use Rattle.feed_rows.specs.declared.spans.Lasting.{Lasting}
+use Rattle.feed_rows.specs.Spans.{Lasts}
+
+-- one test for another that answers alike
+pub lasts_same : (p q : ℕ → Bool) (k : ℕ) (l : Lasting) → ((j : ℕ) → p j ≡ q j) → Lasts p k l → Lasts q k l
+lasts_same p q k l same h =
+    record { now = h.now ∙ same k; past = h.past; same = λ j a b. sym (same j) ∙ h.same j a b ∙ same k }
+
+-- one more, and all
+any_suc : {X : Type 0} (f : X → Bool) (xs : List X) (i : ℕ) (d : X) → i < length xs → list_any f (take (suc i) xs) ≡ (list_any f (take i xs) || f (get_or xs i d))
+any_suc f [] i d h = absurd (omega (arith, h))
+any_suc f (x ∷ xs) zero d h = or_nothing (f x)
+  where
+    or_nothing : (b : Bool) → (b || false) ≡ b
+    or_nothing true = refl
+    or_nothing false = refl
+any_suc f (x ∷ xs) (suc i) d h =
+    ap (λ (b : Bool). f x || b) (any_suc f xs i d (omega (arith, h))) ∙ or_over (f x) (list_any f (take i xs)) (f (get_or xs i d))
+  where
+    or_over : (a b c : Bool) → (a || (b || c)) ≡ ((a || b) || c)
+    or_over true b c = refl
+    or_over false b c = refl
+
+pub any_more : {X : Type 0} (f : X → Bool) (xs : List X) (i : ℕ) (d : X) → i < length xs → list_any f (take (i + 1) xs) ≡ (list_any f (take i xs) || f (get_or xs i d))
+any_more f xs i d h =
+    let one : ◌≡◌ {A = ℕ} (i + 1) (suc i) = omega arith in
+    ap (λ (n : ℕ). list_any f (take n xs)) one ∙ any_suc f xs i d h
+
+pub take_all : {X : Type 0} (xs : List X) (n : ℕ) → length xs ≤ n → take n xs ≡ xs
+take_all [] zero h = refl
+take_all [] (suc n) h = refl
+take_all (x ∷ xs) zero h = absurd (omega (arith, h))
+take_all (x ∷ xs) (suc n) h = ap (λ l. x ∷ l) (take_all xs n (omega (arith, h)))
