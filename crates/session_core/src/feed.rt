@@ -36,7 +36,8 @@ impl Model for Feed {
       caught_up = f.caught_up;
     } };
 
-    ghost invariant = { λ f. (0 < f.batch) × (f.batch ≤ 10000) × (f.answered ≤ length f.rows.items) };
+    ghost invariant = { λ f. (0 < f.batch) × (f.batch ≤ 10000)
+        × (f.answered ≤ length f.rows.items) };
 }
 
 impl Feed {

@@ -127,7 +127,8 @@ impl Core {
 
     /// Whether this event is one that is awaited, and there is room for the numbers of further requests.
     pub fn may_take(&self, event: &Event) -> bool
-        ensures { IsTrue result ↔ (Awaits self.now event.now × (self.now.requests ≤ 9223372036854775808)) }
+        ensures { IsTrue result ↔ (Awaits self.now event.now
+            × (self.now.requests ≤ 9223372036854775808)) }
     {
         self.awaits(event) && self.requests <= 9_223_372_036_854_775_808
     }
@@ -153,7 +154,8 @@ impl Core {
     pub fn step(&mut self, alloc: Global, event: Event) -> Result<Acts, Memory>
         requires awaited { Awaits self.old event }
         requires room { self.old.requests ≤ 9223372036854775808 }
-        ensures ok { IfOk result (λ acts. IsDoneBy (λ done. Does self.old event done) self.new acts) }
+        ensures ok { IfOk result (λ acts. IsDoneBy
+            (λ done. Does self.old event done) self.new acts) }
         ensures few { OnOk result (self.new.requests ≤ self.old.requests + 10001) }
         ensures err { OnErr result (self.new ≡ self.old) }
     {
@@ -170,7 +172,8 @@ impl Core {
     fn take_message(&mut self, alloc: Global, message: &Message) -> Result<Acts, Memory>
         requires awaited { self.old.pending ≡ Pending.Nothing }
         requires room { self.old.requests ≤ 9223372036854775808 }
-        ensures ok { IfOk result (λ acts. IsDoneBy (λ done. Does self.old (Event.Whole message.now) done) self.new acts) }
+        ensures ok { IfOk result (λ acts. IsDoneBy
+            (λ done. Does self.old (Event.Whole message.now) done) self.new acts) }
         ensures few { OnOk result (self.new.requests ≤ self.old.requests + 1) }
         ensures err { OnErr result (self.new ≡ self.old) }
     {
@@ -184,7 +187,9 @@ impl Core {
 
     fn take_request(&mut self, alloc: Global, message: &Message) -> Result<Acts, Memory>
         requires awaited { self.old.pending ≡ Pending.Nothing }
-        ensures ok { IfOk result (λ acts. IsDoneBy (λ done. (read : Result Request RequestFault) × IsRead message.now.payload self.old.version read
+        ensures ok { IfOk result (λ acts. IsDoneBy
+            (λ done. (read : Result Request RequestFault)
+            × IsRead message.now.payload self.old.version read
             × (done ≡ on_request self.old message.now read)) self.new acts) }
         ensures few { OnOk result (self.new.requests ≡ self.old.requests) }
         ensures err { OnErr result (self.new ≡ self.old) }
@@ -244,7 +249,9 @@ impl Core {
     /// Takes a request that offers revisions by changes, which is refused where conflicts are off.
     fn take_changes(&mut self, alloc: Global, asker: Asker, offers: Offers) -> Result<Acts, Memory>
         requires awaited { self.old.pending ≡ Pending.Nothing }
-        ensures ok { IfOk result (λ acts. IsDone (on_changes self.old.strict self.old asker (Want.Ask offers)) self.new acts) }
+        ensures ok { IfOk result
+            (λ acts. IsDone (on_changes self.old.strict self.old asker (Want.Ask offers))
+            self.new acts) }
         ensures few { OnOk result (self.new.requests ≡ self.old.requests) }
         ensures err { OnErr result (self.new ≡ self.old) }
     {
@@ -284,7 +291,8 @@ impl Core {
         requires awaited { self.old.pending ≡ Pending.Nothing }
         requires some { 0 < asked.batch }
         requires bound { asked.batch ≤ 10000 }
-        ensures ok { IfOk result (λ acts. IsDone (on_sub_changes self.old asked self.old.feed) self.new acts) }
+        ensures ok { IfOk result
+            (λ acts. IsDone (on_sub_changes self.old asked self.old.feed) self.new acts) }
         ensures few { OnOk result (self.new.requests ≡ self.old.requests) }
         ensures err { OnErr result (self.new ≡ self.old) }
     {
@@ -303,7 +311,8 @@ impl Core {
     fn take_reply(&mut self, alloc: Global, message: &Message) -> Result<Acts, Memory>
         requires awaited { self.old.pending ≡ Pending.Nothing }
         requires room { self.old.requests ≤ 9223372036854775808 }
-        ensures ok { IfOk result (λ acts. IsDone (on_reply self.old message.now self.old.feed) self.new acts) }
+        ensures ok { IfOk result
+            (λ acts. IsDone (on_reply self.old message.now self.old.feed) self.new acts) }
         ensures few { OnOk result (self.new.requests ≤ self.old.requests + 1) }
         ensures err { OnErr result (self.new ≡ self.old) }
     {
@@ -326,7 +335,8 @@ impl Core {
         requires runs { IsSome self.old.feed }
         requires few { length rows ≤ 10000 }
         ensures ok { IfOk result (λ acts. (r : Running) × (self.old.feed ≡ Some r)
-            × ((message : Message) → most ≡ most_ancestors message → IsDone (on_wanted self.old message r rows) self.new acts)) }
+            × ((message : Message) → most ≡ most_ancestors message
+            → IsDone (on_wanted self.old message r rows) self.new acts)) }
         ensures few { OnOk result (self.new.requests ≤ self.old.requests + 1) }
         ensures err { OnErr result (self.new ≡ self.old) }
     {
@@ -350,7 +360,8 @@ impl Core {
         requires room { self.old.requests ≤ 9223372036854775808 }
         requires few { count ≤ 10000 }
         ensures ok { IfOk result (λ done. (r : Running) × (self.old.feed ≡ Some r)
-            × IsDone (does.answered self.old acts.items (self.old.requests + count) (rest r)) self.new done) }
+            × IsDone (does.answered self.old acts.items (self.old.requests + count) (rest r))
+            self.new done) }
         ensures few { OnOk result (self.new.requests ≤ self.old.requests + count + 1) }
         ensures err { OnErr result (self.new ≡ self.old) }
     {
@@ -379,7 +390,12 @@ impl Core {
         requires room { self.old.requests ≤ 9223372036854775808 }
         requires few { count ≤ 10000 }
         ensures { (r : Running) × (self.old.feed ≡ Some r)
-            × (self.new ≡ record self.old { requests = self.old.requests + count; feed = Some (rest r); pending = Pending.More }) }
+            × (self.new ≡ record self.old {
+              requests = self.old.requests + count;
+              feed = Some
+                  (rest r);
+              pending = Pending.More;
+            }) }
     {
         let Some(feed) = self.feed.take() else {
             unreachable!();
@@ -421,7 +437,8 @@ impl Core {
     fn take_fed(&mut self, alloc: Global, fed: Fed) -> Result<Acts, Memory>
         requires awaited { Awaits self.old (Event.Fed fed) }
         requires room { self.old.requests ≤ 9223372036854775808 }
-        ensures ok { IfOk result (λ acts. IsDone (on_fed self.old fed self.old.pending) self.new acts) }
+        ensures ok { IfOk result
+            (λ acts. IsDone (on_fed self.old fed self.old.pending) self.new acts) }
         ensures few { OnOk result (self.new.requests ≤ self.old.requests + 1) }
         ensures err { OnErr result (self.new ≡ self.old) }
     {
@@ -468,7 +485,9 @@ impl Core {
     fn take_more(&mut self, alloc: Global, rows: Rows, front: u64) -> Result<Acts, Memory>
         requires awaited { self.old.pending ≡ Pending.More }
         requires room { self.old.requests ≤ 9223372036854775808 }
-        ensures ok { IfOk result (λ acts. IsDone (on_next_look self.old self.old.feed (Fed.Rows front rows)) self.new acts) }
+        ensures ok { IfOk result
+            (λ acts. IsDone (on_next_look self.old self.old.feed (Fed.Rows front rows)) self.new
+            acts) }
         ensures few { OnOk result (self.new.requests ≤ self.old.requests + 1) }
         ensures err { OnErr result (self.new ≡ self.old) }
     {
@@ -495,7 +514,11 @@ impl Core {
         requires runs { IsSome self.old.feed }
         requires room { self.old.requests ≤ 9223372036854775808 }
         ensures { (r : Running) × (self.old.feed ≡ Some r)
-            × (self.new ≡ going_on self.old self.old.requests (record r { rows = rows; front = front })) }
+            × (self.new ≡ going_on self.old self.old.requests (record r {
+              rows = rows;
+              front =
+                  front;
+            })) }
     {
         let Some(feed) = self.feed.take() else {
             unreachable!();
@@ -508,7 +531,8 @@ impl Core {
     fn take_bodies(&mut self, alloc: Global, answers: &Bodies) -> Result<Acts, Memory>
         requires awaited { Awaits self.old (Event.Bodies answers.now) }
         requires room { self.old.requests ≤ 9223372036854775808 }
-        ensures ok { IfOk result (λ acts. IsDone (on_bodies self.old answers.now self.old.pending) self.new acts) }
+        ensures ok { IfOk result
+            (λ acts. IsDone (on_bodies self.old answers.now self.old.pending) self.new acts) }
         ensures few { OnOk result (self.new.requests ≤ self.old.requests + 10001) }
         ensures err { OnErr result (self.new ≡ self.old) }
     {
@@ -522,7 +546,8 @@ impl Core {
 
     fn take_asked(&mut self, alloc: Global, asked: &Asked) -> Result<Acts, Memory>
         requires awaited { Awaits self.old (Event.Asked asked.now) }
-        ensures ok { IfOk result (λ acts. IsDone (on_asked self.old asked.now self.old.pending) self.new acts) }
+        ensures ok { IfOk result
+            (λ acts. IsDone (on_asked self.old asked.now self.old.pending) self.new acts) }
         ensures few { OnOk result (self.new.requests ≡ self.old.requests) }
         ensures err { OnErr result (self.new ≡ self.old) }
     {
@@ -536,7 +561,8 @@ impl Core {
 
     fn take_judged(&mut self, alloc: Global, outcome: Outcome) -> Result<Acts, Memory>
         requires awaited { Awaits self.old (Event.Judged outcome) }
-        ensures ok { IfOk result (λ acts. IsDone (on_judged self.old outcome self.old.pending) self.new acts) }
+        ensures ok { IfOk result
+            (λ acts. IsDone (on_judged self.old outcome self.old.pending) self.new acts) }
         ensures few { OnOk result (self.new.requests ≡ self.old.requests) }
         ensures err { OnErr result (self.new ≡ self.old) }
     {
@@ -552,7 +578,8 @@ impl Core {
 
     fn take_idle(&mut self, alloc: Global, front: u64) -> Result<Acts, Memory>
         requires awaited { self.old.pending ≡ Pending.Nothing }
-        ensures ok { IfOk result (λ acts. IsDone (on_idle self.old front self.old.feed) self.new acts) }
+        ensures ok { IfOk result
+            (λ acts. IsDone (on_idle self.old front self.old.feed) self.new acts) }
         ensures few { OnOk result (self.new.requests ≡ self.old.requests) }
         ensures err { OnErr result (self.new ≡ self.old) }
     {

@@ -72,7 +72,8 @@ pub(crate) fn answer_offers(
     proposed: bool,
     asked: &Asked,
 ) -> Result<Vec<Act>, Memory>
-    ensures { IfOk result (λ acts. acts.items ≡ reply_act asker Kind.Rpy (answers_payload asked.now.answers proposed)) }
+    ensures { IfOk result (λ acts. acts.items
+        ≡ reply_act asker Kind.Rpy (answers_payload asked.now.answers proposed)) }
 {
     let payload = write_answers(alloc, asked.answers.as_slice(), proposed)?;
     reply(alloc, asker, Kind::Rpy, payload)
@@ -118,7 +119,8 @@ pub(crate) fn push_offer(
     batch: u64,
     version: Version,
 ) -> Result<(), Memory>
-    ensures { OnOk result (acts.new.items ≡ acts.old.items ++ (if silent then [] else offer_act rows.now batch version ∷ [])) }
+    ensures { OnOk result (acts.new.items
+        ≡ acts.old.items ++ (if silent then [] else offer_act rows.now batch version ∷ [])) }
 {
     if silent {
         return Ok(());

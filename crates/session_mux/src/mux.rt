@@ -151,7 +151,8 @@ impl Mux {
     ) -> Result<(), Memory>
         requires reply { is_reply kind ≡ true }
         requires none { list_any (is_reply_to number) self.old.outbox.waiting ≡ false }
-        ensures ok { OnOk result (self.new ≡ with_put (reply_message number kind urgent payload) self.old) }
+        ensures ok { OnOk result (self.new
+            ≡ with_put (reply_message number kind urgent payload) self.old) }
         ensures received { self.new.received ≡ self.old.received }
         ensures sent { self.new.sent ≡ self.old.sent }
     {
@@ -161,7 +162,9 @@ impl Mux {
     /// Puts a request, whose reply is expected where it wants one. Out of memory it may be put or not.
     pub fn put_request(&mut self, payload: Payload, no_reply: bool) -> Result<(), Memory>
         requires room { self.old.outbox.requests < 18446744073709551615 }
-        ensures ok { OnOk result (self.new ≡ with_put (request_message (self.old.outbox.requests + 1) no_reply payload) self.old) }
+        ensures ok { OnOk result (self.new
+            ≡ with_put (request_message (self.old.outbox.requests + 1) no_reply payload)
+            self.old) }
         ensures received { self.new.received ≡ self.old.received }
         ensures sent { self.new.sent ≡ self.old.sent }
     {

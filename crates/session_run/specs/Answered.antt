@@ -24,6 +24,10 @@ pub record Moment : Type 0 where
   pub recorded : Option ℕ
   pub own : List Waiting
 
+-- the same, one by one
+abbrev pub moment : List BoardState → ℕ → Option ℕ → List Waiting → Moment
+moment read lowest recorded own = record { read = read; lowest = lowest; recorded = recorded; own = own }
+
 -- the ground has read, and nothing more
 pub record HasRead (before after : Moment) : Type 0 where
   pub reads : Reads before.read after.read before.lowest after.lowest

@@ -16,7 +16,8 @@ ghost use Rattle.session_run.specs.Answered.{Moment, AreAnswered, recorded_by, A
 /// don't fall, each the recorded length with what was stored by then, where a length is recorded; and what the ground has of its own
 /// since are the entries at the stored sequences.
 pub fn answers()
-    ensures right { (start now : Moment) (user : List ℕ) (strict : Bool) (steps : List Step) (h : List Entry)
+    ensures right { (start now : Moment) (user : List ℕ) (strict : Bool) (steps : List Step) (h :
+        List Entry)
         → AreAnswered start user strict steps now → IsLaterThanAll now.read h
         → AreRight h user strict steps }
     ensures reads { (start now : Moment) (user : List ℕ) (strict : Bool) (steps : List Step)
@@ -45,7 +46,8 @@ pub fn answers()
 /// No body is put but one that is shown to the user at the look for it, by the filter of the feed that runs and for a row that it has
 /// on offer, or one that says of such a row that its document is no longer shown.
 pub fn own_bodies()
-    ensures { (h : List Entry) (user : List ℕ) (version : Version) (strict : Bool) (earlier : List Step)
+    ensures { (h : List Entry) (user : List ℕ) (version : Version) (strict : Bool) (earlier :
+        List Step)
         (before : Machine) (s : Step) (after : Machine)
         → Leads (new_machine user version strict) earlier before → Steps before s after
         → AreRight h user strict (s ∷ earlier) → HasOwnBodies h user before s }

@@ -4,7 +4,7 @@ ghost use Rattle.std.specs.Prelude.{◌≡◌, ◌≤◌, true, Some, IfOk, OnEr
 ghost use Rattle.repl_messages.specs.Looks as looks;
 ghost use Rattle.session_core.specs.Conduct.{WantsFor, is_answer, feed_front};
 ghost use Rattle.session_core.specs.State.{Awaits};
-ghost use Rattle.session_run.specs.Answered.{HasRead, IsAnswered};
+ghost use Rattle.session_run.specs.Answered.{moment, HasRead, IsAnswered};
 
 use repl_messages::{Offers, Revision};
 use session_core::{Core, Event, Want};
@@ -23,14 +23,18 @@ pub(crate) fn read<G: Ground>(
     requires wants { WantsFor core.now.feed core.now.pending (Some want) }
     requires front { feed_front core.now.feed ≤ G.floor ground.old }
     ensures answered { IfOk result (λ event. IsAnswered
-        (record { read = G.read ground.old; lowest = G.floor ground.old; recorded = G.recorded ground.old; own = G.own ground.old })
+        (moment (G.read ground.old) (G.floor ground.old) (G.recorded ground.old)
+        (G.own ground.old))
         core.now.user core.now.strict (Some want) event
-        (record { read = G.read ground.new; lowest = G.floor ground.new; recorded = G.recorded ground.new; own = G.own ground.new })) }
+        (moment (G.read ground.new) (G.floor ground.new) (G.recorded ground.new)
+        (G.own ground.new))) }
     ensures awaited { IfOk result (λ event. Awaits core.now event) }
     ensures answer { IfOk result (λ event. is_answer event ≡ true) }
     ensures err { OnErr result (HasRead
-        (record { read = G.read ground.old; lowest = G.floor ground.old; recorded = G.recorded ground.old; own = G.own ground.old })
-        (record { read = G.read ground.new; lowest = G.floor ground.new; recorded = G.recorded ground.new; own = G.own ground.new })) }
+        (moment (G.read ground.old) (G.floor ground.old) (G.recorded ground.old)
+        (G.own ground.old))
+        (moment (G.read ground.new) (G.floor ground.new) (G.recorded ground.new)
+        (G.own ground.new))) }
 {
     match want {
         Want::Feed { since, options } => {

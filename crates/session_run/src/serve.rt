@@ -2,6 +2,7 @@
 
 ghost use Rattle.std.specs.Prelude.{◌≡◌, ◌<◌, Some};
 ghost use Rattle.session_run.specs.declared.ended.End.{End};
+ghost use Rattle.session_run.specs.Answered.{moment};
 ghost use Rattle.session_run.specs.Served.{IsServed};
 
 use crate::ended::{End, Ended};
@@ -34,8 +35,8 @@ pub fn serve_session<W: Wire, G: Ground>(
     wire: &mut W,
 ) -> (G, Ended)
     ensures session { IsServed setup
-        (record { read = G.read ground; lowest = G.floor ground; recorded = G.recorded ground; own = G.own ground })
-        (record { read = G.read result.0; lowest = G.floor result.0; recorded = G.recorded result.0; own = G.own result.0 })
+        (moment (G.read ground) (G.floor ground) (G.recorded ground) (G.own ground))
+        (moment (G.read result.0) (G.floor result.0) (G.recorded result.0) (G.own result.0))
         (W.told wire.old) result.1 (W.told wire.new) }
 
     // The wire is said to have failed only where it did.

@@ -11,7 +11,7 @@ ghost use Rattle.session_core.specs.State.{Awaits, new_machine};
 ghost use Rattle.session_core.specs.Steps.{Step};
 ghost use Rattle.session_run.specs.declared.ended.End.{End};
 ghost use Rattle.session_run.specs.declared.serve.Setup.{Setup};
-ghost use Rattle.session_run.specs.Answered.{Moment, HasRead, IsAnswered};
+ghost use Rattle.session_run.specs.Answered.{Moment, moment, HasRead, IsAnswered};
 ghost use Rattle.session_run.specs.Held.{IsAtRest, IsReady, Makes, Halts, Conversed, Conversing, IsEndOf, Holds, GoesOn, Takes, Runs, RunsOn};
 ghost use Rattle.session_run.specs.Putting.{MayReply};
 
@@ -40,7 +40,9 @@ pub(crate) struct Session {
 impl Session {
     /// A session to which nothing has come. Allocates nothing.
     pub(crate) fn new(alloc: Global, user: Name, version: Version, strict: bool) -> Session
-        ensures holds { (now : Moment) → Holds (record { user = user; version = version; strict = strict }) now now result [] [] [] [] }
+        ensures holds { (now : Moment) → Holds
+            (record { user = user; version = version; strict = strict }) now now result [] [] []
+            [] }
         ensures core { result.core ≡ new_machine user version strict }
         ensures frames { result.frames ≡ 0 }
     {
@@ -63,7 +65,12 @@ impl Session {
 
     /// The end of the session.
     pub(crate) fn ended(self, end: End) -> Ended
-        ensures { result ≡ record { end = end; looks = self.listing.looks; stored = self.listing.stored } }
+        ensures { result ≡ record {
+          end = end;
+          looks = self.listing.looks;
+          stored =
+              self.listing.stored;
+        } }
     {
         let (looks, stored) = self.listing.into_lists();
         Ended { end, looks, stored }
@@ -76,11 +83,13 @@ impl Session {
         requires ready { IsReady self.old }
         requires may { MayReply self.old.mux (due_at self.old.core.pending event) }
         ensures ok { IfOk result (λ want. Makes self.old self.new event want) }
-        ensures wants { IfOk result (λ want. WantsFor self.new.core.feed self.new.core.pending want) }
+        ensures wants { IfOk result
+            (λ want. WantsFor self.new.core.feed self.new.core.pending want) }
         ensures ready { OnOk result (IsReady self.new) }
         ensures may { OnOk result (MayReply self.new.mux (due_with self.new.core.pending)) }
         ensures few { OnOk result (self.new.core.requests ≤ self.old.core.requests + 10001) }
-        ensures fewer { OnOk result (is_answer event ≡ true → most_answers self.new.core.pending < most_answers self.old.core.pending) }
+        ensures fewer { OnOk result (is_answer event ≡ true
+            → most_answers self.new.core.pending < most_answers self.old.core.pending) }
         ensures halted { OnErr result (Halts self.old self.new event) }
         ensures listing { self.new.listing ≡ self.old.listing }
         ensures frames { self.new.frames ≡ self.old.frames }
@@ -103,12 +112,23 @@ impl Session {
     ) -> Result<Event, Memory>
         requires wants { WantsFor self.old.core.feed self.old.core.pending (Some want) }
         requires front { feed_front self.old.core.feed ≤ G.floor ground.old }
-        ensures answered { IfOk result (λ event. IsAnswered (record { read = G.read ground.old; lowest = G.floor ground.old; recorded = G.recorded ground.old; own = G.own ground.old }) self.old.core.user self.old.core.strict (Some want) event (record { read = G.read ground.new; lowest = G.floor ground.new; recorded = G.recorded ground.new; own = G.own ground.new })) }
+        ensures answered { IfOk result (λ event. IsAnswered
+            (moment (G.read ground.old) (G.floor ground.old)
+            (G.recorded ground.old) (G.own ground.old)) self.old.core.user
+            self.old.core.strict (Some want) event
+            (moment (G.read ground.new) (G.floor ground.new)
+            (G.recorded ground.new) (G.own ground.new))) }
         ensures awaited { IfOk result (λ event. Awaits self.old.core event) }
         ensures answer { IfOk result (λ event. is_answer event ≡ true) }
-        ensures looks { IfOk result (λ event. self.new.listing.looks ≡ self.old.listing.looks ++ look_of event) }
-        ensures stored { IfOk result (λ event. self.new.listing.stored ≡ self.old.listing.stored ++ stored_by event) }
-        ensures read { OnErr result (HasRead (record { read = G.read ground.old; lowest = G.floor ground.old; recorded = G.recorded ground.old; own = G.own ground.old }) (record { read = G.read ground.new; lowest = G.floor ground.new; recorded = G.recorded ground.new; own = G.own ground.new })) }
+        ensures looks { IfOk result (λ event. self.new.listing.looks
+            ≡ self.old.listing.looks ++ look_of event) }
+        ensures stored { IfOk result (λ event. self.new.listing.stored
+            ≡ self.old.listing.stored ++ stored_by event) }
+        ensures read { OnErr result (HasRead
+            (moment (G.read ground.old) (G.floor ground.old)
+            (G.recorded ground.old) (G.own ground.old))
+            (moment (G.read ground.new) (G.floor ground.new)
+            (G.recorded ground.new) (G.own ground.new))) }
         ensures same_looks { OnErr result (self.new.listing.looks ≡ self.old.listing.looks) }
         ensures same_stored { OnErr result (self.new.listing.stored ≡ self.old.listing.stored) }
         ensures core { self.new.core ≡ self.old.core }
@@ -135,10 +155,23 @@ impl Session {
         requires may { MayReply self.old.mux (due_at self.old.core.pending event) }
         requires front { feed_front self.old.core.feed ≤ G.floor ground.old }
         requires seen { AreWithin (G.floor ground.old) (front_told event) }
-        ensures ok { (before : Moment) → IsAnswered before self.old.core.user self.old.core.strict None event (record { read = G.read ground.old; lowest = G.floor ground.old; recorded = G.recorded ground.old; own = G.own ground.old })
-            → OnOk result ((steps : List Step) × Conversing self.old self.new event before (record { read = G.read ground.new; lowest = G.floor ground.new; recorded = G.recorded ground.new; own = G.own ground.new }) None steps) }
-        ensures halted { (before : Moment) → IsAnswered before self.old.core.user self.old.core.strict None event (record { read = G.read ground.old; lowest = G.floor ground.old; recorded = G.recorded ground.old; own = G.own ground.old })
-            → OnErr result ((steps : List Step) × (halted : List Step) × (now : Moment) × Conversed self.old self.new event before now steps halted × HasRead now (record { read = G.read ground.new; lowest = G.floor ground.new; recorded = G.recorded ground.new; own = G.own ground.new })) }
+        ensures ok { (before : Moment)
+            → IsAnswered before self.old.core.user self.old.core.strict None event
+            (moment (G.read ground.old) (G.floor ground.old)
+            (G.recorded ground.old) (G.own ground.old))
+            → OnOk result ((steps : List Step)
+            × Conversing self.old self.new event before
+            (moment (G.read ground.new) (G.floor ground.new)
+            (G.recorded ground.new) (G.own ground.new)) None steps) }
+        ensures halted { (before : Moment)
+            → IsAnswered before self.old.core.user self.old.core.strict None event
+            (moment (G.read ground.old) (G.floor ground.old)
+            (G.recorded ground.old) (G.own ground.old))
+            → OnErr result ((steps : List Step) × (halted : List Step) × (now : Moment)
+            × Conversed self.old self.new event before now steps halted
+            × HasRead now
+            (moment (G.read ground.new) (G.floor ground.new)
+            (G.recorded ground.new) (G.own ground.new))) }
         ensures frames { self.new.frames ≡ self.old.frames }
         ensures received { self.new.mux.received ≡ self.old.mux.received }
         ensures sent { self.new.mux.sent ≡ self.old.mux.sent }
@@ -171,8 +204,14 @@ impl Session {
         requires may { MayReply self.old.mux (due_at self.old.core.pending event) }
         requires front { feed_front self.old.core.feed ≤ G.floor ground.old }
         requires seen { AreWithin (G.floor ground.old) (front_told event) }
-        ensures goes { (before : Moment) → IsAnswered before self.old.core.user self.old.core.strict None event (record { read = G.read ground.old; lowest = G.floor ground.old; recorded = G.recorded ground.old; own = G.own ground.old })
-            → GoesOn self.old self.new (Some event) before (record { read = G.read ground.new; lowest = G.floor ground.new; recorded = G.recorded ground.new; own = G.own ground.new }) (W.told wire.old) (W.told wire.new) result }
+        ensures goes { (before : Moment)
+            → IsAnswered before self.old.core.user self.old.core.strict None event
+            (moment (G.read ground.old) (G.floor ground.old)
+            (G.recorded ground.old) (G.own ground.old))
+            → GoesOn self.old self.new (Some event) before
+            (moment (G.read ground.new) (G.floor ground.new)
+            (G.recorded ground.new) (G.own ground.new)) (W.told wire.old) (W.told
+            wire.new) result }
         ensures faults { W.faults wire.old ≤ W.faults wire.new }
         ensures fault { result ≡ Some End.WireFault → W.faults wire.old < W.faults wire.new }
         ensures frames { self.new.frames ≡ self.old.frames }
@@ -190,7 +229,8 @@ impl Session {
     fn go_on<W: Wire>(&mut self, wire: &mut W) -> Option<End>
         requires pending { self.old.core.pending ≡ Pending.Nothing }
         requires ready { IsReady self.old }
-        ensures goes { (now : Moment) → feed_front self.old.core.feed ≤ now.lowest → GoesOn self.old self.new None now now (W.told wire.old) (W.told wire.new) result }
+        ensures goes { (now : Moment) → feed_front self.old.core.feed ≤ now.lowest
+            → GoesOn self.old self.new None now now (W.told wire.old) (W.told wire.new) result }
         ensures faults { W.faults wire.old ≤ W.faults wire.new }
         ensures fault { result ≡ Some End.WireFault → W.faults wire.old < W.faults wire.new }
         ensures frames { self.new.frames ≡ self.old.frames }
@@ -213,7 +253,12 @@ impl Session {
         requires room { self.old.core.requests ≤ 9223372036854745800 }
         requires count { self.old.frames < 18446744073709551615 }
         requires front { feed_front self.old.core.feed ≤ G.floor ground.old }
-        ensures takes { Takes self.old self.new (Got.Frame bytes.now) (record { read = G.read ground.old; lowest = G.floor ground.old; recorded = G.recorded ground.old; own = G.own ground.old }) (record { read = G.read ground.new; lowest = G.floor ground.new; recorded = G.recorded ground.new; own = G.own ground.new }) (W.told wire.old) (W.told wire.new) result }
+        ensures takes { Takes self.old self.new (Got.Frame bytes.now)
+            (moment (G.read ground.old) (G.floor ground.old)
+            (G.recorded ground.old) (G.own ground.old))
+            (moment (G.read ground.new) (G.floor ground.new)
+            (G.recorded ground.new) (G.own ground.new)) (W.told wire.old) (W.told wire.new)
+            result }
         ensures faults { W.faults wire.old ≤ W.faults wire.new }
         ensures fault { result ≡ Some End.WireFault → W.faults wire.old < W.faults wire.new }
         ensures count { self.new.frames ≤ self.old.frames + 1 }
@@ -244,7 +289,12 @@ impl Session {
         requires rest { IsAtRest self.old }
         requires room { self.old.core.requests ≤ 9223372036854745800 }
         requires front { feed_front self.old.core.feed ≤ G.floor ground.old }
-        ensures takes { Takes self.old self.new Got.Idle (record { read = G.read ground.old; lowest = G.floor ground.old; recorded = G.recorded ground.old; own = G.own ground.old }) (record { read = G.read ground.new; lowest = G.floor ground.new; recorded = G.recorded ground.new; own = G.own ground.new }) (W.told wire.old) (W.told wire.new) result }
+        ensures takes { Takes self.old self.new Got.Idle
+            (moment (G.read ground.old) (G.floor ground.old)
+            (G.recorded ground.old) (G.own ground.old))
+            (moment (G.read ground.new) (G.floor ground.new)
+            (G.recorded ground.new) (G.own ground.new)) (W.told wire.old) (W.told wire.new)
+            result }
         ensures faults { W.faults wire.old ≤ W.faults wire.new }
         ensures fault { result ≡ Some End.WireFault → W.faults wire.old < W.faults wire.new }
         ensures count { self.new.frames ≡ self.old.frames }
@@ -270,8 +320,14 @@ impl Session {
         requires count { self.old.frames < 18446744073709551615 }
         requires front { feed_front self.old.core.feed ≤ G.floor ground.old }
         ensures runs { (setup : Setup) (start : Moment) (told : Option Traffic) (count : ℕ)
-            → Runs setup start (record { read = G.read ground.old; lowest = G.floor ground.old; recorded = G.recorded ground.old; own = G.own ground.old }) told self.old (W.told wire.old) count → count < 1099511627776
-            → RunsOn setup start (record { read = G.read ground.new; lowest = G.floor ground.new; recorded = G.recorded ground.new; own = G.own ground.new }) told self.new (W.told wire.new) count result }
+            → Runs setup start
+            (moment (G.read ground.old) (G.floor ground.old)
+            (G.recorded ground.old) (G.own ground.old)) told self.old (W.told
+            wire.old) count → count < 1099511627776
+            → RunsOn setup start
+            (moment (G.read ground.new) (G.floor ground.new)
+            (G.recorded ground.new) (G.own ground.new)) told self.new (W.told
+            wire.new) count result }
         ensures rest { result ≡ None → IsAtRest self.new }
         ensures front { result ≡ None → feed_front self.new.core.feed ≤ G.floor ground.new }
         ensures few { result ≡ None → self.new.core.requests ≤ self.old.core.requests + 30003 }
