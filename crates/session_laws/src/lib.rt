@@ -1,0 +1,4 @@
+//! Laws of the feeds of whole sessions.
+#![tactic(auto)]
+
+pub mod laws;
