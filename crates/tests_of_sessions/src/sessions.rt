@@ -42,6 +42,23 @@ fn frame_of(alloc: Global, hex: &str) -> Result<Bytes, TextFault> {
     Ok(frame)
 }
 
+/// A frame with a run of the letter x in it: what stands before the run, how long it is, and what stands after it.
+fn spread(alloc: Global, before: &str, run: u64, after: &str) -> Result<Bytes, TextFault> {
+    let mut frame = frame_of(alloc, before)?;
+    for _ in 0..run {
+        frame.push(b'x')?;
+    }
+    from_hex(after.as_bytes(), &mut frame)?;
+    Ok(frame)
+}
+
+/// The parts of a frame that is written with stars around the length of a run.
+fn parts_of_run(word: &str) -> Option<(&str, u64, &str)> {
+    let (before, rest) = word.split_once('*')?;
+    let (run, after) = rest.split_once('*')?;
+    Some((before, read_decimal(run)?, after))
+}
+
 /// What comes: frames with blanks between them, and `idle` where nothing was there yet.
 fn inputs_of(alloc: Global, frames: &str) -> Result<Vec<Input>, Fail> {
     let mut inputs = Vec::new(alloc);
@@ -52,9 +69,12 @@ fn inputs_of(alloc: Global, frames: &str) -> Result<Vec<Input>, Fail> {
 }
 
 fn input_of(alloc: Global, word: &str) -> Result<Input, TextFault> {
-    match word {
-        "idle" => Ok(Input::Idle),
-        hex => Ok(Input::Frame(frame_of(alloc, hex)?)),
+    if word == "idle" {
+        return Ok(Input::Idle);
+    }
+    match parts_of_run(word) {
+        Some((before, run, after)) => Ok(Input::Frame(spread(alloc, before, run, after)?)),
+        None => Ok(Input::Frame(frame_of(alloc, word)?)),
     }
 }
 
@@ -326,14 +346,42 @@ fn last_four(bytes: &[u8]) -> &[u8] {
     &bytes[bytes.len().saturating_sub(4)..]
 }
 
+/// Whether a session of ann's device sends frames of these ends, and ends so.
+fn goes_so(
+    alloc: Global,
+    journal: &str,
+    frames: &str,
+    sent: &str,
+    ended: &str,
+) -> Result<bool, Fail> {
+    let mut wire = MemWire::new(alloc, inputs_of(alloc, frames)?);
+    let how = serve(alloc, journal, false, &mut wire)?;
+    let how = ended_text(alloc, &how)?;
+    let ends = ends_of_frames(alloc, wire.sent.as_slice())?;
+    Ok(how.as_str() == ended && ends.as_slice() == sent.as_bytes())
+}
+
 #[test]
 fn a_device_that_pulls_pushes_and_stays(rt: HostRuntime) -> Result<(), Fail> {
     let alloc = rt.alloc();
     let journal = many_documents(alloc)?;
-    let mut wire = MemWire::new(alloc, inputs_of(alloc, AFTERNOON)?);
-    let ended = serve(alloc, journal.as_str(), false, &mut wire)?;
-    assert!(rt; ended_text(alloc, &ended)?.as_str() == AFTERNOON_ENDED);
-    let sent = ends_of_frames(alloc, wire.sent.as_slice())?;
-    assert!(rt; sent.as_slice() == AFTERNOON_SENT.as_bytes());
+    let journal = journal.as_str();
+    assert!(rt; goes_so(alloc, journal, AFTERNOON, AFTERNOON_SENT, AFTERNOON_ENDED)?);
+    Ok(())
+}
+
+/// What comes in a session that pushes a body of 150,008 bytes in ten frames and pulls it again. Acknowledgements of it are owed twice;
+/// the gateway pauses in it after eight frames, and goes on once the device has acknowledged 65,536 bytes.
+const LONG: &str =
+    "01401a50726f66696c65007265760069640064310072657600312d61007b2261223a22*16351*c955b664 0140*16384*1491ef12 0140*16384*75f9ea00 0140*16384*09feb75d 0140*16384*ec51166c 0140*16384*a6e93334 0140*16384*9cc42a6b 0140*16384*dceaf589 0140*16384*516c1ead 0100*2577*227d428ba79c 02001b50726f66696c65007375624368616e6765730073696e6365003000710fa9da 0101005b5b5d5d6e568e42 0234808004";
+
+const LONG_SENT: &str =
+    "5:34808004 5:34808008 7:d202ef8d 7:41d912ff 39:8c057a55 16390:4c7c5ba4 25:13dbe658 16390:8d403154 16390:134e6093 16390:fa48ae0d 16390:297359c4 16390:424aee7e 16390:95d8f66d 16390:f8e534de 16390:eec4bde7 2596:cb25e2e7 ";
+
+const LONG_ENDED: &str = "Closed push 1 feed 2 bodies 2 stored 2 ";
+
+#[test]
+fn a_long_body_is_acknowledged_and_pauses(rt: HostRuntime) -> Result<(), Fail> {
+    assert!(rt; goes_so(rt.alloc(), ANN, LONG, LONG_SENT, LONG_ENDED)?);
     Ok(())
 }
