@@ -26,7 +26,7 @@ use Rattle.principals.proofs.Bodies.{body_is}
 use Rattle.principals.proofs.Texts.{line_pieces, line_whole}
 
 -- each text is in the grammar at its place, and there are as many
-abbrev AreParts : List Part → List (List ℕ) → Type 0
+abbrev pub AreParts : List Part → List (List ℕ) → Type 0
 AreParts [] [] = Unit {0}
 AreParts [] (text ∷ texts) = ⊥
 AreParts (part ∷ parts) [] = ⊥

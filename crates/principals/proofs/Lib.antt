@@ -2,3 +2,4 @@ pub mod Texts
 pub mod Bodies
 pub mod FaultLemmas
 pub mod Scripts
+pub mod Either
