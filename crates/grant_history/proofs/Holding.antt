@@ -16,30 +16,31 @@ use Rattle.grant_history.specs.Dated.{Dated}
 use Rattle.grant_history.specs.Facts.{same_what, same_fact}
 use Rattle.grant_history.specs.Holdings.{count_in, held_in, AreUpTo, Holders, count_by_list, held_by_list, count_of, held_of, AreAllUpTo, one_more, one_less, more_of, less_of, count_to, held_to, count_at, has_at, IsStore}
 use Rattle.grant_history.proofs.Tracked.{later_list}
+use Rattle.grant_history.specs.Things.{Things}
 
-abbrev pub items_in : Option (Vec Held Global) → List Held
+abbrev pub items_in : Option Things → List Held
 items_in None = []
 items_in (Some list) = list.items
 
-count_items : (o : Option (Vec Held Global)) (w : What) → count_in (items_in o) w ≡ count_by_list o w
+count_items : (o : Option Things) (w : What) → count_in (items_in o) w ≡ count_by_list o w
 count_items None w = refl
 count_items (Some list) w = refl
 
-held_items : (o : Option (Vec Held Global)) (w : What) (k : ℕ) → held_in (items_in o) w k ≡ held_by_list o w k
+held_items : (o : Option Things) (w : What) (k : ℕ) → held_in (items_in o) w k ≡ held_by_list o w k
 held_items None w k = refl
 held_items (Some list) w k = refl
 
-module _ (old new : Holders) (name : List ℕ) (list : Vec Held Global)
+module _ (old new : Holders) (name : List ℕ) (list : Things)
     (sets : (other : List ℕ) → get_by_text new other ≡ (if bytes_eq name other then Some list else get_by_text old other)) where
   new_count : (after : What → ℕ) (x : List ℕ × What) → ((w : What) → count_in list.items w ≡ after w) → count_of new x ≡ (if bytes_eq name x.0 then after x.1 else count_of old x)
-  new_count after x d = ap (λ (o : Option (Vec Held Global)). count_by_list o x.1) (sets x.0) ∙ by (bytes_eq name x.0)
+  new_count after x d = ap (λ (o : Option Things). count_by_list o x.1) (sets x.0) ∙ by (bytes_eq name x.0)
     where
       by : (b : Bool) → count_by_list (if b then Some list else get_by_text old x.0) x.1 ≡ (if b then after x.1 else count_of old x)
       by true = d x.1
       by false = refl
 
   new_held : (x : List ℕ × What) (k : ℕ) → (held_in list.items x.1 k ≡ held_by_list (get_by_text old name) x.1 k) → held_of new x k ≡ held_of old x k
-  new_held x k d = ap (λ (o : Option (Vec Held Global)). held_by_list o x.1 k) (sets x.0) ∙ by (bytes_eq name x.0) refl
+  new_held x k d = ap (λ (o : Option Things). held_by_list o x.1 k) (sets x.0) ∙ by (bytes_eq name x.0) refl
     where
       by : (b : Bool) → bytes_eq name x.0 ≡ b → held_by_list (if b then Some list else get_by_text old x.0) x.1 k ≡ held_of old x k
       by true same = d ∙ ap (λ (other : List ℕ). held_by_list (get_by_text old other) x.1 k) ((bytes_decides name x.0).0 same)
@@ -49,27 +50,27 @@ module _ (old new : Holders) (name : List ℕ) (list : Vec Held Global)
   new_up_to n at le up here other found is = by (bytes_eq name other) refl
     where
       by : (b : Bool) → bytes_eq name other ≡ b → AreUpTo found.items at
-      by true same = subst (λ (l : Vec Held Global). AreUpTo l.items at) (same_Some list found (sym (ap (λ (b : Bool). if b then Some list else get_by_text old other) same) ∙ sym (sets other) ∙ is)) here
+      by true same = subst (λ (l : Things). AreUpTo l.items at) (same_Some list found (sym (ap (λ (b : Bool). if b then Some list else get_by_text old other) same) ∙ sym (sets other) ∙ is)) here
       by false same = later_list found.items n at le (up other found (sym (ap (λ (b : Bool). if b then Some list else get_by_text old other) same) ∙ sym (sets other) ∙ is))
 
-  old_up_to : (n : ℕ) (o : Option (Vec Held Global)) → get_by_text old name ≡ o → AreAllUpTo old n → AreUpTo (items_in o) n
+  old_up_to : (n : ℕ) (o : Option Things) → get_by_text old name ≡ o → AreAllUpTo old n → AreUpTo (items_in o) n
   old_up_to n None is up = tt
   old_up_to n (Some l) is up = up name l is
 
-  pub holder_dated : (o : Option (Vec Held Global)) (at : ℕ) (after : What → ℕ) → get_by_text old name ≡ o → Dated count_in held_in AreUpTo (items_in o) list.items at after
+  pub holder_dated : (o : Option Things) (at : ℕ) (after : What → ℕ) → get_by_text old name ≡ o → Dated count_in held_in AreUpTo (items_in o) list.items at after
       → Dated count_of held_of AreAllUpTo old new at (λ x. if bytes_eq name x.0 then after x.1 else count_of old x)
   holder_dated o at after is d = record {
     counts = λ x. new_count after x d.counts;
-    before = λ x k below. new_held x k (d.before x.1 k below ∙ held_items o x.1 k ∙ ap (λ (p : Option (Vec Held Global)). held_by_list p x.1 k) (sym is));
+    before = λ x k below. new_held x k (d.before x.1 k below ∙ held_items o x.1 k ∙ ap (λ (p : Option Things). held_by_list p x.1 k) (sym is));
     up_to = λ n le up. new_up_to n at le up (d.up_to n le (old_up_to n o is up));
   }
 
 pub recounted_of : (old new : Holders) (at : ℕ) (one other : List ℕ × What → ℕ) → Dated count_of held_of AreAllUpTo old new at one → ((x : List ℕ × What) → one x ≡ other x) → Dated count_of held_of AreAllUpTo old new at other
 recounted_of old new at one other d same = record { counts = λ x. d.counts x ∙ same x; before = d.before; up_to = d.up_to }
 
-module _ (old : Holders) (name : List ℕ) (o : Option (Vec Held Global)) (is : get_by_text old name ≡ o) where
+module _ (old : Holders) (name : List ℕ) (o : Option Things) (is : get_by_text old name ≡ o) where
   there : (x : List ℕ × What) → bytes_eq name x.0 ≡ true → count_in (items_in o) x.1 ≡ count_of old x
-  there x same = count_items o x.1 ∙ ap (λ (p : Option (Vec Held Global)). count_by_list p x.1) (sym is) ∙ ap (λ (other : List ℕ). count_by_list (get_by_text old other) x.1) ((bytes_decides name x.0).0 same)
+  there x same = count_items o x.1 ∙ ap (λ (p : Option Things). count_by_list p x.1) (sym is) ∙ ap (λ (other : List ℕ). count_by_list (get_by_text old other) x.1) ((bytes_decides name x.0).0 same)
 
   pub kept_counts : (x : List ℕ × What) → (if bytes_eq name x.0 then count_in (items_in o) x.1 else count_of old x) ≡ count_of old x
   kept_counts x = by (bytes_eq name x.0) refl
@@ -134,8 +135,8 @@ roles_dated old new at after counts d kept roles users = record {
 
 pub unchanged : (old new : Holders) (at : ℕ) → ((other : List ℕ) → get_by_text new other ≡ get_by_text old other) → Dated count_of held_of AreAllUpTo old new at (count_of old)
 unchanged old new at same = record {
-  counts = λ x. ap (λ (o : Option (Vec Held Global)). count_by_list o x.1) (same x.0);
-  before = λ x k below. ap (λ (o : Option (Vec Held Global)). held_by_list o x.1 k) (same x.0);
+  counts = λ x. ap (λ (o : Option Things). count_by_list o x.1) (same x.0);
+  before = λ x k below. ap (λ (o : Option Things). held_by_list o x.1 k) (same x.0);
   up_to = λ n le up name list is. later_list list.items n at le (up name list (sym (same name) ∙ is));
 }
 

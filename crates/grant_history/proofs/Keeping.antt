@@ -29,6 +29,7 @@ use Rattle.grant_history.specs.Ledger.{Source, document, user, role, holder, sam
 use Rattle.grant_history.proofs.Holding.{later_all}
 use Rattle.grant_history.proofs.Same.{grantees, texts_swap}
 use Rattle.grant_history.proofs.Steps.{current_same, unwritten, standing_same, standing_put, idle_step, put_step, write_step, apart}
+use Rattle.grant_history.specs.Things.{Things}
 
 -- a place made for a name changes nothing
 pub placed_empty : (old new : Lists) (name : List ℕ) (v : Vec Fact Global) → v.items ≡ [] → get_by_text old name ≡ None
@@ -65,14 +66,14 @@ settled_list (h ∷ hs) n w up =
 settled_holders : (holders : Holders) (n : ℕ) (name : List ℕ) (w : What) → AreAllUpTo holders n → held_of holders (name, w) n ≡ nat_lt 0 (count_of holders (name, w))
 settled_holders holders n name w up = by (get_by_text holders name) refl
   where
-    by : (o : Option (Vec Held Global)) → get_by_text holders name ≡ o → held_by_list (get_by_text holders name) w n ≡ nat_lt 0 (count_by_list (get_by_text holders name) w)
-    by None is = ap (λ (o : Option (Vec Held Global)). held_by_list o w n) is ∙ none ∙ ap (λ (o : Option (Vec Held Global)). nat_lt 0 (count_by_list o w)) (sym is)
+    by : (o : Option Things) → get_by_text holders name ≡ o → held_by_list (get_by_text holders name) w n ≡ nat_lt 0 (count_by_list (get_by_text holders name) w)
+    by None is = ap (λ (o : Option Things). held_by_list o w n) is ∙ none ∙ ap (λ (o : Option Things). nat_lt 0 (count_by_list o w)) (sym is)
       where
         none : false ≡ nat_lt 0 0
         none = refl
     by (Some list) is =
-        ap (λ (o : Option (Vec Held Global)). held_by_list o w n) is ∙ settled_list list.items n w (up name list is)
-        ∙ ap (λ (o : Option (Vec Held Global)). nat_lt 0 (count_by_list o w)) (sym is)
+        ap (λ (o : Option Things). held_by_list o w n) is ∙ settled_list list.items n w (up name list is)
+        ∙ ap (λ (o : Option Things). nat_lt 0 (count_by_list o w)) (sym is)
 
 pub settled : (store : Store) (n : ℕ) (f : Fact) → IsStore store n → has_at store f n ≡ nat_lt 0 (count_at store f)
 settled store n f is = by f.of

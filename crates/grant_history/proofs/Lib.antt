@@ -3,9 +3,11 @@ pub mod Steps
 pub mod Tracked
 pub mod Holding
 pub mod Has
+pub mod Once
 pub mod Keeping
 pub mod Applied
 pub mod Reading
 pub mod Sweeping
 pub mod Dividing
 pub mod Sorting
+pub mod Cutting

@@ -24,7 +24,9 @@ use Rattle.grant_history.specs.Holdings.{place_of, held_in, AreUpTo, held_by_lis
 use Rattle.grant_history.specs.Sources.{is_held}
 use Rattle.grant_history.specs.Reads.{is_channel, channel_among, channel_by, role_channel, gives_channel, by_roles, list_channel, user_channel, is_existing, role_among, list_role, user_role}
 use Rattle.grant_history.proofs.Same.{whats, what_itself, text_itself, texts_swap}
+use Rattle.grant_history.proofs.Once.{once_of, any_of, channel_any}
 use Rattle.grant_history.proofs.Has.{channel_held, role_held, exists_held, any_same}
+use Rattle.grant_history.specs.Things.{Things}
 
 and_swap : (a b : Bool) → (a && b) ≡ (b && a)
 and_swap true true = refl
@@ -55,51 +57,6 @@ second_of : (a b : Bool) → (a && b) ≡ true → b ≡ true
 second_of true b h = h
 second_of false b h = absurd (false≢true h)
 
--- where a thing stands nowhere, no track is of it
-none_of : (list : List Held) (w : What) (k : ℕ) → place_of list w ≡ None → list_any (λ h. same_what h.what w && held_at h.track k) list ≡ false
-none_of [] w k h = refl
-none_of (x ∷ xs) w k h = by (same_what x.what w) refl h (λ p. none_of xs w k p)
-  where
-    next : (o : Option ℕ) → option_map (λ (n : ℕ). n + 1) o ≡ None → o ≡ None
-    next None p = refl
-    next (Some n) p = absurd (none-some (n + 1) (sym p))
-
-    by : (b : Bool) → same_what x.what w ≡ b → (if b then Some 0 else option_map (λ (n : ℕ). n + 1) (place_of xs w)) ≡ None → (place_of xs w ≡ None → list_any (λ h. same_what h.what w && held_at h.track k) xs ≡ false)
-        → ((same_what x.what w && held_at x.track k) || list_any (λ h. same_what h.what w && held_at h.track k) xs) ≡ false
-    by true same h rest = absurd (none-some 0 (sym h))
-    by false same h rest = ap (λ (b : Bool). (b && held_at x.track k) || list_any (λ h. same_what h.what w && held_at h.track k) xs) same ∙ rest (next (place_of xs w) h)
-
--- each thing stands once, so that its track is that of any
-any_of : (list : List Held) (n k : ℕ) (w : What) → AreUpTo list n → list_any (λ h. same_what h.what w && held_at h.track k) list ≡ held_in list w k
-any_of [] n k w up = refl
-any_of (x ∷ xs) n k w up = by (same_what x.what w) refl (any_of xs n k w up.2)
-  where
-    or_none : (b : Bool) → (b || false) ≡ b
-    or_none true = refl
-    or_none false = refl
-
-    by : (b : Bool) → same_what x.what w ≡ b → list_any (λ h. same_what h.what w && held_at h.track k) xs ≡ held_in xs w k
-        → ((same_what x.what w && held_at x.track k) || list_any (λ h. same_what h.what w && held_at h.track k) xs) ≡ (if same_what x.what w then held_at x.track k else held_in xs w k)
-    by true same rest =
-        ap (λ (b : Bool). (b && held_at x.track k) || list_any (λ h. same_what h.what w && held_at h.track k) xs) same
-        ∙ ap (λ (b : Bool). held_at x.track k || b) (none_of xs w k (ap (λ (v : What). place_of xs v) (sym (whats x.what w same)) ∙ up.1))
-        ∙ or_none (held_at x.track k)
-        ∙ ap (λ (b : Bool). if b then held_at x.track k else held_in xs w k) (sym same)
-    by false same rest =
-        ap (λ (b : Bool). (b && held_at x.track k) || list_any (λ h. same_what h.what w && held_at h.track k) xs) same
-        ∙ rest ∙ ap (λ (b : Bool). if b then held_at x.track k else held_in xs w k) (sym same)
-
-channel_is : (w : What) (x : List ℕ) → is_channel w x ≡ same_what w (what.Channel x)
-channel_is what.Exists x = refl
-channel_is (what.Channel c) x = refl
-channel_is (what.Role r) x = refl
-
-channel_any : (list : List Held) (n k : ℕ) (x : List ℕ) → AreUpTo list n → channel_among list k x ≡ held_in list (what.Channel x) k
-channel_any list n k x up =
-    any_same (λ h. held_at h.track k && is_channel h.what x) (λ h. same_what h.what (what.Channel x) && held_at h.track k)
-    (λ h. and_swap (held_at h.track k) (is_channel h.what x) ∙ ap (λ (b : Bool). b && held_at h.track k) (channel_is h.what x)) list
-    ∙ any_of list n k (what.Channel x) up
-
 role_is : (role : List ℕ) (g : Grantee) (standing : Option Standing) → same_grantee g (Role role) ≡ true → exists standing ≡ true → IsIn (role_named g standing) role
 role_is role (User name) standing same h = absurd (false≢true same)
 role_is role (Role name) None same h = absurd (false≢true h)
@@ -123,9 +80,9 @@ module _ (store : Store) (n k : ℕ) (es : List Entry) (up : IsStore store n) (i
   role_exists : (role : List ℕ) → held_of store.roles (role, what.Exists) k ≡ exists (role_at es role)
   role_exists role = is (fact (Role role) what.Exists) ∙ exists_held es (Role role)
 
-  channel_by_list : (o : Option (Vec Held Global)) (role x : List ℕ) → get_by_text store.roles role ≡ o → channel_by o k x ≡ (held_by_list o what.Exists k && held_by_list o (what.Channel x) k)
+  channel_by_list : (o : Option Things) (role x : List ℕ) → get_by_text store.roles role ≡ o → channel_by o k x ≡ (held_by_list o what.Exists k && held_by_list o (what.Channel x) k)
   channel_by_list None role x at = refl
-  channel_by_list (Some list) role x at = ap (λ (b : Bool). held_in list.items what.Exists k && b) (channel_any list.items n k x (up.roles role list at))
+  channel_by_list (Some list) role x at = ap (λ (b : Bool). held_in list.items what.Exists k && b) (channel_any list.items k x (once_of list.items n (up.roles role list at)))
 
   role_has : (role x : List ℕ) → role_channel store.roles role k x ≡ role_has_channel es role x
   role_has role x =
@@ -133,22 +90,22 @@ module _ (store : Store) (n k : ℕ) (es : List Entry) (up : IsStore store n) (i
       ∙ ap (λ (b : Bool). b && held_of store.roles (role, what.Channel x) k) (role_exists role)
       ∙ ap (λ (b : Bool). exists (role_at es role) && b) (is (fact (Role role) (what.Channel x)) ∙ channel_held es (Role role) x)
 
-  module _ (user : List ℕ) (list : Vec Held Global) (at : get_by_text store.users user ≡ Some list) where
+  module _ (user : List ℕ) (list : Things) (at : get_by_text store.users user ≡ Some list) where
     here : (w : What) → held_in list.items w k ≡ has_at store (fact (User user) w) k
-    here w = ap (λ (o : Option (Vec Held Global)). held_by_list o w k) (sym at)
+    here w = ap (λ (o : Option Things). held_by_list o w k) (sym at)
 
     user_exists : held_in list.items what.Exists k ≡ exists (user_at es user)
     user_exists = here what.Exists ∙ is (fact (User user) what.Exists) ∙ exists_held es (User user)
 
     own : (x : List ℕ) → channel_among list.items k x ≡ (names_channel (user_at es user) x || is_granted es (User user) x)
-    own x = channel_any list.items n k x (up.users user list at) ∙ here (what.Channel x) ∙ is (fact (User user) (what.Channel x)) ∙ channel_held es (User user) x
+    own x = channel_any list.items k x (once_of list.items n (up.users user list at)) ∙ here (what.Channel x) ∙ is (fact (User user) (what.Channel x)) ∙ channel_held es (User user) x
 
     named : (role : List ℕ) → held_in list.items (what.Role role) k ≡ (names_role (user_at es user) role || is_given es user role)
     named role = here (what.Role role) ∙ is (fact (User user) (what.Role role)) ∙ role_held es user role
 
     -- a held thing is held by its name
     held_named : (h : Held) → IsIn list.items h → held_at h.track k ≡ true → held_in list.items h.what k ≡ true
-    held_named h there held = sym (any_of list.items n k h.what (up.users user list at)) ∙ passes_in (λ g. same_what g.what h.what && held_at g.track k) list.items h there (both (same_what h.what h.what) (held_at h.track k) (what_itself h.what) held)
+    held_named h there held = sym (any_of list.items k h.what (once_of list.items n (up.users user list at))) ∙ passes_in (λ g. same_what g.what h.what && held_at g.track k) list.items h there (both (same_what h.what h.what) (held_at h.track k) (what_itself h.what) held)
 
     module _ (alive : exists (user_at es user) ≡ true) (x : List ℕ) where
       abbrev by_role : Bool
@@ -178,7 +135,7 @@ module _ (store : Store) (n k : ℕ) (es : List Entry) (up : IsStore store n) (i
           let mine = first_of (has_role es user p.one) (role_has_channel es p.one x) p.is in
           let gives = second_of (has_role es user p.one) (role_has_channel es p.one x) p.is in
           let held : held_in list.items (what.Role p.one) k ≡ true = named p.one ∙ second_of (exists (user_at es user) && exists (role_at es p.one)) (names_role (user_at es user) p.one || is_given es user p.one) mine in
-          let q = passing (λ g. same_what g.what (what.Role p.one) && held_at g.track k) list.items (any_of list.items n k (what.Role p.one) (up.users user list at) ∙ held) in
+          let q = passing (λ g. same_what g.what (what.Role p.one) && held_at g.track k) list.items (any_of list.items k (what.Role p.one) (once_of list.items n (up.users user list at)) ∙ held) in
           let one : q.one.what ≡ what.Role p.one = whats q.one.what (what.Role p.one) (first_of (same_what q.one.what (what.Role p.one)) (held_at q.one.track k) q.is) in
           passes_in (λ h. held_at h.track k && gives_channel store.roles h.what k x) list.items q.one q.there
           (both (held_at q.one.track k) (gives_channel store.roles q.one.what k x) (second_of (same_what q.one.what (what.Role p.one)) (held_at q.one.track k) q.is)
@@ -207,7 +164,7 @@ module _ (store : Store) (n k : ℕ) (es : List Entry) (up : IsStore store n) (i
       among_from h =
           let there = second_of (exists (user_at es user)) (exists (role_at es x)) (first_of (exists (user_at es user) && exists (role_at es x)) (names_role (user_at es user) x || is_given es user x) h) in
           let held : held_in list.items (what.Role x) k ≡ true = named x ∙ second_of (exists (user_at es user) && exists (role_at es x)) (names_role (user_at es user) x || is_given es user x) h in
-          let q = passing (λ g. same_what g.what (what.Role x) && held_at g.track k) list.items (any_of list.items n k (what.Role x) (up.users user list at) ∙ held) in
+          let q = passing (λ g. same_what g.what (what.Role x) && held_at g.track k) list.items (any_of list.items k (what.Role x) (once_of list.items n (up.users user list at)) ∙ held) in
           let one : q.one.what ≡ what.Role x = whats q.one.what (what.Role x) (first_of (same_what q.one.what (what.Role x)) (held_at q.one.track k) q.is) in
           passes_in (λ h. held_at h.track k && is_existing store.roles h.what k x) list.items q.one q.there
           (both (held_at q.one.track k) (is_existing store.roles q.one.what k x) (second_of (same_what q.one.what (what.Role x)) (held_at q.one.track k) q.is)
@@ -267,18 +224,18 @@ module _ (store : Store) (n k : ℕ) (es : List Entry) (up : IsStore store n) (i
 
   -- a user of whom nothing is kept does not exist
   gone_user : (user : List ℕ) → get_by_text store.users user ≡ None → exists (user_at es user) ≡ false
-  gone_user user at = sym (exists_held es (User user)) ∙ sym (is (fact (User user) what.Exists)) ∙ ap (λ (o : Option (Vec Held Global)). held_by_list o what.Exists k) at
+  gone_user user at = sym (exists_held es (User user)) ∙ sym (is (fact (User user) what.Exists)) ∙ ap (λ (o : Option Things). held_by_list o what.Exists k) at
 
   pub user_channels : (user x : List ℕ) → user_channel store.roles (get_by_text store.users user) k x ≡ has_channel es user x
   user_channels user x = by (get_by_text store.users user) refl
     where
-      by : (o : Option (Vec Held Global)) → get_by_text store.users user ≡ o → user_channel store.roles o k x ≡ has_channel es user x
+      by : (o : Option Things) → get_by_text store.users user ≡ o → user_channel store.roles o k x ≡ has_channel es user x
       by None at = sym (ap (λ (b : Bool). b && (bytes_eq x everyone || names_channel (user_at es user) x || is_granted es (User user) x || list_any (λ role. has_role es user role && role_has_channel es role x) (roles_put es))) (gone_user user at))
       by (Some list) at = some_channel user list at x
 
   pub user_roles : (user x : List ℕ) → user_role store.roles (get_by_text store.users user) k x ≡ has_role es user x
   user_roles user x = by (get_by_text store.users user) refl
     where
-      by : (o : Option (Vec Held Global)) → get_by_text store.users user ≡ o → user_role store.roles o k x ≡ has_role es user x
+      by : (o : Option Things) → get_by_text store.users user ≡ o → user_role store.roles o k x ≡ has_role es user x
       by None at = sym (ap (λ (b : Bool). b && exists (role_at es x) && (names_role (user_at es user) x || is_given es user x)) (gone_user user at))
       by (Some list) at = some_role user list at x

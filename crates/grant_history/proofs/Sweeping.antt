@@ -1,11 +1,11 @@
 -- a sweep that went on to the next place
-use Rattle.std.proofs.Common.{◌≡◌, inl, inr, ◌<◌, ◌≤◌, ◌+◌, ℕ, refl, sym, ◌∙◌, ap, subst, arith, Bool, true, false, ◌&&◌, ◌||◌, nat_le, nat_lt, List, [], ◌∷◌, ◌++◌, Option, Some, None}
+use Rattle.std.proofs.Common.{◌≡◌, inl, inr, ◌<◌, ◌≤◌, ◌+◌, ◌-◌, ℕ, zero, suc, refl, sym, ◌∙◌, ap, subst, arith, Bool, true, false, ◌&&◌, ◌||◌, nat_le, nat_lt, List, [], ◌∷◌, ◌++◌, Option, Some, None}
 use Rattle.std.specs.Prelude.{is_some}
 use Rattle.std.proofs.lemmas.Bool.{cases_lt}
 use Rattle.std.proofs.lemmas.Option.{none-some, same_Some}
 use Rattle.grant_history.specs.declared.spells.Spell.{Spell}
 use Rattle.grant_history.specs.declared.spells.Sweep.{Sweep}
-use Rattle.grant_history.specs.Spells.{ends_after, spell_has, spells_have, EndsBefore, AllEndBefore, IsBeforeAll, AreApart, open_has, Swept}
+use Rattle.grant_history.specs.Spells.{ends_after, spell_has, spells_have, EndsBefore, AllEndBefore, IsBeforeAll, AreApart, Stays, open_has, Swept}
 
 any_append : (k : ℕ) (xs : List Spell) (s : Spell) → spells_have (xs ++ s ∷ []) k ≡ (spells_have xs k || spell_has k s)
 any_append k [] s = by (spell_has k s)
@@ -21,7 +21,7 @@ any_append k (x ∷ xs) s = ap (λ (b : Bool). spell_has k x || b) (any_append k
 
 later_ends : (list : List Spell) (n m : ℕ) → n ≤ m → AllEndBefore list n → AllEndBefore list m
 later_ends [] n m le h = tt
-later_ends (s ∷ ss) n m le h = ((h.0.0, h.0.1, omega (arith, le, h.0.2)), later_ends ss n m le h.1)
+later_ends (s ∷ ss) n m le h = ((h.0.0, h.0.1, omega (arith, le, h.0.2)), omega (arith, le, h.1), later_ends ss n m le h.2)
 
 -- spells that have ended have no later place
 spell_over : (s : Spell) (n k : ℕ) → EndsBefore s.to n → n ≤ k + 1 → spell_has k s ≡ false
@@ -30,37 +30,37 @@ spell_over s n k ends le =
 
 over : (list : List Spell) (n k : ℕ) → AllEndBefore list n → n ≤ k + 1 → spells_have list k ≡ false
 over [] n k h le = refl
-over (s ∷ ss) n k h le = ap (λ (b : Bool). b || spells_have ss k) (spell_over s n k h.0 le) ∙ over ss n k h.1 le
+over (s ∷ ss) n k h le = ap (λ (b : Bool). b || spells_have ss k) (spell_over s n k h.0 le) ∙ over ss n k h.2 le
 
-ends_append : (list : List Spell) (s : Spell) (n : ℕ) → AllEndBefore list n → EndsBefore s.to n → AllEndBefore (list ++ s ∷ []) n
-ends_append [] s n h e = (e, tt)
-ends_append (x ∷ xs) s n h e = (h.0, ends_append xs s n h.1 e)
+ends_append : (list : List Spell) (s : Spell) (n : ℕ) → AllEndBefore list n → EndsBefore s.to n → s.from < n → AllEndBefore (list ++ s ∷ []) n
+ends_append [] s n h e f = (e, f, tt)
+ends_append (x ∷ xs) s n h e f = (h.0, h.1, ends_append xs s n h.2 e f)
 
-before_append : (x : Spell) (list : List Spell) (s : Spell) → IsBeforeAll x list → EndsBefore x.to s.from → IsBeforeAll x (list ++ s ∷ [])
-before_append x [] s h e = (e, tt)
-before_append x (y ∷ ys) s h e = (h.0, before_append x ys s h.1 e)
+before_append : (x : Spell) (list : List Spell) (s : Spell) → IsBeforeAll x list → EndsBefore x.to s.from → x.from < s.from → IsBeforeAll x (list ++ s ∷ [])
+before_append x [] s h e f = (e, f, tt)
+before_append x (y ∷ ys) s h e f = (h.0, h.1, before_append x ys s h.2 e f)
 
 pub apart_append : (list : List Spell) (s : Spell) → AreApart list → AllEndBefore list s.from → AreApart (list ++ s ∷ [])
 apart_append [] s h e = (tt, tt)
-apart_append (x ∷ xs) s h e = (before_append x xs s h.0 e.0, apart_append xs s h.1 e.1)
+apart_append (x ∷ xs) s h e = (before_append x xs s h.0 e.0 e.1, apart_append xs s h.1 e.2)
 
 pub swept_new : (sweep : Sweep) → sweep.list.items ≡ [] → sweep.begun ≡ None → (test : ℕ → Bool) → test 0 ≡ false → Swept sweep test 0
-swept_new sweep empty none test zero = record {
+swept_new sweep empty none test first = record {
   says = λ j le.
       let here : j ≡ 0 = omega (arith, le) in
-      ap (λ (l : List Spell). spells_have l j || open_has sweep.begun j) empty ∙ ap (λ (o : Option ℕ). open_has o j) none ∙ sym zero ∙ ap test (sym here);
-  now = ap (λ (o : Option ℕ). is_some o) none ∙ sym zero;
+      ap (λ (l : List Spell). spells_have l j || open_has sweep.begun j) empty ∙ ap (λ (o : Option ℕ). open_has o j) none ∙ sym first ∙ ap test (sym here);
+  now = ap (λ (o : Option ℕ). is_some o) none ∙ sym first;
   ended = subst (λ (l : List Spell). AllEndBefore l (0 + 1)) (sym empty) tt;
   begun = λ from is. absurd (none-some from (sym none ∙ is));
   apart = subst (λ (l : List Spell). AreApart l) (sym empty) tt;
 }
 
 pub swept_begun : (sweep : Sweep) → sweep.list.items ≡ [] → sweep.begun ≡ Some 0 → (test : ℕ → Bool) → test 0 ≡ true → Swept sweep test 0
-swept_begun sweep empty some test zero = record {
+swept_begun sweep empty some test first = record {
   says = λ j le.
       let here : j ≡ 0 = omega (arith, le) in
-      ap (λ (l : List Spell). spells_have l j || open_has sweep.begun j) empty ∙ ap (λ (o : Option ℕ). open_has o j) some ∙ low j ∙ sym zero ∙ ap test (sym here);
-  now = ap (λ (o : Option ℕ). is_some o) some ∙ sym zero;
+      ap (λ (l : List Spell). spells_have l j || open_has sweep.begun j) empty ∙ ap (λ (o : Option ℕ). open_has o j) some ∙ low j ∙ sym first ∙ ap test (sym here);
+  now = ap (λ (o : Option ℕ). is_some o) some ∙ sym first;
   ended = subst (λ (l : List Spell). AllEndBefore l (0 + 1)) (sym empty) tt;
   begun = λ from is.
       let one : 0 ≡ from = same_Some 0 from (sym some ∙ is) in
@@ -128,7 +128,7 @@ module _ (old new : Sweep) (test : ℕ → Bool) (n k : ℕ) (s : Swept old test
       }
     where
       ended_new : AllEndBefore (old.list.items ++ record { from = from; to = Some k } ∷ []) (k + 1)
-      ended_new = ends_append old.list.items (record { from = from; to = Some k }) (k + 1) ended_later (k, refl, omega arith)
+      ended_new = ends_append old.list.items (record { from = from; to = Some k }) (k + 1) ended_later (k, refl, omega arith) (omega (arith, (s.begun from was).0, place))
 
       inside : (j : ℕ) → j ≤ n → (nat_le from j && nat_lt j k) ≡ nat_le from j
       inside j le = let below : j < k = omega (arith, le, place) in grind (arith, below)
@@ -187,3 +187,21 @@ finished_none sweep test n s none = (s.apart, λ k. sym (ap (λ (o : Option ℕ)
     by : (b : Bool) → (b || false) ≡ b
     by true = refl
     by false = refl
+
+-- a sweep is one up to each later place before which the test does not change
+module _ (sweep : Sweep) (test : ℕ → Bool) (n : ℕ) (s : Swept sweep test n) where
+  one_on : test (n + 1) ≡ test n → Swept sweep test (n + 1)
+  one_on same = stays sweep sweep test n (n + 1) s refl refl (same ∙ sym s.now)
+
+pub stretched : (sweep : Sweep) (test : ℕ → Bool) (n more : ℕ) → Swept sweep test n → ((j : ℕ) → n ≤ j → j ≤ n + more → test j ≡ test n) → Swept sweep test (n + more)
+stretched sweep test n zero s same = subst (λ (m : ℕ). Swept sweep test m) (omega arith) s
+stretched sweep test n (suc more) s same =
+    let one : test (n + 1) ≡ test n = same (n + 1) (omega arith) (omega arith) in
+    subst (λ (m : ℕ). Swept sweep test m) (omega arith)
+    (stretched sweep test (n + 1) more (one_on sweep test n s one) (λ j le below. same j (omega (arith, le)) (omega (arith, below)) ∙ sym one))
+
+-- a sweep up to a place is one up to each place before a later one, up to which the test does not change
+pub swept_to : (sweep : Sweep) (test : ℕ → Bool) (n k : ℕ) → Swept sweep test n → n < k → Stays test n k → Swept sweep test (k - 1)
+swept_to sweep test n k s below same =
+    subst (λ (m : ℕ). Swept sweep test m) (omega (arith, below))
+    (stretched sweep test n (k - 1 - n) s (λ j le to. same j le (omega (arith, to, below))))

@@ -7,13 +7,13 @@ use Rattle.grant_history.specs.declared.facts.What.{What}
 use Rattle.grant_history.specs.declared.held.Held.{Held}
 use Rattle.grant_history.specs.declared.track.Track.{Track}
 use Rattle.grant_history.specs.Dated.{Dated}
-use Rattle.grant_history.specs.Tracks.{IsTrack, Moves, held_at}
+use Rattle.grant_history.specs.Tracks.{IsTrack, Moves, BeginsAt, held_at}
 use Rattle.grant_history.specs.Facts.{same_what}
 use Rattle.grant_history.specs.Holdings.{place_of, count_in, held_in, AreUpTo, one_more, one_less}
 use Rattle.grant_history.proofs.Same.{whats, what_itself}
 use Rattle.log_views.proofs.Members.{both_ways}
 
-whats_swap : (a b : What) → same_what a b ≡ same_what b a
+pub whats_swap : (a b : What) → same_what a b ≡ same_what b a
 whats_swap a b = both_ways (same_what a b) (same_what b a)
     (λ h. subst (λ (x : What). same_what x a ≡ true) (whats a b h) (what_itself a))
     (λ h. subst (λ (x : What). same_what x b ≡ true) (whats b a h) (what_itself b))
@@ -91,7 +91,7 @@ nowhere_held (x ∷ xs) w h k = by (same_what x.what w) refl h (λ j. nowhere_he
 
 -- the list with this one in the place of another of the same
 module _ (w : What) (new : Held) (is : new.what ≡ w) where
-  set_place : (list : List Held) (i : ℕ) → place_of list w ≡ Some i → (x : What) → place_of (slice_set list i new) x ≡ place_of list x
+  pub set_place : (list : List Held) (i : ℕ) → place_of list w ≡ Some i → (x : What) → place_of (slice_set list i new) x ≡ place_of list x
   set_place [] i h x = absurd (none-some i h)
   set_place (y ∷ ys) i h x = by (same_what y.what w) refl i h (λ j k. set_place ys j k x)
     where
@@ -196,14 +196,14 @@ pub recounted : (list new : List Held) (at : ℕ) (one other : What → ℕ) →
 recounted list new at one other d same = record { counts = λ x. d.counts x ∙ same x; before = d.before; up_to = d.up_to }
 
 -- one more at the end
-apart_from : (y : Held) (ys : List Held) (w : What) → place_of (y ∷ ys) w ≡ None → (same_what y.what w ≡ false) × (place_of ys w ≡ None)
+pub apart_from : (y : Held) (ys : List Held) (w : What) → place_of (y ∷ ys) w ≡ None → (same_what y.what w ≡ false) × (place_of ys w ≡ None)
 apart_from y ys w h = by (same_what y.what w) refl h
   where
     by : (b : Bool) → same_what y.what w ≡ b → (if b then Some 0 else option_map (λ (m : ℕ). m + 1) (place_of ys w)) ≡ None → (same_what y.what w ≡ false) × (place_of ys w ≡ None)
     by true same h = absurd (none-some 0 (sym h))
     by false same h = (same, place_none (place_of ys w) h)
 
-place_append : (list : List Held) (x : Held) (v : What) → place_of list v ≡ None → same_what x.what v ≡ false → place_of (list ++ x ∷ []) v ≡ None
+pub place_append : (list : List Held) (x : Held) (v : What) → place_of list v ≡ None → same_what x.what v ≡ false → place_of (list ++ x ∷ []) v ≡ None
 place_append [] x v h apart = ap (λ (b : Bool). if b then Some 0 else None) apart
 place_append (y ∷ ys) x v h apart =
     let parts = apart_from y ys v h in
@@ -259,6 +259,11 @@ module _ (w : What) (x : Held) (fresh : Track) (at : ℕ) (is : x.what ≡ w) (n
     before = added_held list;
     up_to = λ n le up. added_up_to list n h le up;
   }
+
+-- one thing more, which begins
+pub begun : (w : What) (x : Held) (at : ℕ) → x.what ≡ w → BeginsAt x.track at → (list new : List Held) → new ≡ list ++ x ∷ [] → place_of list w ≡ None → Dated count_in held_in AreUpTo list new at (one_more (count_in list) w)
+begun w x at is b list new pushed none =
+    subst (λ (l : List Held). Dated count_in held_in AreUpTo list l at (one_more (count_in list) w)) (sym pushed) (added w x b.fresh at is b.none b.empty b.moves list none)
 
 track_up_to : (list : List Held) (i n : ℕ) (h : Held) → slice_get list i ≡ Some h → AreUpTo list n → IsTrack h.track n
 track_up_to [] i n h got up = absurd (none-some h got)

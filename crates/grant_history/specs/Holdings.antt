@@ -7,39 +7,19 @@ use Rattle.sg_names.specs.declared.grants.Grantee.{Grantee}
 use Rattle.sg_names.specs.declared.grants.Grantee.TheVariants.{User, Role}
 use Rattle.grant_history.specs.declared.facts.What.{What}
 use Rattle.grant_history.specs.declared.facts.Fact.{Fact}
-use Rattle.grant_history.specs.declared.held.Held.{Held}
 use Rattle.grant_history.specs.declared.store.Store.{Store}
 use Rattle.grant_history.specs.Facts.{same_what, same_fact}
-use Rattle.grant_history.specs.Tracks.{IsTrack, held_at}
-
--- the place of something among what is held
-abbrev pub place_of : List Held → What → Option ℕ
-place_of [] w = None
-place_of (h ∷ hs) w = if same_what h.what w then Some 0 else option_map (λ n. n + 1) (place_of hs w)
-
--- how many sources give it
-abbrev pub count_in : List Held → What → ℕ
-count_in [] w = 0
-count_in (h ∷ hs) w = if same_what h.what w then h.track.count else count_in hs w
-
--- whether it is held at a place
-abbrev pub held_in : List Held → What → ℕ → Bool
-held_in [] w k = false
-held_in (h ∷ hs) w k = if same_what h.what w then held_at h.track k else held_in hs w k
-
--- the tracks say nothing of later places, and each thing is there once
-abbrev pub AreUpTo : List Held → ℕ → Type 0
-AreUpTo [] n = Unit {0}
-AreUpTo (h ∷ hs) n = IsTrack h.track n × (place_of hs h.what ≡ None) × AreUpTo hs n
+pub use Rattle.grant_history.specs.HeldLists.{place_of, count_in, held_in, AreUpTo}
+use Rattle.grant_history.specs.Things.{Things}
 
 abbrev pub Holders : Type 0
-Holders = BTreeMap (String Global) (Vec Held Global)
+Holders = BTreeMap (String Global) Things
 
-abbrev pub count_by_list : Option (Vec Held Global) → What → ℕ
+abbrev pub count_by_list : Option Things → What → ℕ
 count_by_list None w = 0
 count_by_list (Some list) w = count_in list.items w
 
-abbrev pub held_by_list : Option (Vec Held Global) → What → ℕ → Bool
+abbrev pub held_by_list : Option Things → What → ℕ → Bool
 held_by_list None w k = false
 held_by_list (Some list) w k = held_in list.items w k
 
@@ -52,7 +32,7 @@ abbrev pub held_of : Holders → List ℕ × What → ℕ → Bool
 held_of holders x k = held_by_list (get_by_text holders x.0) x.1 k
 
 abbrev pub AreAllUpTo : Holders → ℕ → Type 0
-AreAllUpTo holders n = (name : List ℕ) (list : Vec Held Global) → get_by_text holders name ≡ Some list → AreUpTo list.items n
+AreAllUpTo holders n = (name : List ℕ) (list : Things) → get_by_text holders name ≡ Some list → AreUpTo list.items n
 
 -- the counts with one more
 abbrev pub one_more : (What → ℕ) → What → What → ℕ

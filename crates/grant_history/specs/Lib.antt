@@ -2,10 +2,15 @@ pub mod Dated
 pub mod Tracks
 pub mod Facts
 pub mod Sources
+pub mod Things
+pub mod HeldLists
 pub mod Holdings
+pub mod Places
 pub mod Ledger
 pub mod Stands
 pub mod Reads
+pub mod Givers
+pub mod Cuts
 pub mod Spells
 pub mod Sorted
 pub mod Periods

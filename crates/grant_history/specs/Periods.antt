@@ -3,6 +3,10 @@ use Rattle.std.specs.Prelude.{◌≡◌, ◌≤◌, ℕ, Bool, true, false, ◌&
 use Rattle.std.specs.Global.{Global}
 use Rattle.std.specs.List.{list_any}
 use Rattle.std.specs.Str.{bytes_eq}
+use Rattle.std.specs.Ordering.{nat_cmp, ordering_then}
+use Rattle.std.specs.Cmp.Lexicographic.{slice_cmp}
+use Rattle.std.specs.declared.cmp.Ordering.{Ordering}
+use Rattle.sg_names.specs.ItemList.{rises}
 use Rattle.std.specs.BTreeMap.{get_by_text}
 use Rattle.sg_history.specs.History.{among}
 use Rattle.sg_history.specs.Principals.{everyone}
@@ -15,6 +19,7 @@ use Rattle.grant_history.specs.Reads.{is_channel}
 use Rattle.grant_history.specs.Spells.{ends_after, spells_have, EndsBefore, AreApart}
 use Rattle.grant_history.specs.declared.spells.Spell.{Spell}
 use Rattle.std.specs.Prelude.{nat_le}
+use Rattle.grant_history.specs.Things.{Things}
 
 -- whether a period has a place
 abbrev pub period_has : ℕ → Period → Bool
@@ -34,17 +39,12 @@ abbrev pub ArePeriodsApart : List Period → Type 0
 ArePeriodsApart [] = Unit {0}
 ArePeriodsApart (p ∷ ps) = EndsBeforeLater p ps × ArePeriodsApart ps
 
--- each name is there once
-abbrev pub AreOnce : List (List ℕ) → Type 0
-AreOnce [] = Unit {0}
-AreOnce (x ∷ xs) = (among xs x ≡ false) × AreOnce xs
-
 -- whether one of these is or was the channel
 abbrev pub ever_among : List Held → List ℕ → Bool
 ever_among all x = list_any (λ h. is_channel h.what x) all
 
 -- whether a list of what is held ever had the channel
-abbrev pub ever_by : Option (Vec Held Global) → List ℕ → Bool
+abbrev pub ever_by : Option Things → List ℕ → Bool
 ever_by None x = false
 ever_by (Some list) x = ever_among list.items x
 
@@ -66,23 +66,38 @@ may_have roles all x = ever_by_roles roles all x || (ever_among all x || (bytes_
 abbrev pub period_of : List ℕ → Spell → Period
 period_of c s = record { channel = c; from = s.from; to = s.to }
 
--- spells of a channel were put behind periods: those in which a test holds, up to a place
-pub record Adds (old new : List Period) (c : List ℕ) (test : ℕ → Bool) (last : ℕ) : Type 0 where
+-- spells of a channel were put behind periods: those in which a test holds
+pub record Adds (old new : List Period) (c : List ℕ) (test : ℕ → Bool) : Type 0 where
   pub spells : List Spell
   pub added : new ≡ old ++ map (period_of c) spells
   pub apart : AreApart spells
-  pub says : (k : ℕ) → k ≤ last → spells_have spells k ≡ test k
+  pub says : (k : ℕ) → spells_have spells k ≡ test k
 
 -- the channels of periods are among these
 abbrev pub AreOf : List (List ℕ) → List Period → Type 0
 AreOf names [] = Unit {0}
 AreOf names (p ∷ ps) = (among names p.channel ≡ true) × AreOf names ps
 
--- the periods of these channels, up to a place
-pub record AreSoFar (names : List (List ℕ)) (periods : List Period) (test : List ℕ → ℕ → Bool) (last : ℕ) : Type 0 where
-  pub says : (c : List ℕ) (k : ℕ) → k ≤ last → periods_have periods c k ≡ (among names c && test c k)
+-- by channel, and of one channel by where they begin
+abbrev pub period_order : Period → Period → Ordering
+period_order p q = ordering_then (slice_cmp nat_cmp p.channel q.channel) (nat_cmp p.from q.from)
+
+-- periods rise by channel, by bytes, and those of one channel by where they begin
+abbrev pub AreInOrder : List Period → Type 0
+AreInOrder periods = rises period_order periods ≡ true
+
+-- the periods of these channels
+pub record AreSoFar (names : List (List ℕ)) (periods : List Period) (test : List ℕ → ℕ → Bool) : Type 0 where
+  pub says : (c : List ℕ) (k : ℕ) → periods_have periods c k ≡ (among names c && test c k)
   pub apart : ArePeriodsApart periods
   pub of : AreOf names periods
+  pub in_order : AreInOrder periods
+
+-- the periods of each channel are those in which a test holds, neither touch nor overlap, and stand in their order
+pub record AreAllPeriods (periods : List Period) (test : List ℕ → ℕ → Bool) : Type 0 where
+  pub says : (c : List ℕ) (k : ℕ) → periods_have periods c k ≡ test c k
+  pub apart : ArePeriodsApart periods
+  pub in_order : AreInOrder periods
 
 -- up to a place the periods of each channel are those in which a test holds, and neither touch nor overlap
 pub record ArePeriods (periods : List Period) (test : List ℕ → ℕ → Bool) (last : ℕ) : Type 0 where

@@ -10,6 +10,7 @@ use Rattle.grant_history.specs.declared.facts.What.TheVariants as what
 use Rattle.grant_history.specs.declared.held.Held.{Held}
 use Rattle.grant_history.specs.Tracks.{held_at}
 use Rattle.grant_history.specs.Holdings.{Holders, held_in, held_of}
+use Rattle.grant_history.specs.Things.{Things}
 
 -- whether something is the channel
 abbrev pub is_channel : What → List ℕ → Bool
@@ -28,7 +29,7 @@ abbrev pub channel_among : List Held → ℕ → List ℕ → Bool
 channel_among list k x = list_any (λ h. held_at h.track k && is_channel h.what x) list
 
 -- whether a list of what is held has the channel
-abbrev pub channel_by : Option (Vec Held Global) → ℕ → List ℕ → Bool
+abbrev pub channel_by : Option Things → ℕ → List ℕ → Bool
 channel_by None k x = false
 channel_by (Some list) k x = held_in list.items what.Exists k && channel_among list.items k x
 
@@ -51,7 +52,7 @@ abbrev pub list_channel : Holders → List Held → ℕ → List ℕ → Bool
 list_channel roles list k x =
     held_in list what.Exists k && (by_roles roles list k x || (channel_among list k x || (bytes_eq everyone x || false)))
 
-abbrev pub user_channel : Holders → Option (Vec Held Global) → ℕ → List ℕ → Bool
+abbrev pub user_channel : Holders → Option Things → ℕ → List ℕ → Bool
 user_channel roles None k x = false
 user_channel roles (Some list) k x = list_channel roles list.items k x
 
@@ -69,6 +70,6 @@ role_among roles list k x = list_any (λ h. held_at h.track k && is_existing rol
 abbrev pub list_role : Holders → List Held → ℕ → List ℕ → Bool
 list_role roles list k x = held_in list what.Exists k && (role_among roles list k x || false)
 
-abbrev pub user_role : Holders → Option (Vec Held Global) → ℕ → List ℕ → Bool
+abbrev pub user_role : Holders → Option Things → ℕ → List ℕ → Bool
 user_role roles None k x = false
 user_role roles (Some list) k x = list_role roles list.items k x

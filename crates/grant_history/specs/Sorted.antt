@@ -20,3 +20,9 @@ insert_name name (first ∷ others) = placed (slice_cmp nat_cmp name first) name
 -- each name comes strictly before the next, by bytes
 abbrev pub AreSorted : List (List ℕ) → Type 0
 AreSorted names = rises (slice_cmp nat_cmp) names ≡ true
+
+-- the order of a name and the last of others; behind none it is greater
+abbrev pub order_at_end : List (List ℕ) → List ℕ → Ordering
+order_at_end [] name = Greater
+order_at_end (first ∷ []) name = slice_cmp nat_cmp name first
+order_at_end (first ∷ second ∷ others) name = order_at_end (second ∷ others) name

@@ -21,19 +21,24 @@ spells_have list k = list_any (spell_has k) list
 abbrev pub EndsBefore : Option ℕ → ℕ → Type 0
 EndsBefore end place = (to : ℕ) × (end ≡ Some to) × (to < place)
 
+-- each begins, and ends, before a place
 abbrev pub AllEndBefore : List Spell → ℕ → Type 0
 AllEndBefore [] place = Unit {0}
-AllEndBefore (s ∷ ss) place = EndsBefore s.to place × AllEndBefore ss place
+AllEndBefore (s ∷ ss) place = EndsBefore s.to place × (s.from < place) × AllEndBefore ss place
 
--- a spell ends before each of these begins
+-- a spell begins, and ends, before each of these begins
 abbrev pub IsBeforeAll : Spell → List Spell → Type 0
 IsBeforeAll s [] = Unit {0}
-IsBeforeAll s (t ∷ ts) = EndsBefore s.to t.from × IsBeforeAll s ts
+IsBeforeAll s (t ∷ ts) = EndsBefore s.to t.from × (s.from < t.from) × IsBeforeAll s ts
 
 -- each ends before the later ones begin: they neither touch nor overlap
 abbrev pub AreApart : List Spell → Type 0
 AreApart [] = Unit {0}
 AreApart (s ∷ ss) = IsBeforeAll s ss × AreApart ss
+
+-- a test does not change from a place on, up to before another
+abbrev pub Stays : (ℕ → Bool) → ℕ → ℕ → Type 0
+Stays test n k = (j : ℕ) → n ≤ j → j < k → test j ≡ test n
 
 -- whether a spell that has begun has a place
 abbrev pub open_has : Option ℕ → ℕ → Bool

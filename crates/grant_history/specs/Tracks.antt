@@ -1,5 +1,5 @@
 -- How many sources give one thing, since when any does, and the spans of places in which any did before.
-use Rattle.std.specs.Prelude.{◌≡◌, ◌<◌, ◌≤◌, ℕ, Bool, false, ◌&&◌, ◌||◌, nat_le, nat_lt, vec_len, vec_capacity}
+use Rattle.std.specs.Prelude.{◌≡◌, ◌<◌, ◌≤◌, ◌+◌, ℕ, [], Bool, false, ◌&&◌, ◌||◌, nat_le, nat_lt, vec_len, vec_capacity}
 use Rattle.std.specs.List.{list_any}
 use Rattle.grant_history.specs.declared.track.Span.{Span}
 use Rattle.grant_history.specs.declared.track.Track.{Track}
@@ -31,3 +31,10 @@ pub record Moves (old new : Track) (at sources : ℕ) : Type 0 where
   pub count : new.count ≡ sources
   pub before : (k : ℕ) → k < at → held_at new k ≡ held_at old k
   pub up_to : (n : ℕ) → n ≤ at → IsTrack old n → IsTrack new at
+
+-- a track of what was never given before, of which one source gives it from a place on
+pub record BeginsAt (t : Track) (at : ℕ) : Type 0 where
+  pub fresh : Track
+  pub none : fresh.count ≡ 0
+  pub empty : fresh.closed.items ≡ []
+  pub moves : Moves fresh t at (fresh.count + 1)

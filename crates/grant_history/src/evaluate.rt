@@ -1,62 +1,83 @@
 //! Whether a user has a channel at a place.
 
-ghost use Rattle.std.specs.Prelude.{◌≡◌};
+ghost use Rattle.std.specs.Prelude.{◌≡◌, ◌||◌, false, ℕ, List, None, Some, IfSome, IfOk, OnOk};
+ghost use Rattle.std.specs.List.{list_any};
+ghost use Rattle.std.specs.Str.{bytes_eq};
+ghost use Rattle.sg_history.specs.Principals.{everyone};
+ghost use Rattle.std.specs.Option.{option_copied};
+ghost use Rattle.grant_history.specs.Givers.{giver_has, has_with};
+ghost use Rattle.grant_history.specs.Reads.{channel_by};
 ghost use Rattle.grant_history.specs.Reads as reads;
 
 use crate::facts::What;
-use crate::held::{Held, holds};
+use crate::held::{Held, Holding};
 use crate::holders::Holders;
-use sg_history::{ChannelName, Name};
+use crate::track::Track;
+use sg_history::ChannelName;
+use sg_outside::Memory;
+use std::alloc::Global;
 
-fn is_channel(what: &What, channel: &ChannelName) -> bool
-    ensures { result ≡ reads.is_channel what.now channel.now }
+/// A role that a user has or had: when, and what the role has or had.
+#[derive(Clone, Copy)]
+pub struct Giver<'a> {
+    pub track: &'a Track,
+    pub of: &'a Holding,
+}
+
+/// What is kept of a role, where something is a role.
+fn role_of<'a>(roles: &'a Holders, what: &What) -> Option<&'a Holding>
+    ensures { (k : ℕ) (x : List ℕ) → channel_by (option_copied result) k x
+        ≡ reads.gives_channel roles.now what.now k x }
 {
     match what {
-        What::Channel(name) => name.equals(channel),
-        _ => false,
+        What::Role(role) => roles.get(role.as_str()),
+        _ => None,
     }
 }
 
-fn has_among(all: &[Held], channel: &ChannelName, k: u64) -> bool
-    ensures { result ≡ reads.channel_among all.now k channel.now }
+/// The roles that a user has or had.
+pub fn givers_of<'a>(
+    alloc: Global,
+    roles: &'a Holders,
+    all: &'a [Held],
+) -> Result<Vec<Giver<'a>>, Memory>
+    ensures { IfOk result (λ list. (k : ℕ) (x : List ℕ)
+        → list_any (λ g. giver_has g k x) list.items ≡ reads.by_roles roles.now all.now k x) }
 {
-    all.iter()
-        .any(|h| h.track.holds(k) && is_channel(&h.what, channel))
-}
-
-fn role_has(roles: &Holders, role: &Name, channel: &ChannelName, k: u64) -> bool
-    ensures { result ≡ reads.role_channel roles.now role.now k channel.now }
-{
-    match roles.get(role.as_str()) {
-        None => false,
-        Some(all) => {
-            holds(all.as_slice(), &What::Exists, k) && has_among(all.as_slice(), channel, k)
+    let mut list = Vec::new(alloc);
+    for held in all {
+        if let Some(of) = role_of(roles, &held.what) {
+            let track = &held.track;
+            list.push(Giver { track, of })?;
         }
     }
+    Ok(list)
 }
 
-fn gives(roles: &Holders, what: &What, channel: &ChannelName, k: u64) -> bool
-    ensures { result ≡ reads.gives_channel roles.now what.now k channel.now }
+fn gives(giver: &Giver<'_>, channel: &ChannelName, k: u64) -> bool
+    ensures { result ≡ giver_has giver.now k channel.now }
 {
-    match what {
-        What::Role(role) => role_has(roles, role, channel, k),
-        _ => false,
-    }
+    giver.track.holds(k) && giver.of.holds(&What::Exists, k) && giver.of.holds_channel(channel, k)
 }
 
-fn has_by_roles(roles: &Holders, all: &[Held], channel: &ChannelName, k: u64) -> bool
-    ensures { result ≡ reads.by_roles roles.now all.now k channel.now }
+fn has_by_roles(givers: &[Giver<'_>], channel: &ChannelName, k: u64) -> bool
+    ensures { result ≡ list_any (λ g. giver_has g k channel.now) givers.now }
 {
-    all.iter()
-        .any(|h| h.track.holds(k) && gives(roles, &h.what, channel, k))
+    givers.iter().any(|g| gives(g, channel, k))
 }
 
-/// Whether a user that has or had these has a channel at a place. Allocates nothing.
-pub fn has(roles: &Holders, all: &[Held], channel: &ChannelName, k: u64) -> bool
-    ensures { result ≡ reads.list_channel roles.now all.now k channel.now }
+fn is_everyone(channel: &ChannelName) -> bool
+    ensures { result ≡ bytes_eq everyone channel.now }
 {
-    holds(all, &What::Exists, k)
-        && (has_by_roles(roles, all, channel, k)
-            || has_among(all, channel, k)
-            || channel.as_bytes() == b"!".as_slice())
+    b"!".as_slice() == channel.as_bytes()
+}
+
+/// Whether a user that has or had these things and roles has a channel at a place. Allocates nothing.
+pub fn has(all: &Holding, givers: &[Giver<'_>], channel: &ChannelName, k: u64) -> bool
+    ensures { result ≡ has_with givers.now all.now.items k channel.now }
+{
+    all.holds(&What::Exists, k)
+        && (has_by_roles(givers, channel, k)
+            || all.holds_channel(channel, k)
+            || is_everyone(channel))
 }

@@ -8,7 +8,7 @@ ghost use Rattle.sg_history.specs.Principals.{exists, user_at, has_channel, has_
 ghost use Rattle.sg_history.specs.Current.{current};
 ghost use Rattle.grant_history.specs.Facts as facts;
 ghost use Rattle.grant_history.specs.Ledger.{Took};
-ghost use Rattle.grant_history.specs.Periods.{ArePeriods};
+ghost use Rattle.grant_history.specs.Periods.{AreInOrder, ArePeriods};
 ghost use Rattle.grant_history.specs.Sorted.{AreSorted};
 ghost use Rattle.grant_history.specs.Stands.{LedgerAt, StandsFor, IsNext};
 
@@ -176,14 +176,15 @@ impl GrantHistory {
     }
 
     /// The periods in which a user has channels, up to the place that was applied last; one that
-    /// lasts then has no end. Those of a channel follow one another, by rising places; the channels
-    /// are in no order. It takes time by the places applied.
+    /// lasts then has no end. They rise by channel, by bytes, and those of a channel by where they
+    /// begin.
     pub fn periods(&self, user: &Name) -> Result<Periods, Memory>
-        ensures { IfOk result (λ periods. (entries : List entry.Entry)
+        ensures periods { IfOk result (λ periods. (entries : List entry.Entry)
             → StandsFor self.now entries → ArePeriods periods
             (λ c k. has_channel (past entries k) user.now c) self.now.applied) }
+        ensures in_order { IfOk result (λ periods. AreInOrder periods) }
     {
-        let periods = self.ledger.store.periods(self.alloc, user, self.applied)?;
+        let periods = self.ledger.store.periods(self.alloc, user)?;
         Ok(Periods::from_vec(periods))
     }
 }

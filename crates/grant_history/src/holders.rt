@@ -6,13 +6,13 @@ ghost use Rattle.grant_history.specs.Dated.{Dated};
 ghost use Rattle.grant_history.specs.Holdings.{count_of, held_of, AreAllUpTo, more_of, less_of};
 
 use crate::facts::What;
-use crate::held::{self, Held};
+use crate::held::Holding;
 use sg_outside::Memory;
 use std::alloc::Global;
 use std::collections::BTreeMap;
 
 /// What each has or had, by its name.
-pub type Holders = BTreeMap<String, Vec<Held>>;
+pub type Holders = BTreeMap<String, Holding>;
 
 /// Whether the holder of a name has something at a place.
 pub fn holds(holders: &Holders, name: &str, what: &What, k: u64) -> bool
@@ -20,7 +20,7 @@ pub fn holds(holders: &Holders, name: &str, what: &What, k: u64) -> bool
 {
     match holders.get(name) {
         None => false,
-        Some(list) => held::holds(list.as_slice(), what, k),
+        Some(holding) => holding.holds(what, k),
     }
 }
 
@@ -37,8 +37,8 @@ pub fn give(
     ensures err { OnErr result (Dated count_of held_of AreAllUpTo holders.old holders.new at
         (count_of holders.old)) }
 {
-    if let Some(list) = holders.get_mut(name) {
-        return held::give(alloc, list, what, at);
+    if let Some(holding) = holders.get_mut(name) {
+        return holding.give(alloc, what, at);
     }
     add(alloc, holders, name, what, at)
 }
@@ -51,9 +51,9 @@ fn add(alloc: Global, holders: &mut Holders, name: &str, what: &What, at: u64) -
     ensures err { OnErr result (Dated count_of held_of AreAllUpTo holders.old holders.new at
         (count_of holders.old)) }
 {
-    let mut list = Vec::new(alloc);
-    held::give(alloc, &mut list, what, at)?;
-    holders.insert(String::from_str(alloc, name)?, list)?;
+    let mut holding = Holding::new(alloc);
+    holding.give(alloc, what, at)?;
+    holders.insert(String::from_str(alloc, name)?, holding)?;
     Ok(())
 }
 
@@ -64,7 +64,7 @@ pub fn take(holders: &mut Holders, name: &str, what: &What, at: u64)
     ensures { Dated count_of held_of AreAllUpTo holders.old holders.new at
         (less_of (count_of holders.old) name.now what.now) }
 {
-    if let Some(list) = holders.get_mut(name) {
-        held::take(list, what, at);
+    if let Some(holding) = holders.get_mut(name) {
+        holding.take(what, at);
     }
 }

@@ -2,6 +2,7 @@
 #![tactic(auto)]
 
 mod channels;
+mod cuts;
 mod evaluate;
 mod facts;
 mod given;
@@ -12,6 +13,7 @@ pub mod laws;
 mod ledger;
 mod lists;
 mod periods;
+mod places;
 mod reads;
 mod sorted;
 mod spells;

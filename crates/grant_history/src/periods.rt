@@ -1,14 +1,18 @@
 //! The periods in which a user has channels.
 
-ghost use Rattle.std.specs.Prelude.{◌≡◌, ◌≤◌, ◌++◌, ℕ, List, map, IfOk, OnOk};
+ghost use Rattle.std.specs.Prelude.{◌≡◌, ◌≤◌, ◌++◌, ℕ, List, map, max, IfOk, OnOk};
 ghost use Rattle.std.specs.BTreeMap.{get_by_text};
-ghost use Rattle.grant_history.specs.Periods.{period_of, Adds, AreOnce, ArePeriods, AreSoFar};
+ghost use Rattle.grant_history.specs.Periods.{period_of, Adds, AreAllPeriods, AreSoFar};
+ghost use Rattle.grant_history.specs.Cuts.{IsSteady, Rise};
+ghost use Rattle.grant_history.specs.Givers.{has_at_with};
 ghost use Rattle.grant_history.specs.Reads.{list_channel, user_channel};
-ghost use Rattle.grant_history.specs.Spells.{AreApart, spells_have};
+ghost use Rattle.grant_history.specs.Sorted.{AreSorted};
+ghost use Rattle.grant_history.specs.Spells.{AreApart, Stays, Swept, spells_have};
 
 use crate::channels::channels_ever;
-use crate::evaluate::has;
-use crate::held::Held;
+use crate::cuts::cuts_of;
+use crate::evaluate::{Giver, givers_of, has};
+use crate::held::Holding;
 use crate::holders::Holders;
 use crate::spells::{Spell, Sweep};
 use sg_history::{ChannelName, Name};
@@ -23,25 +27,64 @@ pub struct Period {
     pub to: Option<u64>,
 }
 
-/// The spells in which a user that has or had these has a channel, up to a place.
-fn spells_of(
-    alloc: Global,
-    roles: &Holders,
-    all: &[Held],
+/// Goes on to a place, unless it is there, and answers where it is then.
+fn sweep_to(
+    sweep: &mut Sweep,
+    at: u64,
+    k: u64,
+    all: &Holding,
+    givers: &[Giver<'_>],
     channel: &ChannelName,
-    last: u64,
-) -> Result<Vec<Spell>, Memory>
-    ensures apart { IfOk result (λ list. AreApart list.items) }
-    ensures says { IfOk result (λ list. (k : ℕ) → k ≤ last
-        → spells_have list.items k ≡ list_channel roles.now all.now k channel.now) }
+) -> Result<u64, Memory>
+    ensures swept { IfOk result (λ now.
+        Swept sweep.old (has_at_with givers.now all.now.items channel.now) at
+        → Stays (has_at_with givers.now all.now.items channel.now) at k
+        → Swept sweep.new (has_at_with givers.now all.now.items channel.now) now) }
+    ensures place { IfOk result (λ now. now ≡ max at k) }
 {
-    let mut sweep = Sweep::new(alloc, has(roles, all, channel, 0));
-    let mut k = 0;
-    while k < last {
-        k += 1;
-        sweep.turn(k, has(roles, all, channel, k))?;
+    if k <= at {
+        return Ok(at);
+    }
+    sweep.turn(k, has(all, givers, channel, k))?;
+    Ok(k)
+}
+
+/// The spells in which a user that has or had these things and roles has a channel, of which these
+/// places have each at which that may change.
+fn spells_by(
+    alloc: Global,
+    cuts: &[u64],
+    all: &Holding,
+    givers: &[Giver<'_>],
+    channel: &ChannelName,
+) -> Result<Vec<Spell>, Memory>
+    requires steady { IsSteady cuts.now (has_at_with givers.now all.now.items channel.now) }
+    requires rise { Rise cuts.now }
+    ensures apart { IfOk result (λ list. AreApart list.items) }
+    ensures says { IfOk result (λ list. (k : ℕ)
+        → spells_have list.items k ≡ has_at_with givers.now all.now.items channel.now k) }
+{
+    let mut sweep = Sweep::new(alloc, has(all, givers, channel, 0));
+    let mut at = 0;
+    for k in cuts {
+        at = sweep_to(&mut sweep, at, *k, all, givers, channel)?;
     }
     sweep.finish()
+}
+
+/// The spells in which a user that has or had these things and roles has a channel.
+fn spells_of(
+    alloc: Global,
+    all: &Holding,
+    givers: &[Giver<'_>],
+    channel: &ChannelName,
+) -> Result<Vec<Spell>, Memory>
+    ensures apart { IfOk result (λ list. AreApart list.items) }
+    ensures says { IfOk result (λ list. (k : ℕ)
+        → spells_have list.items k ≡ has_at_with givers.now all.now.items channel.now k) }
+{
+    let cuts = cuts_of(alloc, all, givers, channel)?;
+    spells_by(alloc, cuts.as_slice(), all, givers, channel)
 }
 
 /// Puts the spells of a channel behind the periods.
@@ -69,64 +112,57 @@ fn add_spells(
 fn add_channel(
     alloc: Global,
     periods: &mut Vec<Period>,
-    roles: &Holders,
-    all: &[Held],
+    all: &Holding,
+    givers: &[Giver<'_>],
     channel: &ChannelName,
-    last: u64,
 ) -> Result<(), Memory>
     ensures { OnOk result (Adds periods.old.items periods.new.items channel.now
-        (λ k. list_channel roles.now all.now k channel.now) last) }
+        (has_at_with givers.now all.now.items channel.now)) }
 {
-    let spells = spells_of(alloc, roles, all, channel, last)?;
+    let spells = spells_of(alloc, all, givers, channel)?;
     add_spells(alloc, periods, channel, spells.as_slice())
 }
 
-/// The periods of these channels, up to a place.
+/// The periods of these channels.
 fn periods_for(
     alloc: Global,
-    roles: &Holders,
-    all: &[Held],
+    all: &Holding,
+    givers: &[Giver<'_>],
     channels: &[ChannelName],
-    last: u64,
 ) -> Result<Vec<Period>, Memory>
-    requires { AreOnce channels.now }
+    requires { AreSorted channels.now }
     ensures { IfOk result (λ list. AreSoFar channels.now list.items
-        (λ c k. list_channel roles.now all.now k c) last) }
+        (has_at_with givers.now all.now.items)) }
 {
     let mut periods = Vec::new(alloc);
     for channel in channels {
-        add_channel(alloc, &mut periods, roles, all, channel, last)?;
+        add_channel(alloc, &mut periods, all, givers, channel)?;
     }
     Ok(periods)
 }
 
-/// The periods of a user that has or had these, up to a place.
-fn periods_in(
-    alloc: Global,
-    roles: &Holders,
-    all: &[Held],
-    last: u64,
-) -> Result<Vec<Period>, Memory>
-    ensures { IfOk result (λ list. ArePeriods list.items
-        (λ c k. list_channel roles.now all.now k c) last) }
+/// The periods of a user that has or had these.
+fn periods_in(alloc: Global, roles: &Holders, all: &Holding) -> Result<Vec<Period>, Memory>
+    ensures { IfOk result (λ list. AreAllPeriods list.items
+        (λ c k. list_channel roles.now all.now.items k c)) }
 {
-    let channels = channels_ever(alloc, roles, all)?;
-    periods_for(alloc, roles, all, channels.as_slice(), last)
+    let channels = channels_ever(alloc, roles, all.all())?;
+    let givers = givers_of(alloc, roles, all.all())?;
+    periods_for(alloc, all, givers.as_slice(), channels.as_slice())
 }
 
-/// The periods in which a user has channels, up to a place.
+/// The periods in which a user has channels.
 pub fn periods_of(
     alloc: Global,
     users: &Holders,
     roles: &Holders,
     user: &Name,
-    last: u64,
 ) -> Result<Vec<Period>, Memory>
-    ensures { IfOk result (λ list. ArePeriods list.items
-        (λ c k. user_channel roles.now (get_by_text users.now user.now) k c) last) }
+    ensures { IfOk result (λ list. AreAllPeriods list.items
+        (λ c k. user_channel roles.now (get_by_text users.now user.now) k c)) }
 {
     match users.get(user.as_str()) {
         None => Ok(Vec::new(alloc)),
-        Some(all) => periods_in(alloc, roles, all.as_slice(), last),
+        Some(all) => periods_in(alloc, roles, all),
     }
 }

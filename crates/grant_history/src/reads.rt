@@ -10,9 +10,9 @@ ghost use Rattle.grant_history.specs.Reads as reads;
 ghost use Rattle.grant_history.specs.Sorted.{AreSorted};
 
 use crate::facts::What;
-use crate::held::{Held, holds};
+use crate::held::{Held, Holding};
 use crate::holders::{self, Holders};
-use crate::sorted::{insert_channel, insert_role};
+use crate::sorted::in_order;
 use sg_history::{ChannelName, Name, TextFault};
 use sg_outside::Memory;
 use std::alloc::{AllocError, Global};
@@ -28,12 +28,6 @@ pub fn everyone(alloc: Global) -> Result<ChannelName, Memory>
     }
 }
 
-pub fn has_channel(list: &[ChannelName], channel: &[u8]) -> bool
-    ensures { result ≡ among list.now channel.now }
-{
-    list.iter().any(|c| c.as_bytes() == channel)
-}
-
 fn add_channel(
     alloc: Global,
     list: &mut Vec<ChannelName>,
@@ -41,15 +35,14 @@ fn add_channel(
 ) -> Result<(), Memory>
     ensures among { OnOk result ((x : List ℕ) → among list.new.items x
         ≡ (bytes_eq channel.now x || among list.old.items x)) }
-    ensures sorted { OnOk result (AreSorted list.old.items → AreSorted list.new.items) }
 {
-    insert_channel(alloc, list, channel)
+    list.push(channel.copy(alloc)?)?;
+    Ok(())
 }
 
-fn add_if_channel(alloc: Global, list: &mut Vec<ChannelName>, what: &What) -> Result<(), Memory>
+pub fn add_if_channel(alloc: Global, list: &mut Vec<ChannelName>, what: &What) -> Result<(), Memory>
     ensures among { OnOk result ((x : List ℕ) → among list.new.items x
         ≡ (reads.is_channel what.now x || among list.old.items x)) }
-    ensures sorted { OnOk result (AreSorted list.old.items → AreSorted list.new.items) }
 {
     match what {
         What::Channel(channel) => add_channel(alloc, list, channel),
@@ -66,7 +59,6 @@ fn add_channels(
 ) -> Result<(), Memory>
     ensures among { OnOk result ((x : List ℕ) → among list.new.items x
         ≡ (reads.channel_among all.now k x || among list.old.items x)) }
-    ensures sorted { OnOk result (AreSorted list.old.items → AreSorted list.new.items) }
 {
     for held in all {
         if held.track.holds(k) {
@@ -86,11 +78,10 @@ fn add_role_channels(
 ) -> Result<(), Memory>
     ensures among { OnOk result ((x : List ℕ) → among list.new.items x
         ≡ (reads.role_channel roles.now role.now k x || among list.old.items x)) }
-    ensures sorted { OnOk result (AreSorted list.old.items → AreSorted list.new.items) }
 {
-    if let Some(all) = roles.get(role.as_str()) {
-        if holds(all.as_slice(), &What::Exists, k) {
-            add_channels(alloc, list, all.as_slice(), k)?;
+    if let Some(kept) = roles.get(role.as_str()) {
+        if kept.holds(&What::Exists, k) {
+            add_channels(alloc, list, kept.all(), k)?;
         }
     }
     Ok(())
@@ -105,7 +96,6 @@ fn add_if_role(
 ) -> Result<(), Memory>
     ensures among { OnOk result ((x : List ℕ) → among list.new.items x
         ≡ (reads.gives_channel roles.now what.now k x || among list.old.items x)) }
-    ensures sorted { OnOk result (AreSorted list.old.items → AreSorted list.new.items) }
 {
     match what {
         What::Role(role) => add_role_channels(alloc, list, roles, role, k),
@@ -123,7 +113,6 @@ fn add_by_roles(
 ) -> Result<(), Memory>
     ensures among { OnOk result ((x : List ℕ) → among list.new.items x
         ≡ (reads.by_roles roles.now all.now k x || among list.old.items x)) }
-    ensures sorted { OnOk result (AreSorted list.old.items → AreSorted list.new.items) }
 {
     for held in all {
         if held.track.holds(k) {
@@ -144,7 +133,6 @@ fn add_user(
     ensures among { OnOk result ((x : List ℕ) → among list.new.items x
         ≡ (reads.by_roles roles.now all.now k x || (reads.channel_among all.now k x
         || (bytes_eq principals.everyone x || among list.old.items x)))) }
-    ensures sorted { OnOk result (AreSorted list.old.items → AreSorted list.new.items) }
 {
     let everyone = everyone(alloc)?;
     add_channel(alloc, list, &everyone)?;
@@ -156,19 +144,34 @@ fn add_user(
 fn channels_in(
     alloc: Global,
     roles: &Holders,
-    all: &[Held],
+    all: &Holding,
     k: u64,
 ) -> Result<Vec<ChannelName>, Memory>
     ensures among { IfOk result (λ list. (x : List ℕ) → among list.items x
-        ≡ reads.list_channel roles.now all.now k x) }
-    ensures sorted { IfOk result (λ list. AreSorted list.items) }
+        ≡ reads.list_channel roles.now all.now.items k x) }
 {
-    if !holds(all, &What::Exists, k) {
-        return Ok(Vec::new(alloc));
-    }
     let mut list = Vec::new(alloc);
-    add_user(alloc, &mut list, roles, all, k)?;
+    if all.holds(&What::Exists, k) {
+        add_user(alloc, &mut list, roles, all.all(), k)?;
+    }
     Ok(list)
+}
+
+/// The channels of a user at a place, in any order, none where it does not exist there.
+fn channels_found(
+    alloc: Global,
+    users: &Holders,
+    roles: &Holders,
+    user: &Name,
+    k: u64,
+) -> Result<Vec<ChannelName>, Memory>
+    ensures { IfOk result (λ list. (x : List ℕ) → among list.items x
+        ≡ reads.user_channel roles.now (get_by_text users.now user.now) k x) }
+{
+    match users.get(user.as_str()) {
+        None => Ok(Vec::new(alloc)),
+        Some(all) => channels_in(alloc, roles, all, k),
+    }
 }
 
 /// The channels of a user at a place, none where it does not exist there.
@@ -183,18 +186,16 @@ pub fn channels_of(
         ≡ reads.user_channel roles.now (get_by_text users.now user.now) k x) }
     ensures sorted { IfOk result (λ list. AreSorted list.items) }
 {
-    match users.get(user.as_str()) {
-        None => Ok(Vec::new(alloc)),
-        Some(all) => channels_in(alloc, roles, all.as_slice(), k),
-    }
+    let found = channels_found(alloc, users, roles, user, k)?;
+    in_order(alloc, found)
 }
 
 fn add_role(alloc: Global, list: &mut Vec<Name>, role: &Name) -> Result<(), Memory>
     ensures among { OnOk result ((x : List ℕ) → among list.new.items x
         ≡ (bytes_eq role.now x || among list.old.items x)) }
-    ensures sorted { OnOk result (AreSorted list.old.items → AreSorted list.new.items) }
 {
-    insert_role(alloc, list, role)
+    list.push(role.copy(alloc)?)?;
+    Ok(())
 }
 
 fn add_if_existing(
@@ -206,7 +207,6 @@ fn add_if_existing(
 ) -> Result<(), Memory>
     ensures among { OnOk result ((x : List ℕ) → among list.new.items x
         ≡ (reads.is_existing roles.now what.now k x || among list.old.items x)) }
-    ensures sorted { OnOk result (AreSorted list.old.items → AreSorted list.new.items) }
 {
     if let What::Role(role) = what {
         if holders::holds(roles, role.as_str(), &What::Exists, k) {
@@ -226,7 +226,6 @@ fn add_roles(
 ) -> Result<(), Memory>
     ensures among { OnOk result ((x : List ℕ) → among list.new.items x
         ≡ (reads.role_among roles.now all.now k x || among list.old.items x)) }
-    ensures sorted { OnOk result (AreSorted list.old.items → AreSorted list.new.items) }
 {
     for held in all {
         if held.track.holds(k) {
@@ -237,17 +236,32 @@ fn add_roles(
 }
 
 /// The roles of a user that has or had these, none where it does not exist at the place.
-fn roles_in(alloc: Global, roles: &Holders, all: &[Held], k: u64) -> Result<Vec<Name>, Memory>
+fn roles_in(alloc: Global, roles: &Holders, all: &Holding, k: u64) -> Result<Vec<Name>, Memory>
     ensures among { IfOk result (λ list. (x : List ℕ) → among list.items x
-        ≡ reads.list_role roles.now all.now k x) }
-    ensures sorted { IfOk result (λ list. AreSorted list.items) }
+        ≡ reads.list_role roles.now all.now.items k x) }
 {
-    if !holds(all, &What::Exists, k) {
-        return Ok(Vec::new(alloc));
-    }
     let mut list = Vec::new(alloc);
-    add_roles(alloc, &mut list, roles, all, k)?;
+    if all.holds(&What::Exists, k) {
+        add_roles(alloc, &mut list, roles, all.all(), k)?;
+    }
     Ok(list)
+}
+
+/// The roles of a user at a place, in any order, none where it does not exist there.
+fn roles_found(
+    alloc: Global,
+    users: &Holders,
+    roles: &Holders,
+    user: &Name,
+    k: u64,
+) -> Result<Vec<Name>, Memory>
+    ensures { IfOk result (λ list. (x : List ℕ) → among list.items x
+        ≡ reads.user_role roles.now (get_by_text users.now user.now) k x) }
+{
+    match users.get(user.as_str()) {
+        None => Ok(Vec::new(alloc)),
+        Some(all) => roles_in(alloc, roles, all, k),
+    }
 }
 
 /// The roles of a user at a place, none where it does not exist there.
@@ -262,8 +276,6 @@ pub fn roles_of(
         ≡ reads.user_role roles.now (get_by_text users.now user.now) k x) }
     ensures sorted { IfOk result (λ list. AreSorted list.items) }
 {
-    match users.get(user.as_str()) {
-        None => Ok(Vec::new(alloc)),
-        Some(all) => roles_in(alloc, roles, all.as_slice(), k),
-    }
+    let found = roles_found(alloc, users, roles, user, k)?;
+    in_order(alloc, found)
 }

@@ -1,7 +1,7 @@
 //! The spells in which something holds.
 
-ghost use Rattle.std.specs.Prelude.{◌≡◌, ◌||◌, ◌+◌, ℕ, Bool, OnOk, IfOk};
-ghost use Rattle.grant_history.specs.Spells.{AreApart, Swept, open_has, spells_have};
+ghost use Rattle.std.specs.Prelude.{◌≡◌, ◌<◌, ◌||◌, ◌+◌, ℕ, Bool, OnOk, IfOk};
+ghost use Rattle.grant_history.specs.Spells.{AreApart, Stays, Swept, open_has, spells_have};
 
 use sg_outside::Memory;
 use std::alloc::Global;
@@ -35,10 +35,10 @@ impl Sweep {
         }
     }
 
-    /// Goes on to the next place, given whether it holds there.
+    /// Goes on to a later place, given whether it holds there; between it does not change.
     pub fn turn(&mut self, k: u64, holds: bool) -> Result<(), Memory>
-        ensures { OnOk result ((test : ℕ → Bool) (n : ℕ) → Swept self.old test n → k ≡ n + 1
-            → holds ≡ test k → Swept self.new test k) }
+        ensures { OnOk result ((test : ℕ → Bool) (n : ℕ) → Swept self.old test n → n < k
+            → Stays test n k → holds ≡ test k → Swept self.new test k) }
     {
         if let Some(from) = self.begun {
             if holds {

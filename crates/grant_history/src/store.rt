@@ -6,7 +6,7 @@ ghost use Rattle.std.specs.BTreeMap.{get_by_text};
 ghost use Rattle.sg_history.specs.History.{among};
 ghost use Rattle.sg_names.specs.declared.grants.Grantee.TheVariants.{User};
 ghost use Rattle.grant_history.specs.declared.facts.What.TheVariants as what;
-ghost use Rattle.grant_history.specs.Periods.{ArePeriods};
+ghost use Rattle.grant_history.specs.Periods.{AreAllPeriods};
 ghost use Rattle.grant_history.specs.Sorted.{AreSorted};
 ghost use Rattle.grant_history.specs.Reads.{user_channel, user_role};
 ghost use Rattle.grant_history.specs.Facts.{fact, times};
@@ -129,11 +129,11 @@ impl Store {
         roles_of(alloc, &self.users, &self.roles, user, k)
     }
 
-    /// The periods in which a user has channels, up to a place.
-    pub fn periods(&self, alloc: Global, user: &Name, last: u64) -> Result<Vec<Period>, Memory>
-        ensures { IfOk result (λ list. ArePeriods list.items (λ c k. user_channel
-            self.now.roles (get_by_text self.now.users user.now) k c) last) }
+    /// The periods in which a user has channels.
+    pub fn periods(&self, alloc: Global, user: &Name) -> Result<Vec<Period>, Memory>
+        ensures { IfOk result (λ list. AreAllPeriods list.items (λ c k. user_channel
+            self.now.roles (get_by_text self.now.users user.now) k c)) }
     {
-        periods_of(alloc, &self.users, &self.roles, user, last)
+        periods_of(alloc, &self.users, &self.roles, user)
     }
 }

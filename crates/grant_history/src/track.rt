@@ -1,6 +1,7 @@
 //! When something is held: by how many sources, and in which spans of places.
 
-ghost use Rattle.std.specs.Prelude.{◌≡◌, ◌<◌, ◌+◌, ◌-◌, [], OnOk, OnErr};
+ghost use Rattle.std.specs.Prelude.{◌≡◌, ◌<◌, ◌+◌, ◌-◌, ◌++◌, ◌∷◌, [], OnOk, OnErr};
+ghost use Rattle.grant_history.specs.Cuts.{Covers};
 ghost use Rattle.grant_history.specs.Tracks.{IsTrack, Moves, held_at, was_held};
 
 use sg_outside::Memory;
@@ -20,6 +21,16 @@ pub struct Track {
     count: u64,
     opened: u64,
     closed: Vec<Span>,
+}
+
+/// Adds where a span begins and where it ends.
+fn add_ends(cuts: &mut Vec<u64>, span: &Span) -> Result<(), Memory>
+    ensures { OnOk result (cuts.new.items
+        ≡ cuts.old.items ++ span.now.from ∷ span.now.to ∷ []) }
+{
+    cuts.push(span.from)?;
+    cuts.push(span.to)?;
+    Ok(())
 }
 
 impl Track {
@@ -46,6 +57,17 @@ impl Track {
         ensures { result ≡ was_held self.now k }
     {
         self.closed.iter().any(|s| s.from <= k && k < s.to)
+    }
+
+    /// Adds the places at which it may change whether any source gives it.
+    pub fn add_cuts(&self, cuts: &mut Vec<u64>) -> Result<(), Memory>
+        ensures { OnOk result (Covers cuts.old.items cuts.new.items (held_at self.now)) }
+    {
+        for span in self.closed.as_slice() {
+            add_ends(cuts, span)?;
+        }
+        cuts.push(self.opened)?;
+        Ok(())
     }
 
     /// One source more gives it from a place on. Out of memory, and where 2^64 - 1 sources give it

@@ -14,9 +14,9 @@ returns-clause-ok c =
     let old = c.args.holders.now in
     let new = c.insert.new.self in
     let name = c.args.name.now in
-    let list = c.give.new.list in
+    let list = c.give.new.self in
     let sets : (other : List ℕ) → get_by_text new other ≡ (if bytes_eq name other then Some list else get_by_text old other) = λ other. grind (arith, text_keys) in
-    let d = subst (λ (l : List Held). Dated count_in held_in AreUpTo l list.items c.args.at (one_more (count_in l) c.args.what.now)) c.new-list.ensures.items c.in_ok-give.ensures.ok in
+    let d = subst (λ (l : List Held). Dated count_in held_in AreUpTo l list.items c.args.at (one_more (count_in l) c.args.what.now)) c.new-holding.ensures c.in_ok-give.ensures.ok in
     recounted_of old new c.args.at _ _ (holder_dated old new name list sets None c.args.at (one_more (count_in []) c.args.what.now) c.requires d) (more_counts_of old name None c.requires c.args.what.now)
 
 pub returns-in_err-give-clause-err : goal.returns-in_err-give-clause-err

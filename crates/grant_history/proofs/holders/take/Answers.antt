@@ -9,9 +9,9 @@ use Rattle.grant_history.proofs.holders.take.Goals as goal
 pub returns-in-Some : goal.returns-in-Some
 returns-in-Some c =
     let old = c.args.holders.now in
-    let new = c.get_mut.follows.lender c.take.new.list in
+    let new = c.get_mut.follows.lender c.take.new.self in
     let name = c.args.name.now in
-    let sets : (other : List ℕ) → get_by_text new other ≡ (if bytes_eq name other then Some c.take.new.list else get_by_text old other) = λ other. grind (arith, text_keys) in
-    let there : get_by_text old name ≡ Some c.in-Some.list.now = grind (arith, text_keys) in
-    recounted_of old new c.args.at _ _ (holder_dated old new name c.take.new.list sets (Some c.in-Some.list.now) c.args.at (one_less (count_in c.in-Some.list.now.items) c.args.what.now) there c.take.ensures)
-    (less_counts_of old name (Some c.in-Some.list.now) there c.args.what.now)
+    let sets : (other : List ℕ) → get_by_text new other ≡ (if bytes_eq name other then Some c.take.new.self else get_by_text old other) = λ other. grind (arith, text_keys) in
+    let there : get_by_text old name ≡ Some c.in-Some.holding.now = grind (arith, text_keys) in
+    recounted_of old new c.args.at _ _ (holder_dated old new name c.take.new.self sets (Some c.in-Some.holding.now) c.args.at (one_less (count_in c.in-Some.holding.now.items) c.args.what.now) there c.take.ensures)
+    (less_counts_of old name (Some c.in-Some.holding.now) there c.args.what.now)

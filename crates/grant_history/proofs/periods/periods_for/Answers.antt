@@ -1,20 +1,21 @@
-use Rattle.std.proofs.Common.{◌≡◌, ◌∙◌, sym, ap, subst, arith, ◌+◌, ◌<◌, ℕ, List, [], ◌∷◌, ◌++◌, take, length, false}
-use Rattle.std.proofs.lemmas.List.{take_more}
-use Rattle.sg_history.specs.History.{among}
-use Rattle.grant_history.specs.Reads.{list_channel}
+use Rattle.std.proofs.Common.{◌≡◌, ◌∙◌, sym, ap, subst, arith, ◌+◌, ◌<◌, ℕ, List, [], ◌∷◌, ◌++◌, take, drop, length}
+use Rattle.std.proofs.lemmas.List.{take_more, drop_more}
+use Rattle.grant_history.specs.Givers.{has_at_with}
 use Rattle.grant_history.specs.Periods.{AreSoFar}
-use Rattle.grant_history.proofs.Dividing.{none_so_far, more_so_far, not_before}
+use Rattle.grant_history.specs.Sorted.{AreSorted}
+use Rattle.grant_history.proofs.Dividing.{none_so_far, more_so_far, parted}
 use Rattle.grant_history.proofs.periods.periods_for.Goals as goal
 
 pub loop-channel-init : goal.loop-channel-init
-loop-channel-init c = none_so_far _ _ c.args.last c.new-periods.ensures.items
+loop-channel-init c = none_so_far _ _ c.new-periods.ensures.items
 
 pub loop-channel-preserved : goal.loop-channel-preserved
 loop-channel-preserved c =
     let i = c.loop-channel.channel-index in
     let x = c.channel-item.result in
-    let within : i < length c.args.channels.now = omega arith in
-    let absent : among (take i c.args.channels.now) x ≡ false = ap (λ (y : List ℕ). among (take i c.args.channels.now) y) c.channel-item.is ∙ not_before c.args.channels.now i x c.requires within in
-    let split : take i c.args.channels.now ++ x ∷ [] ≡ take (i + 1) c.args.channels.now = ap (λ (y : List ℕ). take i c.args.channels.now ++ y ∷ []) c.channel-item.is ∙ sym (take_more c.args.channels.now i x within) in
-    subst (λ (names : List (List ℕ)). AreSoFar names c.add_channel.new.periods.items (λ n k. list_channel c.args.roles.now c.args.all.now k n) c.args.last) split
-    (more_so_far (take i c.args.channels.now) c.loop-channel.periods.items c.add_channel.new.periods.items x (λ n k. list_channel c.args.roles.now c.args.all.now k n) c.args.last c.loop-channel.invariant absent c.in_ok-add_channel.ensures)
+    let names = c.args.channels.now in
+    let within : i < length names = omega arith in
+    let split : take i names ++ x ∷ [] ≡ take (i + 1) names = ap (λ (y : List ℕ). take i names ++ y ∷ []) c.channel-item.is ∙ sym (take_more names i x within) in
+    let sorted : AreSorted (take i names ++ x ∷ drop (i + 1) names) = subst (λ (l : List (List ℕ)). AreSorted l) (parted names i x within c.channel-item.is) c.requires in
+    subst (λ (l : List (List ℕ)). AreSoFar l c.add_channel.new.periods.items (has_at_with c.args.givers.now c.args.all.now.items)) split
+    (more_so_far (take i names) c.loop-channel.periods.items c.add_channel.new.periods.items x (drop (i + 1) names) (has_at_with c.args.givers.now c.args.all.now.items) c.loop-channel.invariant sorted c.in_ok-add_channel.ensures)

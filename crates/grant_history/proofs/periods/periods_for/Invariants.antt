@@ -1,8 +1,8 @@
 use Rattle.std.proofs.Common.{take}
-use Rattle.grant_history.specs.Reads.{list_channel}
+use Rattle.grant_history.specs.Givers.{has_at_with}
 use Rattle.grant_history.specs.Periods.{AreSoFar}
 use Rattle.grant_history.proofs.periods.periods_for.Given as goal
 
 -- the periods of the channels so far
 abbrev pub invariant-loop-channel : goal.invariant-loop-channel
-invariant-loop-channel l = AreSoFar (take l.channel-index l.channels) l.periods.items (λ c k. list_channel l.roles l.all k c) l.last
+invariant-loop-channel l = AreSoFar (take l.channel-index l.channels) l.periods.items (has_at_with l.givers l.all.items)

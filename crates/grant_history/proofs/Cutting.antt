@@ -1,0 +1,179 @@
+-- places at which a test may change, as they are gathered, and a sweep over them
+use Rattle.std.proofs.Common.{◌≡◌, ◌≢◌, inl, inr, ◌<◌, ◌≤◌, ◌+◌, ◌-◌, ℕ, zero, suc, refl, sym, ◌∙◌, ap, subst, arith, Bool, true, false, ◌&&◌, ◌||◌, nat_le, nat_lt, List, [], ◌∷◌, ◌++◌, length, drop, get_or, Option, Some, None}
+use Rattle.std.specs.Prelude.{nat_eq, is_some}
+use Rattle.std.specs.List.{list_any}
+use Rattle.std.specs.List.Sorted.{IsPermutation}
+use Rattle.std.specs.Str.{bytes_eq}
+use Rattle.std.proofs.lemmas.Bool.{false≢true, true≢false}
+use Rattle.std.proofs.lemmas.List.{drop_more}
+use Rattle.std.proofs.lemmas.List.Sorted.{list_any-IsPermutation}
+use Rattle.sg_history.specs.Principals.{everyone}
+use Rattle.grant_history.specs.declared.facts.What.TheVariants as what
+use Rattle.grant_history.specs.declared.held.Held.{Held}
+use Rattle.grant_history.specs.declared.evaluate.Giver.{Giver}
+use Rattle.grant_history.specs.declared.spells.Sweep.{Sweep}
+use Rattle.grant_history.specs.declared.track.Span.{Span}
+use Rattle.grant_history.specs.declared.track.Track.{Track}
+use Rattle.grant_history.specs.Cuts.{is_cut, IsSteady, Covers, Rise}
+use Rattle.grant_history.specs.Givers.{giver_has, has_with, has_at_with}
+use Rattle.grant_history.specs.Holdings.{held_in}
+use Rattle.grant_history.specs.Reads.{channel_among, channel_by}
+use Rattle.grant_history.specs.Spells.{Stays, Swept, spells_have, open_has}
+use Rattle.grant_history.specs.Tracks.{has_place, was_held, is_open, held_at}
+use Rattle.grant_history.proofs.Sweeping.{stretched}
+
+cut_parts : (xs ys : List ℕ) (k : ℕ) → is_cut (xs ++ ys) k ≡ false → (is_cut xs k ≡ false) × (is_cut ys k ≡ false)
+cut_parts [] ys k h = (refl, h)
+cut_parts (x ∷ xs) ys k h = by (nat_eq k x) refl h (λ g. cut_parts xs ys k g)
+  where
+    by : (b : Bool) → nat_eq k x ≡ b → (b || is_cut (xs ++ ys) k) ≡ false → (is_cut (xs ++ ys) k ≡ false → (is_cut xs k ≡ false) × (is_cut ys k ≡ false)) → (is_cut (x ∷ xs) k ≡ false) × (is_cut ys k ≡ false)
+    by true is h rest = absurd (true≢false h)
+    by false is h rest = let p = rest h in (ap (λ (b : Bool). b || is_cut xs k) is ∙ p.0, p.1)
+
+first_none : (a b : Bool) → (a || b) ≡ false → a ≡ false
+first_none true b h = h
+first_none false b h = refl
+
+second_none : (a b : Bool) → (a || b) ≡ false → b ≡ false
+second_none true b h = absurd (true≢false h)
+second_none false b h = h
+
+-- a span that neither begins nor ends at a place has it where it has the place before
+span_steady : (s : Span) (k : ℕ) → nat_eq (k + 1) s.from ≡ false → nat_eq (k + 1) s.to ≡ false → has_place (k + 1) s ≡ has_place k s
+span_steady s k from to = grind (arith, from, to)
+
+pub span_kept : (old new : List ℕ) (s : Span) → new ≡ old ++ s.from ∷ s.to ∷ [] → (k : ℕ) → is_cut new k ≡ false → is_cut old k ≡ false
+span_kept old new s is k h = (cut_parts old (s.from ∷ s.to ∷ []) k (ap (λ (l : List ℕ). is_cut l k) (sym is) ∙ h)).0
+
+pub span_rest : (old new : List ℕ) (s : Span) (spans rest : List Span) → new ≡ old ++ s.from ∷ s.to ∷ [] → spans ≡ s ∷ rest → (k : ℕ) → is_cut new (k + 1) ≡ false
+    → list_any (has_place (k + 1)) rest ≡ list_any (has_place k) rest → list_any (has_place (k + 1)) spans ≡ list_any (has_place k) spans
+span_rest old new s spans rest is split k h same =
+    let two = (cut_parts old (s.from ∷ s.to ∷ []) (k + 1) (ap (λ (l : List ℕ). is_cut l (k + 1)) (sym is) ∙ h)).1 in
+    let from = first_none (nat_eq (k + 1) s.from) (nat_eq (k + 1) s.to || false) two in
+    let to = first_none (nat_eq (k + 1) s.to) false (second_none (nat_eq (k + 1) s.from) (nat_eq (k + 1) s.to || false) two) in
+    ap (λ (l : List Span). list_any (has_place (k + 1)) l) split
+    ∙ ap (λ (b : Bool). b || list_any (has_place (k + 1)) rest) (span_steady s k from to)
+    ∙ ap (λ (b : Bool). has_place k s || b) same
+    ∙ ap (λ (l : List Span). list_any (has_place k) l) (sym split)
+
+open_steady : (t : Track) (k : ℕ) → nat_eq (k + 1) t.opened ≡ false → is_open t (k + 1) ≡ is_open t k
+open_steady t k h = ap (λ (b : Bool). nat_lt 0 t.count && b) (by t.opened h)
+  where
+    by : (o : ℕ) → nat_eq (k + 1) o ≡ false → nat_le o (k + 1) ≡ nat_le o k
+    by o h = grind (arith, h)
+
+pub track_covers : (t : Track) (start middle new : List ℕ) → ((k : ℕ) → is_cut middle k ≡ false → is_cut start k ≡ false) → ((k : ℕ) → is_cut middle (k + 1) ≡ false → was_held t (k + 1) ≡ was_held t k)
+    → new ≡ middle ++ t.opened ∷ [] → Covers start new (held_at t)
+track_covers t start middle new kept steady is = record {
+  kept = λ k h. kept k (parts k h).0;
+  steady = λ k h.
+      let p = parts (k + 1) h in
+      ap (λ (b : Bool). b || is_open t (k + 1)) (steady k p.0)
+      ∙ ap (λ (b : Bool). was_held t k || b) (open_steady t k (first_none (nat_eq (k + 1) t.opened) false p.1));
+}
+  where
+    parts : (k : ℕ) → is_cut new k ≡ false → (is_cut middle k ≡ false) × (is_cut (t.opened ∷ []) k ≡ false)
+    parts k h = cut_parts middle (t.opened ∷ []) k (ap (λ (l : List ℕ). is_cut l k) (sym is) ∙ h)
+
+-- a test that never changes
+pub covers_none : (cuts : List ℕ) (test : ℕ → Bool) → ((k : ℕ) → test k ≡ false) → Covers cuts cuts test
+covers_none cuts test never = record { kept = λ k h. h; steady = λ k h. never (k + 1) ∙ sym (never k) }
+
+pub covers_same : (old new : List ℕ) (one other : ℕ → Bool) → Covers old new one → ((k : ℕ) → other k ≡ one k) → Covers old new other
+covers_same old new one other c same = record { kept = c.kept; steady = λ k h. same (k + 1) ∙ c.steady k h ∙ sym (same k) }
+
+-- what one step covers is covered after the next
+pub covers_later : (a b d : List ℕ) (one other : ℕ → Bool) → Covers a b one → Covers b d other → Covers a d one
+covers_later a b d one other c e = record { kept = λ k h. c.kept k (e.kept k h); steady = λ k h. c.steady k (e.kept (k + 1) h) }
+
+pub covers_next : (a b d : List ℕ) (one other : ℕ → Bool) → Covers a b one → Covers b d other → Covers a d other
+covers_next a b d one other c e = record { kept = λ k h. c.kept k (e.kept k h); steady = e.steady }
+
+pub covers_both : (a b : List ℕ) (one other : ℕ → Bool) → Covers a b one → Covers a b other → Covers a b (λ k. one k && other k)
+covers_both a b one other c e = record {
+  kept = c.kept;
+  steady = λ k h. ap (λ (x : Bool). x && other (k + 1)) (c.steady k h) ∙ ap (λ (x : Bool). one k && x) (e.steady k h);
+}
+
+pub giver_covers : (a b d : List ℕ) (g : Giver) (x : List ℕ) → Covers a b (held_at g.track.now) → Covers b d (λ k. held_in g.of.now.items what.Exists k) → Covers b d (λ k. channel_among g.of.now.items k x) → Covers a d (λ k. giver_has g k x)
+giver_covers a b d g x track exists channel =
+    covers_both a d (held_at g.track.now) (λ k. held_in g.of.now.items what.Exists k && channel_among g.of.now.items k x)
+    (covers_later a b d _ _ track exists)
+    (covers_next a b d _ _ track (covers_both b d (λ k. held_in g.of.now.items what.Exists k) (λ k. channel_among g.of.now.items k x) exists channel))
+
+pub giver_never : (g : Giver) (x : List ℕ) → ((k : ℕ) → channel_among g.of.now.items k x ≡ false) → (k : ℕ) → giver_has g k x ≡ false
+giver_never g x never k = ap (λ (b : Bool). held_at g.track.now k && (held_in g.of.now.items what.Exists k && b)) (never k) ∙ by (held_at g.track.now k) (held_in g.of.now.items what.Exists k)
+  where
+    by : (a b : Bool) → (a && (b && false)) ≡ false
+    by true true = refl
+    by true false = refl
+    by false b = refl
+
+-- those of a user: its own, and those of its roles
+pub all_steady : (none a b sorted : List ℕ) (givers : List Giver) (list : List Held) (x : List ℕ) → Covers none a (λ k. held_in list what.Exists k) → Covers none a (λ k. channel_among list k x)
+    → Covers a b (λ k. list_any (λ g. giver_has g k x) givers) → IsPermutation b sorted → IsSteady sorted (λ k. has_with givers list k x)
+all_steady none a b sorted givers list x exists channel roles moved k h =
+    let unmoved : is_cut b (k + 1) ≡ false = list_any-IsPermutation (nat_eq (k + 1)) b sorted moved ∙ h in
+    let before : is_cut a (k + 1) ≡ false = roles.kept (k + 1) unmoved in
+    ap (λ (e : Bool). e && (list_any (λ g. giver_has g (k + 1) x) givers || (channel_among list (k + 1) x || (bytes_eq everyone x || false)))) (exists.steady k before)
+    ∙ ap (λ (r : Bool). held_in list what.Exists k && (r || (channel_among list (k + 1) x || (bytes_eq everyone x || false)))) (roles.steady k unmoved)
+    ∙ ap (λ (c : Bool). held_in list what.Exists k && (list_any (λ g. giver_has g k x) givers || (c || (bytes_eq everyone x || false)))) (channel.steady k before)
+
+-- each of these from a place on is greater
+none_later : (cuts : List ℕ) (i m : ℕ) → ((n : ℕ) → i ≤ n → n < length cuts → m < get_or cuts n m) → is_cut (drop i cuts) m ≡ false
+none_later [] zero m h = refl
+none_later [] (suc i) m h = refl
+none_later (x ∷ xs) zero m h =
+    let first : m < x = h 0 (omega arith) (omega arith) in
+    ap (λ (b : Bool). b || is_cut xs m) (apart first) ∙ none_later xs zero m (λ n le within. h (suc n) (omega arith) (omega (arith, within)))
+  where
+    apart : m < x → nat_eq m x ≡ false
+    apart below = grind (arith, below)
+none_later (x ∷ xs) (suc i) m h = none_later xs i m (λ n le within. h (suc n) (omega (arith, le)) (omega (arith, within)))
+
+pub none_left : (cuts : List ℕ) (i m : ℕ) → length cuts ≤ i → is_cut (drop i cuts) m ≡ false
+none_left cuts i m le = none_later cuts i m (λ n from within. absurd (omega (arith, le, from, within)))
+
+module _ (test : ℕ → Bool) (cuts : List ℕ) (i at k : ℕ) (rise : Rise cuts) (within : i < length cuts) (is : k ≡ get_or cuts i 0)
+    (rest : (j : ℕ) → at ≤ j → is_cut (drop i cuts) (j + 1) ≡ false → test (j + 1) ≡ test j) where
+  -- before the next of them the test does not change
+  before_next : (j : ℕ) → at ≤ j → j + 1 < k → test (j + 1) ≡ test j
+  before_next j le below = rest j le (none_later cuts i (j + 1) (λ n from inside.
+      let low : get_or cuts i (j + 1) ≤ get_or cuts n (j + 1) = rise i n (j + 1) from inside in
+      let here : get_or cuts i (j + 1) ≡ k = same_default cuts i (j + 1) 0 within ∙ sym is in
+      omega (arith, low, here, below)))
+    where
+      same_default : (xs : List ℕ) (i d e : ℕ) → i < length xs → get_or xs i d ≡ get_or xs i e
+      same_default [] i d e h = absurd (omega (arith, h))
+      same_default (x ∷ xs) zero d e h = refl
+      same_default (x ∷ xs) (suc i) d e h = same_default xs i d e (omega (arith, h))
+
+  pub stays_before : Stays test at k
+  stays_before j le below = subst (λ (m : ℕ). test m ≡ test at) (omega (arith, le)) (by (j - at) (omega (arith, le, below)))
+    where
+      by : (more : ℕ) → at + more < k → test (at + more) ≡ test at
+      by zero h = ap test (omega arith)
+      by (suc more) h =
+          let step : test (at + more + 1) ≡ test (at + more) = before_next (at + more) (omega arith) (omega (arith, h)) in
+          ap test (omega arith) ∙ step ∙ by more (omega (arith, h))
+
+  -- behind it the test changes at the others alone
+  pub rest_after : (now : ℕ) → at ≤ now → k ≤ now → (j : ℕ) → now ≤ j → is_cut (drop (i + 1) cuts) (j + 1) ≡ false → test (j + 1) ≡ test j
+  rest_after now low high j le h = rest j (omega (arith, low, le))
+      (ap (λ (l : List ℕ). is_cut l (j + 1)) (drop_more cuts i 0 within)
+      ∙ ap (λ (b : Bool). b || is_cut (drop (i + 1) cuts) (j + 1)) (apart (get_or cuts i 0) (sym is)) ∙ h)
+    where
+      apart : (m : ℕ) → m ≡ k → nat_eq (j + 1) m ≡ false
+      apart m same =
+          let below : m < j + 1 = omega (arith, same, high, le) in
+          grind (arith, below)
+
+-- behind all of them it never changes
+pub says_all : (sweep : Sweep) (test : ℕ → Bool) (at : ℕ) → Swept sweep test at → ((j : ℕ) → at ≤ j → test (j + 1) ≡ test j) → (k : ℕ) → (spells_have sweep.list.items k || open_has sweep.begun k) ≡ test k
+says_all sweep test at s still k = (stretched sweep test at k s (λ j low high. subst (λ (m : ℕ). test m ≡ test at) (omega (arith, low)) (by (j - at)))).says k (omega arith)
+  where
+    by : (more : ℕ) → test (at + more) ≡ test at
+    by zero = ap test (omega arith)
+    by (suc more) =
+        let step : test (at + more + 1) ≡ test (at + more) = still (at + more) (omega arith) in
+        ap test (omega arith) ∙ step ∙ by more

@@ -1,0 +1,85 @@
+//! Where things stand among what one user or role has or had.
+
+ghost use Rattle.std.specs.Prelude.{◌≡◌, ℕ, List, Some, None, OnOk, OnErr, if◌then◌else◌};
+ghost use Rattle.std.specs.BTreeMap.{get_by_text};
+ghost use Rattle.std.specs.Str.{bytes_eq};
+ghost use Rattle.grant_history.specs.declared.facts.What.{What};
+ghost use Rattle.grant_history.specs.Facts.{same_what};
+ghost use Rattle.grant_history.specs.Places.{found};
+
+use crate::facts::What;
+use sg_history::ChannelName;
+use sg_outside::Memory;
+use std::alloc::Global;
+use std::collections::BTreeMap;
+
+/// Places by names.
+type ByName = BTreeMap<String, usize>;
+
+/// The place of each thing that has one.
+#[derive(Drop)]
+pub struct Places {
+    exists: Option<usize>,
+    channels: ByName,
+    roles: ByName,
+}
+
+fn put_name(alloc: Global, names: &mut ByName, name: &str, place: usize) -> Result<(), Memory>
+    ensures ok { OnOk result ((other : List ℕ) → get_by_text names.new other
+        ≡ (if bytes_eq name.now other then Some place else get_by_text names.old other)) }
+    ensures err { OnErr result ((other : List ℕ)
+        → get_by_text names.new other ≡ get_by_text names.old other) }
+{
+    names.insert(String::from_str(alloc, name)?, place)?;
+    Ok(())
+}
+
+impl Places {
+    /// None. Allocates nothing.
+    pub fn new(alloc: Global) -> Places
+        ensures { (what : What) → found result what ≡ None }
+    {
+        Places {
+            exists: None,
+            channels: BTreeMap::new(alloc),
+            roles: BTreeMap::new(alloc),
+        }
+    }
+
+    /// The place of something, if it has one.
+    pub fn find(&self, what: &What) -> Option<usize>
+        ensures { result ≡ found self.now what.now }
+    {
+        match what {
+            What::Exists => self.exists,
+            What::Channel(channel) => self.channel(channel),
+            What::Role(role) => self.roles.get(role.as_str()).copied(),
+        }
+    }
+
+    /// The place of a channel, if it has one.
+    pub fn channel(&self, channel: &ChannelName) -> Option<usize>
+        ensures { result ≡ get_by_text self.now.channels channel.now }
+    {
+        self.channels.get(channel.as_str()).copied()
+    }
+
+    /// Puts something at a place.
+    pub fn put(&mut self, alloc: Global, what: &What, place: usize) -> Result<(), Memory>
+        ensures ok { OnOk result ((other : What) → found self.new other
+            ≡ (if same_what what.now other then Some place else found self.old other)) }
+        ensures err { OnErr result ((other : What) → found self.new other
+            ≡ found self.old other) }
+    {
+        match what {
+            What::Exists => {
+                self.exists = Some(place);
+                Ok(())
+            }
+            What::Channel(channel) => {
+                put_name(alloc, &mut self.channels, channel.as_str(), place)
+            }
+            What::Role(role) => put_name(alloc, &mut self.roles, role.as_str(), place),
+        }
+    }
+}
