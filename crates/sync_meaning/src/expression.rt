@@ -263,7 +263,8 @@ impl<F: Fn(Global, u64, &Scope, &mut State, &Expr, bool) -> Result<Target, Stop>
     #[tactic(auto, unfolding(crate::specs::Expressions::value))]
     pub fn value(&self, scope: &Scope, state: &mut State, expr: &Expr) -> Result<Value, Stop>
         requires { Nests self.now.depth (F.pre self.now.inner) (F.post self.now.inner) }
-        ensures { Does (spec.value_to self.now.depth scope.now expr.now state.old) result state.new }
+        ensures { Does (spec.value_to self.now.depth scope.now expr.now state.old)
+            result state.new }
     {
         let target = self.inner(scope, state, expr, false)?;
         as_value(place_of(expr), target)

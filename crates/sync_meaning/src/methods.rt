@@ -133,7 +133,8 @@ fn can_be_sought(value: &Value) -> bool
 
 /// The place of the first item that is the same, else -1.
 fn index_from(value: &Value, values: &[Value]) -> Result<Value, Memory>
-    ensures { IfOk result (λ found. found ≡ Value.Integer (spec.index_from 0 value.now values.now)) }
+    ensures { IfOk result (λ found. found
+        ≡ Value.Integer (spec.index_from 0 value.now values.now)) }
 {
     let mut at = 0;
     let mut left = values;

@@ -9,7 +9,7 @@ ghost use Rattle.sync_meaning.specs.Variables as spec;
 use crate::Memory;
 use crate::value::last_named;
 use json_doc::DocText;
-use sqlite_items::Items;
+use sqlite_items::{Boxed, Items};
 use std::alloc::{AllocError, Global};
 use sync_syntax::tree::{Declares, Expr, Named, Start, Statement};
 
@@ -108,7 +108,7 @@ impl Scope {
         self,
         alloc: Global,
         declares: Declares,
-        names: &[(Named, Option<Expr>)],
+        names: &[(Named, Option<Boxed<Expr>>)],
     ) -> Result<Scope, Memory>
         ensures { IfOk result (λ made. made ≡ spec.all_declared declares names.now self) }
     {
@@ -122,14 +122,21 @@ impl Scope {
     }
 
     /// What is seen behind the beginning of a `for`.
-    pub(crate) fn started(self, alloc: Global, start: &Option<Start>) -> Result<Scope, Memory>
+    pub(crate) fn started(
+        self,
+        alloc: Global,
+        start: &Option<Boxed<Start>>,
+    ) -> Result<Scope, Memory>
         ensures { IfOk result (λ made. made ≡ spec.started start.now self) }
     {
         match start {
-            Some(Start::Declare(found)) => {
-                self.all_declared(alloc, found.declares, found.names.as_slice())
-            }
-            Some(Start::Simple(_)) | None => Ok(self),
+            Some(start) => match start.get() {
+                Start::Declare(found) => {
+                    self.all_declared(alloc, found.declares, found.names.as_slice())
+                }
+                Start::Simple(_) => Ok(self),
+            },
+            None => Ok(self),
         }
     }
 

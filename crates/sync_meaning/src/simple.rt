@@ -15,7 +15,7 @@ use crate::scope::Scope;
 use crate::state::State;
 use crate::value::{Value, last_named};
 use json_doc::DocText;
-use sqlite_items::Items;
+use sqlite_items::{Boxed, Items};
 use std::alloc::Global;
 use sync_syntax::tree::{Declaration, Declares, Expr, Named, Simple, Start, Writes};
 use sync_tokens::Place;
@@ -115,13 +115,13 @@ impl Parts {
         &self,
         scope: &Scope,
         state: &mut State,
-        expr: &Option<Expr>,
+        expr: &Option<Boxed<Expr>>,
     ) -> Result<Value, Stop>
         ensures { Does (spec.value_or_undefined self.now.depth scope.now expr.now state.old)
             result state.new }
     {
         match expr {
-            Some(expr) => self.value(scope, state, expr),
+            Some(expr) => self.value(scope, state, expr.get()),
             None => Ok(Value::Undefined),
         }
     }
@@ -133,7 +133,7 @@ impl Parts {
         state: &mut State,
         declares: Declares,
         name: &DocText,
-        expr: &Option<Expr>,
+        expr: &Option<Boxed<Expr>>,
     ) -> Result<(), Stop>
         ensures { Does (spec.declare_one self.now.depth declares scope.now name.now expr.now
             state.old) result state.new }
@@ -153,7 +153,7 @@ impl Parts {
         first: Scope,
         state: &mut State,
         declares: Declares,
-        names: &[(Named, Option<Expr>)],
+        names: &[(Named, Option<Boxed<Expr>>)],
     ) -> Result<(), Stop>
         ensures { Does (spec.declare_all self.now.depth declares first names.now state.old)
             result state.new }
@@ -170,7 +170,8 @@ impl Parts {
 
     #[tactic(auto, unfolding(crate::specs::Statements::declare))]
     pub fn declare(&self, scope: &Scope, state: &mut State, found: &Declaration) -> Result<(), Stop>
-        ensures { Does (spec.declare self.now.depth scope.now found.now state.old) result state.new }
+        ensures { Does (spec.declare self.now.depth scope.now found.now state.old)
+            result state.new }
     {
         state.visit(found.place)?;
         let first = scope.copy(self.alloc)?;
@@ -243,7 +244,8 @@ impl Parts {
 
     #[tactic(auto, unfolding(crate::specs::Statements::simple))]
     pub fn simple(&self, scope: &Scope, state: &mut State, simple: &Simple) -> Result<(), Stop>
-        ensures { Does (spec.simple self.now.depth scope.now simple.now state.old) result state.new }
+        ensures { Does (spec.simple self.now.depth scope.now simple.now state.old)
+            result state.new }
     {
         state.visit(place_of_simple(simple))?;
         self.simple_by(scope, state, simple)
@@ -254,10 +256,10 @@ impl Parts {
             result state.new }
     {
         match simple {
-            Simple::Write(name, Writes::Set, expr) => self.set(scope, state, name, expr),
-            Simple::Write(name, Writes::Add, expr) => self.add_to(scope, state, name, expr),
+            Simple::Write(name, Writes::Set, expr) => self.set(scope, state, name, expr.get()),
+            Simple::Write(name, Writes::Add, expr) => self.add_to(scope, state, name, expr.get()),
             Simple::Write(name, Writes::Subtract, expr) => {
-                self.subtract_from(scope, state, name, expr)
+                self.subtract_from(scope, state, name, expr.get())
             }
             Simple::Increment(name) => self.count(scope, state, name, 1),
             Simple::Decrement(name) => self.count(scope, state, name, -1),
@@ -271,13 +273,13 @@ impl Parts {
         scope: &Scope,
         state: &mut State,
         place: Place,
-        condition: &Option<Expr>,
+        condition: &Option<Boxed<Expr>>,
     ) -> Result<bool, Stop>
         ensures { Does (spec.holds self.now.depth scope.now place condition.now state.old)
             result state.new }
     {
         match condition {
-            Some(condition) => self.is_true(scope, state, place, condition),
+            Some(condition) => self.is_true(scope, state, place, condition.get()),
             None => Ok(true),
         }
     }
@@ -299,22 +301,34 @@ impl Parts {
     }
 
     /// The beginning of a `for`.
-    pub fn start(&self, scope: &Scope, state: &mut State, start: &Option<Start>) -> Result<(), Stop>
+    pub fn start(
+        &self,
+        scope: &Scope,
+        state: &mut State,
+        start: &Option<Boxed<Start>>,
+    ) -> Result<(), Stop>
         ensures { Does (spec.start self.now.depth scope.now start.now state.old) result state.new }
     {
         match start {
-            Some(Start::Declare(found)) => self.declare(scope, state, found),
-            Some(Start::Simple(found)) => self.simple(scope, state, found),
+            Some(start) => match start.get() {
+                Start::Declare(found) => self.declare(scope, state, found),
+                Start::Simple(found) => self.simple(scope, state, found),
+            },
             None => Ok(()),
         }
     }
 
     /// What a `for` does behind each round.
-    pub fn step(&self, scope: &Scope, state: &mut State, step: &Option<Simple>) -> Result<(), Stop>
+    pub fn step(
+        &self,
+        scope: &Scope,
+        state: &mut State,
+        step: &Option<Boxed<Simple>>,
+    ) -> Result<(), Stop>
         ensures { Does (spec.step self.now.depth scope.now step.now state.old) result state.new }
     {
         match step {
-            Some(found) => self.simple(scope, state, found),
+            Some(found) => self.simple(scope, state, found.get()),
             None => Ok(()),
         }
     }
@@ -325,7 +339,7 @@ impl Parts {
         scope: &Scope,
         state: &mut State,
         place: Place,
-        expr: &Option<Expr>,
+        expr: &Option<Boxed<Expr>>,
     ) -> Result<Completion, Stop>
         ensures { Does (spec.returned self.now.depth scope.now place expr.now state.old)
             result state.new }

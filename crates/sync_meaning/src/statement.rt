@@ -161,8 +161,8 @@ impl<F: Fn(Global, u64, &Scope, &mut State, &Statement) -> Result<Completion, St
         scope: &Scope,
         state: &mut State,
         place: Place,
-        condition: &Option<Expr>,
-        step: &Option<Simple>,
+        condition: &Option<Boxed<Expr>>,
+        step: &Option<Boxed<Simple>>,
         body: &Statement,
     ) -> Result<Completion, Stop>
         requires { NestsStatement self.now.depth (F.pre self.now.inner) (F.post self.now.inner) }
@@ -192,9 +192,9 @@ impl<F: Fn(Global, u64, &Scope, &mut State, &Statement) -> Result<Completion, St
         scope: &Scope,
         state: &mut State,
         place: Place,
-        start: &Option<Start>,
-        condition: &Option<Expr>,
-        step: &Option<Simple>,
+        start: &Option<Boxed<Start>>,
+        condition: &Option<Boxed<Expr>>,
+        step: &Option<Boxed<Simple>>,
         body: &Statement,
     ) -> Result<Completion, Stop>
         requires { NestsStatement self.now.depth (F.pre self.now.inner) (F.post self.now.inner) }
@@ -278,13 +278,21 @@ impl<F: Fn(Global, u64, &Scope, &mut State, &Statement) -> Result<Completion, St
                 Ok(Completion::Normal)
             }
             Statement::If(place, condition, first, other) => {
-                self.choose(scope, state, *place, condition, first.get(), other)
+                self.choose(scope, state, *place, condition.get(), first.get(), other)
             }
             Statement::For(place, start, condition, step, body) => {
                 self.loop_while(scope, state, *place, start, condition, step, body.get())
             }
             Statement::ForOf(place, declares, name, expr, body) => {
-                self.loop_of(scope, state, *place, *declares, name, expr, body.get())
+                self.loop_of(
+                    scope,
+                    state,
+                    *place,
+                    *declares,
+                    name,
+                    expr.get(),
+                    body.get(),
+                )
             }
             Statement::Return(place, expr) => self.parts().returned(scope, state, *place, expr),
             Statement::Throw(place, expr) => self.parts().throw(scope, state, *place, expr),

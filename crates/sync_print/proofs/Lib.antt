@@ -1,6 +1,6 @@
 pub mod Layers
-pub mod Lexing
-pub mod LexingWords
+pub mod CutTokens
+pub mod CutWords
 pub mod Puts
 pub mod Steps
 pub mod Shown
@@ -8,7 +8,7 @@ pub mod PrintsNodes
 pub mod PrintsExpressions
 pub mod PrintsStatements
 pub mod ReadBack
-pub mod LexingAll
+pub mod CutTexts
 pub mod SpellsExpressions
 pub mod SpellsStatements
 pub mod PrintedTexts

@@ -20,9 +20,9 @@ use Rattle.sync_print.specs.Laws.{placeless, PrintedIsReadBack, PrintedIsParsed}
 use Rattle.sync_print.specs.Printing.{printed}
 use Rattle.sync_print.specs.Spelling.{word_text, escaped, quoted, spelling, left_by, joins, gap}
 use Rattle.sync_print.specs.Trees.{program}
-use Rattle.sync_print.proofs.Lexing.{text_from}
-use Rattle.sync_print.proofs.LexingAll.{printed_text, printed_tokens}
-use Rattle.sync_print.proofs.LexingWords.{AllAscii, sign_ascii}
+use Rattle.sync_print.proofs.CutTokens.{text_from}
+use Rattle.sync_print.proofs.CutTexts.{printed_text, printed_tokens}
+use Rattle.sync_print.proofs.CutWords.{AllAscii, sign_ascii}
 use Rattle.sync_print.proofs.ReadBack.{read_back}
 use Rattle.sync_print.proofs.SpellsExpressions.{ascii_utf8, name_utf8}
 use Rattle.sync_print.proofs.SpellsStatements.{program_spells}

@@ -13,19 +13,20 @@ use crate::Memory;
 use crate::expression::{begins_with_object, put_comma, put_expr};
 use crate::printer::Printer;
 use crate::spelling::{declares_word, writes_sign};
+use sqlite_items::Boxed;
 use std::alloc::Global;
 use sync_syntax::tree::{Declaration, Declares, Expr, Named, Simple, Start, Statement, Writes};
 use sync_tokens::{Sign, Word};
 
 /// What an expression is given, if it is.
 #[tactic(auto, using(crate::proofs::Puts::put_both))]
-fn put_given(alloc: Global, out: &mut Printer, value: &Option<Expr>) -> Result<(), Memory>
+fn put_given(alloc: Global, out: &mut Printer, value: &Option<Boxed<Expr>>) -> Result<(), Memory>
     ensures { OnOk result (out.new ≡ put_all (spec.given value.now) out.old) }
 {
     match value {
         Some(value) => {
             out.sign(Sign::Assign)?;
-            put_expr(alloc, out, value)
+            put_expr(alloc, out, value.get())
         }
         None => Ok(()),
     }
@@ -35,7 +36,7 @@ fn put_given(alloc: Global, out: &mut Printer, value: &Option<Expr>) -> Result<(
 fn put_declared(
     alloc: Global,
     out: &mut Printer,
-    declared: &(Named, Option<Expr>),
+    declared: &(Named, Option<Boxed<Expr>>),
 ) -> Result<(), Memory>
     ensures { OnOk result (out.new ≡ put_all (spec.declared declared.now) out.old) }
 {
@@ -47,7 +48,7 @@ fn put_declared(
 fn put_all_declared(
     alloc: Global,
     out: &mut Printer,
-    names: &[(Named, Option<Expr>)],
+    names: &[(Named, Option<Boxed<Expr>>)],
 ) -> Result<(), Memory>
     ensures { OnOk result (out.new ≡ put_all (spec.all_declared names.now) out.old) }
 {
@@ -116,7 +117,7 @@ fn put_simple(alloc: Global, out: &mut Printer, simple: &Simple) -> Result<(), M
     ensures { OnOk result (out.new ≡ put_all (spec.simple simple.now) out.old) }
 {
     match simple {
-        Simple::Write(name, how, value) => put_write(alloc, out, name, *how, value),
+        Simple::Write(name, how, value) => put_write(alloc, out, name, *how, value.get()),
         Simple::Increment(name) => put_count(out, name, Sign::Increment),
         Simple::Decrement(name) => put_count(out, name, Sign::Decrement),
         Simple::Value(_, expr) => put_value(alloc, out, expr),
@@ -124,32 +125,38 @@ fn put_simple(alloc: Global, out: &mut Printer, simple: &Simple) -> Result<(), M
 }
 
 #[tactic(auto, using(crate::proofs::Puts::put_both))]
-fn put_last(alloc: Global, out: &mut Printer, simple: &Option<Simple>) -> Result<(), Memory>
+fn put_last(alloc: Global, out: &mut Printer, simple: &Option<Boxed<Simple>>) -> Result<(), Memory>
     ensures { OnOk result (out.new ≡ put_all (spec.last simple.now) out.old) }
 {
     match simple {
-        Some(simple) => put_simple(alloc, out, simple),
+        Some(simple) => put_simple(alloc, out, simple.get()),
         None => Ok(()),
     }
 }
 
 #[tactic(auto, using(crate::proofs::Puts::put_both))]
-fn put_start(alloc: Global, out: &mut Printer, start: &Option<Start>) -> Result<(), Memory>
+fn put_start(alloc: Global, out: &mut Printer, start: &Option<Boxed<Start>>) -> Result<(), Memory>
     ensures { OnOk result (out.new ≡ put_all (spec.start start.now) out.old) }
 {
     match start {
-        Some(Start::Declare(declaration)) => put_declaration(alloc, out, declaration),
-        Some(Start::Simple(simple)) => put_simple(alloc, out, simple),
+        Some(start) => match start.get() {
+            Start::Declare(declaration) => put_declaration(alloc, out, declaration),
+            Start::Simple(simple) => put_simple(alloc, out, simple),
+        },
         None => Ok(()),
     }
 }
 
 #[tactic(auto, using(crate::proofs::Puts::put_both))]
-fn put_expr_or_none(alloc: Global, out: &mut Printer, expr: &Option<Expr>) -> Result<(), Memory>
+fn put_expr_or_none(
+    alloc: Global,
+    out: &mut Printer,
+    expr: &Option<Boxed<Expr>>,
+) -> Result<(), Memory>
     ensures { OnOk result (out.new ≡ put_all (spec.expr_or_none expr.now) out.old) }
 {
     match expr {
-        Some(expr) => put_expr(alloc, out, expr),
+        Some(expr) => put_expr(alloc, out, expr.get()),
         None => Ok(()),
     }
 }
@@ -169,9 +176,9 @@ fn put_condition(alloc: Global, out: &mut Printer, expr: &Expr) -> Result<(), Me
 fn put_head(
     alloc: Global,
     out: &mut Printer,
-    start: &Option<Start>,
-    condition: &Option<Expr>,
-    last: &Option<Simple>,
+    start: &Option<Boxed<Start>>,
+    condition: &Option<Boxed<Expr>>,
+    last: &Option<Boxed<Simple>>,
 ) -> Result<(), Memory>
     ensures { OnOk result (out.new
         ≡ put_all (spec.parenthesized (spec.head start.now condition.now last.now)) out.old) }
@@ -220,7 +227,7 @@ fn put_ending(
     alloc: Global,
     out: &mut Printer,
     word: Word,
-    expr: &Option<Expr>,
+    expr: &Option<Boxed<Expr>>,
 ) -> Result<(), Memory>
     ensures { OnOk result (out.new
         ≡ put_all (kinds.Word word ∷ (spec.expr_or_none expr.now ++ spec.sign signs.Semicolon))
@@ -260,7 +267,7 @@ pub(crate) fn put_statement(
         }
         Statement::If(_, condition, first, other) => {
             out.word(Word::If)?;
-            put_condition(alloc, out, condition)?;
+            put_condition(alloc, out, condition.get())?;
             put_statement(alloc, out, first.get())?;
             match other {
                 Some(other) => {
@@ -277,7 +284,7 @@ pub(crate) fn put_statement(
         }
         Statement::ForOf(_, how, name, items, body) => {
             out.word(Word::For)?;
-            put_each(alloc, out, *how, name, items)?;
+            put_each(alloc, out, *how, name, items.get())?;
             put_statement(alloc, out, body.get())
         }
         Statement::Return(_, expr) => put_ending(alloc, out, Word::Return, expr),

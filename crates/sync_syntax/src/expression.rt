@@ -9,6 +9,7 @@ ghost use Rattle.sync_syntax.specs.Nests.{Nests};
 use crate::Memory;
 use crate::cursor::Tokens;
 use crate::fault::ParseFault;
+use crate::fitted::fitted;
 use crate::operator::{operator_at, prefix};
 use crate::tree::{Expr, Operator, Prefix, Suffix};
 use json_doc::DocText;
@@ -58,7 +59,8 @@ fn followed(alloc: Global, first: Expr, found: Items<Suffix>) -> Result<Expr, Me
     if found.is_empty() {
         Ok(first)
     } else {
-        Ok(Expr::Postfix(Boxed::new(alloc, first)?, found))
+        let first = Boxed::new(alloc, first)?;
+        Ok(Expr::Postfix(first, fitted(alloc, found)?))
     }
 }
 
@@ -69,7 +71,8 @@ fn chained(alloc: Global, first: Expr, found: Items<(Operator, Expr)>) -> Result
     if found.is_empty() {
         Ok(first)
     } else {
-        Ok(Expr::Chain(Boxed::new(alloc, first)?, found))
+        let first = Boxed::new(alloc, first)?;
+        Ok(Expr::Chain(first, fitted(alloc, found)?))
     }
 }
 
@@ -125,7 +128,7 @@ impl<F: Fn(Global, &mut Tokens<'_>, usize, bool) -> Result<Expr, ParseFault>> Gr
         }
         let found = self.separated(tokens)?;
         tokens.expect(close)?;
-        Ok(found)
+        Ok(fitted(self.alloc, found)?)
     }
 
     #[tactic(auto, unfolding(crate::specs::Expressions::member))]
@@ -165,7 +168,7 @@ impl<F: Fn(Global, &mut Tokens<'_>, usize, bool) -> Result<Expr, ParseFault>> Gr
         }
         let found = self.some_members(tokens)?;
         tokens.expect(Sign::BraceClose)?;
-        Ok(found)
+        Ok(fitted(self.alloc, found)?)
     }
 
     fn bracketed(

@@ -4,6 +4,7 @@
 mod cursor;
 mod expression;
 mod fault;
+mod fitted;
 pub mod laws;
 mod operator;
 mod program;

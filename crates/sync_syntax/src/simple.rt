@@ -9,7 +9,7 @@ use crate::expression::nested;
 use crate::fault::ParseFault;
 use crate::operator::{Writing, declares_by, is_name, writing_by};
 use crate::tree::{Declaration, Declares, Expr, Named, Simple, Statement};
-use sqlite_items::Items;
+use sqlite_items::{Boxed, Items};
 use std::alloc::Global;
 use sync_tokens::{Place, Sign};
 
@@ -61,19 +61,27 @@ impl Parts {
         nested(self.alloc, tokens, self.room, false)
     }
 
+    /// The same, in a block of its own.
+    pub fn boxed_expr(&self, tokens: &mut Tokens<'_>) -> Result<Boxed<Expr>, ParseFault>
+        ensures { Reads (spec.expr self.now.room tokens.old) result tokens.new }
+    {
+        let found = self.expr(tokens)?;
+        Ok(Boxed::new(self.alloc, found)?)
+    }
+
     /// The value that a variable is declared with, if it is.
     #[tactic(auto, unfolding(crate::specs::Statements::given))]
-    fn given(&self, tokens: &mut Tokens<'_>) -> Result<Option<Expr>, ParseFault>
+    fn given(&self, tokens: &mut Tokens<'_>) -> Result<Option<Boxed<Expr>>, ParseFault>
         ensures { Reads (spec.given self.now.room tokens.old) result tokens.new }
     {
         if !tokens.eat(Sign::Assign) {
             return Ok(None);
         }
-        Ok(Some(self.expr(tokens)?))
+        Ok(Some(self.boxed_expr(tokens)?))
     }
 
     #[tactic(auto, unfolding(crate::specs::Statements::declared))]
-    fn declared(&self, tokens: &mut Tokens<'_>) -> Result<(Named, Option<Expr>), ParseFault>
+    fn declared(&self, tokens: &mut Tokens<'_>) -> Result<(Named, Option<Boxed<Expr>>), ParseFault>
         ensures { Reads (spec.declared self.now.room tokens.old) result tokens.new }
     {
         let name = named(self.alloc, tokens)?;
@@ -84,7 +92,7 @@ impl Parts {
     fn more_declared(
         &self,
         tokens: &mut Tokens<'_>,
-    ) -> Result<Items<(Named, Option<Expr>)>, ParseFault>
+    ) -> Result<Items<(Named, Option<Boxed<Expr>>)>, ParseFault>
         ensures { Reads (spec.more_declared self.now.room tokens.old) result tokens.new }
     {
         let mut found = Items::new(self.alloc);
@@ -132,7 +140,7 @@ impl Parts {
     {
         match writing {
             Writing::Sets(how) => {
-                let value = self.expr(tokens)?;
+                let value = self.boxed_expr(tokens)?;
                 Ok(Simple::Write(name, how, value))
             }
             Writing::Increments => Ok(Simple::Increment(name)),
@@ -187,13 +195,13 @@ impl Parts {
         &self,
         tokens: &mut Tokens<'_>,
         close: Sign,
-    ) -> Result<Option<Expr>, ParseFault>
+    ) -> Result<Option<Boxed<Expr>>, ParseFault>
         ensures { Reads (spec.expr_unless self.now.room close tokens.old) result tokens.new }
     {
         if tokens.sees(close) {
             return Ok(None);
         }
-        Ok(Some(self.expr(tokens)?))
+        Ok(Some(self.boxed_expr(tokens)?))
     }
 
     #[tactic(auto, unfolding(crate::specs::Statements::simple_unless))]
@@ -201,17 +209,18 @@ impl Parts {
         &self,
         tokens: &mut Tokens<'_>,
         close: Sign,
-    ) -> Result<Option<Simple>, ParseFault>
+    ) -> Result<Option<Boxed<Simple>>, ParseFault>
         ensures { Reads (spec.simple_unless self.now.room close tokens.old) result tokens.new }
     {
         if tokens.sees(close) {
             return Ok(None);
         }
-        Ok(Some(self.simple(tokens)?))
+        let found = self.simple(tokens)?;
+        Ok(Some(Boxed::new(self.alloc, found)?))
     }
 
     #[tactic(auto, unfolding(crate::specs::Statements::returned))]
-    fn returned(&self, tokens: &mut Tokens<'_>) -> Result<Option<Expr>, ParseFault>
+    fn returned(&self, tokens: &mut Tokens<'_>) -> Result<Option<Boxed<Expr>>, ParseFault>
         ensures { Reads (spec.returned self.now.room tokens.old) result tokens.new }
     {
         if tokens.sees(Sign::BraceClose) {

@@ -8,6 +8,7 @@ ghost use Rattle.sync_syntax.specs.Nests.{NestsStatement};
 
 use crate::cursor::Tokens;
 use crate::fault::ParseFault;
+use crate::fitted::fitted;
 use crate::operator::declares_by;
 use crate::simple::{Parts, jump, named};
 use crate::tree::{Declares, Named, Start, Statement};
@@ -89,7 +90,7 @@ impl<F: Fn(Global, &mut Tokens<'_>, usize, bool) -> Result<Statement, ParseFault
     {
         tokens.take();
         tokens.expect(Sign::ParenOpen)?;
-        let condition = self.parts().expr(tokens)?;
+        let condition = self.parts().boxed_expr(tokens)?;
         tokens.expect(Sign::ParenClose)?;
         let first = Boxed::new(self.alloc, self.inner(tokens, in_loop)?)?;
         let other = self.otherwise(tokens, in_loop)?;
@@ -102,7 +103,7 @@ impl<F: Fn(Global, &mut Tokens<'_>, usize, bool) -> Result<Statement, ParseFault
         &self,
         tokens: &mut Tokens<'_>,
         place: Place,
-        start: Option<Start>,
+        start: Option<Boxed<Start>>,
     ) -> Result<Statement, ParseFault>
         requires { NestsStatement self.now.room (F.pre self.now.inner) (F.post self.now.inner) }
         ensures { Reads (spec.repeat_in self.now.room place start tokens.old) result tokens.new }
@@ -129,7 +130,7 @@ impl<F: Fn(Global, &mut Tokens<'_>, usize, bool) -> Result<Statement, ParseFault
         ensures { Reads (spec.each_in self.now.room place declares name tokens.old)
             result tokens.new }
     {
-        let items = self.parts().expr(tokens)?;
+        let items = self.parts().boxed_expr(tokens)?;
         tokens.expect(Sign::ParenClose)?;
         let body = Boxed::new(self.alloc, self.inner(tokens, true)?)?;
         Ok(Statement::ForOf(place, declares, name, items, body))
@@ -153,7 +154,8 @@ impl<F: Fn(Global, &mut Tokens<'_>, usize, bool) -> Result<Statement, ParseFault
             return self.each(tokens, place, declares, name);
         }
         let found = self.parts().declaration(tokens, begin, declares, name)?;
-        self.repeat(tokens, place, Some(Start::Declare(found)))
+        let start = Boxed::new(self.alloc, Start::Declare(found))?;
+        self.repeat(tokens, place, Some(start))
     }
 
     #[tactic(auto, unfolding(crate::specs::Statements::for_simple))]
@@ -165,7 +167,8 @@ impl<F: Fn(Global, &mut Tokens<'_>, usize, bool) -> Result<Statement, ParseFault
             return self.repeat(tokens, place, None);
         }
         let found = self.parts().simple(tokens)?;
-        self.repeat(tokens, place, Some(Start::Simple(found)))
+        let start = Boxed::new(self.alloc, Start::Simple(found))?;
+        self.repeat(tokens, place, Some(start))
     }
 
     #[tactic(auto, unfolding(crate::specs::Statements::for_at))]
@@ -219,7 +222,8 @@ impl<F: Fn(Global, &mut Tokens<'_>, usize, bool) -> Result<Statement, ParseFault
         match tokens.kind() {
             Kind::Sign(Sign::BraceOpen) => {
                 tokens.take();
-                Ok(Statement::Block(place, self.block(tokens, in_loop)?))
+                let found = self.block(tokens, in_loop)?;
+                Ok(Statement::Block(place, fitted(self.alloc, found)?))
             }
             Kind::Sign(Sign::Semicolon) => {
                 tokens.take();

@@ -83,7 +83,7 @@ pub enum Declares {
 pub struct Declaration {
     pub place: Place,
     pub declares: Declares,
-    pub names: Items<(Named, Option<Expr>)>,
+    pub names: Items<(Named, Option<Boxed<Expr>>)>,
 }
 
 /// How a variable is written.
@@ -98,7 +98,7 @@ pub enum Writes {
 #[derive(Debug, Drop)]
 pub enum Simple {
     /// `name = value`, `name += value` or `name -= value`
-    Write(Named, Writes, Expr),
+    Write(Named, Writes, Boxed<Expr>),
     /// `name++`
     Increment(Named),
     /// `name--`
@@ -119,10 +119,10 @@ pub enum Statement {
     /// `;`
     Empty(Place),
     Declare(Declaration),
-    If(Place, Expr, Boxed<Statement>, Option<Boxed<Statement>>),
-    For(Place, Option<Start>, Option<Expr>, Option<Simple>, Boxed<Statement>),
-    ForOf(Place, Declares, Named, Expr, Boxed<Statement>),
-    Return(Place, Option<Expr>),
+    If(Place, Boxed<Expr>, Boxed<Statement>, Option<Boxed<Statement>>),
+    For(Place, Option<Boxed<Start>>, Option<Boxed<Expr>>, Option<Boxed<Simple>>, Boxed<Statement>),
+    ForOf(Place, Declares, Named, Boxed<Expr>, Boxed<Statement>),
+    Return(Place, Option<Boxed<Expr>>),
     Throw(Place, Expr),
     Break(Place),
     Continue(Place),

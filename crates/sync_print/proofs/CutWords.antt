@@ -16,7 +16,7 @@ use Rattle.sync_tokens.specs.declared.token.Sign.TheVariants as signs
 use Rattle.sync_tokens.specs.declared.token.Word.{Word}
 use Rattle.sync_print.specs.Spelling.{sign_text}
 use Rattle.sync_tokens.specs.Spellable.{is_part, AllParts}
-use Rattle.sync_print.proofs.Lexing.{Stops, at_end, at_space, at_paren_close, at_bracket_close, at_comma, at_semicolon, at_colon, at_dot, at_paren_open, at_bracket_open}
+use Rattle.sync_print.proofs.CutTokens.{Stops, at_end, at_space, at_paren_close, at_bracket_close, at_comma, at_semicolon, at_colon, at_dot, at_paren_open, at_bracket_open}
 
 -- ---- ASCII
 

@@ -23,9 +23,9 @@ use Rattle.sync_print.specs.Printing.{printed, nothing}
 use Rattle.sync_tokens.specs.Spellable.{AllParts, IsIdentifier, IsSpellable, AreSpellable}
 use Rattle.sync_print.specs.Trees.{program}
 use Rattle.sync_syntax.specs.declared.tree.Program.{Program}
-use Rattle.sync_print.proofs.Lexing as x
-use Rattle.sync_print.proofs.Lexing.{Stops, Next, kinds_at, next_name, next_integer, next_text, next_sign, next_word, sign_piece, opening_piece}
-use Rattle.sync_print.proofs.LexingWords.{AllAscii, ascii_first, chars_ascii, sign_ascii, parts_ascii, letter_part, name_piece, keyword_piece, IntegerText, integer_text}
+use Rattle.sync_print.proofs.CutTokens as x
+use Rattle.sync_print.proofs.CutTokens.{Stops, Next, kinds_at, next_name, next_integer, next_text, next_sign, next_word, sign_piece, opening_piece}
+use Rattle.sync_print.proofs.CutWords.{AllAscii, ascii_first, chars_ascii, sign_ascii, parts_ascii, letter_part, name_piece, keyword_piece, IntegerText, integer_text}
 
 -- ---- words
 
