@@ -1,7 +1,7 @@
 -- What was answered to a session, step by step.
-use Rattle.std.proofs.Common.{◌≡◌, ◌≤◌, ℕ, Bool, ◌||◌, List, [], ◌∷◌, ◌++◌, length, map, reverse, Option, Some, None, refl, sym, ◌∙◌, ap, subst, le_refl, le_trans}
+use Rattle.std.proofs.Common.{◌≡◌, inl, inr, ◌≤◌, ℕ, Bool, ◌||◌, List, [], ◌∷◌, ◌++◌, length, map, reverse, Option, Some, None, refl, sym, ◌∙◌, ap, subst, le_refl, le_trans}
 use Rattle.std.specs.Prelude.{IfSome}
-use Rattle.std.proofs.lemmas.List.{append_assoc, reverse-append}
+use Rattle.std.proofs.lemmas.List.{append_assoc, map-append, reverse-append}
 use Rattle.std.proofs.Math.Seq.{take-length}
 use Rattle.std.proofs.Math.Path.{fun_ext}
 use Rattle.blip_mux.specs.declared.message.Message.{Message}
@@ -31,7 +31,10 @@ use Rattle.session_core.specs.declared.act.Want.TheVariants as want
 use Rattle.session_core.specs.declared.event.Event.{Event}
 use Rattle.session_core.specs.declared.event.Event.TheVariants as event
 use Rattle.session_core.specs.Conduct.{AreWithin}
-use Rattle.session_core.specs.Fronts.{judged_at, stored_by, front_told, fronts_of, stored_of, RiseBetween}
+use Rattle.session_core.specs.declared.look.Look.{Look}
+use Rattle.session_core.specs.declared.look.Purpose.{Purpose}
+use Rattle.session_core.specs.declared.look.Purpose.TheVariants as purposes
+use Rattle.session_core.specs.Fronts.{judged_at, look_of, stored_by, front_told, looks_of, fronts_of, stored_of, RiseBetween}
 use Rattle.session_core.specs.Right.{AreAsked, IsJudgedIn, IsProposedIn, IsRight, AreRight}
 use Rattle.session_core.specs.Steps.{Step, wanted_after}
 use Rattle.write_path.specs.Asks.{AskedAt}
@@ -39,9 +42,9 @@ use Rattle.write_path.specs.Bodies.{BodiesAt}
 use Rattle.write_path.specs.Feed.{FeedAt}
 use Rattle.write_path.specs.Proposals as proposals
 use Rattle.write_path.specs.Proposals.{Stores, IsAnswered, IsStored, recorded_after}
-use Rattle.write_path.specs.Reads.{Reads, WasRead, HasLength, IsLaterThanAll}
+use Rattle.write_path.specs.Reads.{Reads, WasRead, IsOneOf, HasLength, IsLaterThanAll}
 use Rattle.session_run.specs.Answered as answered
-use Rattle.session_run.specs.Answered.{Moment, HasRead, Saw, IsLoaded, AreAnswered, length_after, recorded_by, AreLength, AreAtLength}
+use Rattle.session_run.specs.Answered.{Moment, HasRead, Saw, IsLoaded, AreAnswered, AreLooksAt, look_fronts, length_after, recorded_by, AreLength, AreAtLength}
 
 -- what the laws say
 abbrev pub Since : Type 0
@@ -152,6 +155,11 @@ record Told (before : Moment) (user : List ℕ) (strict : Bool) (wanted : Option
   pub recorded : after.recorded ≡ length_after before.recorded e
   pub at_length : AreLength before.recorded (front_told e)
   pub own : (added : List Waiting) × (after.own ≡ added ++ before.own) × (map (λ (w : Waiting). w.number) added ≡ reverse (stored_by e))
+  pub looks : AreLooksAt before.read (look_of e) after.read
+
+-- one look, by a board that was read for it
+one_look : (before after : List BoardState) (l : Look) (b : BoardState) → WasRead before after b → l.front ≡ length b.log → AreLooksAt before (l ∷ []) after
+one_look before after l b was is = (after, b, was, is, ([], refl))
 
 -- the front is the length of the log of a board that was read
 one_front : Laws → (before after : Moment) (front : ℕ) (b : BoardState) → Reads before.read after.read before.lowest after.lowest → WasRead before.read after.read b → front ≡ length b.log
@@ -168,17 +176,18 @@ no_front None = tt
 no_front (Some n) = tt
 
 told_by_read : Laws → (before after : Moment) (user : List ℕ) (strict : Bool) (wanted : Want) (e : Event) (front : ℕ) (Holds : BoardState → Type 0) → HasRead before after → Saw before after Holds
-    → front_told e ≡ front ∷ [] → stored_by e ≡ [] → length_after before.recorded e ≡ before.recorded
+    → front_told e ≡ front ∷ [] → (purpose : Purpose) → look_of e ≡ record { front = front; purpose = purpose } ∷ [] → stored_by e ≡ [] → length_after before.recorded e ≡ before.recorded
     → ((b : BoardState) → Holds b → front ≡ length b.log)
     → ((b : BoardState) (h : List Entry) → Holds b → Later (board_book b) (book_of h) → IsRight h user strict (Some wanted) e)
     → Told before user strict (Some wanted) e after
-told_by_read laws before after user strict wanted e front Holds read (b, was, has, holds) told none same is right = record {
+told_by_read laws before after user strict wanted e front Holds read (b, was, has, holds) told purpose look none same is right = record {
   right = λ h later. right b h holds (laws.since before.read after.read b h was later);
   reads = read.reads;
   rise = subst (λ fs. RiseBetween before.lowest fs after.lowest) (sym told) (one_front laws before after front b read.reads was (is b holds));
   recorded = read.recorded ∙ sym same;
   at_length = subst (AreLength before.recorded) (sym told) (one_length before.recorded front b has (is b holds));
   own = ([], read.own, ap (λ ns. reverse ns) (sym none));
+  looks = subst (λ ls. AreLooksAt before.read ls after.read) (sym look) (one_look before.read after.read (record { front = front; purpose = purpose }) b was (is b holds));
 }
 
 loaded_length : (recorded : Option ℕ) (front : ℕ) → IfSome recorded (λ n. front ≡ n) → AreLength recorded (front ∷ [])
@@ -197,6 +206,7 @@ loaded_told laws before after user strict front loaded = record {
   recorded = loaded.recorded;
   at_length = loaded_length before.recorded front loaded.length;
   own = ([], loaded.own, refl);
+  looks = ([], loaded.read);
 }
 
 -- ---- proposals
@@ -231,6 +241,24 @@ proposed_own before after strict by r (outcome.Conflict409 at leaf) was = ([], w
 proposed_own before after strict by r (outcome.Stored sequence at) was = (record { number = sequence; entry = entry.Write was.write } ∷ [], was.own, refl)
 proposed_own before after strict by r outcome.Memory507 was = ([], was, refl)
 
+judged_look : (before after : Moment) (strict : Bool) (by : Option (List ℕ)) (r : Revision) (answer : Outcome) (at : ℕ)
+    → (was : IsAnswered before.read after.read before.recorded strict by r answer) → at ≡ length was.board.log
+    → AreLooksAt before.read (record { front = at; purpose = purposes.Push } ∷ []) after.read
+judged_look before after strict by r answer at was is = one_look before.read after.read (record { front = at; purpose = purposes.Push }) was.board was.was_read is
+
+proposed_looks : (before after : Moment) (strict : Bool) (by : Option (List ℕ)) (r : Revision) (answer : Outcome) → Reads before.read after.read before.lowest after.lowest
+    → proposals.IsProposed before.read after.read before.own after.own before.recorded strict by r answer
+    → AreLooksAt before.read (look_of (event.Judged answer)) after.read
+proposed_looks before after strict by r (outcome.Bad400 field) reads was = (reads.added, reads.read)
+proposed_looks before after strict by r (outcome.TooLarge413 bytes) reads was = (reads.added, reads.read)
+proposed_looks before after strict by r (outcome.UserGone401 at) reads was = judged_look before after strict by r (outcome.UserGone401 at) at was.1 was.1.outcome.front
+proposed_looks before after strict by r (outcome.Known at) reads was = judged_look before after strict by r (outcome.Known at) at was.1 was.1.outcome.front
+proposed_looks before after strict by r (outcome.BadHistory400 at) reads was = judged_look before after strict by r (outcome.BadHistory400 at) at was.1 was.1.outcome.front
+proposed_looks before after strict by r (outcome.Conflict409 at leaf) reads was = judged_look before after strict by r (outcome.Conflict409 at leaf) at was.1 was.1.outcome.0.front
+proposed_looks before after strict by r (outcome.Stored sequence at) reads was =
+    one_look before.read after.read (record { front = at; purpose = purposes.Push }) was.judged was.was_judged was.outcome.0.front
+proposed_looks before after strict by r outcome.Memory507 reads was = (reads.added, reads.read)
+
 proposed_told : Laws → (before after : Moment) (user : List ℕ) (strict : Bool) (r : Revision) (answer : Outcome) → answered.IsProposed before user (strict || r.noconflicts) r answer after
     → Told before user strict (Some (want.Propose r)) (event.Judged answer) after
 proposed_told laws before after user strict r answer was =
@@ -243,6 +271,7 @@ proposed_told laws before after user strict r answer was =
       recorded = was.recorded;
       at_length = both.1;
       own = proposed_own before after (strict || r.noconflicts) (Some user) r answer was.stores.proposed;
+      looks = proposed_looks before after (strict || r.noconflicts) (Some user) r answer was.stores.reads was.stores.proposed;
     }
 
 -- ---- each event
@@ -250,21 +279,21 @@ proposed_told laws before after user strict r answer was =
 fed_told : Laws → (before after : Moment) (user : List ℕ) (strict : Bool) (since : Key) (options : Options) (answer : Fed) → HasRead before after → Saw before after (λ b. FeedAt b.log user since options answer)
     → Told before user strict (Some (want.Feed since options)) (event.Fed answer) after
 fed_told laws before after user strict since options answer read saw =
-    told_by_read laws before after user strict (want.Feed since options) (event.Fed answer) (front_of answer) (λ b. FeedAt b.log user since options answer) read saw refl refl refl
+    told_by_read laws before after user strict (want.Feed since options) (event.Fed answer) (front_of answer) (λ b. FeedAt b.log user since options answer) read saw refl purposes.Feed refl refl refl
     (λ b at. at.0)
     (λ b h at later. laws.fed b.log h user since options answer (laws.log b.log b.pending h later) at)
 
 bodies_told : Laws → (before after : Moment) (user : List ℕ) (strict : Bool) (options : Options) (rows : List Row) (most : ℕ) (answer : Bodies) → HasRead before after → Saw before after (λ b. BodiesAt b user options rows most answer)
     → Told before user strict (Some (want.Bodies options rows most)) (event.Bodies answer) after
 bodies_told laws before after user strict options rows most answer read saw =
-    told_by_read laws before after user strict (want.Bodies options rows most) (event.Bodies answer) answer.front (λ b. BodiesAt b user options rows most answer) read saw refl refl refl
+    told_by_read laws before after user strict (want.Bodies options rows most) (event.Bodies answer) answer.front (λ b. BodiesAt b user options rows most answer) read saw refl purposes.Bodies refl refl refl
     (λ b at. at.front)
     (λ b h at later. laws.bodies b h user options rows most answer later at)
 
 asked_told : Laws → (before after : Moment) (user : List ℕ) (strict : Bool) (offers : List Offer) (answer : Asked) → HasRead before after → Saw before after (λ b. AskedAt b offers answer)
     → Told before user strict (Some (want.Ask offers)) (event.Asked answer) after
 asked_told laws before after user strict offers answer read saw =
-    told_by_read laws before after user strict (want.Ask offers) (event.Asked answer) answer.front (λ b. AskedAt b offers answer) read saw refl refl refl
+    told_by_read laws before after user strict (want.Ask offers) (event.Asked answer) answer.front (λ b. AskedAt b offers answer) read saw refl purposes.Ask refl refl refl
     (λ b at. at.front)
     (λ b h at later. asked_later laws b h offers answer later at)
 
@@ -276,6 +305,7 @@ came_told laws before after user strict message same = record {
   recorded = ap (λ (m : Moment). m.recorded) same;
   at_length = no_front before.recorded;
   own = ([], ap (λ (m : Moment). m.own) same, refl);
+  looks = ([], ap (λ (m : Moment). m.read) same);
 }
 
 one_told : Laws → (before after : Moment) (user : List ℕ) (strict : Bool) (wanted : Option Want) (e : Event) → answered.IsAnswered before user strict wanted e after → Told before user strict wanted e after
@@ -327,9 +357,45 @@ rise_from : (least low high : ℕ) (fronts : List ℕ) → least ≤ low → Ris
 rise_from least low high [] a rise = le_trans a rise
 rise_from least low high (front ∷ fronts) a (first, rise) = (le_trans a first, rise)
 
-rise_on : (low middle high : ℕ) (fronts later : List ℕ) → RiseBetween low fronts middle → RiseBetween middle later high → RiseBetween low (fronts ++ later) high
+pub rise_on : (low middle high : ℕ) (fronts later : List ℕ) → RiseBetween low fronts middle → RiseBetween middle later high → RiseBetween low (fronts ++ later) high
 rise_on low middle high [] later a b = rise_from low middle high later a b
 rise_on low middle high (front ∷ fronts) later (first, a) b = (first, rise_on front middle high fronts later a b)
+
+one_of_first : (first second : List BoardState) (b : BoardState) → IsOneOf first b → IsOneOf (first ++ second) b
+one_of_first [] second b one = absurd one
+one_of_first (c ∷ first) second b (inl is) = inl is
+one_of_first (c ∷ first) second b (inr one) = inr (one_of_first first second b one)
+
+-- looks since more boards were read are looks since fewer were
+looks_from : (added before : List BoardState) (looks : List Look) (after : List BoardState) → AreLooksAt (added ++ before) looks after → AreLooksAt before looks after
+looks_from added before [] after (more, is) = (more ++ added, is ∙ sym (append_assoc more added before))
+looks_from added before (l ∷ looks) after (between, b, was, is, later) = (
+  between,
+  b,
+  record { added = was.added ++ added; read = was.read ∙ sym (append_assoc was.added added before); one = one_of_first was.added added b was.one },
+  is,
+  later,
+)
+
+pub looks_on : (before between after : List BoardState) (first second : List Look) → AreLooksAt before first between → AreLooksAt between second after → AreLooksAt before (first ++ second) after
+looks_on before between after [] second (added, is) at = looks_from added before second after (subst (λ read. AreLooksAt read second after) is at)
+looks_on before between after (l ∷ first) second (middle, b, was, is, later) at = (middle, b, was, is, looks_on middle between after first second later at)
+
+-- the fronts of looks alone
+looks_rise : (low high : ℕ) (e : Event) → RiseBetween low (front_told e) high → RiseBetween low (look_fronts (look_of e)) high
+looks_rise low high (event.Whole message) rise = rise
+looks_rise low high (event.Idle front) (first, rise) = le_trans first rise
+looks_rise low high (event.Fed answer) rise = rise
+looks_rise low high (event.Bodies b) rise = rise
+looks_rise low high (event.Asked answer) rise = rise
+looks_rise low high (event.Judged (outcome.Bad400 field)) rise = rise
+looks_rise low high (event.Judged (outcome.TooLarge413 bytes)) rise = rise
+looks_rise low high (event.Judged (outcome.UserGone401 at)) rise = rise
+looks_rise low high (event.Judged (outcome.Known at)) rise = rise
+looks_rise low high (event.Judged (outcome.BadHistory400 at)) rise = rise
+looks_rise low high (event.Judged (outcome.Conflict409 at leaf)) rise = rise
+looks_rise low high (event.Judged (outcome.Stored sequence at)) rise = rise
+looks_rise low high (event.Judged outcome.Memory507) rise = rise
 
 numbers_on : (first second : List Waiting) → map (λ (w : Waiting). w.number) (first ++ second) ≡ map (λ (w : Waiting). w.number) first ++ map (λ (w : Waiting). w.number) second
 numbers_on [] second = refl
@@ -343,6 +409,8 @@ pub record AllTold (start : Moment) (user : List ℕ) (strict : Bool) (steps : L
   pub recorded : now.recorded ≡ recorded_by start.recorded steps
   pub at_length : AreAtLength start.recorded steps
   pub own : (added : List Waiting) × (now.own ≡ added ++ start.own) × (map (λ (w : Waiting). w.number) added ≡ reverse (stored_of steps))
+  pub looks : AreLooksAt start.read (looks_of steps) now.read
+  pub looks_rise : RiseBetween start.lowest (look_fronts (looks_of steps)) now.lowest
 
 none_told : Laws → (start : Moment) (user : List ℕ) (strict : Bool) → AllTold start user strict [] start
 none_told laws start user strict = record {
@@ -352,6 +420,8 @@ none_told laws start user strict = record {
   recorded = refl;
   at_length = tt;
   own = ([], refl, refl);
+  looks = ([], refl);
+  looks_rise = le_refl start.lowest;
 }
 
 own_on : (start between now : Moment) (stored more : List ℕ)
@@ -372,6 +442,10 @@ told_on laws start between now user strict s earlier all one = record {
   recorded = one.recorded ∙ ap (λ n. length_after n s.event) all.recorded;
   at_length = (subst (λ n. AreLength n (front_told s.event)) all.recorded one.at_length, all.at_length);
   own = own_on start between now (stored_of earlier) (stored_by s.event) all.own one.own;
+  looks = looks_on start.read between.read now.read (looks_of earlier) (look_of s.event) all.looks one.looks;
+  looks_rise = subst (λ fs. RiseBetween start.lowest fs now.lowest) (sym (map-append _ (looks_of earlier) (look_of s.event)))
+      (rise_on start.lowest between.lowest now.lowest (look_fronts (looks_of earlier)) (look_fronts (look_of s.event)) all.looks_rise
+      (looks_rise between.lowest now.lowest s.event one.rise));
 }
 
 pub all_told : Laws → (start now : Moment) (user : List ℕ) (strict : Bool) (steps : List Step) → AreAnswered start user strict steps now → AllTold start user strict steps now

@@ -78,7 +78,7 @@ at_most_two (pending.Push asker) = omega arith
 first_step : (old new : Session) (first : Event) (before now : Moment) (s : Step) (user : List ℕ) (strict : Bool) → is_answer first ≡ false → s.event ≡ first → Leads old.core (s ∷ []) new.core
     → new.listing.looks ≡ old.listing.looks → new.listing.stored ≡ old.listing.stored
     → IsAnswered before old.core.user old.core.strict None first now
-    → Conversed old new first before now (s ∷ []) []
+    → Conversed old new first before now (s ∷ []) None
 first_step old new first before now s user strict is event_is leads looks stored answered = record {
   leads = leads;
   exchange = event_is;
@@ -121,11 +121,11 @@ stored_on old middle new more one a b = b ∙ ap (λ l. l ++ one) a ∙ append_a
 
 -- one step more, by an answer
 next_step : (old middle new : Session) (first : Event) (before now after : Moment) (steps : List Step) (s : Step) (answer : Event) (wanted : Want)
-    → Conversed old middle first before now steps [] → wanted_after steps ≡ Some wanted
+    → Conversed old middle first before now steps None → wanted_after steps ≡ Some wanted
     → s.event ≡ answer → is_answer answer ≡ true → IsAnswered now old.core.user old.core.strict (Some wanted) answer after
     → Steps middle.core s new.core
     → new.listing.looks ≡ middle.listing.looks ++ look_of answer → new.listing.stored ≡ middle.listing.stored ++ stored_by answer
-    → Conversed old new first before after (s ∷ steps) []
+    → Conversed old new first before after (s ∷ steps) None
 next_step old middle new first before now after steps s answer wanted so_far want_is event_is is answered made looks stored = record {
   leads = (middle.core, so_far.leads, made);
   exchange = exchange_on first s steps (ap is_answer event_is ∙ is) so_far.exchange;
@@ -139,11 +139,11 @@ abbrev unmade : Event → Step
 unmade e = record { event = e; puts = []; want = None }
 
 halted_step : (old middle new : Session) (first : Event) (before now after : Moment) (steps : List Step) (answer : Event) (wanted : Want)
-    → Conversed old middle first before now steps [] → wanted_after steps ≡ Some wanted
+    → Conversed old middle first before now steps None → wanted_after steps ≡ Some wanted
     → is_answer answer ≡ true → IsAnswered now old.core.user old.core.strict (Some wanted) answer after
     → new.core ≡ middle.core
     → new.listing.looks ≡ middle.listing.looks ++ look_of answer → new.listing.stored ≡ middle.listing.stored ++ stored_by answer
-    → Conversed old new first before after steps (unmade answer ∷ [])
+    → Conversed old new first before after steps (Some answer)
 halted_step old middle new first before now after steps answer wanted so_far want_is is answered same looks stored = record {
   leads = subst (Leads old.core steps) (sym same) so_far.leads;
   exchange = exchange_on first (unmade answer) steps is so_far.exchange;
@@ -198,10 +198,10 @@ pub halted_at : (old middle asked new : Session) (first : Event) (before now aft
     → Conversing old middle first before now (Some wanted) steps
     → Answers middle asked middle.core.user middle.core.strict now after wanted answer
     → Halts asked new answer → new.listing ≡ asked.listing → HasRead after after
-    → (made : List Step) × (halted : List Step) × (last : Moment) × Conversed old new first before last made halted × HasRead last after
+    → (made : List Step) × (halted : Option Event) × (last : Moment) × Conversed old new first before last made halted × HasRead last after
 halted_at old middle asked new first before now after steps answer wanted so_far got (inl same) listing read = (
   steps,
-  unmade answer ∷ [],
+  Some answer,
   after,
   halted_step old middle new first before now after steps answer wanted so_far.conversed so_far.want_is got.is
       (by_user old middle asked now after wanted answer so_far.user so_far.strict got) (same ∙ got.core) (ap (λ l. l.looks) listing ∙ got.looks) (ap (λ l. l.stored) listing ∙ got.stored),
@@ -209,7 +209,7 @@ halted_at old middle asked new first before now after steps answer wanted so_far
 )
 halted_at old middle asked new first before now after steps answer wanted so_far got (inr (s, made, event_is)) listing read = (
   s ∷ steps,
-  [],
+  None,
   after,
   next_step old middle new first before now after steps s answer wanted so_far.conversed so_far.want_is event_is got.is
       (by_user old middle asked now after wanted answer so_far.user so_far.strict got)
@@ -221,10 +221,10 @@ halted_at old middle asked new first before now after steps answer wanted so_far
 pub halted_first : (old new : Session) (first : Event) (before now : Moment) → is_answer first ≡ false
     → Halts old new first → new.listing.looks ≡ old.listing.looks → new.listing.stored ≡ old.listing.stored
     → IsAnswered before old.core.user old.core.strict None first now → HasRead now now
-    → (steps : List Step) × (halted : List Step) × (last : Moment) × Conversed old new first before last steps halted × HasRead last now
+    → (steps : List Step) × (halted : Option Event) × (last : Moment) × Conversed old new first before last steps halted × HasRead last now
 halted_first old new first before now is (inl same) looks stored answered read = (
   [],
-  unmade first ∷ [],
+  Some first,
   now,
   record {
     leads = same;
@@ -236,16 +236,16 @@ halted_first old new first before now is (inl same) looks stored answered read =
   read,
 )
 halted_first old new first before now is (inr (s, made, event_is)) looks stored answered read =
-    (s ∷ [], [], now, first_step old new first before now s old.core.user old.core.strict is event_is (old.core, refl, made) looks stored answered, read)
+    (s ∷ [], None, now, first_step old new first before now s old.core.user old.core.strict is event_is (old.core, refl, made) looks stored answered, read)
 
 -- memory ran out as the history was read
 pub halted_read : (old middle new : Session) (first : Event) (before now after : Moment) (want : Option Want) (steps : List Step)
     → Conversing old middle first before now want steps → new.core ≡ middle.core → new.listing.looks ≡ middle.listing.looks → new.listing.stored ≡ middle.listing.stored
     → HasRead now after
-    → (made : List Step) × (halted : List Step) × (last : Moment) × Conversed old new first before last made halted × HasRead last after
+    → (made : List Step) × (halted : Option Event) × (last : Moment) × Conversed old new first before last made halted × HasRead last after
 halted_read old middle new first before now after want steps so_far core looks stored read = (
   steps,
-  [],
+  None,
   now,
   record {
     leads = subst (Leads old.core steps) (sym core) so_far.conversed.leads;

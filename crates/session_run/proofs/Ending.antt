@@ -14,11 +14,11 @@ use Rattle.blip_mux.specs.declared.inbox.TakeFault.{TakeFault}
 use Rattle.blip_mux.specs.Joining.{answer_in}
 use Rattle.blip_mux.specs.Standing.{answer_at}
 use Rattle.blip_mux.specs.Sending.{Sending, picked}
+use Rattle.session_core.specs.declared.event.Event.{Event}
 use Rattle.session_core.specs.declared.machine.Pending.TheVariants as pending
 use Rattle.session_core.specs.Conduct.{feed_front}
 use Rattle.session_core.specs.Fronts.{looks_of, stored_of}
 use Rattle.session_core.specs.State.{Machine}
-use Rattle.session_core.specs.Steps.{Step}
 use Rattle.session_mux.specs.declared.frame_why.FrameWhy.{FrameWhy}
 use Rattle.session_mux.specs.Frames.{IsBadFrame, IsBadTaken}
 use Rattle.session_mux.specs.Sent.{Tells}
@@ -30,7 +30,7 @@ use Rattle.session_run.specs.declared.session.Session.{Session}
 use Rattle.session_run.specs.Answered.{Moment, HasRead, AreAnswered}
 use Rattle.session_run.specs.Held.{IsAtRest, Holds, Turned, Leaves, Takes, Runs, RunsOn}
 use Rattle.session_run.specs.Served.{bytes_of, IsBadAfter, EndsBy, IsSentAt, IsClosedAt, IsSession, IsServed}
-use Rattle.session_run.specs.Turns.{Turn, steps_of, frames_of, events_of}
+use Rattle.session_run.specs.Turns.{Turn, undone, steps_of, frames_of, events_of}
 use Rattle.session_run.proofs.Holding.{Came, Expects, Joins, Received, received_on, front_ok, front_err, written_more, looks_after, stored_after, turn_answered, holds_on}
 use Rattle.session_run.proofs.Taking.{Kept, Wants}
 
@@ -60,7 +60,7 @@ none_left (end.BadFrame index w) left idle = idle
 none_left end.TurnsFull left idle = idle
 none_left end.Memory left idle = tt
 
-closed : (e : End) (m : Machine) → m.pending ≡ pending.Nothing → IsClosedAt e m []
+closed : (e : End) (m : Machine) → m.pending ≡ pending.Nothing → IsClosedAt e m None
 closed end.Closed m rest = (rest, refl)
 closed end.WireFault m rest = (rest, refl)
 closed (end.BadFrame index w) m rest = (rest, refl)
@@ -76,7 +76,7 @@ session_after : (setup : Setup) (start now : Moment) (s : Session) (turns : List
     → IsSession setup start now (ended_as e s) (results ++ last) sent failed
 session_after setup start now s turns frames results last sent e failed held read count by = record {
   turns = turns;
-  halted = [];
+  halted = None;
   taken = results;
   last = last;
   frames = frames;
@@ -130,7 +130,7 @@ run_ends law setup start now final told told_now told_after s new count e last s
 
 -- a session that ends in a turn, of which this is left
 turn_session : Came → Joins → (setup : Setup) (start now final : Moment) (old new : Session) (turns : List Turn) (frames : List FrameParts) (results : List Got) (sent : List (List ℕ)) (e : End)
-    (result : Got) (told told_after : Option Traffic) (t : Turn) (halted : List Step) (left : Sending) (failed : List Gave)
+    (result : Got) (told told_after : Option Traffic) (t : Turn) (halted : Option Event) (left : Sending) (failed : List Gave)
     → Holds setup start now old turns frames results sent → (did : Turned old new result now final told told_after t halted left failed)
     → length (results ++ result ∷ []) ≤ 1099511627776
     → IsClosedAt e new.core halted → IsSentAt e left → EndsBy (t ∷ turns) left e (results ++ result ∷ []) [] failed
@@ -154,11 +154,11 @@ turn_session came_law joins setup start now final old new turns frames results s
       joined = (got.joined, held.joined);
       led = (old.core, held.led, did.leads, did.called);
       closed = is_closed;
-      answered = subst (λ steps. AreAnswered start setup.user setup.strict steps did.now) (append_assoc halted t.steps (steps_of turns))
-          (turn_answered setup start now did.now old turns (halted ++ t.steps) frames results sent held did.answered);
+      answered = subst (λ steps. AreAnswered start setup.user setup.strict steps did.now) (append_assoc (undone halted) t.steps (steps_of turns))
+          (turn_answered setup start now did.now old turns (undone halted ++ t.steps) frames results sent held did.answered);
       reads = did.reads;
-      looks = did.looks ∙ ap (λ l. l ++ looks_of (halted ++ t.steps)) held.looks ∙ sym (looks_after (halted ++ t.steps) (steps_of turns)) ∙ ap looks_of (append_assoc halted t.steps (steps_of turns));
-      stored = did.stored ∙ ap (λ l. l ++ stored_of (halted ++ t.steps)) held.stored ∙ sym (stored_after (halted ++ t.steps) (steps_of turns)) ∙ ap stored_of (append_assoc halted t.steps (steps_of turns));
+      looks = did.looks ∙ ap (λ l. l ++ looks_of (undone halted ++ t.steps)) held.looks ∙ sym (looks_after (undone halted ++ t.steps) (steps_of turns)) ∙ ap looks_of (append_assoc (undone halted) t.steps (steps_of turns));
+      stored = did.stored ∙ ap (λ l. l ++ stored_of (undone halted ++ t.steps)) held.stored ∙ sym (stored_after (undone halted ++ t.steps) (steps_of turns)) ∙ ap stored_of (append_assoc (undone halted) t.steps (steps_of turns));
       put = (frames, did.frames, old.mux.outbox, refl, held.put, held.rest.idle, did.heard, did.go);
       written = written_more [] sent did.sent frames did.frames held.written (did.written (all_sent [] frames) held.checked).0;
       whole = whole;
@@ -201,7 +201,7 @@ turn_runs law came_law expects joins kept wants setup start now final told told_
 }
 
 -- in whose turn the session ends
-turn_ends : TellsOn → Came → Joins → (setup : Setup) (start now final : Moment) (told told_now told_between told_after : Option Traffic) (old new : Session) (count : ℕ) (result : Got) (e : End) (t : Turn) (halted : List Step) (left : Sending) (failed : List Gave)
+turn_ends : TellsOn → Came → Joins → (setup : Setup) (start now final : Moment) (told told_now told_between told_after : Option Traffic) (old new : Session) (count : ℕ) (result : Got) (e : End) (t : Turn) (halted : Option Event) (left : Sending) (failed : List Gave)
     → count < 1099511627776
     → Tells told_now (result ∷ []) [] [] told_between
     → Turned old new result now final told_between told_after t halted left failed
@@ -248,7 +248,7 @@ result_taken law came_law expects joins kept wants setup start now final told to
     turn_runs law came_law expects joins kept wants setup start now final told told_now told_between told_after old new count result tells takes runs
 result_taken law came_law expects joins kept wants setup start now final told told_now told_between told_after old new count result (Some end.Closed) below read tells takes runs = absurd takes
 result_taken law came_law expects joins kept wants setup start now final told told_now told_between told_after old new count result (Some end.WireFault) below read tells (t, left, did, rest) runs =
-    turn_ends law came_law joins setup start now final told told_now told_between told_after old new count result end.WireFault t [] left (gave.Failed ∷ []) below tells did (rest, refl) tt (λ turns results. inr (refl, refl)) runs
+    turn_ends law came_law joins setup start now final told told_now told_between told_after old new count result end.WireFault t None left (gave.Failed ∷ []) below tells did (rest, refl) tt (λ turns results. inr (refl, refl)) runs
 result_taken law came_law expects joins kept wants setup start now final told told_now told_between told_after old new count result (Some (end.BadFrame index w)) below read tells (bytes, is, at, bad, leaves) runs =
     leaves_ends law setup start now final told told_now told_between told_after old new count bytes (end.BadFrame index w) below read
     (subst (λ r. Tells told_now (r ∷ []) [] [] told_between) is tells)

@@ -221,7 +221,7 @@ pub holds_on : Came → Expects → Joins → Kept → Wants
     → (setup : Setup) (start now final : Moment) (old new : Session) (turns : List Turn) (frames : List FrameParts) (results : List Got) (sent : List (List ℕ))
     (result : Got) (told told_after : Option Traffic) (t : Turn)
     → Holds setup start now old turns frames results sent
-    → (did : Turned old new result now final told told_after t [] new.mux.outbox []) → did.value ≡ new.mux.sent.value → IsAtRest new → did.now ≡ final
+    → (did : Turned old new result now final told told_after t None new.mux.outbox []) → did.value ≡ new.mux.sent.value → IsAtRest new → did.now ≡ final
     → new.mux.inbox ≡ expecting_all (put_by t.steps) (inbox_after old.mux.inbox t.frame)
     → Holds setup start final new (t ∷ turns) (frames ++ did.frames) (results ++ result ∷ []) (sent ++ did.sent)
 holds_on came_law expects joins kept_law wants setup start now final old new turns frames results sent result told told_after t held did value rest now_is inbox =

@@ -6,3 +6,4 @@ pub mod Owning
 pub mod ActsPut
 pub mod Taking
 pub mod Turning
+pub mod Whole

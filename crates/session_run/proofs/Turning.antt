@@ -35,7 +35,7 @@ use Rattle.session_run.specs.declared.session.Session.{Session}
 use Rattle.session_run.specs.Answered.{Moment, HasRead, AreAnswered}
 use Rattle.session_run.specs.Held.{IsReady, IsAtRest, IsCalled, Conversed, Conversing, Went, GoesOn, IsEndOf, Turned, Takes}
 use Rattle.session_run.specs.Putting.{MayReply, put_as}
-use Rattle.session_run.specs.Turns.{IsForTaken, IsForIdle, puts_all}
+use Rattle.session_run.specs.Turns.{undone, IsForTaken, IsForIdle, puts_all}
 use Rattle.session_run.proofs.Conversing.{at_rest, deeds_on}
 use Rattle.session_run.proofs.ActsPut.{PicksApart, picked_apart, picked_requests}
 
@@ -49,9 +49,9 @@ none_written : (value : ℕ) → AreWrittenFrom value [] [] value
 none_written value sent e = (tt, e)
 
 -- what went is what may go after what was put
-abbrev went_with : (old middle new : Session) (first : Option Event) (before now final : Moment) (told told_after : Option Traffic) (steps halted : List Step) (failed : List Gave)
-    → Leads old.core steps middle.core → IsCalled first (halted ++ steps) → AreAnswered before old.core.user old.core.strict (halted ++ steps) now → HasRead now final
-    → middle.listing.looks ≡ old.listing.looks ++ looks_of (halted ++ steps) → middle.listing.stored ≡ old.listing.stored ++ stored_of (halted ++ steps)
+abbrev went_with : (old middle new : Session) (first : Option Event) (before now final : Moment) (told told_after : Option Traffic) (steps : List Step) (halted : Option Event) (failed : List Gave)
+    → Leads old.core steps middle.core → IsCalled first (undone halted ++ steps) → AreAnswered before old.core.user old.core.strict (undone halted ++ steps) now → HasRead now final
+    → middle.listing.looks ≡ old.listing.looks ++ looks_of (undone halted ++ steps) → middle.listing.stored ≡ old.listing.stored ++ stored_of (undone halted ++ steps)
     → new.core ≡ middle.core → new.listing ≡ middle.listing
     → (out : Sending) → out ≡ after_deeds old.mux.outbox (puts_all (put_by steps)) → (crc : Crc) → crc ≡ old.mux.sent
     → (frames : List FrameParts) (texts : List (List ℕ)) (left : Sending) (value : ℕ)
@@ -102,9 +102,9 @@ abbrev puts_went : (old middle new : Session) (first : Option Event) (before fin
     → Puts old middle first before final steps → HasRead final final → new.core ≡ middle.core → new.listing ≡ middle.listing → middle.mux.sent ≡ old.mux.sent
     → (frames : List FrameParts) (texts : List (List ℕ)) (left : Sending) (value : ℕ)
     → ArePicked middle.mux.outbox frames left → AreWrittenFrom middle.mux.sent.value frames texts value → Tells told [] texts failed told_after
-    → Went old new first before final told told_after steps [] left failed
+    → Went old new first before final told told_after steps None left failed
 puts_went old middle new first before final told told_after steps failed put read core listing sent frames texts left value go written tells =
-    went_with old middle new first before final final told told_after steps [] failed put.leads put.called put.answered read put.looks put.stored core listing
+    went_with old middle new first before final final told told_after steps None failed put.leads put.called put.answered read put.looks put.stored core listing
     middle.mux.outbox (ap (λ (m : Mux). m.outbox) put.mux) middle.mux.sent sent frames texts left value go written tells
 
 goes_by : PicksApart → (old middle new : Session) (first : Option Event) (before final : Moment) (told told_after : Option Traffic) (steps : List Step) (g : Gave) (result : Option End)
@@ -133,7 +133,7 @@ goes_by law old middle new first before final told told_after steps gave.Failed 
     )
 goes_by law old middle new first before final told told_after steps gave.Memory result put read core listing sent inbox (frames, texts, left, value, go, written, tells, is_left) e =
     subst (GoesOn old new first before final told told_after) (sym e)
-    (steps, [], left, puts_went old middle new first before final told told_after steps [] put read core listing sent frames texts left value go written tells)
+    (steps, None, left, puts_went old middle new first before final told told_after steps [] put read core listing sent frames texts left value go written tells)
 
 -- ---- an event
 
@@ -161,7 +161,7 @@ event_goes law old middle new first before final told told_after g result (steps
 
 -- memory ran out
 pub event_halts : (old new : Session) (first : Event) (before final : Moment) (told : Option Traffic) → Tells told [] [] [] told
-    → ((steps : List Step) × (halted : List Step) × (now : Moment) × Conversed old new first before now steps halted × HasRead now final)
+    → ((steps : List Step) × (halted : Option Event) × (now : Moment) × Conversed old new first before now steps halted × HasRead now final)
     → GoesOn old new (Some first) before final told told (Some end.Memory)
 event_halts old new first before final told tells (steps, halted, now, so_far, read) = (
   steps,
@@ -253,7 +253,7 @@ whole_may law old bytes message after p gives ready =
 abbrev Calls : Taken → Option Event → Type 0
 Calls given first = (steps : List Step) → IsCalled first steps → IsForTaken given steps
 
-abbrev turn_of : (old middle new : Session) (bytes : List ℕ) (given : Taken) (first : Option Event) (before final : Moment) (told told_after : Option Traffic) (steps halted : List Step) (left : Sending) (failed : List Gave)
+abbrev turn_of : (old middle new : Session) (bytes : List ℕ) (given : Taken) (first : Option Event) (before final : Moment) (told told_after : Option Traffic) (steps : List Step) (halted : Option Event) (left : Sending) (failed : List Gave)
     → (gives : Gives old.mux bytes given middle.mux) → Calls given first → middle.core ≡ old.core → middle.listing ≡ old.listing → middle.mux.sent ≡ old.mux.sent
     → new.mux.received ≡ middle.mux.received → new.frames ≡ old.frames + 1
     → Went middle new first before final told told_after steps halted left failed
@@ -265,11 +265,11 @@ turn_of old middle new bytes given first before final told told_after steps halt
   value = went.value;
   read = (subst (λ (c : Crc). frame_at old.mux.received.value bytes ≡ Ok (gives.frame, c.value)) (sym received) gives.read, gives.answer);
   leads = subst (λ (m : Machine). Leads m steps new.core) core went.leads;
-  called = calls (halted ++ steps) went.called;
-  answered = subst (λ (m : Machine). AreAnswered before m.user m.strict (halted ++ steps) went.now) core went.answered;
+  called = calls (undone halted ++ steps) went.called;
+  answered = subst (λ (m : Machine). AreAnswered before m.user m.strict (undone halted ++ steps) went.now) core went.answered;
   reads = went.reads;
-  looks = went.looks ∙ ap (λ l. l.looks ++ looks_of (halted ++ steps)) listing;
-  stored = went.stored ∙ ap (λ l. l.stored ++ stored_of (halted ++ steps)) listing;
+  looks = went.looks ∙ ap (λ l. l.looks ++ looks_of (undone halted ++ steps)) listing;
+  stored = went.stored ∙ ap (λ l. l.stored ++ stored_of (undone halted ++ steps)) listing;
   count = count;
   heard = gives.heard;
   go = subst (λ s. ArePicked s went.frames left) (ap (λ s. after_deeds s (puts_all (put_by steps))) gives.outbox ∙ sym (deeds_on old.mux.outbox (acknowledged_by given) (puts_all (put_by steps)))) went.go;
@@ -284,7 +284,7 @@ frame_goes : (old middle new : Session) (bytes : List ℕ) (given : Taken) (firs
     → Takes old new (got.Frame bytes) before final told told_after result
 frame_goes old middle new bytes given first before final told told_after None gives calls core listing sent received count (steps, went, value, rest, now, inbox, front, few) = (
   record { frame = Some gives.frame; given = given; steps = steps },
-  turn_of old middle new bytes given first before final told told_after steps [] new.mux.outbox [] gives calls core listing sent received count went,
+  turn_of old middle new bytes given first before final told told_after steps None new.mux.outbox [] gives calls core listing sent received count went,
   value,
   rest,
   now,
@@ -296,7 +296,7 @@ frame_goes old middle new bytes given first before final told told_after (Some e
 frame_goes old middle new bytes given first before final told told_after (Some end.WireFault) gives calls core listing sent received count (steps, left, went, rest) = (
   record { frame = Some gives.frame; given = given; steps = steps },
   left,
-  turn_of old middle new bytes given first before final told told_after steps [] left (gave.Failed ∷ []) gives calls core listing sent received count went,
+  turn_of old middle new bytes given first before final told told_after steps None left (gave.Failed ∷ []) gives calls core listing sent received count went,
   rest,
 )
 frame_goes old middle new bytes given first before final told told_after (Some (end.BadFrame index w)) gives calls core listing sent received count goes = absurd goes
@@ -335,7 +335,7 @@ part_takes old middle new bytes before final told told_after result (given, part
 
 -- ---- the turn of an idle moment
 
-abbrev idle_turn : (old new : Session) (front : ℕ) (before final : Moment) (told told_after : Option Traffic) (steps halted : List Step) (left : Sending) (failed : List Gave)
+abbrev idle_turn : (old new : Session) (front : ℕ) (before final : Moment) (told told_after : Option Traffic) (steps : List Step) (halted : Option Event) (left : Sending) (failed : List Gave)
     → waits old.core.feed ≡ true → new.mux.received ≡ old.mux.received → new.frames ≡ old.frames
     → Went old new (Some (event.Idle front)) before final told told_after steps halted left failed
     → Turned old new got.Idle before final told told_after (record { frame = None; given = takens.Nothing; steps = steps }) halted left failed
@@ -346,7 +346,7 @@ idle_turn old new front before final told told_after steps halted left failed wa
   value = went.value;
   read = (received, refl);
   leads = went.leads;
-  called = (refl, subst (λ b. IsForIdle b (halted ++ steps)) (sym waiting) (front, went.called));
+  called = (refl, subst (λ b. IsForIdle b (undone halted ++ steps)) (sym waiting) (front, went.called));
   answered = went.answered;
   reads = went.reads;
   looks = went.looks;
@@ -365,7 +365,7 @@ pub idle_takes : (old new : Session) (front : ℕ) (before final : Moment) (told
     → Takes old new got.Idle before final told told_after result
 idle_takes old new front before final told told_after None waiting received count (steps, went, value, rest, now, inbox, at, few) = (
   record { frame = None; given = takens.Nothing; steps = steps },
-  idle_turn old new front before final told told_after steps [] new.mux.outbox [] waiting received count went,
+  idle_turn old new front before final told told_after steps None new.mux.outbox [] waiting received count went,
   value,
   rest,
   now,
@@ -377,7 +377,7 @@ idle_takes old new front before final told told_after (Some end.Closed) waiting 
 idle_takes old new front before final told told_after (Some end.WireFault) waiting received count (steps, left, went, rest) = (
   record { frame = None; given = takens.Nothing; steps = steps },
   left,
-  idle_turn old new front before final told told_after steps [] left (gave.Failed ∷ []) waiting received count went,
+  idle_turn old new front before final told told_after steps None left (gave.Failed ∷ []) waiting received count went,
   rest,
 )
 idle_takes old new front before final told told_after (Some (end.BadFrame index w)) waiting received count goes = absurd goes

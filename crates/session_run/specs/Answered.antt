@@ -1,5 +1,5 @@
 -- What a ground answers to a session, read by read.
-use Rattle.std.specs.Prelude.{◌≡◌, ◌≤◌, ◌||◌, ℕ, Bool, List, [], ◌∷◌, Option, Some, None, IfSome}
+use Rattle.std.specs.Prelude.{◌≡◌, ◌≤◌, ◌||◌, ℕ, Bool, List, [], ◌∷◌, ◌++◌, length, map, Option, Some, None, IfSome}
 use Rattle.sg_history.specs.declared.book.Waiting.{Waiting}
 use Rattle.sg_history.specs.Board.{BoardState}
 use Rattle.repl_messages.specs.declared.revision.Revision.{Revision}
@@ -8,6 +8,7 @@ use Rattle.session_core.specs.declared.act.Want.{Want}
 use Rattle.session_core.specs.declared.act.Want.TheVariants as want
 use Rattle.session_core.specs.declared.event.Event.{Event}
 use Rattle.session_core.specs.declared.event.Event.TheVariants as event
+use Rattle.session_core.specs.declared.look.Look.{Look}
 use Rattle.session_core.specs.Fronts.{front_told}
 use Rattle.session_core.specs.Steps.{Step, wanted_after}
 use Rattle.write_path.specs.Asks.{AskedAt}
@@ -71,6 +72,18 @@ abbrev pub AreAnswered : Moment → List ℕ → Bool → List Step → Moment �
 AreAnswered start user strict [] now = now ≡ start
 AreAnswered start user strict (s ∷ earlier) now =
     (between : Moment) × AreAnswered start user strict earlier between × IsAnswered between user strict (wanted_after earlier) s.event now
+
+-- ---- the looks
+
+-- each of these looks, one after another, is at the length of the log of a board that was read for it, in between those read before it
+-- and those read after it
+abbrev pub AreLooksAt : List BoardState → List Look → List BoardState → Type 0
+AreLooksAt before [] after = (added : List BoardState) × (after ≡ added ++ before)
+AreLooksAt before (l ∷ looks) after =
+    (between : List BoardState) × (b : BoardState) × WasRead before between b × (l.front ≡ length b.log) × AreLooksAt between looks after
+
+abbrev pub look_fronts : List Look → List ℕ
+look_fronts looks = map (λ (l : Look). l.front) looks
 
 -- ---- the recorded length
 

@@ -32,7 +32,7 @@ use Rattle.session_run.specs.declared.session.Session.{Session}
 use Rattle.session_run.specs.Answered.{Moment, HasRead, AreAnswered}
 use Rattle.session_run.specs.Putting.{put_as, MayReply}
 use Rattle.session_run.specs.Served.{are_frames, bytes_of, IsServed}
-use Rattle.session_run.specs.Turns.{Turn, steps_of, frames_of, framed, framed_by, events_of, IsExchange, IsFor, AreLed, AreJoined, AreSent, puts_all, done_in}
+use Rattle.session_run.specs.Turns.{Turn, undone, steps_of, frames_of, framed, framed_by, events_of, IsExchange, IsFor, AreLed, AreJoined, AreSent, puts_all, done_in}
 
 -- ---- steps
 
@@ -57,16 +57,16 @@ abbrev pub Halts : Session → Session → Event → Type 0
 Halts old new event = (new.core ≡ old.core) ⊎ ((s : Step) × Steps old.core s new.core × (s.event ≡ event))
 
 -- steps were made for an event; in the last one, where memory ran out, nothing more was done
-pub record Conversed (old new : Session) (first : Event) (before now : Moment) (steps halted : List Step) : Type 0 where
+pub record Conversed (old new : Session) (first : Event) (before now : Moment) (steps : List Step) (halted : Option Event) : Type 0 where
   pub leads : Leads old.core steps new.core
-  pub exchange : IsExchange first (halted ++ steps)
-  pub answered : AreAnswered before old.core.user old.core.strict (halted ++ steps) now
-  pub looks : new.listing.looks ≡ old.listing.looks ++ looks_of (halted ++ steps)
-  pub stored : new.listing.stored ≡ old.listing.stored ++ stored_of (halted ++ steps)
+  pub exchange : IsExchange first (undone halted ++ steps)
+  pub answered : AreAnswered before old.core.user old.core.strict (undone halted ++ steps) now
+  pub looks : new.listing.looks ≡ old.listing.looks ++ looks_of (undone halted ++ steps)
+  pub stored : new.listing.stored ≡ old.listing.stored ++ stored_of (undone halted ++ steps)
 
 -- so far all went well, and this is wanted
 pub record Conversing (old new : Session) (first : Event) (before now : Moment) (want : Option Want) (steps : List Step) : Type 0 where
-  pub conversed : Conversed old new first before now steps []
+  pub conversed : Conversed old new first before now steps None
   pub user : new.core.user ≡ old.core.user
   pub strict : new.core.strict ≡ old.core.strict
   pub want_is : wanted_after steps ≡ want
@@ -90,17 +90,17 @@ IsCalled None steps = steps ≡ []
 IsCalled (Some first) steps = IsExchange first steps
 
 -- steps were made for an event, if there was one, and frames were sent, until this was left
-pub record Went (old new : Session) (first : Option Event) (before final : Moment) (told told_after : Option Traffic) (steps halted : List Step) (left : Sending) (failed : List Gave) : Type 0 where
+pub record Went (old new : Session) (first : Option Event) (before final : Moment) (told told_after : Option Traffic) (steps : List Step) (halted : Option Event) (left : Sending) (failed : List Gave) : Type 0 where
   pub now : Moment
   pub frames : List FrameParts
   pub sent : List (List ℕ)
   pub value : ℕ
   pub leads : Leads old.core steps new.core
-  pub called : IsCalled first (halted ++ steps)
-  pub answered : AreAnswered before old.core.user old.core.strict (halted ++ steps) now
+  pub called : IsCalled first (undone halted ++ steps)
+  pub answered : AreAnswered before old.core.user old.core.strict (undone halted ++ steps) now
   pub reads : HasRead now final
-  pub looks : new.listing.looks ≡ old.listing.looks ++ looks_of (halted ++ steps)
-  pub stored : new.listing.stored ≡ old.listing.stored ++ stored_of (halted ++ steps)
+  pub looks : new.listing.looks ≡ old.listing.looks ++ looks_of (undone halted ++ steps)
+  pub stored : new.listing.stored ≡ old.listing.stored ++ stored_of (undone halted ++ steps)
   pub go : ArePicked (after_deeds old.mux.outbox (puts_all (put_by steps))) frames left
   pub written : AreWrittenFrom old.mux.sent.value frames sent value
   pub tells : Tells told [] sent failed told_after
@@ -108,13 +108,13 @@ pub record Went (old new : Session) (first : Option Event) (before final : Momen
 -- all was sent that may be sent, or the session ends
 abbrev pub GoesOn : Session → Session → Option Event → Moment → Moment → Option Traffic → Option Traffic → Option End → Type 0
 GoesOn old new first before final told told_after None =
-    (steps : List Step) × (went : Went old new first before final told told_after steps [] new.mux.outbox []) × (went.value ≡ new.mux.sent.value) × IsAtRest new
+    (steps : List Step) × (went : Went old new first before final told told_after steps None new.mux.outbox []) × (went.value ≡ new.mux.sent.value) × IsAtRest new
     × (went.now ≡ final) × (new.mux.inbox ≡ expecting_all (put_by steps) old.mux.inbox) × (feed_front new.core.feed ≤ final.lowest)
     × (new.core.requests ≤ old.core.requests + 30003)
 GoesOn old new first before final told told_after (Some end.WireFault) =
-    (steps : List Step) × (left : Sending) × Went old new first before final told told_after steps [] left (gave.Failed ∷ []) × (new.core.pending ≡ pending.Nothing)
+    (steps : List Step) × (left : Sending) × Went old new first before final told told_after steps None left (gave.Failed ∷ []) × (new.core.pending ≡ pending.Nothing)
 GoesOn old new first before final told told_after (Some end.Memory) =
-    (steps : List Step) × (halted : List Step) × (left : Sending) × Went old new first before final told told_after steps halted left []
+    (steps : List Step) × (halted : Option Event) × (left : Sending) × Went old new first before final told told_after steps halted left []
 GoesOn old new first before final told told_after (Some other) = ⊥
 
 -- the frame was read and gave this, or the moment was idle
@@ -129,18 +129,18 @@ counted None = 0
 counted (Some f) = 1
 
 -- a result of the wire was taken in a turn, and this is left of what was to be sent
-pub record Turned (old new : Session) (result : Got) (before final : Moment) (told told_after : Option Traffic) (t : Turn) (halted : List Step) (left : Sending) (failed : List Gave) : Type 0 where
+pub record Turned (old new : Session) (result : Got) (before final : Moment) (told told_after : Option Traffic) (t : Turn) (halted : Option Event) (left : Sending) (failed : List Gave) : Type 0 where
   pub now : Moment
   pub frames : List FrameParts
   pub sent : List (List ℕ)
   pub value : ℕ
   pub read : IsRead result old.mux new.mux t.frame t.given
   pub leads : Leads old.core t.steps new.core
-  pub called : IsFor old.core t.frame t.given (halted ++ t.steps)
-  pub answered : AreAnswered before old.core.user old.core.strict (halted ++ t.steps) now
+  pub called : IsFor old.core t.frame t.given (undone halted ++ t.steps)
+  pub answered : AreAnswered before old.core.user old.core.strict (undone halted ++ t.steps) now
   pub reads : HasRead now final
-  pub looks : new.listing.looks ≡ old.listing.looks ++ looks_of (halted ++ t.steps)
-  pub stored : new.listing.stored ≡ old.listing.stored ++ stored_of (halted ++ t.steps)
+  pub looks : new.listing.looks ≡ old.listing.looks ++ looks_of (undone halted ++ t.steps)
+  pub stored : new.listing.stored ≡ old.listing.stored ++ stored_of (undone halted ++ t.steps)
   pub count : new.frames ≡ old.frames + counted t.frame
   pub heard : IsHeard t.given old.mux.outbox
   pub go : ArePicked (after_deeds old.mux.outbox (done_in t)) frames left
@@ -163,16 +163,16 @@ pub record Leaves (old new : Session) (before final : Moment) (told told_after :
 -- a result was taken and all was sent that may be sent, or the session ends by it
 abbrev pub Takes : Session → Session → Got → Moment → Moment → Option Traffic → Option Traffic → Option End → Type 0
 Takes old new result before final told told_after None =
-    (t : Turn) × (did : Turned old new result before final told told_after t [] new.mux.outbox []) × (did.value ≡ new.mux.sent.value) × IsAtRest new
+    (t : Turn) × (did : Turned old new result before final told told_after t None new.mux.outbox []) × (did.value ≡ new.mux.sent.value) × IsAtRest new
     × (did.now ≡ final) × (new.mux.inbox ≡ expecting_all (put_by t.steps) (inbox_after old.mux.inbox t.frame)) × (feed_front new.core.feed ≤ final.lowest)
     × (new.core.requests ≤ old.core.requests + 30003)
 Takes old new result before final told told_after (Some end.WireFault) =
-    (t : Turn) × (left : Sending) × Turned old new result before final told told_after t [] left (gave.Failed ∷ []) × (new.core.pending ≡ pending.Nothing)
+    (t : Turn) × (left : Sending) × Turned old new result before final told told_after t None left (gave.Failed ∷ []) × (new.core.pending ≡ pending.Nothing)
 Takes old new result before final told told_after (Some (end.BadFrame index w)) =
     (bytes : List ℕ) × (result ≡ got.Frame bytes) × (index ≡ old.frames + 1)
     × IsBadFrame (frame_at old.mux.received.value bytes) (answer_at old.mux.inbox) old.mux.outbox w × Leaves old new before final told told_after
 Takes old new result before final told told_after (Some end.Memory) =
-    ((t : Turn) × (halted : List Step) × (left : Sending) × Turned old new result before final told told_after t halted left [])
+    ((t : Turn) × (halted : Option Event) × (left : Sending) × Turned old new result before final told told_after t halted left [])
     ⊎ ((bytes : List ℕ) × (result ≡ got.Frame bytes) × Leaves old new before final told told_after)
 Takes old new result before final told told_after (Some other) = ⊥
 
@@ -182,7 +182,7 @@ Takes old new result before final told told_after (Some other) = ⊥
 pub record Holds (setup : Setup) (start now : Moment) (s : Session) (turns : List Turn) (frames : List FrameParts) (results : List Got) (sent : List (List ℕ)) : Type 0 where
   pub user : s.core.user ≡ setup.user
   pub strict : s.core.strict ≡ setup.strict
-  pub led : AreLed (new_machine setup.user setup.version setup.strict) [] turns s.core
+  pub led : AreLed (new_machine setup.user setup.version setup.strict) None turns s.core
   pub rest : IsAtRest s
   pub wanted : wanted_after (steps_of turns) ≡ None
   pub answered : AreAnswered start setup.user setup.strict (steps_of turns) now

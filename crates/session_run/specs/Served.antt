@@ -9,10 +9,10 @@ use Rattle.blip_frame.specs.Frame.{FrameParts, frames_at, AreWrittenAfter}
 use Rattle.blip_frame.specs.declared.frame.FrameFault.{FrameFault}
 use Rattle.blip_mux.specs.Joining.{answer_in}
 use Rattle.blip_mux.specs.Sending.{Sending, picked}
+use Rattle.session_core.specs.declared.event.Event.{Event}
 use Rattle.session_core.specs.declared.machine.Pending.TheVariants as pending
 use Rattle.session_core.specs.Fronts.{looks_of, stored_of}
 use Rattle.session_core.specs.State.{Machine, new_machine}
-use Rattle.session_core.specs.Steps.{Step}
 use Rattle.session_mux.specs.declared.frame_why.FrameWhy.{FrameWhy}
 use Rattle.session_mux.specs.declared.frame_why.FrameWhy.TheVariants as why
 use Rattle.session_mux.specs.Frames.{IsBadTaken, why_of}
@@ -22,7 +22,7 @@ use Rattle.session_run.specs.declared.ended.End.TheVariants as end
 use Rattle.session_run.specs.declared.ended.Ended.{Ended}
 use Rattle.session_run.specs.declared.serve.Setup.{Setup}
 use Rattle.session_run.specs.Answered.{Moment, HasRead, AreAnswered}
-use Rattle.session_run.specs.Turns.{Turn, steps_of, frames_of, framed, framed_by, events_of, AreLed, AreJoined, AreSent}
+use Rattle.session_run.specs.Turns.{Turn, undone, steps_of, frames_of, framed, framed_by, events_of, AreLed, AreJoined, AreSent}
 
 -- ---- what was received
 
@@ -85,20 +85,21 @@ IsSentAt (end.BadFrame index w) left = picked left ≡ None
 IsSentAt end.TurnsFull left = picked left ≡ None
 IsSentAt end.Memory left = Unit {0}
 
--- no answer is awaited, unless memory ran out
-abbrev pub IsClosedAt : End → Machine → List Step → Type 0
+-- no answer is awaited and each event was dealt with, unless memory ran out
+abbrev pub IsClosedAt : End → Machine → Option Event → Type 0
 IsClosedAt end.Memory m halted = Unit {0}
-IsClosedAt other m halted = (m.pending ≡ pending.Nothing) × (halted ≡ [])
+IsClosedAt other m halted = (m.pending ≡ pending.Nothing) × (halted ≡ None)
 
 -- ---- the whole
 
 -- A session: of the results that were received those before the last are the frames and idle moments of turns; each message that
 -- they gave, and each idle moment, was dealt with as a session of this setup does, by answers of boards that were read one after another
 -- and each for its step; what was sent are the frames of what was put, after each turn as many as may be sent; the looks and the stored
--- sequences are those of the steps. Where memory ran out, the last event may be one for which nothing more was done.
+-- sequences are those of the steps. Where memory ran out, the last event may be one for which nothing was done: its look is listed, and
+-- what it stored, but nothing is put or wanted for it.
 pub record IsSession (setup : Setup) (start final : Moment) (ended : Ended) (results : List Got) (sent : List (List ℕ)) (failed : List Gave) : Type 0 where
   pub turns : List Turn
-  pub halted : List Step
+  pub halted : Option Event
   pub taken : List Got
   pub last : List Got
   pub frames : List FrameParts
@@ -113,10 +114,10 @@ pub record IsSession (setup : Setup) (start final : Moment) (ended : Ended) (res
   pub joined : AreJoined turns
   pub led : AreLed (new_machine setup.user setup.version setup.strict) halted turns machine
   pub closed : IsClosedAt ended.end machine halted
-  pub answered : AreAnswered start setup.user setup.strict (halted ++ steps_of turns) now
+  pub answered : AreAnswered start setup.user setup.strict (undone halted ++ steps_of turns) now
   pub reads : HasRead now final
-  pub looks : ended.looks ≡ looks_of (halted ++ steps_of turns)
-  pub stored : ended.stored ≡ stored_of (halted ++ steps_of turns)
+  pub looks : ended.looks ≡ looks_of (undone halted ++ steps_of turns)
+  pub stored : ended.stored ≡ stored_of (undone halted ++ steps_of turns)
   pub put : AreSent turns frames left
   pub written : AreWrittenAfter [] sent frames
   pub whole : IsSentAt ended.end left

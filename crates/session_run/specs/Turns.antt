@@ -80,12 +80,17 @@ abbrev pub IsFor : Machine → Option FrameParts → Taken → List Step → Typ
 IsFor m (Some f) given steps = IsForTaken given steps
 IsFor m None given steps = (given ≡ takens.Nothing) × IsForIdle (waits m.feed) steps
 
+-- an event that came last, for which nothing was put and nothing wanted, as memory ran out
+abbrev pub undone : Option session.Event → List Step
+undone None = []
+undone (Some e) = record { event = e; puts = []; want = None } ∷ []
+
 -- The turns lead the machine from one state to another, each by what it calls for; but in the last turn, where memory ran out, nothing
--- more was done for this last event.
-abbrev pub AreLed : Machine → List Step → List Turn → Machine → Type 0
-AreLed start halted [] m = (m ≡ start) × (halted ≡ [])
+-- was done for this last event, if there is one.
+abbrev pub AreLed : Machine → Option session.Event → List Turn → Machine → Type 0
+AreLed start halted [] m = (m ≡ start) × (halted ≡ None)
 AreLed start halted (t ∷ earlier) m =
-    (before : Machine) × AreLed start [] earlier before × Leads before t.steps m × IsFor before t.frame t.given (halted ++ t.steps)
+    (before : Machine) × AreLed start None earlier before × Leads before t.steps m × IsFor before t.frame t.given (undone halted ++ t.steps)
 
 -- ---- what came
 

@@ -1,20 +1,28 @@
 //! Laws of what a ground answers to a session. Each is the contract of a function that does nothing.
 
-ghost use Rattle.std.specs.Prelude.{◌≡◌, ◌++◌, ◌∷◌, ℕ, Bool, List, map, reverse};
+ghost use Rattle.std.specs.Prelude.{◌≡◌, ◌++◌, ◌∷◌, ℕ, Bool, List, Option, length, map, reverse};
 ghost use Rattle.sg_history.specs.declared.book.Waiting.{Waiting};
 ghost use Rattle.sg_history.specs.declared.entries.Entry.{Entry};
-ghost use Rattle.session_core.specs.Fronts.{fronts_of, stored_of, RiseBetween};
+ghost use Rattle.session_core.specs.Conduct.{AreWithin};
+ghost use Rattle.session_core.specs.Fronts.{fronts_of, looks_of, stored_of, RiseBetween};
 ghost use Rattle.session_core.specs.Right.{AreRight};
 ghost use Rattle.repl_messages.specs.declared.request.Version.{Version};
 ghost use Rattle.session_core.specs.State.{Machine, new_machine};
 ghost use Rattle.session_core.specs.Steps.{Step, Steps, Leads};
+ghost use Rattle.session_core.specs.declared.event.Event.{Event};
 ghost use Rattle.write_path.specs.Reads.{Reads, IsLaterThanAll};
-ghost use Rattle.session_run.specs.Own.{HasOwnBodies};
-ghost use Rattle.session_run.specs.Answered.{Moment, AreAnswered, recorded_by, AreAtLength};
+ghost use Rattle.session_run.specs.Own.{HasOwnBodies, HaveOwnBodies};
+ghost use Rattle.session_run.specs.Answered.{Moment, AreAnswered, recorded_by, AreAtLength, AreLooksAt, look_fronts};
+ghost use Rattle.session_run.specs.Served.{IsSession};
+ghost use Rattle.session_run.specs.Turns.{Turn, AreLed, steps_of};
+ghost use Rattle.session_run.specs.declared.ended.Ended.{Ended};
+ghost use Rattle.session_run.specs.declared.serve.Setup.{Setup};
+ghost use Rattle.sg_outside.specs.declared.sink.Gave.{Gave};
+ghost use Rattle.sg_outside.specs.declared.wire.Got.{Got};
 
 /// What was answered to a session is right by every history that is later than all boards read; its looks and loads are at fronts that
-/// don't fall, each the recorded length with what was stored by then, where a length is recorded; and what the ground has of its own
-/// since are the entries at the stored sequences.
+/// don't fall, each the recorded length with what was stored by then, where a length is recorded; what the ground has of its own
+/// since are the entries at the stored sequences; and each look is at the length of a board's log that was read for it, in order, which no such history is shorter than.
 pub fn answers()
     ensures right { (start now : Moment) (user : List ℕ) (strict : Bool) (steps : List Step) (h :
         List Entry)
@@ -35,6 +43,16 @@ pub fn answers()
         → AreAnswered start user strict steps now
         → (added : List Waiting) × (now.own ≡ added ++ start.own)
         × (map (λ (w : Waiting). w.number) added ≡ reverse (stored_of steps)) }
+    ensures looks { (start now : Moment) (user : List ℕ) (strict : Bool) (steps : List Step)
+        → AreAnswered start user strict steps now
+        → AreLooksAt start.read (looks_of steps) now.read }
+    ensures fronts { (start now : Moment) (user : List ℕ) (strict : Bool) (steps : List Step)
+        → AreAnswered start user strict steps now
+        → RiseBetween start.lowest (look_fronts (looks_of steps)) now.lowest }
+    ensures within { (start now : Moment) (user : List ℕ) (strict : Bool) (steps : List Step) (h :
+        List Entry)
+        → AreAnswered start user strict steps now → IsLaterThanAll now.read h
+        → AreWithin (length h) (look_fronts (looks_of steps)) }
 {
     sg_history::laws::later();
     doc_board::laws::later_boards();
@@ -55,4 +73,38 @@ pub fn own_bodies()
     session_core::laws::conduct();
     write_path::laws::no_foreign_body();
     write_path::laws::removals();
+}
+
+/// Of a whole session: its steps lead on from a new one, so that what is said of such steps is said of these; by every history that is
+/// later than all boards read none of them puts a foreign body; and the listed looks are, in order, at the lengths of the logs of boards that were
+/// read, each for that look, and don't fall.
+pub fn sessions()
+    ensures leads { (user : List ℕ) (version : Version) (strict : Bool) (halted : Option Event)
+        (turns : List Turn) (m : Machine)
+        → AreLed (new_machine user version strict) halted turns m
+        → Leads (new_machine user version strict) (steps_of turns) m }
+    ensures right { (setup : Setup) (start final : Moment) (ended : Ended) (results : List Got)
+        (sent : List (List ℕ)) (failed : List Gave) (h : List Entry)
+        → (session : IsSession setup start final ended results sent failed)
+        → IsLaterThanAll final.read h
+        → AreRight h setup.user setup.strict (steps_of session.turns) }
+    ensures own_bodies { (setup : Setup) (start final : Moment) (ended : Ended) (results :
+        List Got)
+        (sent : List (List ℕ)) (failed : List Gave) (h : List Entry)
+        → (session : IsSession setup start final ended results sent failed)
+        → IsLaterThanAll final.read h
+        → HaveOwnBodies h setup.user (new_machine setup.user setup.version setup.strict)
+        (steps_of session.turns) }
+    ensures looks { (setup : Setup) (start final : Moment) (ended : Ended) (results : List Got)
+        (sent : List (List ℕ)) (failed : List Gave)
+        → IsSession setup start final ended results sent failed
+        → AreLooksAt start.read ended.looks final.read }
+    ensures fronts { (setup : Setup) (start final : Moment) (ended : Ended) (results : List Got)
+        (sent : List (List ℕ)) (failed : List Gave)
+        → IsSession setup start final ended results sent failed
+        → RiseBetween start.lowest (look_fronts ended.looks) final.lowest }
+{
+    answers();
+    own_bodies();
+    write_path::laws::reads();
 }

@@ -4,6 +4,7 @@ ghost use Rattle.std.specs.Prelude.{◌≡◌, ◌⊎◌, ◌≤◌, ◌<◌, �
 ghost use Rattle.blip_mux.specs.Apart.{AreApart};
 ghost use Rattle.blip_mux.specs.Sending.{picked};
 ghost use Rattle.sg_outside.specs.Wire.{Traffic};
+ghost use Rattle.session_core.specs.declared.event.Event.{Event};
 ghost use Rattle.session_core.specs.declared.machine.Pending.{Pending};
 ghost use Rattle.session_core.specs.Conduct.{feed_front, due_at, due_with, WantsFor, most_answers, is_answer, AreWithin};
 ghost use Rattle.session_core.specs.Fronts.{look_of, stored_by, front_told};
@@ -167,7 +168,7 @@ impl Session {
             → IsAnswered before self.old.core.user self.old.core.strict None event
             (moment (G.read ground.old) (G.floor ground.old)
             (G.recorded ground.old) (G.own ground.old))
-            → OnErr result ((steps : List Step) × (halted : List Step) × (now : Moment)
+            → OnErr result ((steps : List Step) × (halted : Option Event) × (now : Moment)
             × Conversed self.old self.new event before now steps halted
             × HasRead now
             (moment (G.read ground.new) (G.floor ground.new)

@@ -1,0 +1,17 @@
+use Rattle.session_run.proofs.Whole.{all_lead, all_right, all_own, all_looks, all_fronts}
+use Rattle.session_run.proofs.laws.sessions.Goals as goal
+
+pub returns-clause-leads : goal.returns-clause-leads
+returns-clause-leads c user version strict halted turns m = all_lead _ halted turns m
+
+pub returns-clause-right : goal.returns-clause-right
+returns-clause-right c = all_right c.answers.ensures.right c.reads.ensures.before
+
+pub returns-clause-own_bodies : goal.returns-clause-own_bodies
+returns-clause-own_bodies c = all_own c.own_bodies.ensures c.answers.ensures.right c.reads.ensures.before
+
+pub returns-clause-looks : goal.returns-clause-looks
+returns-clause-looks c = all_looks c.answers.ensures.looks
+
+pub returns-clause-fronts : goal.returns-clause-fronts
+returns-clause-fronts c = all_fronts c.answers.ensures.fronts
