@@ -1,3 +1,10 @@
+pub mod BatchSizes
+pub mod Batching
+pub mod Opening
 pub mod Orders
 pub mod Places
+pub mod Replying
 pub mod Resuming
+pub mod Sessions
+pub mod Shapes
+pub mod Telling

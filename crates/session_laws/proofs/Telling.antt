@@ -1,0 +1,523 @@
+-- What a device is told of its feed, and when the history is looked at for it.
+use Rattle.std.proofs.Common.{◌≡◌, ◌≤◌, ◌<◌, ℕ, zero, suc, arith, ◌+◌, Bool, true, false, ◌&&◌, nat_lt, List, [], ◌∷◌, ◌++◌, length, Option, Some, None, Result, Ok, Err, refl, sym, ◌∙◌, ap, subst, if◌then◌else◌}
+use Rattle.std.specs.Prelude.{◌↔◌, IsSome}
+use Rattle.std.proofs.lemmas.Bool.{false≢true, ltb-true, lt-ltb}
+use Rattle.std.proofs.lemmas.Option.{none-some}
+use Rattle.blip_frame.specs.declared.frame.Kind.{Kind}
+use Rattle.blip_frame.specs.declared.frame.Kind.TheVariants as kinds
+use Rattle.blip_frame.specs.declared.payload.Payload.{Payload}
+use Rattle.blip_mux.specs.declared.message.Message.{Message}
+use Rattle.blip_mux.specs.Joining.{is_request}
+use Rattle.sg_history.specs.declared.row.Row.{Row}
+use Rattle.sg_history.specs.declared.row.Options.{Options}
+use Rattle.sg_history.specs.Device.{plain}
+use Rattle.repl_messages.specs.declared.request.Version.{Version}
+use Rattle.repl_messages.specs.declared.request.Request.{Request}
+use Rattle.repl_messages.specs.declared.request.Request.TheVariants as request
+use Rattle.repl_messages.specs.declared.request.RequestFault.{RequestFault}
+use Rattle.repl_messages.specs.declared.error.ErrorKind.{ErrorKind}
+use Rattle.repl_messages.specs.declared.error.ErrorKind.TheVariants as errors
+use Rattle.repl_messages.specs.declared.looks.Body.{Body}
+use Rattle.repl_messages.specs.declared.looks.Body.TheVariants as body
+use Rattle.repl_messages.specs.declared.looks.Bodies.{Bodies}
+use Rattle.repl_messages.specs.declared.looks.Fed.{Fed}
+use Rattle.repl_messages.specs.declared.looks.Fed.TheVariants as fed
+use Rattle.repl_messages.specs.declared.offers.Asked.{Asked}
+use Rattle.repl_messages.specs.Answers.{answers_payload}
+use Rattle.repl_messages.specs.Errors.{ok_payload, error_payload}
+use Rattle.repl_messages.specs.Looks.{front_of}
+use Rattle.doc_board.specs.declared.outcome.Outcome.{Outcome}
+use Rattle.doc_board.specs.declared.outcome.Outcome.TheVariants as outcome
+use Rattle.session_core.specs.declared.act.Act.{Act}
+use Rattle.session_core.specs.declared.act.Act.TheVariants as act
+use Rattle.session_core.specs.declared.act.Want.{Want}
+use Rattle.session_core.specs.declared.act.Want.TheVariants as want
+use Rattle.session_core.specs.declared.event.Event.{Event}
+use Rattle.session_core.specs.declared.event.Event.TheVariants as event
+use Rattle.session_core.specs.declared.replies.Asker.{Asker}
+use Rattle.session_core.specs.declared.machine.Subscription.{Subscription}
+use Rattle.session_core.specs.declared.machine.Pending.{Pending}
+use Rattle.session_core.specs.declared.machine.Pending.TheVariants as pending
+use Rattle.session_core.specs.Acts.{messages_from, reply_act, refusal_act, acceptance_act, outcome_act, error_of, body_act, body_acts}
+use Rattle.session_core.specs.Feeds.{feed_look, feed_looks, LeadsFeed}
+use Rattle.session_core.specs.Running.{Running, rest, is_none, waits, next_acts, next_feed}
+use Rattle.session_core.specs.State.{Machine, new_machine, AwaitsBy}
+use Rattle.session_core.specs.Steps.{Step, Steps, Leads, put_by}
+use Rattle.session_core.specs.Transitions.{Done, puts, asks, goes_on, looks_again, answered_by, most_ancestors, asker_of, refused, on_sub_changes, on_changes, on_served, on_request, answers, wanted_of, on_wanted, on_reply, first_of, on_first_look, on_next_look, on_fed, on_bodies_of, on_bodies, on_asked, on_judged, on_idle, Does, DoesByMessage}
+use Rattle.session_laws.specs.Exchanges.{IsAboveLast, IsFromLast, empty_offers, was_told, RunsFeed}
+use Rattle.session_laws.proofs.BatchSizes.{HasBatch, ReadHasBatch, read_batch}
+
+-- ---- empty offers among messages
+
+empties_on : (ms ns : List Message) → empty_offers (ms ++ ns) ≡ empty_offers ms + empty_offers ns
+empties_on [] ns = omega arith
+empties_on (m ∷ ms) ns = omega (arith, empties_on ms ns)
+
+-- acts that offer no empty list of rows
+abbrev OfferNone : List Act → Type 0
+OfferNone acts = (n : ℕ) → empty_offers (messages_from n acts) ≡ 0
+
+acts_on : (n : ℕ) (acts more : List Act) (k : ℕ) → ((n : ℕ) → empty_offers (messages_from n more) ≡ k) → empty_offers (messages_from n (acts ++ more)) ≡ empty_offers (messages_from n acts) + k
+acts_on n [] more k is = omega (arith, is n)
+acts_on n (act.Reply to kind urgent payload ∷ acts) more k is = omega (arith, acts_on n acts more k is)
+acts_on n (act.Request payload no_reply ∷ acts) more k is = omega (arith, acts_on (n + 1) acts more k is)
+acts_on n (act.Want want ∷ acts) more k is = acts_on n acts more k is
+
+reply_none : (asker : Asker) (kind : Kind) (payload : Payload) → is_request kind ≡ false → OfferNone (reply_act asker kind payload)
+reply_none asker kind payload is n =
+    elim (asker.no_reply) as (λ b. empty_offers (messages_from n (if b then [] else act.Reply asker.number kind asker.urgent payload ∷ [])) ≡ 0)
+    [ true ↦ refl | false ↦ rw is refl ]
+
+one_body : (n : ℕ) (row : Row) (b : Body) (acts : List Act) → empty_offers (messages_from n (body_act row b ∷ acts)) ≡ empty_offers (messages_from (n + 1) acts)
+one_body n row (body.Rev ancestors bytes) acts = omega arith
+one_body n row body.Removed acts = omega arith
+one_body n row body.NoRev acts = omega arith
+
+bodies_none : (rows : List Row) (bodies : List Body) → OfferNone (body_acts rows bodies)
+bodies_none [] bodies n = refl
+bodies_none (row ∷ rows) [] n = refl
+bodies_none (row ∷ rows) (b ∷ bodies) n = one_body n row b (body_acts rows bodies) ∙ bodies_none rows bodies (n + 1)
+
+outcome_none : (asker : Asker) (o : Outcome) → OfferNone (outcome_act asker o)
+outcome_none asker (outcome.Bad400 field) = reply_none asker kinds.Err _ refl
+outcome_none asker (outcome.TooLarge413 bytes) = reply_none asker kinds.Err _ refl
+outcome_none asker (outcome.UserGone401 at) = reply_none asker kinds.Err _ refl
+outcome_none asker (outcome.Known at) = reply_none asker kinds.Rpy _ refl
+outcome_none asker (outcome.BadHistory400 at) = reply_none asker kinds.Err _ refl
+outcome_none asker (outcome.Conflict409 at leaf) = reply_none asker kinds.Err _ refl
+outcome_none asker (outcome.Stored sequence at) = reply_none asker kinds.Rpy _ refl
+outcome_none asker outcome.Memory507 = reply_none asker kinds.Err _ refl
+
+-- ---- what always holds
+
+-- neither a feed's first look nor its next is awaited
+abbrev is_quiet : Pending → Bool
+is_quiet pending.Nothing = true
+is_quiet (pending.Feed asked) = false
+is_quiet pending.More = false
+is_quiet (pending.Bodies rows) = true
+is_quiet (pending.Ask asker proposed) = true
+is_quiet (pending.Push asker) = true
+
+abbrev is_first : Pending → Bool
+is_first pending.Nothing = false
+is_first (pending.Feed asked) = true
+is_first pending.More = false
+is_first (pending.Bodies rows) = false
+is_first (pending.Ask asker proposed) = false
+is_first (pending.Push asker) = false
+
+-- a feed that is asked for has a batch of one row at least
+abbrev FirstBatch : Pending → Type 0
+FirstBatch pending.Nothing = Unit {0}
+FirstBatch (pending.Feed asked) = 1 ≤ asked.batch
+FirstBatch pending.More = Unit {0}
+FirstBatch (pending.Bodies rows) = Unit {0}
+FirstBatch (pending.Ask asker proposed) = Unit {0}
+FirstBatch (pending.Push asker) = Unit {0}
+
+-- a feed that runs: the last look for a feed is its own; a batch has one row at least; only of a continuous one the device was told that it
+-- caught up; it was told so where no rows are left, unless the next look is awaited; and no first look is
+pub record FitsFeed (fronts : List ℕ) (r : Running) (awaited : Pending) : Type 0 where
+  pub earlier : List ℕ
+  pub front : fronts ≡ r.front ∷ earlier
+  pub batch : 1 ≤ r.batch
+  pub continuous : r.caught_up ≡ true → r.continuous ≡ true
+  pub told : is_quiet awaited ≡ true → is_none r.rows ≡ true → r.caught_up ≡ true
+  pub later : is_first awaited ≡ false
+
+abbrev Fits : List ℕ → Option Running → Pending → Type 0
+Fits fronts None awaited = FirstBatch awaited
+Fits fronts (Some r) awaited = FitsFeed fronts r awaited
+
+abbrev all_told : Option Running → ℕ
+all_told feed = if was_told feed then 1 else 0
+
+-- after an event: the same holds; and where a feed ran, an empty offer was put exactly where the device is told then and was not before
+pub record Told (fronts : List ℕ) (m : Machine) (done : Done) : Type 0 where
+  pub fits : Fits fronts done.after.feed done.after.pending
+  pub count : (r : Running) → m.feed ≡ Some r → (n : ℕ) → empty_offers (messages_from n done.acts) + all_told m.feed ≡ all_told done.after.feed
+
+still_fits : (fronts : List ℕ) (feed : Option Running) (awaited next : Pending) → is_quiet awaited ≡ true → is_first next ≡ false → FirstBatch next → Fits fronts feed awaited → Fits fronts feed next
+still_fits fronts None awaited next quiet later first fits = first
+still_fits fronts (Some r) awaited next quiet later first fits =
+    record { earlier = fits.earlier; front = fits.front; batch = fits.batch; continuous = fits.continuous; told = λ q. fits.told quiet; later = later }
+
+stays : (fronts : List ℕ) (m : Machine) (done : Done) → done.after.feed ≡ m.feed → OfferNone done.acts → is_quiet m.pending ≡ true → is_first done.after.pending ≡ false → FirstBatch done.after.pending
+    → Fits fronts m.feed m.pending → Told fronts m done
+stays fronts m done same none quiet later first fits = record {
+  fits = subst (λ f. Fits fronts f done.after.pending) (sym same) (still_fits fronts m.feed m.pending done.after.pending quiet later first fits);
+  count = λ r e n. omega (arith, none n, ap all_told same);
+}
+
+puts_stay : (fronts : List ℕ) (m : Machine) (acts : List Act) → OfferNone acts → is_quiet m.pending ≡ true → Fits fronts m.feed m.pending → Told fronts m (puts m acts)
+puts_stay fronts m acts none quiet fits = stays fronts m (puts m acts) refl none quiet refl tt fits
+
+refused_stay : (fronts : List ℕ) (m : Machine) (asker : Asker) (error : ErrorKind) → is_quiet m.pending ≡ true → Fits fronts m.feed m.pending → Told fronts m (refused m asker error)
+refused_stay fronts m asker error quiet fits = puts_stay fronts m (refusal_act asker error) (reply_none asker kinds.Err (error_payload error) refl) quiet fits
+
+asks_stay : (fronts : List ℕ) (m : Machine) (awaited : Pending) (wanted : Want) → is_quiet m.pending ≡ true → is_first awaited ≡ false → FirstBatch awaited → Fits fronts m.feed m.pending → Told fronts m (asks m awaited wanted)
+asks_stay fronts m awaited wanted quiet later first fits = stays fronts m (asks m awaited wanted) refl (λ n. refl) quiet later first fits
+
+-- ---- a feed goes on
+
+-- what holds of a feed with these rows that goes on at this front
+abbrev GoesOn : List ℕ → Version → ℕ → Running → Type 0
+GoesOn fronts version requests r =
+    Fits fronts (next_feed requests r) pending.Nothing
+    × ((n : ℕ) → empty_offers (messages_from n (next_acts version r)) + all_told (Some r) ≡ all_told (next_feed requests r))
+
+next_goes : (fronts earlier : List ℕ) (version : Version) (requests : ℕ) (rows : List Row) (batch : ℕ) (options : Options) (continuous : Bool) (number front : ℕ) (caught_up : Bool)
+    → fronts ≡ front ∷ earlier → 1 ≤ batch → (caught_up ≡ true → continuous ≡ true)
+    → GoesOn fronts version requests (record { rows = rows; batch = batch; options = options; continuous = continuous; number = number; front = front; caught_up = caught_up })
+next_goes fronts earlier version requests rows zero options continuous number front caught_up last some only = absurd (omega (arith, some))
+next_goes fronts earlier version requests [] (suc k) options true number front true last some only =
+    (record { earlier = earlier; front = last; batch = some; continuous = λ e. refl; told = λ q e. refl; later = refl }, λ n. omega arith)
+next_goes fronts earlier version requests [] (suc k) options true number front false last some only =
+    (record { earlier = earlier; front = last; batch = some; continuous = λ e. refl; told = λ q e. refl; later = refl }, λ n. omega arith)
+next_goes fronts earlier version requests [] (suc k) options false number front true last some only = absurd (false≢true (only refl))
+next_goes fronts earlier version requests [] (suc k) options false number front false last some only = (tt, λ n. omega arith)
+next_goes fronts earlier version requests (row ∷ rows) (suc k) options true number front true last some only =
+    (record { earlier = earlier; front = last; batch = some; continuous = λ e. refl; told = λ q e. refl; later = refl }, λ n. omega arith)
+next_goes fronts earlier version requests (row ∷ rows) (suc k) options true number front false last some only =
+    (record { earlier = earlier; front = last; batch = some; continuous = λ e. refl; told = λ q e. absurd (false≢true e); later = refl }, λ n. omega arith)
+next_goes fronts earlier version requests (row ∷ rows) (suc k) options false number front true last some only = absurd (false≢true (only refl))
+next_goes fronts earlier version requests (row ∷ rows) (suc k) options false number front false last some only =
+    (record { earlier = earlier; front = last; batch = some; continuous = λ e. absurd (false≢true e); told = λ q e. absurd (false≢true e); later = refl }, λ n. omega arith)
+
+it_goes : (fronts earlier : List ℕ) (version : Version) (requests : ℕ) (r : Running) → fronts ≡ r.front ∷ earlier → 1 ≤ r.batch → (r.caught_up ≡ true → r.continuous ≡ true) → GoesOn fronts version requests r
+it_goes fronts earlier version requests r last some only =
+    next_goes fronts earlier version requests r.rows r.batch r.options r.continuous r.number r.front r.caught_up last some only
+
+abbrev counted : Bool → ℕ
+counted b = if b then 1 else 0
+
+-- a feed as it was before, but for its rows and the front of its last look
+pub record Follows (fronts : List ℕ) (m : Machine) (r : Running) : Type 0 where
+  pub was : Running
+  pub is : m.feed ≡ Some was
+  pub caught_up : r.caught_up ≡ was.caught_up
+  pub earlier : List ℕ
+  pub front : fronts ≡ r.front ∷ earlier
+  pub batch : 1 ≤ r.batch
+  pub continuous : r.caught_up ≡ true → r.continuous ≡ true
+
+told_before : (fronts : List ℕ) (m : Machine) (r : Running) → Follows fronts m r → all_told m.feed ≡ all_told (Some r)
+told_before fronts m r f = ap all_told f.is ∙ ap counted (sym f.caught_up)
+
+goes : (fronts : List ℕ) (m : Machine) (acts : List Act) (requests : ℕ) (r : Running) → OfferNone acts → Follows fronts m r → Told fronts m (goes_on m acts requests r)
+goes fronts m acts requests r none f =
+    let it : GoesOn fronts m.version requests r = it_goes fronts f.earlier m.version requests r f.front f.batch f.continuous in
+    record {
+      fits = it.0;
+      count = λ other e n.
+          let one : ℕ = empty_offers (messages_from 0 (next_acts m.version r)) in
+          let all : empty_offers (messages_from n (acts ++ next_acts m.version r)) ≡ empty_offers (messages_from n acts) + one =
+          acts_on n acts (next_acts m.version r) one (λ k. omega (arith, it.1 k, it.1 0)) in
+          omega (arith, all, none n, it.1 0, told_before fronts m r f);
+    }
+
+looks : (fronts : List ℕ) (m : Machine) (acts : List Act) (requests : ℕ) (r : Running) → OfferNone acts → Follows fronts m r → Told fronts m (looks_again m acts requests r)
+looks fronts m acts requests r none f = record {
+  fits = record { earlier = f.earlier; front = f.front; batch = f.batch; continuous = f.continuous; told = λ q e. absurd (false≢true q); later = refl };
+  count = λ other e n. omega (arith, none n, told_before fronts m r f);
+}
+
+answered_goes : (b : Bool) (fronts : List ℕ) (m : Machine) (acts : List Act) (requests : ℕ) (r : Running) → OfferNone acts → Follows fronts m r → Told fronts m (answered_by b m acts requests r)
+answered_goes true fronts m acts requests r none f = looks fronts m acts requests r none f
+answered_goes false fronts m acts requests r none f = goes fronts m acts requests r none f
+
+fits_as : (fronts : List ℕ) (m : Machine) (r : Running) → m.feed ≡ Some r → Fits fronts m.feed m.pending → FitsFeed fronts r m.pending
+fits_as fronts m r e fits = subst (λ f. Fits fronts f m.pending) e fits
+
+follows : (fronts : List ℕ) (m : Machine) (r : Running) → m.feed ≡ Some r → Fits fronts m.feed m.pending → Follows fronts m r
+follows fronts m r e fits =
+    let f : FitsFeed fronts r m.pending = fits_as fronts m r e fits in
+    record { was = r; is = e; caught_up = refl; earlier = f.earlier; front = f.front; batch = f.batch; continuous = f.continuous }
+
+rest_follows : (fronts : List ℕ) (m : Machine) (r : Running) → m.feed ≡ Some r → Fits fronts m.feed m.pending → Follows fronts m (rest r)
+rest_follows fronts m r e fits =
+    let f : FitsFeed fronts r m.pending = fits_as fronts m r e fits in
+    record { was = r; is = e; caught_up = refl; earlier = f.earlier; front = f.front; batch = f.batch; continuous = f.continuous }
+
+-- ---- messages
+
+feed_asked : (fronts : List ℕ) (m : Machine) (asked : Subscription) (feed : Option Running) → m.feed ≡ feed → 1 ≤ asked.batch → is_quiet m.pending ≡ true → Fits fronts m.feed m.pending → Told fronts m (on_sub_changes m asked feed)
+feed_asked fronts m asked None e some quiet fits = record {
+  fits = subst (λ f. Fits fronts f (pending.Feed asked)) (sym e) some;
+  count = λ r is n. absurd (none-some r (sym e ∙ is));
+}
+feed_asked fronts m asked (Some r) e some quiet fits = refused_stay fronts m asked.asker errors.FeedRuns409 quiet fits
+
+offered : (b : Bool) (fronts : List ℕ) (m : Machine) (asker : Asker) (wanted : Want) → is_quiet m.pending ≡ true → Fits fronts m.feed m.pending → Told fronts m (on_changes b m asker wanted)
+offered true fronts m asker wanted quiet fits = refused_stay fronts m asker errors.UsePropose409 quiet fits
+offered false fronts m asker wanted quiet fits = asks_stay fronts m (pending.Ask asker false) wanted quiet refl tt fits
+
+served : (fronts : List ℕ) (m : Machine) (asker : Asker) (r : Request) → HasBatch r → is_quiet m.pending ≡ true → Fits fronts m.feed m.pending → Told fronts m (on_served m asker r)
+served fronts m asker (request.GetCheckpoint client) some quiet fits = refused_stay fronts m asker errors.NoHandler404 quiet fits
+served fronts m asker (request.SetCheckpoint client rev body) some quiet fits = refused_stay fronts m asker errors.NoHandler404 quiet fits
+served fronts m asker (request.SubChanges since continuous batch options) some quiet fits =
+    feed_asked fronts m (record { asker = asker; since = since; continuous = continuous; batch = batch; options = options }) m.feed refl some quiet fits
+served fronts m asker (request.Changes offers) some quiet fits = offered m.strict fronts m asker (want.Ask offers) quiet fits
+served fronts m asker (request.ProposeChanges offers) some quiet fits = asks_stay fronts m (pending.Ask asker true) (want.Ask offers) quiet refl tt fits
+served fronts m asker (request.Rev revision) some quiet fits = asks_stay fronts m (pending.Push asker) (want.Propose revision) quiet refl tt fits
+
+requested : (fronts : List ℕ) (m : Machine) (message : Message) (read : Result Request RequestFault) → ReadHasBatch read → is_quiet m.pending ≡ true → Fits fronts m.feed m.pending → Told fronts m (on_request m message read)
+requested fronts m message (Err fault) some quiet fits = refused_stay fronts m (asker_of message) (error_of fault) quiet fits
+requested fronts m message (Ok r) some quiet fits = served fronts m (asker_of message) r some quiet fits
+
+wanted_rows_are : (fronts : List ℕ) (m : Machine) (message : Message) (r : Running) (rows : List Row) → m.feed ≡ Some r → is_quiet m.pending ≡ true → Fits fronts m.feed m.pending → Told fronts m (on_wanted m message r rows)
+wanted_rows_are fronts m message r [] e quiet fits =
+    answered_goes (r.continuous && is_none (rest r).rows) fronts m [] m.requests (rest r) (λ n. refl) (rest_follows fronts m r e fits)
+wanted_rows_are fronts m message r (row ∷ rows) e quiet fits =
+    asks_stay fronts m (pending.Bodies (row ∷ rows)) (want.Bodies r.options (row ∷ rows) (most_ancestors message)) quiet refl tt fits
+
+reply_with : (fronts : List ℕ) (m : Machine) (message : Message) (r : Running) (b : Bool) → m.feed ≡ Some r → is_quiet m.pending ≡ true → Fits fronts m.feed m.pending
+    → Told fronts m (if b then on_wanted m message r (wanted_of r message) else puts m [])
+reply_with fronts m message r true e quiet fits = wanted_rows_are fronts m message r (wanted_of r message) e quiet fits
+reply_with fronts m message r false e quiet fits = puts_stay fronts m [] (λ n. refl) quiet fits
+
+reply_taken : (fronts : List ℕ) (m : Machine) (message : Message) (feed : Option Running) → m.feed ≡ feed → is_quiet m.pending ≡ true → Fits fronts m.feed m.pending → Told fronts m (on_reply m message feed)
+reply_taken fronts m message None e quiet fits = puts_stay fronts m [] (λ n. refl) quiet fits
+reply_taken fronts m message (Some r) e quiet fits = reply_with fronts m message r (answers r message) e quiet fits
+
+by_message : (fronts : List ℕ) (m : Machine) (message : Message) (done : Done) (b : Bool) → DoesByMessage b m message done → is_quiet m.pending ≡ true → Fits fronts m.feed m.pending → Told fronts m done
+by_message fronts m message done true (read, is, e) quiet fits = subst (Told fronts m) (sym e) (requested fronts m message read (read_batch message.payload m.version read is) quiet fits)
+by_message fronts m message done false e quiet fits = subst (Told fronts m) (sym e) (reply_taken fronts m message m.feed refl quiet fits)
+
+-- ---- answers of the history
+
+-- no feed runs while the first look for one is awaited
+none_runs : (fronts : List ℕ) (m : Machine) (asked : Subscription) (feed : Option Running) → m.feed ≡ feed → m.pending ≡ pending.Feed asked → Fits fronts m.feed m.pending → feed ≡ None
+none_runs fronts m asked None e awaited fits = refl
+none_runs fronts m asked (Some r) e awaited fits = absurd (false≢true (sym (fits_as fronts m r e fits).later ∙ ap is_first awaited))
+
+batch_asked : (fronts : List ℕ) (m : Machine) (asked : Subscription) → m.pending ≡ pending.Feed asked → Fits fronts m.feed m.pending → 1 ≤ asked.batch
+batch_asked fronts m asked awaited fits =
+    let none : m.feed ≡ None = none_runs fronts m asked m.feed refl awaited fits in
+    subst FirstBatch awaited (subst (λ f. Fits fronts f m.pending) none fits)
+
+feed_begins : (m : Machine) (asked : Subscription) (front : ℕ) (rows : List Row) (fronts : List ℕ) → 1 ≤ asked.batch → GoesOn (front ∷ fronts) m.version m.requests (first_of asked rows front)
+feed_begins m asked front rows fronts some = it_goes (front ∷ fronts) fronts m.version m.requests (first_of asked rows front) refl some (λ e. absurd (false≢true e))
+
+first_look : (fronts : List ℕ) (m : Machine) (asked : Subscription) (answer : Fed) → m.pending ≡ pending.Feed asked → Fits fronts m.feed m.pending → Told (front_of answer ∷ fronts) m (on_first_look m asked answer)
+first_look fronts m asked (fed.Future front) awaited fits =
+    let none : m.feed ≡ None = none_runs fronts m asked m.feed refl awaited fits in
+    record {
+      fits = subst (λ f. Fits (front ∷ fronts) f pending.Nothing) (sym none) tt;
+      count = λ r e n. absurd (none-some r (sym none ∙ e));
+    }
+first_look fronts m asked (fed.Rows front rows) awaited fits =
+    let none : m.feed ≡ None = none_runs fronts m asked m.feed refl awaited fits in
+    record {
+      fits = (feed_begins m asked front rows fronts (batch_asked fronts m asked awaited fits)).0;
+      count = λ r e n. absurd (none-some r (sym none ∙ e));
+    }
+
+next_look : (fronts : List ℕ) (m : Machine) (feed : Option Running) (front : ℕ) (rows : List Row) → m.feed ≡ feed → Fits fronts m.feed m.pending → Told (front ∷ fronts) m (on_next_look m feed (fed.Rows front rows))
+next_look fronts m None front rows e fits = record {
+  fits = subst (λ f. Fits (front ∷ fronts) f pending.Nothing) (sym e) tt;
+  count = λ r is n. absurd (none-some r (sym e ∙ is));
+}
+next_look fronts m (Some r) front rows e fits =
+    let f : FitsFeed fronts r m.pending = fits_as fronts m r e fits in
+    goes (front ∷ fronts) m [] m.requests (record r { rows = rows; front = front }) (λ n. refl)
+    (record { was = r; is = e; caught_up = refl; earlier = fronts; front = refl; batch = f.batch; continuous = f.continuous })
+
+fed_to : (fronts : List ℕ) (m : Machine) (answer : Fed) (awaited : Pending) → m.pending ≡ awaited → AwaitsBy m.feed awaited (event.Fed answer) → Fits fronts m.feed m.pending → Told (front_of answer ∷ fronts) m (on_fed m answer awaited)
+fed_to fronts m answer pending.Nothing e a fits = absurd a
+fed_to fronts m answer (pending.Feed asked) e a fits = first_look fronts m asked answer e fits
+fed_to fronts m (fed.Future front) pending.More e a fits = absurd a
+fed_to fronts m (fed.Rows front rows) pending.More e a fits = next_look fronts m m.feed front rows refl fits
+fed_to fronts m answer (pending.Bodies rows) e a fits = absurd a
+fed_to fronts m answer (pending.Ask asker proposed) e a fits = absurd a
+fed_to fronts m answer (pending.Push asker) e a fits = absurd a
+
+bodies_of : (fronts : List ℕ) (m : Machine) (b : Bodies) (wanted : List Row) (feed : Option Running) → m.feed ≡ feed → is_quiet m.pending ≡ true → Fits fronts m.feed m.pending → Told fronts m (on_bodies_of m b wanted feed)
+bodies_of fronts m b wanted None e quiet fits = puts_stay fronts m [] (λ n. refl) quiet fits
+bodies_of fronts m b wanted (Some r) e quiet fits =
+    answered_goes (r.continuous && is_none (rest r).rows) fronts m (body_acts wanted b.answers) (m.requests + length wanted) (rest r) (bodies_none wanted b.answers) (rest_follows fronts m r e fits)
+
+bodied : (fronts : List ℕ) (m : Machine) (b : Bodies) (awaited : Pending) → m.pending ≡ awaited → AwaitsBy m.feed awaited (event.Bodies b) → Fits fronts m.feed m.pending → Told fronts m (on_bodies m b awaited)
+bodied fronts m b pending.Nothing e a fits = absurd a
+bodied fronts m b (pending.Feed asked) e a fits = absurd a
+bodied fronts m b pending.More e a fits = absurd a
+bodied fronts m b (pending.Bodies rows) e a fits = bodies_of fronts m b rows m.feed refl (ap is_quiet e) fits
+bodied fronts m b (pending.Ask asker proposed) e a fits = absurd a
+bodied fronts m b (pending.Push asker) e a fits = absurd a
+
+asked_to : (fronts : List ℕ) (m : Machine) (answer : Asked) (awaited : Pending) → m.pending ≡ awaited → AwaitsBy m.feed awaited (event.Asked answer) → Fits fronts m.feed m.pending → Told fronts m (on_asked m answer awaited)
+asked_to fronts m answer pending.Nothing e a fits = absurd a
+asked_to fronts m answer (pending.Feed asked) e a fits = absurd a
+asked_to fronts m answer pending.More e a fits = absurd a
+asked_to fronts m answer (pending.Bodies rows) e a fits = absurd a
+asked_to fronts m answer (pending.Ask asker proposed) e a fits =
+    puts_stay fronts m (reply_act asker kinds.Rpy (answers_payload answer.answers proposed)) (reply_none asker kinds.Rpy (answers_payload answer.answers proposed) refl) (ap is_quiet e) fits
+asked_to fronts m answer (pending.Push asker) e a fits = absurd a
+
+judged_to : (fronts : List ℕ) (m : Machine) (o : Outcome) (awaited : Pending) → m.pending ≡ awaited → AwaitsBy m.feed awaited (event.Judged o) → Fits fronts m.feed m.pending → Told fronts m (on_judged m o awaited)
+judged_to fronts m o pending.Nothing e a fits = absurd a
+judged_to fronts m o (pending.Feed asked) e a fits = absurd a
+judged_to fronts m o pending.More e a fits = absurd a
+judged_to fronts m o (pending.Bodies rows) e a fits = absurd a
+judged_to fronts m o (pending.Ask asker proposed) e a fits = absurd a
+judged_to fronts m o (pending.Push asker) e a fits = puts_stay fronts m (outcome_act asker o) (outcome_none asker o) (ap is_quiet e) fits
+
+idled_with : (fronts : List ℕ) (m : Machine) (r : Running) (b : Bool) → m.feed ≡ Some r → is_quiet m.pending ≡ true → Fits fronts m.feed m.pending → Told fronts m (if b then looks_again m [] m.requests r else puts m [])
+idled_with fronts m r true e quiet fits = looks fronts m [] m.requests r (λ n. refl) (follows fronts m r e fits)
+idled_with fronts m r false e quiet fits = puts_stay fronts m [] (λ n. refl) quiet fits
+
+idled : (fronts : List ℕ) (m : Machine) (front : ℕ) (feed : Option Running) → m.feed ≡ feed → is_quiet m.pending ≡ true → Fits fronts m.feed m.pending → Told fronts m (on_idle m front feed)
+idled fronts m front None e quiet fits = puts_stay fronts m [] (λ n. refl) quiet fits
+idled fronts m front (Some r) e quiet fits = idled_with fronts m r (nat_lt r.front front) e quiet fits
+
+message_quiet : (feed : Option Running) (message : Message) (awaited : Pending) → AwaitsBy feed awaited (event.Whole message) → is_quiet awaited ≡ true
+message_quiet feed message pending.Nothing a = refl
+message_quiet feed message (pending.Feed asked) a = absurd a
+message_quiet feed message pending.More a = absurd a
+message_quiet feed message (pending.Bodies rows) a = absurd a
+message_quiet feed message (pending.Ask asker proposed) a = absurd a
+message_quiet feed message (pending.Push asker) a = absurd a
+
+idle_quiet : (feed : Option Running) (front : ℕ) (awaited : Pending) → AwaitsBy feed awaited (event.Idle front) → is_quiet awaited ≡ true
+idle_quiet feed front pending.Nothing a = refl
+idle_quiet feed front (pending.Feed asked) a = absurd a
+idle_quiet feed front pending.More a = absurd a
+idle_quiet feed front (pending.Bodies rows) a = absurd a
+idle_quiet feed front (pending.Ask asker proposed) a = absurd a
+idle_quiet feed front (pending.Push asker) a = absurd a
+
+-- ---- each event
+
+event_told : (fronts : List ℕ) (m : Machine) (x : Event) (done : Done) → AwaitsBy m.feed m.pending x → Does m x done → Fits fronts m.feed m.pending → Told (feed_look x ++ fronts) m done
+event_told fronts m (event.Whole message) done a does fits = by_message fronts m message done (is_request message.kind) does (message_quiet m.feed message m.pending a) fits
+event_told fronts m (event.Idle front) done a does fits = subst (Told fronts m) (sym does) (idled fronts m front m.feed refl (idle_quiet m.feed front m.pending a) fits)
+event_told fronts m (event.Fed answer) done a does fits = subst (Told (front_of answer ∷ fronts) m) (sym does) (fed_to fronts m answer m.pending refl a fits)
+event_told fronts m (event.Bodies b) done a does fits = subst (Told fronts m) (sym does) (bodied fronts m b m.pending refl a fits)
+event_told fronts m (event.Asked answer) done a does fits = subst (Told fronts m) (sym does) (asked_to fronts m answer m.pending refl a fits)
+event_told fronts m (event.Judged o) done a does fits = subst (Told fronts m) (sym does) (judged_to fronts m o m.pending refl a fits)
+
+step_told : (fronts : List ℕ) (m : Machine) (s : Step) (after : Machine) → (made : Steps m s after) → Fits fronts m.feed m.pending → Told (feed_look s.event ++ fronts) m made.done
+step_told fronts m s after made fits = event_told fronts m s.event made.done made.awaited made.does fits
+
+-- ---- all steps
+
+all_fit : (user : List ℕ) (version : Version) (strict : Bool) (steps : List Step) (m : Machine) → Leads (new_machine user version strict) steps m → Fits (feed_looks steps) m.feed m.pending
+all_fit user version strict [] m leads = subst (λ (x : Machine). Fits [] x.feed x.pending) (sym leads) tt
+all_fit user version strict (s ∷ earlier) m (before, leads, made) =
+    subst (λ (x : Machine). Fits (feed_look s.event ++ feed_looks earlier) x.feed x.pending) (sym made.leads)
+    (step_told (feed_looks earlier) before s m made (all_fit user version strict earlier before leads)).fits
+
+-- ---- idle moments
+
+less_iff : (a b : ℕ) (m : Machine) (r : Running) (grown : Bool) → nat_lt a b ≡ grown → IsSome (if grown then looks_again m [] m.requests r else puts m []).want ↔ (a < b)
+less_iff a b m r true e = ((λ h. ltb-true a b e), (λ h. refl))
+less_iff a b m r false e = ((λ h. absurd (false≢true h)), (λ h. absurd (false≢true (sym e ∙ lt-ltb a b h))))
+
+looks_iff : (fronts : List ℕ) (m : Machine) (front : ℕ) (awaited : Pending) (feed : Option Running) → m.feed ≡ feed → AwaitsBy feed awaited (event.Idle front) → Fits fronts m.feed m.pending
+    → IsSome (on_idle m front feed).want ↔ IsAboveLast fronts front
+looks_iff fronts m front pending.Nothing None e a fits = absurd (false≢true a)
+looks_iff fronts m front pending.Nothing (Some r) e a fits =
+    let f : FitsFeed fronts r m.pending = fits_as fronts m r e fits in
+    subst (λ fs. IsSome (on_idle m front (Some r)).want ↔ IsAboveLast fs front) (sym f.front) (less_iff r.front front m r (nat_lt r.front front) refl)
+looks_iff fronts m front (pending.Feed asked) feed e a fits = absurd a
+looks_iff fronts m front pending.More feed e a fits = absurd a
+looks_iff fronts m front (pending.Bodies rows) feed e a fits = absurd a
+looks_iff fronts m front (pending.Ask asker proposed) feed e a fits = absurd a
+looks_iff fronts m front (pending.Push asker) feed e a fits = absurd a
+
+from_with : (last : ℕ) (earlier : List ℕ) (m : Machine) (r : Running) (b : Bool) → last ≡ r.front → IsFromLast (last ∷ earlier) (if b then looks_again m [] m.requests r else puts m []).want
+from_with last earlier m r true e = ap plain (sym e)
+from_with last earlier m r false e = tt
+
+looks_from : (fronts : List ℕ) (m : Machine) (front : ℕ) (feed : Option Running) → m.feed ≡ feed → Fits fronts m.feed m.pending → IsFromLast fronts (on_idle m front feed).want
+looks_from fronts m front None e fits = tt
+looks_from fronts m front (Some r) e fits =
+    let f : FitsFeed fronts r m.pending = fits_as fronts m r e fits in
+    subst (λ fs. IsFromLast fs (on_idle m front (Some r)).want) (sym f.front) (from_with r.front f.earlier m r (nat_lt r.front front) refl)
+
+puts_none : (m : Machine) (front : ℕ) (feed : Option Running) (n : ℕ) → messages_from n (on_idle m front feed).acts ≡ []
+puts_none m front None n = refl
+puts_none m front (Some r) n =
+    elim (nat_lt r.front front) as (λ b. messages_from n (if b then looks_again m [] m.requests r else puts m []).acts ≡ []) [ true ↦ refl | false ↦ refl ]
+
+idle_does : (m : Machine) (s : Step) (after : Machine) (front : ℕ) → s.event ≡ event.Idle front → (made : Steps m s after) → made.done ≡ on_idle m front m.feed
+idle_does m s after front is made = subst (λ x. Does m x made.done) is made.does
+
+pub idle_looks : (user : List ℕ) (version : Version) (strict : Bool) (earlier : List Step) (m after : Machine) (s : Step) (front : ℕ)
+    → Leads (new_machine user version strict) earlier m → s.event ≡ event.Idle front → Steps m s after → IsSome s.want ↔ IsAboveLast (feed_looks earlier) front
+idle_looks user version strict earlier m after s front leads is made =
+    subst (λ w. IsSome w ↔ IsAboveLast (feed_looks earlier) front) (sym (made.want ∙ ap (λ (d : Done). d.want) (idle_does m s after front is made)))
+    (looks_iff (feed_looks earlier) m front m.pending m.feed refl (subst (AwaitsBy m.feed m.pending) is made.awaited) (all_fit user version strict earlier m leads))
+
+pub idle_from : (user : List ℕ) (version : Version) (strict : Bool) (earlier : List Step) (m after : Machine) (s : Step) (front : ℕ)
+    → Leads (new_machine user version strict) earlier m → s.event ≡ event.Idle front → Steps m s after → IsFromLast (feed_looks earlier) s.want
+idle_from user version strict earlier m after s front leads is made =
+    subst (IsFromLast (feed_looks earlier)) (sym (made.want ∙ ap (λ (d : Done). d.want) (idle_does m s after front is made)))
+    (looks_from (feed_looks earlier) m front m.feed refl (all_fit user version strict earlier m leads))
+
+pub idle_puts : (m after : Machine) (s : Step) (front : ℕ) → s.event ≡ event.Idle front → Steps m s after → s.puts ≡ []
+idle_puts m after s front is made =
+    made.puts ∙ ap (λ (d : Done). messages_from (m.requests + 1) d.acts) (idle_does m s after front is made) ∙ puts_none m front m.feed (m.requests + 1)
+
+-- ---- the empty offers of a feed
+
+begin_told : (m : Machine) (s : Step) (first : Machine) (asked : Subscription) (front : ℕ) (rows : List Row) (fronts : List ℕ) → m.pending ≡ pending.Feed asked → s.event ≡ event.Fed (fed.Rows front rows) → Steps m s first
+    → Fits fronts m.feed m.pending → empty_offers s.puts ≡ all_told first.feed
+begin_told m s first asked front rows fronts awaited came made fits =
+    let does : made.done ≡ on_first_look m asked (fed.Rows front rows) =
+    subst (λ p. made.done ≡ on_fed m (fed.Rows front rows) p) awaited (subst (λ x. Does m x made.done) came made.does) in
+    let r : Running = first_of asked rows front in
+    let it : GoesOn (front ∷ fronts) m.version m.requests r = feed_begins m asked front rows fronts (batch_asked fronts m asked awaited fits) in
+    let one : ℕ = empty_offers (messages_from 0 (next_acts m.version r)) in
+    let all : empty_offers (messages_from (m.requests + 1) (acceptance_act asked.asker ++ next_acts m.version r)) ≡ empty_offers (messages_from (m.requests + 1) (acceptance_act asked.asker)) + one =
+    acts_on (m.requests + 1) (acceptance_act asked.asker) (next_acts m.version r) one (λ k. omega (arith, it.1 k, it.1 0)) in
+    let reply : empty_offers (messages_from (m.requests + 1) (acceptance_act asked.asker)) ≡ 0 = reply_none asked.asker kinds.Rpy ok_payload refl (m.requests + 1) in
+    let sum : empty_offers (messages_from (m.requests + 1) (acceptance_act asked.asker ++ next_acts m.version r)) ≡ all_told (next_feed m.requests r) = omega (arith, all, reply, it.1 0) in
+    ap empty_offers made.puts ∙ ap (λ (d : Done). empty_offers (messages_from (m.requests + 1) d.acts)) does
+    ∙ sum ∙ sym (ap (λ (x : Machine). all_told x.feed) made.leads ∙ ap (λ (d : Done). all_told d.after.feed) does)
+
+leads_on : (start first : Machine) (earlier : List Step) → Leads start earlier first → (more : List Step) (m : Machine) → LeadsFeed first more m → Leads start (more ++ earlier) m
+leads_on start first earlier leads [] m e = subst (Leads start earlier) (sym e) leads
+leads_on start first earlier leads (s ∷ more) m (before, feeds, runs, made) = (before, leads_on start first earlier leads more before feeds, made)
+
+one_more : (fronts : List ℕ) (messages : List Message) (before : Machine) (s : Step) (after : Machine) (feed : Option Running) → before.feed ≡ feed → IsSome feed → Steps before s after → Fits fronts before.feed before.pending
+    → empty_offers messages ≡ all_told before.feed → empty_offers (messages ++ s.puts) ≡ all_told after.feed
+one_more fronts messages before s after None e runs made fits so_far = absurd (false≢true runs)
+one_more fronts messages before s after (Some r) e runs made fits so_far =
+    let step : empty_offers (messages_from (before.requests + 1) made.done.acts) + all_told before.feed ≡ all_told made.done.after.feed =
+    (step_told fronts before s after made fits).count r e (before.requests + 1) in
+    omega (arith, empties_on messages s.puts, so_far, step, ap empty_offers made.puts, ap (λ (x : Machine). all_told x.feed) made.leads)
+
+all_counted : (user : List ℕ) (version : Version) (strict : Bool) (earlier : List Step) (s : Step) (first : Machine) → Leads (new_machine user version strict) (s ∷ earlier) first → empty_offers s.puts ≡ all_told first.feed
+    → (more : List Step) (m : Machine) → LeadsFeed first more m → empty_offers (put_by (more ++ s ∷ [])) ≡ all_told m.feed
+all_counted user version strict earlier s first leads begun [] m e = begun ∙ ap (λ (x : Machine). all_told x.feed) (sym e)
+all_counted user version strict earlier s first leads begun (t ∷ more) m (before, feeds, runs, made) =
+    one_more (feed_looks (more ++ s ∷ earlier)) (put_by (more ++ s ∷ [])) before t m before.feed refl runs made
+    (all_fit user version strict (more ++ s ∷ earlier) before (leads_on (new_machine user version strict) first (s ∷ earlier) leads more before feeds))
+    (all_counted user version strict earlier s first leads begun more before feeds)
+
+pub told_once : (user : List ℕ) (version : Version) (strict : Bool) (earlier : List Step) (begin : Step) (more : List Step) (after : Machine) → RunsFeed user version strict earlier begin more after
+    → empty_offers (put_by (more ++ begin ∷ [])) ≡ (if was_told after.feed then 1 else 0)
+told_once user version strict earlier begin more after f =
+    all_counted user version strict earlier begin f.first (f.before, f.leads, f.begins)
+    (begin_told f.before begin f.first f.asked f.front f.rows (feed_looks earlier) f.awaited f.event f.begins (all_fit user version strict earlier f.before f.leads)) more after f.runs
+
+quiet_then : (fronts : List ℕ) (r : Running) (awaited : Pending) → FitsFeed fronts r awaited → (awaited ≡ pending.More → ⊥) → is_quiet awaited ≡ true
+quiet_then fronts r pending.Nothing fits not = refl
+quiet_then fronts r (pending.Feed asked) fits not = absurd (false≢true (sym fits.later))
+quiet_then fronts r pending.More fits not = absurd (not refl)
+quiet_then fronts r (pending.Bodies rows) fits not = refl
+quiet_then fronts r (pending.Ask asker proposed) fits not = refl
+quiet_then fronts r (pending.Push asker) fits not = refl
+
+told_where : (fronts : List ℕ) (feed : Option Running) (awaited : Pending) → Fits fronts feed awaited → waits feed ≡ true → (awaited ≡ pending.More → ⊥) → was_told feed ≡ true
+told_where fronts None awaited fits waiting not = absurd (false≢true waiting)
+told_where fronts (Some r) awaited fits waiting not = fits.told (quiet_then fronts r awaited fits not) waiting
+
+pub waiting_told : (user : List ℕ) (version : Version) (strict : Bool) (earlier : List Step) (begin : Step) (more : List Step) (after : Machine) → RunsFeed user version strict earlier begin more after
+    → waits after.feed ≡ true → (after.pending ≡ pending.More → ⊥) → empty_offers (put_by (more ++ begin ∷ [])) ≡ 1
+waiting_told user version strict earlier begin more after f waiting not =
+    let leads : Leads (new_machine user version strict) (more ++ begin ∷ earlier) after = leads_on (new_machine user version strict) f.first (begin ∷ earlier) (f.before, f.leads, f.begins) more after f.runs in
+    told_once user version strict earlier begin more after f
+    ∙ ap counted (told_where (feed_looks (more ++ begin ∷ earlier)) after.feed after.pending (all_fit user version strict (more ++ begin ∷ earlier) after leads) waiting not)
