@@ -6,4 +6,6 @@ mod faults;
 #[cfg(test)]
 mod meanings;
 #[cfg(test)]
+mod names;
+#[cfg(test)]
 mod printed;

@@ -1,0 +1,4 @@
+pub mod Earliest
+pub mod First
+pub mod Closing
+pub mod Steps

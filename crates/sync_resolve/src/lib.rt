@@ -1,0 +1,17 @@
+//! Programs of the sync language whose names stand for variables and functions.
+#![tactic(auto)]
+
+mod callee;
+mod expression;
+mod fault;
+mod own;
+mod program;
+mod scope;
+mod simple;
+mod statement;
+
+pub use fault::ResolveFault;
+pub use program::{Resolved, resolve};
+
+/// Want of memory.
+pub type Memory = std::alloc::AllocError;

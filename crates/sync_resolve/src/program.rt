@@ -1,0 +1,104 @@
+//! Programs whose names stand for something.
+
+ghost use Rattle.std.specs.Prelude.{◌≡◌, ◌≢◌, [], None, IfErr, IfOk};
+ghost use Rattle.sync_resolve.specs.declared.fault.ResolveFault.TheVariants.{Memory};
+ghost use Rattle.sync_resolve.specs.Faults.{IsFirst, earliest};
+ghost use Rattle.sync_resolve.specs.Resolving as spec;
+ghost use Rattle.sync_resolve.specs.Resolving.{IsResolved, faults};
+
+use crate::Memory;
+use crate::fault::ResolveFault;
+use crate::own::own_names;
+use crate::scope::Scope;
+use crate::statement::statements;
+use std::alloc::Global;
+use std::marker::Model;
+use sync_syntax::tree::{Declares, Program};
+
+/// A program whose names all stand for variables, functions and methods, which contracts see as that
+/// program.
+#[derive(Drop)]
+pub struct Resolved {
+    program: Program,
+}
+
+impl Model for Resolved {
+    ghost use Rattle.std.specs.Coded.{codes};
+    ghost use Rattle.sync_syntax.specs.contracts.tree.Expr as expr;
+    ghost use Rattle.sync_syntax.specs.contracts.tree.Statement as statement;
+    ghost use Rattle.sync_syntax.specs.declared.tree.Program.{Program};
+    ghost use Rattle.sync_resolve.specs.Resolving.{IsResolved};
+
+    ghost Value = { Program };
+
+    ghost coded = { Prim.hlevel (codes, expr.the_row.coded, statement.the_row.coded) };
+
+    ghost view = { λ r. r.program };
+
+    ghost invariant = { λ r. IsResolved r.program };
+}
+
+impl Resolved {
+    /// The program, whose names are without a fault.
+    pub fn as_program(&self) -> &Program
+        ensures value { result.now ≡ self.now }
+        ensures resolved { IsResolved result.now }
+    {
+        &self.program
+    }
+
+    /// Gives the program back, which takes no memory.
+    pub fn into_program(self) -> Program
+        ensures { result ≡ self }
+    {
+        self.program
+    }
+}
+
+/// The parameters.
+#[tactic(auto, unfolding(crate::specs::Resolving::parameter_faults), using(crate::proofs::Earliest::earliest_append))]
+fn parameters(first: &mut Option<ResolveFault>, scope: &Scope, program: &Program)
+    ensures { first.new ≡ earliest first.old (spec.parameter_faults program.now scope.now) }
+{
+    scope.once(first, Declares::Var, &program.first);
+    if let Some(second) = &program.second {
+        scope.once(first, Declares::Var, second);
+    }
+}
+
+/// The first fault of a program's names.
+#[tactic(auto, unfolding(crate::specs::Resolving::faults), using(crate::proofs::Earliest::earliest_append))]
+fn first_fault(alloc: Global, program: &Program) -> Result<Option<ResolveFault>, Memory>
+    ensures { IfOk result (λ first. first ≡ earliest None (faults program.now)) }
+{
+    let mut first = None;
+    let mut scope = Scope::top(alloc, own_names(alloc, program)?);
+    parameters(&mut first, &scope, program);
+    scope.enter()?;
+    statements(alloc, &mut first, &mut scope, program.body.as_slice())?;
+    Ok(first)
+}
+
+/// Whether a program's names have no fault, or else the first.
+fn check(alloc: Global, program: &Program) -> Result<(), ResolveFault>
+    ensures ok { IfOk result (λ _. IsResolved program.now) }
+    ensures fault { IfErr result (λ e. e ≢ Memory → IsFirst e (faults program.now)) }
+{
+    let first = first_fault(alloc, program)?;
+    match first {
+        Some(fault) => Err(fault),
+        None => Ok(()),
+    }
+}
+
+/// Resolves the names of a program. The fault is the first in the order of the text, and where two
+/// have one place a wrong count is the last. `Memory` may come in the place of any answer.
+pub fn resolve(alloc: Global, program: Program) -> Result<Resolved, ResolveFault>
+    // It is the program, where its names have no fault.
+    ensures ok { IfOk result (λ resolved. (resolved ≡ program) × IsResolved program) }
+    // Else it is the first fault, want of memory apart.
+    ensures fault { IfErr result (λ e. e ≢ Memory → IsFirst e (faults program)) }
+{
+    check(alloc, &program)?;
+    Ok(Resolved { program })
+}
