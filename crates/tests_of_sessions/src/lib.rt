@@ -6,6 +6,8 @@ mod boards;
 #[cfg(test)]
 mod grounds;
 #[cfg(test)]
+mod growing;
+#[cfg(test)]
 mod journals;
 #[cfg(test)]
 mod machine;

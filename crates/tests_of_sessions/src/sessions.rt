@@ -8,10 +8,14 @@ use sg_history::{Name, TextFault, from_hex, read_decimal, write_decimal, write_h
 use sg_outside::{Bytes, Got, Input, MemWire, ScriptedWire, Wire};
 use std::alloc::{AllocError, Global};
 use std::test::Fail;
+use write_path::SoloGround;
 
 /// A user's channel, three writes of which the user sees two, and no more.
 const JOURNAL: &str =
     "U|ann|A|-;W|d1|1-a|-|0|7b7d|-|1|1-a|A|-|-;W|d2|1-b|-|0|7b7d|-|2|1-b|B|-|-;W|d3|1-c|-|0|7b7d|-|3|1-c|!|-|-;";
+
+/// Another user's channel, and no more.
+const NOBODY: &str = "U|bob|A|-;";
 
 /// A user's channel, and no more.
 const ANN: &str = "U|ann|A|-;";
@@ -25,13 +29,18 @@ const SEVEN: &str = "U|ann|A|-;U|ann|A|-;U|ann|A|-;U|ann|A|-;U|ann|A|-;U|ann|A|-
 /// subChanges with since 0, as request 1.
 const ASK: &str = "01001b50726f66696c65007375624368616e6765730073696e6365003000952c1fb6";
 
-/// Serves ann's device over a wire, with conflicts off where it is strict.
-fn serve<W: Wire>(alloc: Global, journal: &str, strict: bool, wire: &mut W) -> Result<Ended, Fail> {
-    let setup = Setup {
+/// Ann's device, by version 3, with conflicts off where it is strict.
+pub fn setup_of(alloc: Global, strict: bool) -> Result<Setup, Fail> {
+    Ok(Setup {
         user: Name::parse(alloc, "ann")?,
         version: Version::Three,
         strict,
-    };
+    })
+}
+
+/// Serves ann's device over a wire, with conflicts off where it is strict.
+fn serve<W: Wire>(alloc: Global, journal: &str, strict: bool, wire: &mut W) -> Result<Ended, Fail> {
+    let setup = setup_of(alloc, strict)?;
     let (_ground, ended) = serve_session(alloc, ground_of(alloc, journal)?, setup, wire);
     Ok(ended)
 }
@@ -66,6 +75,11 @@ fn inputs_of(alloc: Global, frames: &str) -> Result<Vec<Input>, Fail> {
         inputs.push(input_of(alloc, word)?)?;
     }
     Ok(inputs)
+}
+
+/// A wire in memory that gives these.
+pub fn wire_of_frames(alloc: Global, frames: &str) -> Result<MemWire, Fail> {
+    Ok(MemWire::new(alloc, inputs_of(alloc, frames)?))
 }
 
 fn input_of(alloc: Global, word: &str) -> Result<Input, TextFault> {
@@ -179,20 +193,41 @@ nothing comes\n\
 three\n\
 idle\n\
 sent \n\
-Closed ";
+Closed \n\n\
+an idle moment while rows are on offer\n\
+three\n\
+01002b50726f66696c65007375624368616e6765730073696e6365003000636f6e74696e756f7573007472756500c7854a86 idle\n\
+sent 010100d202ef8d 01001050726f66696c65006368616e676573005b5b322c226431222c22312d61225d2c5b342c226433222c22312d63225d5dee65131d \n\
+Closed feed 4 \n\n\
+an error in place of the reply to an offer wants none\n\
+three\n\
+01001b50726f66696c65007375624368616e6765730073696e6365003000952c1fb6 0102214572726f722d446f6d61696e0048545450004572726f722d436f646500353030006e6f9b3d450d\n\
+sent 010100d202ef8d 01001050726f66696c65006368616e676573005b5b322c226431222c22312d61225d2c5b342c226433222c22312d63225d5dee65131d 02201050726f66696c65006368616e676573005b5d75169eed \n\
+Closed feed 4 \n\n\
+rows of one channel\n\
+three\n\
+01004450726f66696c65007375624368616e6765730073696e636500300066696c7465720073796e635f676174657761792f62796368616e6e656c006368616e6e656c73002100105a1836\n\
+sent 010100d202ef8d 01001050726f66696c65006368616e676573005b5b342c226433222c22312d63225d5d92b21248 \n\
+Closed feed 4 \n\n\
+a revision of a user that is gone\n\
+nobody\n\
+01001a50726f66696c65007265760069640064310072657600312d61007b7dce816d8e\n\
+sent 0102214572726f722d446f6d61696e0048545450004572726f722d436f646500343031007573657220697320676f6e65fcc5031e \n\
+Closed push 1 ";
 
 /// The journal of this name; `strict` stands for that of ann alone, with conflicts off.
 fn journal_of(name: &str) -> &'static str {
     match name {
         "seven" => SEVEN,
         "left" => LEFT,
+        "nobody" => NOBODY,
         "ann" | "strict" => ANN,
         _ => JOURNAL,
     }
 }
 
 /// What was sent in a session, and how it ended.
-fn served_text(alloc: Global, sent: &[Bytes], ended: &Ended) -> Result<String, AllocError> {
+pub fn served_text(alloc: Global, sent: &[Bytes], ended: &Ended) -> Result<String, AllocError> {
     let sent = frames_text(alloc, sent)?;
     let sent = std::str::from_utf8(sent.as_slice()).unwrap_or("no text");
     let ended = ended_text(alloc, ended)?;
@@ -200,7 +235,7 @@ fn served_text(alloc: Global, sent: &[Bytes], ended: &Ended) -> Result<String, A
 }
 
 fn session_text(alloc: Global, journal: &str, frames: &str) -> Result<String, Fail> {
-    let mut wire = MemWire::new(alloc, inputs_of(alloc, frames)?);
+    let mut wire = wire_of_frames(alloc, frames)?;
     let ended = serve(alloc, journal_of(journal), journal == "strict", &mut wire)?;
     Ok(served_text(alloc, wire.sent.as_slice(), &ended)?)
 }
@@ -346,6 +381,11 @@ fn last_four(bytes: &[u8]) -> &[u8] {
     &bytes[bytes.len().saturating_sub(4)..]
 }
 
+fn how_it_ends(alloc: Global, journal: &str, wire: &mut MemWire) -> Result<String, Fail> {
+    let ended = serve(alloc, journal, false, wire)?;
+    Ok(ended_text(alloc, &ended)?)
+}
+
 /// Whether a session of ann's device sends frames of these ends, and ends so.
 fn goes_so(
     alloc: Global,
@@ -354,11 +394,44 @@ fn goes_so(
     sent: &str,
     ended: &str,
 ) -> Result<bool, Fail> {
-    let mut wire = MemWire::new(alloc, inputs_of(alloc, frames)?);
-    let how = serve(alloc, journal, false, &mut wire)?;
-    let how = ended_text(alloc, &how)?;
+    let mut wire = wire_of_frames(alloc, frames)?;
+    let how = how_it_ends(alloc, journal, &mut wire)?;
     let ends = ends_of_frames(alloc, wire.sent.as_slice())?;
     Ok(how.as_str() == ended && ends.as_slice() == sent.as_bytes())
+}
+
+/// What comes where the device connects again: subChanges with since 254.
+const EVENING: &str =
+    "01002d50726f66696c65007375624368616e6765730073696e63650032353400636f6e74696e756f757300747275650047ea488e";
+
+const EVENING_TEXT: &str =
+    "sent 010100d202ef8d 01201050726f66696c65006368616e676573005b5d82f2cb1a \nClosed feed 254 ";
+
+/// What the history is once ann's device was served so.
+fn left_by(alloc: Global, journal: &str, frames: &str) -> Result<SoloGround, Fail> {
+    let mut wire = wire_of_frames(alloc, frames)?;
+    let setup = setup_of(alloc, false)?;
+    let (ground, _ended) = serve_session(alloc, ground_of(alloc, journal)?, setup, &mut wire);
+    Ok(ground)
+}
+
+/// What is sent where ann's device connects to what a session left, and how it ends.
+fn text_after(alloc: Global, ground: SoloGround, frames: &str) -> Result<String, Fail> {
+    let mut wire = wire_of_frames(alloc, frames)?;
+    let (_ground, ended) = serve_session(alloc, ground, setup_of(alloc, false)?, &mut wire);
+    Ok(served_text(alloc, wire.sent.as_slice(), &ended)?)
+}
+
+fn evening_text(alloc: Global) -> Result<String, Fail> {
+    let journal = many_documents(alloc)?;
+    let ground = left_by(alloc, journal.as_str(), AFTERNOON)?;
+    text_after(alloc, ground, EVENING)
+}
+
+#[test]
+fn a_device_that_connects_again(rt: HostRuntime) -> Result<(), Fail> {
+    assert!(rt; evening_text(rt.alloc())?.as_str() == EVENING_TEXT);
+    Ok(())
 }
 
 #[test]
@@ -380,8 +453,23 @@ const LONG_SENT: &str =
 
 const LONG_ENDED: &str = "Closed push 1 feed 2 bodies 2 stored 2 ";
 
+/// The same but for the device's last acknowledgement: the ninth frame of the body is not sent.
+const PAUSED_SENT: &str =
+    "5:34808004 5:34808008 7:d202ef8d 7:41d912ff 39:8c057a55 16390:4c7c5ba4 25:13dbe658 16390:8d403154 16390:134e6093 16390:fa48ae0d 16390:297359c4 16390:424aee7e 16390:95d8f66d 16390:f8e534de ";
+
+fn pauses(alloc: Global) -> Result<bool, Fail> {
+    let (frames, _acknowledgement) = LONG.rsplit_once(' ').ok_or("one frame")?;
+    goes_so(alloc, ANN, frames, PAUSED_SENT, LONG_ENDED)
+}
+
 #[test]
-fn a_long_body_is_acknowledged_and_pauses(rt: HostRuntime) -> Result<(), Fail> {
+fn a_long_body_pauses(rt: HostRuntime) -> Result<(), Fail> {
+    assert!(rt; pauses(rt.alloc())?);
+    Ok(())
+}
+
+#[test]
+fn a_long_body_goes_on_once_it_is_acknowledged(rt: HostRuntime) -> Result<(), Fail> {
     assert!(rt; goes_so(rt.alloc(), ANN, LONG, LONG_SENT, LONG_ENDED)?);
     Ok(())
 }
