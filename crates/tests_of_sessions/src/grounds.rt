@@ -221,17 +221,23 @@ long_history 0 long_history 2 ->2:rev 3-c,2-b {};\n\
 long_history 0 long_history 3 ->2:rev 3-c,2-b,1-a {};\n\
 long_history 0 long_history 18446744073709551615 ->2:rev 3-c,2-b,1-a {};";
 
+/// What a look for the bodies of rows answers of a worked journal.
+fn bodies_of(
+    alloc: Global,
+    name: &str,
+    options: &Options,
+    rows: &Rows,
+    most: u64,
+) -> Result<Bytes, Fail> {
+    let mut ground = worked(alloc, name)?;
+    bodies(alloc, &mut ground, options, rows, most)
+}
+
 /// What a look answers to words: a journal, the most ancestors, and a filter.
 fn looked(alloc: Global, rows: &Rows, words: &str) -> Result<Bytes, Fail> {
     let (name, most, filter) = three_words(words).ok_or("no line of the table")?;
     let options = options_of(alloc, filter)?;
-    bodies(
-        alloc,
-        &mut worked(alloc, name)?,
-        &options,
-        rows,
-        most.parse()?,
-    )
+    bodies_of(alloc, name, &options, rows, most.parse()?)
 }
 
 /// Three words with blanks between.

@@ -1,4 +1,4 @@
-//! Tests of the board, of grounds, of the machine of a session and of whole sessions.
+//! Tests of the board, of grounds and of whole sessions.
 #![tactic(auto)]
 
 #[cfg(test)]
@@ -9,8 +9,6 @@ mod grounds;
 mod growing;
 #[cfg(test)]
 mod journals;
-#[cfg(test)]
-mod machine;
 #[cfg(test)]
 mod proposals;
 #[cfg(test)]
