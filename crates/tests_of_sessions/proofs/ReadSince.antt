@@ -1,5 +1,5 @@
 -- Boards that were read, once more had been read before.
-use Rattle.std.proofs.Common.{◌≡◌, inl, inr, ℕ, List, [], ◌∷◌, ◌++◌, length, Result, Ok, Err, IfOk, Some, None, sym, ◌∙◌, ap}
+use Rattle.std.proofs.Common.{inl, inr, ℕ, List, [], ◌∷◌, ◌++◌, Result, Ok, Err, IfOk, Some, None, sym, ◌∙◌, ap}
 use Rattle.std.proofs.lemmas.List.{append_assoc}
 use Rattle.sg_history.specs.Board.{BoardState}
 use Rattle.write_path.specs.Reads.{Reads, WasRead, IsOneOf, HasLength}

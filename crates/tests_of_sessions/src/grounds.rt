@@ -141,9 +141,14 @@ fn feeds_of_worked_journals(rt: HostRuntime) -> Result<(), Fail> {
     Ok(())
 }
 
+fn feed_of(alloc: Global, name: &str, since: &str) -> Result<Fed, Fail> {
+    let mut ground = worked(alloc, name)?;
+    feed(alloc, &mut ground, since)
+}
+
 /// The rows of ann's feed after a since key.
 fn rows_of(alloc: Global, name: &str, since: &str) -> Result<Rows, Fail> {
-    match feed(alloc, &mut worked(alloc, name)?, since)? {
+    match feed_of(alloc, name, since)? {
         Fed::Rows { front: _, rows } => Ok(rows),
         Fed::Future { front: _ } => Ok(Rows::new(alloc)),
     }

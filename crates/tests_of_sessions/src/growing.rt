@@ -4,11 +4,11 @@ ghost use Rattle.std.specs.Prelude.{length};
 ghost use Rattle.write_path.specs.Reads.{Reads};
 
 use crate::grounds::ground_of;
-use crate::sessions::{served_text, setup_of, wire_of_frames};
+use crate::sessions::{serve_on, served_text, wire_of_frames};
 use repl_messages::{Asked, Bodies, Fed, Offer, Revision};
-use session_run::serve_session;
+use session_run::Ended;
 use sg_history::{DocId, Key, Name, Options, RevId, Revs, Row};
-use sg_outside::{Bytes, Memory};
+use sg_outside::{Bytes, MemWire, Memory};
 use std::alloc::Global;
 use std::test::Fail;
 use write_path::{Ground, Outcome, SoloGround};
@@ -129,10 +129,15 @@ const WANTED: &str =
 const TAKEN_BACK: &str =
     "sent 010100d202ef8d 01001050726f66696c65006368616e676573005b5b342c226431222c22312d61225d5d3c4e0afe 02204650726f66696c65006e6f7265760069640064310072657600312d610073657175656e63650034006572726f720034303400726561736f6e006e6f7420617661696c61626c650032f748ad 03001050726f66696c65006368616e676573005b5b22363a34222c226431222c22312d61222c325d2c5b362c2267222c22322d68225d5dfa9fa1bc \nClosed feed 5 bodies 6 feed 6 ";
 
+fn serve(alloc: Global, wire: &mut MemWire) -> Result<Ended, Fail> {
+    let ground = growing(alloc)?;
+    let (_ground, ended) = serve_on(alloc, ground, false, wire)?;
+    Ok(ended)
+}
+
 fn session_text(alloc: Global) -> Result<String, Fail> {
     let mut wire = wire_of_frames(alloc, WANTED)?;
-    let ground = growing(alloc)?;
-    let (_ground, ended) = serve_session(alloc, ground, setup_of(alloc, false)?, &mut wire);
+    let ended = serve(alloc, &mut wire)?;
     Ok(served_text(alloc, wire.sent.as_slice(), &ended)?)
 }
 

@@ -186,16 +186,28 @@ fn conflicts_that_are_allowed(rt: HostRuntime) -> Result<(), Fail> {
 /// the first that is known.
 #[test]
 fn a_write_is_stored(rt: HostRuntime) -> Result<(), Fail> {
-    let alloc = rt.alloc();
+    let ground = written(rt.alloc())?;
+    assert!(rt; has_write(ground));
+    Ok(())
+}
+
+/// A ground at which the revision 4-d was stored.
+fn written(alloc: Global) -> Result<SoloGround, Fail> {
     let mut ground = ground_of(alloc, "W|d1|2-b|1-a|0|7b7d|-|0|2-b|A|-|-;")?;
     let text = proposed(alloc, &mut ground, "- d1 4-d 3-c,2-b,1-a >")?;
-    assert!(rt; text.as_bytes() == b"stored 2 at 1".as_slice(), "{text}");
+    if text.as_str() != "stored 2 at 1" {
+        return Err(Fail::from("not stored as the second"));
+    }
+    Ok(ground)
+}
+
+/// Whether the last entry is the write that is wanted.
+fn has_write(ground: SoloGround) -> bool {
     let shelf = ground.into_inner();
-    let Some(Entry::Write(write)) = shelf.board.log().entries.as_slice().last() else {
-        return Err(Fail::from("no write"));
-    };
-    assert!(rt; is_as_wanted(write));
-    Ok(())
+    match shelf.board.log().entries.as_slice().last() {
+        Some(Entry::Write(write)) => is_as_wanted(write),
+        _ => false,
+    }
 }
 
 /// The body `{}`, no writer, the front 1, two ancestors, the revision itself as the winner, and the channel of every user alone.
@@ -309,13 +321,23 @@ fn asked(alloc: Global, ground: &mut SoloGround, rev: &str, parent: &str) -> Res
     first_text(alloc, asked.answers.as_slice())
 }
 
+fn is_answered_so(
+    alloc: Global,
+    lines: &str,
+    rev: &str,
+    parent: &str,
+    want: &str,
+) -> Result<bool, Fail> {
+    let mut ground = ground_of(alloc, lines)?;
+    Ok(asked(alloc, &mut ground, rev, parent)?.as_str() == want)
+}
+
 /// Three leaves, of which one deletes.
 const LEAVES: &str =
     "W|d1|1-a|-|0|7b7d|-|0|1-a|A|-|-;W|d1|2-b|1-x|0|7b7d|-|1|2-b|A|-|-;W|d1|2-c|1-y|1|7b7d|-|2|2-b|A|-|-;";
 
 #[test]
 fn offers_are_answered(rt: HostRuntime) -> Result<(), Fail> {
-    let alloc = rt.alloc();
     for (lines, rev, parent, want) in [
         ("", "1-a", "-", "false false false:"),
         (LEAVES, "2-b", "1-a", "true true false 2-b:"),
@@ -323,8 +345,10 @@ fn offers_are_answered(rt: HostRuntime) -> Result<(), Fail> {
         (LEAVES, "2-d", "-", "false false false 2-b: 1-a"),
         (LEAVES, "1-d", "-", "false false false 2-b:"),
     ] {
-        let text = asked(alloc, &mut ground_of(alloc, lines)?, rev, parent)?;
-        assert!(rt; text.as_bytes() == want.as_bytes(), "{rev} {text}");
+        assert!(rt;
+            is_answered_so(rt.alloc(), lines, rev, parent, want)?,
+            "{rev}"
+        );
     }
     Ok(())
 }

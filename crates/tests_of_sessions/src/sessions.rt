@@ -8,7 +8,7 @@ use sg_history::{Name, TextFault, from_hex, read_decimal, write_decimal, write_h
 use sg_outside::{Bytes, Got, Input, MemWire, ScriptedWire, Wire};
 use std::alloc::{AllocError, Global};
 use std::test::Fail;
-use write_path::SoloGround;
+use write_path::{Ground, SoloGround};
 
 /// A user's channel, three writes of which the user sees two, and no more.
 const JOURNAL: &str =
@@ -30,7 +30,7 @@ const SEVEN: &str = "U|ann|A|-;U|ann|A|-;U|ann|A|-;U|ann|A|-;U|ann|A|-;U|ann|A|-
 const ASK: &str = "01001b50726f66696c65007375624368616e6765730073696e6365003000952c1fb6";
 
 /// Ann's device, by version 3, with conflicts off where it is strict.
-pub fn setup_of(alloc: Global, strict: bool) -> Result<Setup, Fail> {
+fn setup_of(alloc: Global, strict: bool) -> Result<Setup, Fail> {
     Ok(Setup {
         user: Name::parse(alloc, "ann")?,
         version: Version::Three,
@@ -38,10 +38,21 @@ pub fn setup_of(alloc: Global, strict: bool) -> Result<Setup, Fail> {
     })
 }
 
-/// Serves ann's device over a wire, with conflicts off where it is strict.
-fn serve<W: Wire>(alloc: Global, journal: &str, strict: bool, wire: &mut W) -> Result<Ended, Fail> {
+/// Serves ann's device over a wire and a ground, with conflicts off where it is strict.
+pub fn serve_on<W: Wire, G: Ground>(
+    alloc: Global,
+    ground: G,
+    strict: bool,
+    wire: &mut W,
+) -> Result<(G, Ended), Fail> {
     let setup = setup_of(alloc, strict)?;
-    let (_ground, ended) = serve_session(alloc, ground_of(alloc, journal)?, setup, wire);
+    Ok(serve_session(alloc, ground, setup, wire))
+}
+
+/// The same over a journal.
+fn serve<W: Wire>(alloc: Global, journal: &str, strict: bool, wire: &mut W) -> Result<Ended, Fail> {
+    let ground = ground_of(alloc, journal)?;
+    let (_ground, ended) = serve_on(alloc, ground, strict, wire)?;
     Ok(ended)
 }
 
@@ -410,22 +421,23 @@ const EVENING_TEXT: &str =
 /// What the history is once ann's device was served so.
 fn left_by(alloc: Global, journal: &str, frames: &str) -> Result<SoloGround, Fail> {
     let mut wire = wire_of_frames(alloc, frames)?;
-    let setup = setup_of(alloc, false)?;
-    let (ground, _ended) = serve_session(alloc, ground_of(alloc, journal)?, setup, &mut wire);
+    let ground = ground_of(alloc, journal)?;
+    let (ground, _ended) = serve_on(alloc, ground, false, &mut wire)?;
     Ok(ground)
 }
 
-/// What is sent where ann's device connects to what a session left, and how it ends.
-fn text_after(alloc: Global, ground: SoloGround, frames: &str) -> Result<String, Fail> {
-    let mut wire = wire_of_frames(alloc, frames)?;
-    let (_ground, ended) = serve_session(alloc, ground, setup_of(alloc, false)?, &mut wire);
-    Ok(served_text(alloc, wire.sent.as_slice(), &ended)?)
+/// How ann's device is served over what was left of the afternoon.
+fn serve_again(alloc: Global, wire: &mut MemWire) -> Result<Ended, Fail> {
+    let journal = many_documents(alloc)?;
+    let ground = left_by(alloc, journal.as_str(), AFTERNOON)?;
+    let (_ground, ended) = serve_on(alloc, ground, false, wire)?;
+    Ok(ended)
 }
 
 fn evening_text(alloc: Global) -> Result<String, Fail> {
-    let journal = many_documents(alloc)?;
-    let ground = left_by(alloc, journal.as_str(), AFTERNOON)?;
-    text_after(alloc, ground, EVENING)
+    let mut wire = wire_of_frames(alloc, EVENING)?;
+    let ended = serve_again(alloc, &mut wire)?;
+    Ok(served_text(alloc, wire.sent.as_slice(), &ended)?)
 }
 
 #[test]
