@@ -368,8 +368,8 @@ const AFTERNOON_ENDED: &str =
 /// A user with a channel, and 250 documents in it.
 fn many_documents(alloc: Global) -> Result<String, AllocError> {
     let mut lines = String::from_str(alloc, ANN)?;
-    for sequence in 2..252 {
-        let at = sequence - 1;
+    for sequence in 2u64..252 {
+        let at = sequence.saturating_sub(1);
         let write = format!(in alloc; "W|d{sequence:03}|1-a|-|0|7b7d|-|{at}|1-a|A|-|-;")?;
         lines.push_str(write.as_str())?;
     }
