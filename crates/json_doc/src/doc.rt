@@ -59,6 +59,20 @@ impl Model for Doc {
     ghost invariant = { λ d. is_object (node_tree d.object) ≡ true };
 }
 
+impl From<Members> for Doc {
+    ghost use Rattle.std.specs.Prelude.{◌≡◌};
+    ghost use Rattle.json_doc.specs.Tree.{object};
+    ghost use Rattle.json_doc.specs.View.{node_tree, members_fields};
+
+    ghost from_gives = { λ members doc. node_tree doc ≡ object (members_fields members) };
+
+    fn from(members: Members) -> Doc {
+        Doc {
+            object: Node::Object(members),
+        }
+    }
+}
+
 impl Doc {
     /// The document as a node, which is an object.
     pub fn as_node(&self) -> &Node
@@ -83,6 +97,16 @@ impl Doc {
         ensures { option_map (λ n. node_tree n.now) result ≡ get_member name.now (node_tree self.now) }
     {
         self.object.get(name)
+    }
+
+    /// Gives the top members back, which takes no memory.
+    pub fn into_members(self) -> Members
+        ensures { node_tree self ≡ object (members_fields result) }
+    {
+        match self.object {
+            Node::Object(members) => members,
+            _ => unreachable!(),
+        }
     }
 
     pub fn copy(&self, alloc: Global) -> Result<Doc, Memory>

@@ -4,10 +4,12 @@
 mod convert;
 pub mod doc;
 pub mod node;
+pub mod system;
 pub mod text;
 
 pub use doc::{Doc, DocFault, read_doc};
 pub use node::{Members, Node, Nodes};
+pub use system::with_system;
 pub use text::DocText;
 
 /// Want of memory.
