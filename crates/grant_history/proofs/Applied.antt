@@ -1,5 +1,5 @@
 -- the places of a log, and a history of grants that applied the next one
-use Rattle.std.proofs.Common.{◌≡◌, ◌⊎◌, inl, inr, ◌<◌, ◌≤◌, ◌+◌, ◌-◌, ℕ, zero, suc, refl, sym, ◌∙◌, ap, subst, arith, List, [], ◌∷◌, ◌++◌, length, take, reverse, Option, Some, None}
+use Rattle.std.proofs.Common.{◌≡◌, ◌⊎◌, inl, inr, ◌<◌, ◌≤◌, ◌+◌, ◌-◌, ℕ, zero, suc, refl, sym, ◌∙◌, ap, subst, arith, nat_lt, List, [], ◌∷◌, ◌++◌, length, take, reverse, Option, Some, None}
 use Rattle.std.specs.Prelude.{slice_get}
 use Rattle.std.proofs.lemmas.Bool.{cases_lt}
 use Rattle.std.proofs.lemmas.List.{length-append, reverse-reverse, reverse-append, length-reverse, length-take-le}
@@ -24,6 +24,7 @@ use Rattle.grant_history.specs.Holdings.{has_at}
 use Rattle.grant_history.specs.Sources.{is_held}
 use Rattle.grant_history.specs.Ledger.{facts_of_write, write_facts, IsLedger, Took}
 use Rattle.grant_history.specs.Stands.{IsIndexed, LedgerAt, StandsFor, IsNext}
+use Rattle.grant_history.proofs.Keeping.{settled, later_store}
 
 take_next : (entries : List Entry) (n : ℕ) (e : Entry) → slice_get entries n ≡ Some e → take (suc n) entries ≡ take n entries ++ e ∷ []
 take_next [] n e h = absurd (none-some e h)
@@ -94,6 +95,17 @@ module _ (history : GrantHistory) (entries : List Entry) (e : Entry) (at : ℕ) 
       is_kept = is;
       held = λ k f le. before f k (omega (arith, le, next.place)) ∙ next.kept.held k f le;
     }
+
+-- what is held at the last place is held from there on
+pub held_on : (kept : Ledger) (entries : List Entry) (n k : ℕ) (f : Fact) → n ≤ length entries → LedgerAt kept entries n → n ≤ k → has_at kept.store f k ≡ is_held (past entries n) f
+held_on kept entries n k f high at le = elim (cases_lt k (n + 1)) [
+  | inl below ↦
+      let here : k ≡ n = omega (arith, below, le) in
+      ap (λ (m : ℕ). has_at kept.store f m) here ∙ at.held n f (omega arith)
+  | inr above ↦
+      settled kept.store k f (later_store kept.store (length (past entries n) + 1) k (omega (arith, above, past_count entries n high)) at.is_kept.up_to)
+      ∙ ap (λ (m : ℕ). nat_lt 0 m) (at.is_kept.counts f)
+]
 
 -- the index before and after the next entry
 module _ (index : LogIndex) (entries : List Entry) (n : ℕ) (e : Entry) (is : slice_get entries n ≡ Some e) (more : n < length entries) where

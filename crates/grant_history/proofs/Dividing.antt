@@ -1,8 +1,7 @@
 -- periods of one channel more
-use Rattle.std.proofs.Common.{◌≡◌, ◌<◌, ◌≤◌, ℕ, zero, suc, refl, sym, ◌∙◌, ap, subst, arith, Bool, true, false, ◌&&◌, ◌||◌, List, [], ◌∷◌, ◌++◌, map, take, drop, length, get_or, ◌+◌, Option, Some, None, Vec}
+use Rattle.std.proofs.Common.{◌≡◌, ◌<◌, ℕ, zero, suc, refl, sym, ◌∙◌, ap, subst, arith, Bool, true, false, ◌&&◌, ◌||◌, List, [], ◌∷◌, ◌++◌, map, take, drop, length, get_or, ◌+◌, Option, Some, None}
 use Rattle.std.specs.List.{list_any}
 use Rattle.std.specs.BTreeMap.{get_by_text}
-use Rattle.std.specs.Global.{Global}
 use Rattle.std.specs.Str.{bytes_eq}
 use Rattle.std.specs.Cmp.Lexicographic.{bytes_decides}
 use Rattle.std.proofs.lemmas.Bool.{false≢true, true≢false}
@@ -17,7 +16,7 @@ use Rattle.grant_history.specs.Tracks.{held_at}
 use Rattle.grant_history.specs.Holdings.{Holders, held_in}
 use Rattle.grant_history.specs.Reads.{is_channel, channel_among, channel_by, gives_channel, by_roles, list_channel}
 use Rattle.grant_history.specs.Spells.{spell_has, spells_have, IsBeforeAll, AreApart}
-use Rattle.grant_history.specs.Periods.{period_has, periods_have, EndsBeforeLater, ArePeriodsApart, ever_among, ever_by, ever_gives, ever_by_roles, may_have, period_of, period_order, Adds, AreOf, AreSoFar, AreInOrder, AreAllPeriods}
+use Rattle.grant_history.specs.Periods.{period_has, periods_have, EndsBeforeLater, ArePeriodsApart, HavePlaces, ever_among, ever_by, ever_gives, ever_by_roles, may_have, period_of, period_order, Adds, AreOf, AreSoFar, AreInOrder, AreAllPeriods}
 use Rattle.grant_history.specs.Sorted.{AreSorted}
 use Rattle.sg_names.specs.ItemList.{rises}
 use Rattle.std.specs.Ordering.{nat_cmp, is_lt, is_eq, ordering_then}
@@ -26,7 +25,7 @@ use Rattle.std.specs.declared.cmp.Ordering.{Ordering}
 use Rattle.std.specs.declared.cmp.Ordering.TheVariants.{Less, Equal, Greater}
 use Rattle.std.proofs.lemmas.Cmp.{nat_list_cmp_total}
 use Rattle.std.proofs.lemmas.Map.Text.{is_eq-slice_cmp}
-use Rattle.grant_history.proofs.Same.{text_itself, texts_swap}
+use Rattle.grant_history.proofs.Same.{text_itself}
 use Rattle.grant_history.specs.Things.{Things}
 
 among_append : (xs : List (List ℕ)) (y x : List ℕ) → among (xs ++ y ∷ []) x ≡ (among xs x || bytes_eq y x)
@@ -67,7 +66,15 @@ mapped_before c s (t ∷ ts) h = ((λ same. h.0), mapped_before c s ts h.2)
 
 mapped_apart : (c : List ℕ) (spells : List Spell) → AreApart spells → ArePeriodsApart (map (period_of c) spells)
 mapped_apart c [] h = tt
-mapped_apart c (s ∷ ss) h = (mapped_before c s ss h.0, mapped_apart c ss h.1)
+mapped_apart c (s ∷ ss) h = (mapped_before c s ss h.1, mapped_apart c ss h.2)
+
+mapped_places : (c : List ℕ) (spells : List Spell) → AreApart spells → HavePlaces (map (period_of c) spells)
+mapped_places c [] h = tt
+mapped_places c (s ∷ ss) h = (h.0, mapped_places c ss h.2)
+
+places_joined : (xs ys : List Period) → HavePlaces xs → HavePlaces ys → HavePlaces (xs ++ ys)
+places_joined [] ys h g = g
+places_joined (x ∷ xs) ys h g = (h.0, places_joined xs ys h.1 g)
 
 later_append : (p : Period) (xs : List Period) (c : List ℕ) (spells : List Spell) → EndsBeforeLater p xs → bytes_eq p.channel c ≡ false → EndsBeforeLater p (xs ++ map (period_of c) spells)
 later_append p [] c [] h apart = tt
@@ -120,8 +127,8 @@ mapped_in_order c [] h = refl
 mapped_in_order c (s ∷ []) h = refl
 mapped_in_order c (s ∷ t ∷ ts) h =
     ap (λ (o : Ordering). is_lt (ordering_then o (nat_cmp s.from t.from)) && rises period_order (map (period_of c) (t ∷ ts))) (itself c)
-    ∙ ap (λ (b : Bool). b && rises period_order (map (period_of c) (t ∷ ts))) (less s.from t.from h.0.1)
-    ∙ mapped_in_order c (t ∷ ts) h.1
+    ∙ ap (λ (b : Bool). b && rises period_order (map (period_of c) (t ∷ ts))) (less s.from t.from h.1.1)
+    ∙ mapped_in_order c (t ∷ ts) h.2
   where
     less : (a b : ℕ) → a < b → is_lt (nat_cmp a b) ≡ true
     less a b below = grind (arith, below)
@@ -220,7 +227,7 @@ parted (y ∷ ys) (suc i) x within is =
     ∙ ap (λ (n : ℕ). y ∷ (take i ys ++ x ∷ drop n (y ∷ ys))) next
 
 pub none_so_far : (periods : List Period) (test : List ℕ → ℕ → Bool) → periods ≡ [] → AreSoFar [] periods test
-none_so_far periods test empty = subst (λ (l : List Period). AreSoFar [] l test) (sym empty) (record { says = λ c k. refl; apart = tt; of = tt; in_order = refl })
+none_so_far periods test empty = subst (λ (l : List Period). AreSoFar [] l test) (sym empty) (record { says = λ c k. refl; apart = tt; have_places = tt; of = tt; in_order = refl })
 
 pub more_so_far : (names : List (List ℕ)) (old new : List Period) (c : List ℕ) (rest : List (List ℕ)) (test : List ℕ → ℕ → Bool) → AreSoFar names old test → AreSorted (names ++ c ∷ rest) → Adds old new c (test c) → AreSoFar (names ++ c ∷ []) new test
 more_so_far names old new c rest test s sorted adds = subst (λ (l : List Period). AreSoFar (names ++ c ∷ []) l test) (sym adds.added) (record {
@@ -231,6 +238,7 @@ more_so_far names old new c rest test s sorted adds = subst (λ (l : List Period
       ∙ by x k (bytes_eq c x) refl
       ∙ ap (λ (b : Bool). b && test x k) (sym (among_append names c x));
   apart = apart_joined names old c adds.spells s.apart s.of (not_there names c rest sorted) adds.apart;
+  have_places = places_joined old (map (period_of c) adds.spells) s.have_places (mapped_places c adds.spells adds.apart);
   of = of_joined (names ++ c ∷ []) old (map (period_of c) adds.spells) (of_more names c old s.of) (of_mapped names c adds.spells);
   in_order = in_order_joined old c adds.spells (all_before names c rest old sorted s.of) s.in_order (mapped_in_order c adds.spells adds.apart);
 })
@@ -301,6 +309,7 @@ pub all_so_far : (names : List (List ℕ)) (periods : List Period) (roles : Hold
 all_so_far names periods roles all test s are same = record {
   says = λ c k. s.says c k ∙ ap (λ (b : Bool). among names c && b) (same c k) ∙ by c k (list_channel roles all k c) refl;
   apart = s.apart;
+  have_places = s.have_places;
   in_order = s.in_order;
 }
   where
@@ -313,4 +322,4 @@ all_so_far names periods roles all test s are same = record {
     by c k false is = ap (λ (b : Bool). among names c && b) is ∙ none (among names c) ∙ sym is
 
 pub no_periods : (periods : List Period) (test : List ℕ → ℕ → Bool) → periods ≡ [] → ((c : List ℕ) (k : ℕ) → test c k ≡ false) → AreAllPeriods periods test
-no_periods periods test empty never = subst (λ (l : List Period). AreAllPeriods l test) (sym empty) (record { says = λ c k. sym (never c k); apart = tt; in_order = refl })
+no_periods periods test empty never = subst (λ (l : List Period). AreAllPeriods l test) (sym empty) (record { says = λ c k. sym (never c k); apart = tt; have_places = tt; in_order = refl })

@@ -40,9 +40,9 @@ before_append : (x : Spell) (list : List Spell) (s : Spell) → IsBeforeAll x li
 before_append x [] s h e f = (e, f, tt)
 before_append x (y ∷ ys) s h e f = (h.0, h.1, before_append x ys s h.2 e f)
 
-pub apart_append : (list : List Spell) (s : Spell) → AreApart list → AllEndBefore list s.from → AreApart (list ++ s ∷ [])
-apart_append [] s h e = (tt, tt)
-apart_append (x ∷ xs) s h e = (before_append x xs s h.0 e.0 e.1, apart_append xs s h.1 e.2)
+pub apart_append : (list : List Spell) (s : Spell) → AreApart list → AllEndBefore list s.from → ends_after s.to s.from ≡ true → AreApart (list ++ s ∷ [])
+apart_append [] s h e some = (some, tt, tt)
+apart_append (x ∷ xs) s h e some = (h.0, before_append x xs s h.1 e.0 e.1, apart_append xs s h.2 e.2 some)
 
 pub swept_new : (sweep : Sweep) → sweep.list.items ≡ [] → sweep.begun ≡ None → (test : ℕ → Bool) → test 0 ≡ false → Swept sweep test 0
 swept_new sweep empty none test first = record {
@@ -124,11 +124,14 @@ module _ (old new : Sweep) (test : ℕ → Bool) (n k : ℕ) (s : Swept old test
         now = ap (λ (o : Option ℕ). is_some o) none ∙ sym holds;
         ended = subst (λ (l : List Spell). AllEndBefore l (k + 1)) (sym pushed) ended_new;
         begun = λ f at. absurd (none-some f (sym none ∙ at));
-        apart = subst (λ (l : List Spell). AreApart l) (sym pushed) (apart_append old.list.items (record { from = from; to = Some k }) s.apart began.1);
+        apart = subst (λ (l : List Spell). AreApart l) (sym pushed) (apart_append old.list.items (record { from = from; to = Some k }) s.apart began.1 lasting);
       }
     where
       ended_new : AllEndBefore (old.list.items ++ record { from = from; to = Some k } ∷ []) (k + 1)
       ended_new = ends_append old.list.items (record { from = from; to = Some k }) (k + 1) ended_later (k, refl, omega arith) (omega (arith, (s.begun from was).0, place))
+
+      lasting : nat_lt from k ≡ true
+      lasting = let below : from < k = omega (arith, (s.begun from was).0, place) in grind (arith, below)
 
       inside : (j : ℕ) → j ≤ n → (nat_le from j && nat_lt j k) ≡ nat_le from j
       inside j le = let below : j < k = omega (arith, le, place) in grind (arith, below)
@@ -164,7 +167,7 @@ module _ (old new : Sweep) (test : ℕ → Bool) (n k : ℕ) (s : Swept old test
 
 -- a spell without an end is the last
 pub last_apart : (list : List Spell) (from : ℕ) → AreApart list → AllEndBefore list from → AreApart (list ++ record { from = from; to = None } ∷ [])
-last_apart list from apart before = apart_append list (record { from = from; to = None }) apart before
+last_apart list from apart before = apart_append list (record { from = from; to = None }) apart before refl
 
 pub last_says : (list : List Spell) (from k : ℕ) → spells_have (list ++ record { from = from; to = None } ∷ []) k ≡ (spells_have list k || nat_le from k)
 last_says list from k = any_append k list (record { from = from; to = None }) ∙ ap (λ (b : Bool). spells_have list k || b) (by (nat_le from k))

@@ -1,6 +1,5 @@
 -- The periods of a user: for each channel, its spells.
-use Rattle.std.specs.Prelude.{◌≡◌, ◌≤◌, ℕ, Bool, true, false, ◌&&◌, ◌||◌, List, [], ◌∷◌, ◌++◌, map, Vec, Option, Some, None}
-use Rattle.std.specs.Global.{Global}
+use Rattle.std.specs.Prelude.{◌≡◌, ◌≤◌, ℕ, Bool, true, false, ◌&&◌, ◌||◌, List, [], ◌∷◌, ◌++◌, map, Option, Some, None}
 use Rattle.std.specs.List.{list_any}
 use Rattle.std.specs.Str.{bytes_eq}
 use Rattle.std.specs.Ordering.{nat_cmp, ordering_then}
@@ -38,6 +37,11 @@ EndsBeforeLater p (q ∷ qs) = (bytes_eq p.channel q.channel ≡ true → EndsBe
 abbrev pub ArePeriodsApart : List Period → Type 0
 ArePeriodsApart [] = Unit {0}
 ArePeriodsApart (p ∷ ps) = EndsBeforeLater p ps × ArePeriodsApart ps
+
+-- each period has a place: it ends after it begins, or not at all
+abbrev pub HavePlaces : List Period → Type 0
+HavePlaces [] = Unit {0}
+HavePlaces (p ∷ ps) = (ends_after p.to p.from ≡ true) × HavePlaces ps
 
 -- whether one of these is or was the channel
 abbrev pub ever_among : List Held → List ℕ → Bool
@@ -90,16 +94,21 @@ AreInOrder periods = rises period_order periods ≡ true
 pub record AreSoFar (names : List (List ℕ)) (periods : List Period) (test : List ℕ → ℕ → Bool) : Type 0 where
   pub says : (c : List ℕ) (k : ℕ) → periods_have periods c k ≡ (among names c && test c k)
   pub apart : ArePeriodsApart periods
+  pub have_places : HavePlaces periods
   pub of : AreOf names periods
   pub in_order : AreInOrder periods
 
--- the periods of each channel are those in which a test holds, neither touch nor overlap, and stand in their order
+-- the periods of each channel are those in which a test holds, have places, neither touch nor overlap, and stand in their order
 pub record AreAllPeriods (periods : List Period) (test : List ℕ → ℕ → Bool) : Type 0 where
   pub says : (c : List ℕ) (k : ℕ) → periods_have periods c k ≡ test c k
   pub apart : ArePeriodsApart periods
+  pub have_places : HavePlaces periods
   pub in_order : AreInOrder periods
 
--- up to a place the periods of each channel are those in which a test holds, and neither touch nor overlap
+-- up to a place the periods of each channel are those in which a test holds, and from there on it is as at that place: one that
+-- lasts there has no end, and none begins later; each has a place, and those of a channel neither touch nor overlap
 pub record ArePeriods (periods : List Period) (test : List ℕ → ℕ → Bool) (last : ℕ) : Type 0 where
   pub says : (c : List ℕ) (k : ℕ) → k ≤ last → periods_have periods c k ≡ test c k
+  pub lasts : (c : List ℕ) (k : ℕ) → last ≤ k → periods_have periods c k ≡ test c last
+  pub have_places : HavePlaces periods
   pub apart : ArePeriodsApart periods

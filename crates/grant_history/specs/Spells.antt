@@ -31,10 +31,10 @@ abbrev pub IsBeforeAll : Spell → List Spell → Type 0
 IsBeforeAll s [] = Unit {0}
 IsBeforeAll s (t ∷ ts) = EndsBefore s.to t.from × (s.from < t.from) × IsBeforeAll s ts
 
--- each ends before the later ones begin: they neither touch nor overlap
+-- each has a place, and ends before the later ones begin: they neither touch nor overlap
 abbrev pub AreApart : List Spell → Type 0
 AreApart [] = Unit {0}
-AreApart (s ∷ ss) = IsBeforeAll s ss × AreApart ss
+AreApart (s ∷ ss) = (ends_after s.to s.from ≡ true) × IsBeforeAll s ss × AreApart ss
 
 -- a test does not change from a place on, up to before another
 abbrev pub Stays : (ℕ → Bool) → ℕ → ℕ → Type 0

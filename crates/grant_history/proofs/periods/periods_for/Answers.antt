@@ -1,5 +1,5 @@
 use Rattle.std.proofs.Common.{◌≡◌, ◌∙◌, sym, ap, subst, arith, ◌+◌, ◌<◌, ℕ, List, [], ◌∷◌, ◌++◌, take, drop, length}
-use Rattle.std.proofs.lemmas.List.{take_more, drop_more}
+use Rattle.std.proofs.lemmas.List.{take_more}
 use Rattle.grant_history.specs.Givers.{has_at_with}
 use Rattle.grant_history.specs.Periods.{AreSoFar}
 use Rattle.grant_history.specs.Sorted.{AreSorted}

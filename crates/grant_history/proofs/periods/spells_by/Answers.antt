@@ -1,4 +1,4 @@
-use Rattle.std.proofs.Common.{◌≡◌, ◌∙◌, ◌≤◌, ◌<◌, ◌+◌, arith, refl, ℕ, length, get_or}
+use Rattle.std.proofs.Common.{◌∙◌, ◌+◌, arith, refl, get_or}
 use Rattle.std.proofs.lemmas.Result.{IfOk-weaker}
 use Rattle.grant_history.specs.Givers.{has_at_with}
 use Rattle.grant_history.proofs.Cutting.{none_left, rest_after, says_all, stays_before}

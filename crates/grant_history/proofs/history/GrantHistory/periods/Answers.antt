@@ -3,6 +3,7 @@ use Rattle.sg_history.specs.History.{past}
 use Rattle.sg_history.specs.Principals.{has_channel}
 use Rattle.grant_history.specs.declared.periods.Period.{Period}
 use Rattle.grant_history.specs.Periods.{AreInOrder, ArePeriods}
+use Rattle.grant_history.proofs.Applied.{held_on}
 use Rattle.grant_history.proofs.Reading.{user_channels}
 use Rattle.grant_history.proofs.history.GrantHistory.periods.Goals as goal
 
@@ -12,6 +13,11 @@ returns-clause-periods c = λ entries stands.
       says = λ x k le.
           c.in_ok-periods.ensures.says x k
           ∙ user_channels c.args.self.now.ledger.store _ k (past entries k) stands.kept.is_kept.up_to (λ f. stands.kept.held k f le) c.args.user.now x;
+      lasts = λ x k le.
+          c.in_ok-periods.ensures.says x k
+          ∙ user_channels c.args.self.now.ledger.store _ k (past entries c.args.self.now.applied) stands.kept.is_kept.up_to
+          (λ f. held_on c.args.self.now.ledger entries c.args.self.now.applied k f stands.within stands.kept le) c.args.user.now x;
+      have_places = c.in_ok-periods.ensures.have_places;
       apart = c.in_ok-periods.ensures.apart;
     })
 
