@@ -95,5 +95,5 @@ pub fn channels_ever(
     ensures sorted { IfOk result (λ list. AreSorted list.items) }
 {
     let found = found_ever(alloc, roles, all)?;
-    in_order(alloc, found)
+    Ok(in_order(found))
 }

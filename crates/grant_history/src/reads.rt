@@ -187,7 +187,7 @@ pub fn channels_of(
     ensures sorted { IfOk result (λ list. AreSorted list.items) }
 {
     let found = channels_found(alloc, users, roles, user, k)?;
-    in_order(alloc, found)
+    Ok(in_order(found))
 }
 
 fn add_role(alloc: Global, list: &mut Vec<Name>, role: &Name) -> Result<(), Memory>
@@ -277,5 +277,5 @@ pub fn roles_of(
     ensures sorted { IfOk result (λ list. AreSorted list.items) }
 {
     let found = roles_found(alloc, users, roles, user, k)?;
-    in_order(alloc, found)
+    Ok(in_order(found))
 }
