@@ -1,10 +1,10 @@
 -- places at which a test may change, as they are gathered, and a sweep over them
-use Rattle.std.proofs.Common.{◌≡◌, ◌≢◌, inl, inr, ◌<◌, ◌≤◌, ◌+◌, ◌-◌, ℕ, zero, suc, refl, sym, ◌∙◌, ap, subst, arith, Bool, true, false, ◌&&◌, ◌||◌, nat_le, nat_lt, List, [], ◌∷◌, ◌++◌, length, drop, get_or, Option, Some, None}
-use Rattle.std.specs.Prelude.{nat_eq, is_some}
+use Rattle.std.proofs.Common.{◌≡◌, ◌<◌, ◌≤◌, ◌+◌, ◌-◌, ℕ, zero, suc, refl, sym, ◌∙◌, ap, subst, arith, Bool, true, false, ◌&&◌, ◌||◌, nat_le, nat_lt, List, [], ◌∷◌, ◌++◌, length, drop, get_or}
+use Rattle.std.specs.Prelude.{nat_eq}
 use Rattle.std.specs.List.{list_any}
 use Rattle.std.specs.List.Sorted.{IsPermutation}
 use Rattle.std.specs.Str.{bytes_eq}
-use Rattle.std.proofs.lemmas.Bool.{false≢true, true≢false}
+use Rattle.std.proofs.lemmas.Bool.{true≢false}
 use Rattle.std.proofs.lemmas.List.{drop_more}
 use Rattle.std.proofs.lemmas.List.Sorted.{list_any-IsPermutation}
 use Rattle.sg_history.specs.Principals.{everyone}
@@ -15,9 +15,9 @@ use Rattle.grant_history.specs.declared.spells.Sweep.{Sweep}
 use Rattle.grant_history.specs.declared.track.Span.{Span}
 use Rattle.grant_history.specs.declared.track.Track.{Track}
 use Rattle.grant_history.specs.Cuts.{is_cut, IsSteady, Covers, Rise}
-use Rattle.grant_history.specs.Givers.{giver_has, has_with, has_at_with}
+use Rattle.grant_history.specs.Givers.{giver_has, has_with}
 use Rattle.grant_history.specs.Holdings.{held_in}
-use Rattle.grant_history.specs.Reads.{channel_among, channel_by}
+use Rattle.grant_history.specs.Reads.{channel_among}
 use Rattle.grant_history.specs.Spells.{Stays, Swept, spells_have, open_has}
 use Rattle.grant_history.specs.Tracks.{has_place, was_held, is_open, held_at}
 use Rattle.grant_history.proofs.Sweeping.{stretched}

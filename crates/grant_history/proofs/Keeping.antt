@@ -27,6 +27,7 @@ use Rattle.grant_history.specs.Holdings.{count_in, held_in, AreUpTo, Holders, co
 use Rattle.grant_history.specs.Sources.{standing_of, sources}
 use Rattle.grant_history.specs.Ledger.{Source, document, user, role, holder, same_source, given, Lists, facts_of_list, facts_in, facts_from, IsLedger, IsStep, Took}
 use Rattle.grant_history.proofs.Holding.{later_all}
+use Rattle.grant_history.proofs.Ordered.{none_left}
 use Rattle.grant_history.proofs.Same.{grantees, texts_swap}
 use Rattle.grant_history.proofs.Steps.{current_same, unwritten, standing_same, standing_put, idle_step, put_step, write_step, apart}
 use Rattle.grant_history.specs.Things.{Things}
@@ -46,7 +47,7 @@ swapped false v o = refl
 
 -- at the place up to which a track says anything it says what there is now
 settled_track : (t : Track) (n : ℕ) → IsTrack t n → held_at t n ≡ nat_lt 0 t.count
-settled_track t n is = ap (λ (b : Bool). b || is_open t n) (is.past n (omega arith)) ∙ by (nat_lt 0 t.count) refl
+settled_track t n is = ap (λ (b : Bool). b || is_open t n) (none_left t.closed.items n is.ended) ∙ by (nat_lt 0 t.count) refl
   where
     by : (b : Bool) → nat_lt 0 t.count ≡ b → (b && nat_le t.opened n) ≡ b
     by true h = let le : t.opened ≤ n = is.opened (grind (arith, h)) in grind (arith, le)

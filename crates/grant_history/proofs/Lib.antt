@@ -1,5 +1,6 @@
 pub mod Same
 pub mod Steps
+pub mod Ordered
 pub mod Tracked
 pub mod Holding
 pub mod Has

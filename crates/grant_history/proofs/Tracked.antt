@@ -20,7 +20,7 @@ whats_swap a b = both_ways (same_what a b) (same_what b a)
 
 pub later_track : (t : Track) (n m : ℕ) → n ≤ m → IsTrack t n → IsTrack t m
 later_track t n m h is = record {
-  past = λ k at. is.past k (omega (arith, h, at));
+  ended = λ i d w. omega (arith, h, is.ended i d w);
   opened = λ pos. omega (arith, h, is.opened pos);
   room = is.room;
 }
@@ -215,7 +215,7 @@ fresh_held t k none empty = grind (arith, none, empty)
 
 pub fresh_up_to : (t : Track) (n : ℕ) → t.count ≡ 0 → t.closed.items ≡ [] → IsTrack t n
 fresh_up_to t n none empty = record {
-  past = λ k at. grind (arith, empty);
+  ended = λ i d w. absurd (omega (arith, w, ap length empty));
   opened = λ pos. absurd (omega (arith, pos, none));
   room = λ pos. absurd (omega (arith, pos, none));
 }

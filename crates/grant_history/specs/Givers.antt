@@ -1,12 +1,11 @@
 -- The roles of a user, each with what is kept of it.
-use Rattle.std.specs.Prelude.{ℕ, Bool, false, ◌&&◌, ◌||◌, List, Option, Some, None}
+use Rattle.std.specs.Prelude.{ℕ, Bool, false, ◌&&◌, ◌||◌, List, Some}
 use Rattle.std.specs.List.{list_any}
 use Rattle.std.specs.Str.{bytes_eq}
 use Rattle.sg_history.specs.Principals.{everyone}
 use Rattle.grant_history.specs.declared.facts.What.TheVariants as what
 use Rattle.grant_history.specs.declared.held.Held.{Held}
 use Rattle.grant_history.specs.declared.evaluate.Giver.{Giver}
-use Rattle.grant_history.specs.Things.{Things}
 use Rattle.grant_history.specs.Tracks.{held_at}
 use Rattle.grant_history.specs.Holdings.{held_in}
 use Rattle.grant_history.specs.Reads.{channel_among, channel_by}

@@ -1,5 +1,5 @@
 -- How many sources give one thing, since when any does, and the spans of places in which any did before.
-use Rattle.std.specs.Prelude.{◌≡◌, ◌<◌, ◌≤◌, ◌+◌, ℕ, [], Bool, false, ◌&&◌, ◌||◌, nat_le, nat_lt, vec_len, vec_capacity}
+use Rattle.std.specs.Prelude.{◌≡◌, ◌<◌, ◌≤◌, ◌+◌, ℕ, [], length, slice_index_or, Bool, ◌&&◌, ◌||◌, nat_le, nat_lt, vec_len, vec_capacity}
 use Rattle.std.specs.List.{list_any}
 use Rattle.grant_history.specs.declared.track.Span.{Span}
 use Rattle.grant_history.specs.declared.track.Track.{Track}
@@ -20,9 +20,9 @@ is_open t k = nat_lt 0 t.count && nat_le t.opened k
 abbrev pub held_at : Track → ℕ → Bool
 held_at t k = was_held t k || is_open t k
 
--- nothing that a track says begins or ends after this place, and it has room to end the span that is open
+-- each span that has ended ended at this place or before it, the one that is open began so, and there is room to end it
 pub record IsTrack (t : Track) (n : ℕ) : Type 0 where
-  pub past : (k : ℕ) → n ≤ k → was_held t k ≡ false
+  pub ended : (i : ℕ) (d : Span) → i < length t.closed.items → (slice_index_or t.closed.items i d).to ≤ n
   pub opened : 0 < t.count → t.opened ≤ n
   pub room : 0 < t.count → vec_len t.closed < vec_capacity t.closed
 

@@ -178,6 +178,7 @@ impl Holding {
 
     /// One source more gives it from a place on.
     pub fn give(&mut self, alloc: Global, what: &What, at: u64) -> Result<(), Memory>
+        requires { AreUpTo self.old.items at }
         ensures ok { OnOk result (Dated count_in held_in AreUpTo self.old.items self.new.items at
             (one_more (count_in self.old.items) what.now)) }
         ensures err { OnErr result (Dated count_in held_in AreUpTo self.old.items self.new.items at

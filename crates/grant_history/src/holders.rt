@@ -32,6 +32,7 @@ pub fn give(
     what: &What,
     at: u64,
 ) -> Result<(), Memory>
+    requires { AreAllUpTo holders.old at }
     ensures ok { OnOk result (Dated count_of held_of AreAllUpTo holders.old holders.new at
         (more_of (count_of holders.old) name.now what.now)) }
     ensures err { OnErr result (Dated count_of held_of AreAllUpTo holders.old holders.new at

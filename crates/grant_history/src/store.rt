@@ -43,6 +43,7 @@ impl Store {
 
     /// One source more gives a fact from a place on.
     fn give(&mut self, alloc: Global, fact: &Fact, at: u64) -> Result<(), Memory>
+        requires { IsStore self.old at }
         ensures ok { OnOk result (Dated count_at has_at IsStore self.old self.new at
             (more_at (count_at self.old) fact.now)) }
         ensures err { OnErr result (Dated count_at has_at IsStore self.old self.new at

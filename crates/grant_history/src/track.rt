@@ -1,8 +1,8 @@
 //! When something is held: by how many sources, and in which spans of places.
 
-ghost use Rattle.std.specs.Prelude.{◌≡◌, ◌<◌, ◌+◌, ◌-◌, ◌++◌, ◌∷◌, [], OnOk, OnErr};
-ghost use Rattle.grant_history.specs.Cuts.{Covers};
-ghost use Rattle.grant_history.specs.Tracks.{IsTrack, Moves, held_at, was_held};
+ghost use Rattle.std.specs.Prelude.{◌≡◌, ◌≤◌, ◌<◌, ◌+◌, ◌-◌, ◌++◌, ◌∷◌, [], ℕ, length, slice_index_or, OnOk, OnErr};
+ghost use Rattle.std.specs.List.Sorted.{IsNonDecreasingBy};
+ghost use Rattle.grant_history.specs.declared.track.Span.{Span};
 
 use sg_outside::Memory;
 use std::alloc::{AllocError, Global};
@@ -21,6 +21,12 @@ pub struct Track {
     count: u64,
     opened: u64,
     closed: Vec<Span>,
+    ghost placed: { (i : ℕ) (d : Span) → i < length closed.items
+        → (slice_index_or closed.items i d).from ≤ (slice_index_or closed.items i d).to },
+    ghost apart: { (i j : ℕ) (d : Span) → i < j → j < length closed.items
+        → (slice_index_or closed.items i d).to ≤ (slice_index_or closed.items j d).from },
+    ghost ended: { (i : ℕ) (d : Span) → i < length closed.items → 0 < count
+        → (slice_index_or closed.items i d).to ≤ opened },
 }
 
 /// Adds where a span begins and where it ends.
@@ -33,7 +39,21 @@ fn add_ends(cuts: &mut Vec<u64>, span: &Span) -> Result<(), Memory>
     Ok(())
 }
 
+/// How many of these spans end at a place or before it.
+fn ended(spans: &[Span], k: u64) -> usize
+    requires { IsNonDecreasingBy (λ (s : Span). s.to) spans.now }
+    ensures within { result ≤ length spans.now }
+    ensures before { (i : ℕ) (d : Span) → i < result → (slice_index_or spans.now i d).to ≤ k }
+    ensures after { (i : ℕ) (d : Span) → result ≤ i → i < length spans.now
+        → k < (slice_index_or spans.now i d).to }
+{
+    spans.partition_point(|s| s.to <= k)
+}
+
 impl Track {
+    ghost use Rattle.grant_history.specs.Cuts.{Covers};
+    ghost use Rattle.grant_history.specs.Tracks.{IsTrack, Moves, held_at, was_held};
+
     /// A track of what no source gives. Allocates nothing.
     pub fn new(alloc: Global) -> Track
         ensures count { result.count ≡ 0 }
@@ -56,7 +76,9 @@ impl Track {
     fn held_before(&self, k: u64) -> bool
         ensures { result ≡ was_held self.now k }
     {
-        self.closed.iter().any(|s| s.from <= k && k < s.to)
+        let spans = self.closed.as_slice();
+        let next = ended(spans, k);
+        next < spans.len() && spans[next].from <= k
     }
 
     /// Adds the places at which it may change whether any source gives it.
@@ -73,6 +95,7 @@ impl Track {
     /// One source more gives it from a place on. Out of memory, and where 2^64 - 1 sources give it
     /// already, it is as it was.
     pub fn give(&mut self, at: u64) -> Result<(), Memory>
+        requires { IsTrack self.old at }
         ensures ok { OnOk result (Moves self.old self.new at (self.old.count + 1)) }
         ensures err { OnErr result (Moves self.old self.new at self.old.count) }
     {

@@ -1,10 +1,4 @@
-use Rattle.std.proofs.Common.{◌≡◌, ◌≤◌, ◌<◌, ℕ, subst, sym, List, [], length}
-use Rattle.std.specs.List.{slice_index_or}
 use Rattle.std.proofs.lemmas.List.Sorted.{IsNonDecreasingBy-from_sort}
-use Rattle.grant_history.specs.declared.facts.What.TheVariants as what
-use Rattle.grant_history.specs.Cuts.{Covers}
-use Rattle.grant_history.specs.HeldLists.{held_in}
-use Rattle.grant_history.specs.Reads.{channel_among}
 use Rattle.grant_history.proofs.Cutting.{all_steady}
 use Rattle.grant_history.proofs.cuts.cuts_of.Goals as goal
 

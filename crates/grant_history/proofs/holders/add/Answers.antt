@@ -1,4 +1,4 @@
-use Rattle.std.proofs.Common.{refl, ◌≡◌, subst, ℕ, List, [], Some, None, arith, if◌then◌else◌}
+use Rattle.std.proofs.Common.{refl, sym, ◌≡◌, subst, ℕ, List, [], Some, None, arith, if◌then◌else◌}
 use Rattle.std.specs.BTreeMap.{get_by_text}
 use Rattle.std.specs.Str.{bytes_eq}
 use Rattle.std.proofs.lemmas.Map.Text.{text_keys}
@@ -8,6 +8,9 @@ use Rattle.grant_history.specs.Holdings.{count_in, held_in, AreUpTo, one_more}
 use Rattle.grant_history.proofs.Tracked.{any_err}
 use Rattle.grant_history.proofs.Holding.{holder_dated, recounted_of, more_counts_of, unchanged}
 use Rattle.grant_history.proofs.holders.add.Goals as goal
+
+pub give-requires : goal.give-requires
+give-requires c = subst (λ (l : List Held). AreUpTo l c.args.at) (sym c.new-holding.ensures) tt
 
 pub returns-clause-ok : goal.returns-clause-ok
 returns-clause-ok c =

@@ -7,6 +7,9 @@ use Rattle.grant_history.proofs.Tracked.{on_ok, on_err}
 use Rattle.grant_history.proofs.Holding.{holder_dated, recounted_of, more_counts_of, kept_counts}
 use Rattle.grant_history.proofs.holders.give.Goals as goal
 
+pub give-requires : goal.give-requires
+give-requires c = c.requires c.args.name.now c.in-Some.holding.now (grind (arith, text_keys))
+
 pub returns-in-Some-clause-ok : goal.returns-in-Some-clause-ok
 returns-in-Some-clause-ok c =
     let old = c.args.holders.now in

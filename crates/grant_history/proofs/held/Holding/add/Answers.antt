@@ -1,5 +1,3 @@
-use Rattle.std.proofs.Common.{List}
-use Rattle.grant_history.specs.declared.held.Held.{Held}
 use Rattle.grant_history.proofs.Tracked.{begun, on_ok}
 use Rattle.grant_history.proofs.held.Holding.add.Goals as goal
 

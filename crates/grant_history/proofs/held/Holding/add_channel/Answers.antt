@@ -1,4 +1,3 @@
-use Rattle.std.proofs.Common.{sym}
 use Rattle.grant_history.proofs.Cutting.{covers_none, covers_same}
 use Rattle.grant_history.proofs.Tracked.{on_ok}
 use Rattle.grant_history.proofs.held.Holding.add_channel.Goals as goal

@@ -1,4 +1,4 @@
-use Rattle.std.proofs.Common.{◌∙◌, sym, ap, subst, arith, List}
+use Rattle.std.proofs.Common.{◌∙◌, sym, ap, subst, arith}
 use Rattle.std.specs.Prelude.{slice_set}
 use Rattle.grant_history.specs.declared.held.Held.{Held}
 use Rattle.grant_history.specs.Dated.{Dated}
@@ -6,7 +6,7 @@ use Rattle.grant_history.specs.Things.{Things}
 use Rattle.grant_history.specs.HeldLists.{place_of, count_in, held_in, AreUpTo}
 use Rattle.grant_history.specs.Holdings.{one_more}
 use Rattle.grant_history.proofs.Once.{length_set, once_set, place_within, places_set, what_here}
-use Rattle.grant_history.proofs.Tracked.{gave, gave_none, still_list, on_ok, on_err}
+use Rattle.grant_history.proofs.Tracked.{gave, gave_none, still_list, on_ok, on_err, up_here}
 use Rattle.grant_history.proofs.held.Holding.give.Goals as goal
 
 pub invariant_of-self : goal.invariant_of-self
@@ -28,6 +28,11 @@ index_mut-requires c =
 
 pub add-requires : goal.add-requires
 add-requires c = ap (λ (t : Things). place_of t.items c.args.what.now) (sym c.self.view_is) ∙ sym (c.self.invariant.0 c.args.what.now) ∙ sym c.find.ensures ∙ c.in-None.is
+
+pub give-requires : goal.give-requires
+give-requires c =
+    let place = sym (c.self.invariant.0 c.args.what.now) ∙ sym c.find.ensures ∙ c.in-Some.is in
+    up_here c.self.inside.list.items c.args.what.now c.in-Some.i c.index_mut.result.now place c.index_mut.ensures.value c.args.at (subst (λ (t : Things). AreUpTo t.items c.args.at) (sym c.self.view_is) c.requires)
 
 pub returns-in-Some-clause-ok : goal.returns-in-Some-clause-ok
 returns-in-Some-clause-ok c =

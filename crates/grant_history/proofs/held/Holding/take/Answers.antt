@@ -1,9 +1,9 @@
-use Rattle.std.proofs.Common.{◌∙◌, sym, ap, subst, arith, List}
+use Rattle.std.proofs.Common.{◌∙◌, sym, ap, subst, arith}
 use Rattle.std.specs.Prelude.{slice_set}
 use Rattle.grant_history.specs.declared.held.Held.{Held}
 use Rattle.grant_history.specs.Dated.{Dated}
 use Rattle.grant_history.specs.Things.{Things}
-use Rattle.grant_history.specs.HeldLists.{place_of, count_in, held_in, AreUpTo}
+use Rattle.grant_history.specs.HeldLists.{count_in, held_in, AreUpTo}
 use Rattle.grant_history.specs.Holdings.{one_less}
 use Rattle.grant_history.proofs.Once.{length_set, once_set, place_within, places_set, what_here}
 use Rattle.grant_history.proofs.Tracked.{took, count_here, up_here, nowhere_count}

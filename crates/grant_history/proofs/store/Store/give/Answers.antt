@@ -6,6 +6,12 @@ use Rattle.grant_history.proofs.Tracked.{on_ok, on_err}
 use Rattle.grant_history.proofs.Holding.{users_dated, roles_dated, in_users, in_roles, not_users, not_roles}
 use Rattle.grant_history.proofs.store.Store.give.Goals as goal
 
+pub give-requires : goal.give-requires
+give-requires c = c.requires.users
+
+pub give-requires-in-Role : goal.give-requires-in-Role
+give-requires-in-Role c = c.requires.roles
+
 pub returns-in-User-clause-ok : goal.returns-in-User-clause-ok
 returns-in-User-clause-ok c =
     let old = c.args.self.now in

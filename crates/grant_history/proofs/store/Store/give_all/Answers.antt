@@ -19,6 +19,9 @@ loop-i-preserved c =
     ∙ ap (λ (n : ℕ). count_at c.args.self.now f + n) (sym (times_append (take i c.args.facts.now) (x ∷ []) f)
     ∙ ap (λ (l : List Fact). times l f) (ap (λ (y : Fact). take i c.args.facts.now ++ y ∷ []) c.index-facts-i.is ∙ sym (take_more c.args.facts.now i x c.loop-i-test.true))))
 
+pub give-requires : goal.give-requires
+give-requires c = c.loop-i.invariant.up_to c.args.at (omega arith) c.requires
+
 pub take_all-requires : goal.take_all-requires
 take_all-requires c =
     let kept = at_err c.give.result _ (sym c.is_err.ensures.value ∙ c.if-is_err.true) c.give.ensures.err in

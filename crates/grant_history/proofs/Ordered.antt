@@ -1,0 +1,61 @@
+-- spans that have ended, in their order
+use Rattle.std.proofs.Common.{◌≡◌, ◌<◌, ◌≤◌, ℕ, zero, suc, refl, ◌∙◌, ap, arith, Bool, true, false, ◌&&◌, ◌||◌, nat_le, nat_lt, List, [], ◌∷◌, length}
+use Rattle.std.specs.Prelude.{slice_index_or}
+use Rattle.std.specs.List.{list_any}
+use Rattle.std.proofs.lemmas.Bool.{lt-leb, le-leb}
+use Rattle.grant_history.specs.declared.track.Span.{Span}
+use Rattle.grant_history.specs.Tracks.{has_place}
+
+abbrev pub AreApartBy : List Span → Type 0
+AreApartBy ss = (i j : ℕ) (d : Span) → i < j → j < length ss → (slice_index_or ss i d).to ≤ (slice_index_or ss j d).from
+
+abbrev pub HaveEnded : List Span → ℕ → Type 0
+HaveEnded ss n = (i : ℕ) (d : Span) → i < length ss → (slice_index_or ss i d).to ≤ n
+
+and_none : (b : Bool) → (b && false) ≡ false
+and_none true = refl
+and_none false = refl
+
+ended_has : (s : Span) (k : ℕ) → s.to ≤ k → has_place k s ≡ false
+ended_has s k le = ap (λ (b : Bool). nat_le s.from k && b) (lt-leb (suc k) s.to (omega (arith, le))) ∙ and_none (nat_le s.from k)
+
+later_has : (s : Span) (k : ℕ) → k < s.from → has_place k s ≡ false
+later_has s k lt = ap (λ (b : Bool). b && nat_lt k s.to) (lt-leb s.from k lt)
+
+none_later : (ss : List Span) (k : ℕ) → ((i : ℕ) (d : Span) → i < length ss → k < (slice_index_or ss i d).from) → list_any (has_place k) ss ≡ false
+none_later [] k h = refl
+none_later (s ∷ ss) k h =
+    ap (λ (b : Bool). b || list_any (has_place k) ss) (later_has s k (h 0 s (omega arith)))
+    ∙ none_later ss k (λ i d w. h (suc i) d (omega (arith, w)))
+
+-- at a place up to which all have ended none has it
+pub none_left : (ss : List Span) (k : ℕ) → HaveEnded ss k → list_any (has_place k) ss ≡ false
+none_left [] k h = refl
+none_left (s ∷ ss) k h =
+    ap (λ (b : Bool). b || list_any (has_place k) ss) (ended_has s k (h 0 s (omega arith)))
+    ∙ none_left ss k (λ i d w. h (suc i) d (omega (arith, w)))
+
+-- the first that has not ended at a place is the only one that may have it
+pub by_first : (ss : List Span) (n k : ℕ) (x : Span) → ((i : ℕ) (d : Span) → i < n → (slice_index_or ss i d).to ≤ k) → ((i : ℕ) (d : Span) → n ≤ i → i < length ss → k < (slice_index_or ss i d).to) → AreApartBy ss → n < length ss
+    → list_any (has_place k) ss ≡ nat_le (slice_index_or ss n x).from k
+by_first [] n k x before after apart within = absurd (omega (arith, within))
+by_first (s ∷ ss) zero k x before after apart within =
+    ap (λ (b : Bool). (nat_le s.from k && b) || list_any (has_place k) ss) (le-leb (suc k) s.to (omega (arith, last)))
+    ∙ ap (λ (b : Bool). (nat_le s.from k && true) || b)
+    (none_later ss k (λ i d w. omega (arith, last, apart 0 (suc i) d (omega arith) (omega (arith, w)))))
+    ∙ alone (nat_le s.from k)
+  where
+    last : k < s.to
+    last = after 0 s (omega arith) (omega arith)
+
+    alone : (b : Bool) → ((b && true) || false) ≡ b
+    alone true = refl
+    alone false = refl
+by_first (s ∷ ss) (suc n) k x before after apart within =
+    ap (λ (b : Bool). b || list_any (has_place k) ss) (ended_has s k (before 0 s (omega arith)))
+    ∙ by_first ss n k x (λ i d h. before (suc i) d (omega (arith, h))) (λ i d h w. after (suc i) d (omega (arith, h)) (omega (arith, w)))
+    (λ i j d h w. apart (suc i) (suc j) d (omega (arith, h)) (omega (arith, w))) (omega (arith, within))
+
+-- where none is left at a place
+pub by_none : (ss : List Span) (n k : ℕ) → ((i : ℕ) (d : Span) → i < n → (slice_index_or ss i d).to ≤ k) → length ss ≤ n → list_any (has_place k) ss ≡ false
+by_none ss n k before le = none_left ss k (λ i d w. before i d (omega (arith, w, le)))
