@@ -5,7 +5,7 @@ use Rattle.std.specs.List.{list_any}
 use Rattle.std.specs.List.Sorted.{IsPermutation}
 use Rattle.std.specs.Str.{bytes_eq}
 use Rattle.std.proofs.lemmas.Bool.{true≢false}
-use Rattle.std.proofs.lemmas.List.{drop_more}
+use Rattle.std.proofs.lemmas.List.{drop_more, drop_all}
 use Rattle.std.proofs.lemmas.List.Sorted.{list_any-IsPermutation}
 use Rattle.sg_history.specs.Principals.{everyone}
 use Rattle.grant_history.specs.declared.facts.What.TheVariants as what
@@ -177,3 +177,34 @@ says_all sweep test at s still k = (stretched sweep test at k s (λ j low high. 
     by (suc more) =
         let step : test (at + more + 1) ≡ test (at + more) = still (at + more) (omega arith) in
         ap test (omega arith) ∙ step ∙ by more
+
+-- what the roles so far, one more and those that are left have
+pub any_end : (test : Giver → Bool) (xs : List Giver) (x : Giver) → list_any test (xs ++ x ∷ []) ≡ (list_any test xs || test x)
+any_end test [] x = by (test x)
+  where
+    by : (b : Bool) → (b || false) ≡ b
+    by true = refl
+    by false = refl
+any_end test (y ∷ ys) x = ap (λ (b : Bool). test y || b) (any_end test ys x) ∙ by (test y)
+  where
+    by : (b : Bool) → (b || (list_any test ys || test x)) ≡ ((b || list_any test ys) || test x)
+    by true = refl
+    by false = refl
+
+pub one_over : (test : Giver → Bool) (all : List Giver) (i : ℕ) (x : Giver) (old new : List Giver) → i < length all → x ≡ get_or all i x → list_any test new ≡ (list_any test old || test x)
+    → (list_any test new || list_any test (drop (i + 1) all)) ≡ (list_any test old || list_any test (drop i all))
+one_over test all i x old new within is more =
+    ap (λ (b : Bool). b || list_any test (drop (i + 1) all)) more
+    ∙ by (list_any test old)
+    ∙ ap (λ (l : List Giver). list_any test old || list_any test l) (ap (λ (y : Giver). y ∷ drop (i + 1) all) is ∙ sym (drop_more all i x within))
+  where
+    by : (b : Bool) → ((b || test x) || list_any test (drop (i + 1) all)) ≡ (b || (test x || list_any test (drop (i + 1) all)))
+    by true = refl
+    by false = refl
+
+pub none_over : (test : Giver → Bool) (all : List Giver) (i : ℕ) (list : List Giver) → length all ≤ i → list_any test list ≡ (list_any test list || list_any test (drop i all))
+none_over test all i list le = by (list_any test list) ∙ ap (λ (l : List Giver). list_any test list || list_any test l) (sym (drop_all i all le))
+  where
+    by : (b : Bool) → b ≡ (b || false)
+    by true = refl
+    by false = refl

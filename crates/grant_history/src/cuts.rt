@@ -16,9 +16,6 @@ fn add_giver(cuts: &mut Vec<u64>, giver: &Giver<'_>, channel: &ChannelName) -> R
     ensures { OnOk result (Covers cuts.old.items cuts.new.items
         (λ k. giver_has giver.now k channel.now)) }
 {
-    if !giver.of.had_channel(channel) {
-        return Ok(());
-    }
     giver.track.add_cuts(cuts)?;
     giver.of.add_cuts(cuts, channel)
 }

@@ -54,6 +54,40 @@ pub fn givers_of<'a>(
     Ok(list)
 }
 
+/// Puts a role behind others, unless it never had a channel.
+fn add_with<'a>(
+    list: &mut Vec<Giver<'a>>,
+    giver: &Giver<'a>,
+    channel: &ChannelName,
+) -> Result<(), Memory>
+    ensures { OnOk result ((k : ℕ) → list_any (λ g. giver_has g k channel.now) list.new.items
+        ≡ (list_any (λ g. giver_has g k channel.now) list.old.items
+        || giver_has giver.now k channel.now)) }
+{
+    if !giver.of.had_channel(channel) {
+        return Ok(());
+    }
+    list.push(*giver)?;
+    Ok(())
+}
+
+/// Those of these roles that have or had a channel.
+pub fn givers_with<'a>(
+    alloc: Global,
+    givers: &[Giver<'a>],
+    channel: &ChannelName,
+) -> Result<Vec<Giver<'a>>, Memory>
+    ensures { IfOk result (λ list. (k : ℕ)
+        → list_any (λ g. giver_has g k channel.now) list.items
+        ≡ list_any (λ g. giver_has g k channel.now) givers.now) }
+{
+    let mut list = Vec::new(alloc);
+    for giver in givers {
+        add_with(&mut list, giver, channel)?;
+    }
+    Ok(list)
+}
+
 fn gives(giver: &Giver<'_>, channel: &ChannelName, k: u64) -> bool
     ensures { result ≡ giver_has giver.now k channel.now }
 {

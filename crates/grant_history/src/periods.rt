@@ -11,7 +11,7 @@ ghost use Rattle.grant_history.specs.Spells.{AreApart, Stays, Swept, spells_have
 
 use crate::channels::channels_ever;
 use crate::cuts::cuts_of;
-use crate::evaluate::{Giver, givers_of, has};
+use crate::evaluate::{Giver, givers_of, givers_with, has};
 use crate::held::Holding;
 use crate::holders::Holders;
 use crate::spells::{Spell, Sweep};
@@ -72,8 +72,9 @@ fn spells_by(
     sweep.finish()
 }
 
-/// The spells in which a user that has or had these things and roles has a channel.
-fn spells_of(
+/// The spells in which a user that has or had these things and roles has a channel. Each role is
+/// asked at each place at which the answer may change.
+fn spells_with(
     alloc: Global,
     all: &Holding,
     givers: &[Giver<'_>],
@@ -85,6 +86,21 @@ fn spells_of(
 {
     let cuts = cuts_of(alloc, all, givers, channel)?;
     spells_by(alloc, cuts.as_slice(), all, givers, channel)
+}
+
+/// The same, where a role that never had the channel is asked nothing.
+fn spells_of(
+    alloc: Global,
+    all: &Holding,
+    givers: &[Giver<'_>],
+    channel: &ChannelName,
+) -> Result<Vec<Spell>, Memory>
+    ensures apart { IfOk result (λ list. AreApart list.items) }
+    ensures says { IfOk result (λ list. (k : ℕ)
+        → spells_have list.items k ≡ has_at_with givers.now all.now.items channel.now k) }
+{
+    let givers = givers_with(alloc, givers, channel)?;
+    spells_with(alloc, all, givers.as_slice(), channel)
 }
 
 /// Puts the spells of a channel behind the periods.
