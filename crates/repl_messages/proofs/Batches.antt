@@ -1,11 +1,14 @@
--- The batch of a request is in bounds, and how many revisions are offered.
+-- The batch of a request is in bounds, and so are its since key and how many revisions are offered.
 use Rattle.std.specs.Prelude.{codes}
-use Rattle.std.proofs.Common.{◌≡◌, ℕ, zero, suc, ◌≤◌, Bool, true, false, List, length, Option, Some, None, option_map, Result, Ok, Err, IfOk, IfSome, if◌then◌else◌, decimal, sym, arith}
+use Rattle.std.proofs.Common.{◌≡◌, ℕ, zero, suc, ◌≤◌, Bool, true, false, List, length, Option, Some, None, option_map, Result, Ok, Err, IfOk, IfSome, if◌then◌else◌, decimal, sym, subst, arith}
 use Rattle.std.specs.Str.{bytes_eq}
 use Rattle.std.proofs.lemmas.Result.{IfOk-at_ok}
 use Rattle.blip_frame.specs.Props.{Pair, value_at}
 use Rattle.sg_names.specs.declared.key.Key.{Key}
 use Rattle.sg_names.specs.declared.key.KeyFault.{KeyFault}
+use Rattle.sg_names.specs.declared.key.KeyFault.TheVariants as key_faults
+use Rattle.sg_names.specs.Key.{is_key}
+use Rattle.sg_names.proofs.KeyTexts.{key_parts}
 use Rattle.sg_history.specs.declared.row.Options.{Options}
 use Rattle.repl_messages.specs.declared.request.Field.TheVariants as fields
 use Rattle.repl_messages.specs.declared.request.Version.{Version}
@@ -17,7 +20,7 @@ use Rattle.repl_messages.specs.declared.request.RequestFault.{RequestFault}
 use Rattle.repl_messages.specs.Numbers.{number_up_to}
 use Rattle.repl_messages.specs.Fields.{◌>>=◌, or_bad}
 use Rattle.repl_messages.specs.Requests.{IsBounded, IsAnswerTo}
-use Rattle.repl_messages.specs.SubChanges.{sub_changes, since_of, batch_of, filter_of, options_of}
+use Rattle.repl_messages.specs.SubChanges.{IsSince, sub_changes, since_of, batch_of, filter_of, options_of}
 use Rattle.repl_messages.specs.Offers.{AreOffered}
 use Rattle.repl_messages.specs.declared.offers.Offer.{Offer}
 use Rattle.repl_messages.specs.declared.profile.Profile.{Profile}
@@ -49,19 +52,33 @@ batch_bounds : (value : Option (List ℕ)) → IfOk (batch_of value) (λ n. (1 �
 batch_bounds None = (omega arith, omega arith)
 batch_bounds (Some value) = bad_else (number_up_to 10000 value) (number_bounds 10000 value)
 
-chained : (continuous : Bool) (k : Result Key RequestFault) (b : Result ℕ RequestFault) (f : Result (Option (List (List ℕ))) RequestFault) (o : Option (List (List ℕ)) → Options)
-    → IfOk b (λ n. (1 ≤ n) × (n ≤ 10000))
-    → IfOk (k >>= λ key. b >>= λ batch. f >>= λ filter. Ok (SubChanges key continuous batch (o filter))) IsBounded
-chained continuous (Err e) b f o h = tt
-chained continuous (Ok key) (Err e) f o h = tt
-chained continuous (Ok key) (Ok n) (Err e) o h = tt
-chained continuous (Ok key) (Ok n) (Ok filter) o h = h
+-- a key that is read has no sequence above that by which it was sent
+key_bounds : (key : Key) → is_key key ≡ true → key.seq ≤ key.by
+key_bounds key is = (key_parts key is).above
 
--- what a subChanges is read as has a batch from 1 to 10,000
-sub_bounded : (since : Result Key KeyFault) (version : Version) (props : List Pair) → IfOk (sub_changes since version props) IsBounded
-sub_bounded since version props =
+since_read : (value : Option (List ℕ)) (since : Result Key KeyFault) → IsSince value since → IfOk since (λ key. key.seq ≤ key.by)
+since_read None since is = subst (λ s. IfOk s (λ key. key.seq ≤ key.by)) (sym is) (omega arith)
+since_read (Some value) (Ok key) is = key_bounds key is.0
+since_read (Some value) (Err fault) is = tt
+
+since_bounds : (since : Result Key KeyFault) → IfOk since (λ key. key.seq ≤ key.by) → IfOk (since_of since) (λ key. key.seq ≤ key.by)
+since_bounds (Ok key) h = h
+since_bounds (Err key_faults.LowForm) h = tt
+since_bounds (Err key_faults.BadKey) h = tt
+
+chained : (continuous : Bool) (k : Result Key RequestFault) (b : Result ℕ RequestFault) (f : Result (Option (List (List ℕ))) RequestFault) (o : Option (List (List ℕ)) → Options)
+    → IfOk k (λ key. key.seq ≤ key.by) → IfOk b (λ n. (1 ≤ n) × (n ≤ 10000))
+    → IfOk (k >>= λ key. b >>= λ batch. f >>= λ filter. Ok (SubChanges key continuous batch (o filter))) IsBounded
+chained continuous (Err e) b f o key h = tt
+chained continuous (Ok key) (Err e) f o low h = tt
+chained continuous (Ok key) (Ok n) (Err e) o low h = tt
+chained continuous (Ok key) (Ok n) (Ok filter) o low h = (h.0, h.1, low)
+
+-- what a subChanges is read as has a batch from 1 to 10,000, and such a key
+sub_bounded : (since : Result Key KeyFault) (version : Version) (props : List Pair) → IsSince (value_at props (codes "since")) since → IfOk (sub_changes since version props) IsBounded
+sub_bounded since version props is =
     chained (is_set (codes "continuous") props) (since_of since) (batch_of (value_at props (codes "batch"))) (filter_of (value_at props (codes "filter")) (value_at props (codes "channels"))) (λ filter. options_of filter version props)
-    (batch_bounds (value_at props (codes "batch")))
+    (since_bounds since (since_read (value_at props (codes "since")) since is)) (batch_bounds (value_at props (codes "batch")))
 
 get_bounded : (client : Option (List ℕ)) → IfOk (or_bad fields.Client client >>= λ c. Ok (GetCheckpoint c)) IsBounded
 get_bounded None = tt
@@ -93,7 +110,7 @@ bounded_to : (kind : Option Profile) (payload : Payload) (version : Version) (re
 bounded_to None payload version request h = at_ok request _ h tt
 bounded_to (Some profile.GetCheckpoint) payload version request h = at_ok request _ h (get_bounded _)
 bounded_to (Some profile.SetCheckpoint) payload version request h = at_ok request _ h.2 (set_bounded _ h.0 _)
-bounded_to (Some profile.SubChanges) payload version request h = at_ok request _ h.2 (sub_bounded h.0 version payload.props)
+bounded_to (Some profile.SubChanges) payload version request h = at_ok request _ h.2 (sub_bounded h.0 version payload.props h.1)
 bounded_to (Some profile.Changes) payload version request h = at_ok request _ h.2 (offers_bounded form.Change payload.body _ h.0 (λ os few. few) h.1)
 bounded_to (Some profile.ProposeChanges) payload version request h = at_ok request _ h.2 (offers_bounded form.Proposal payload.body _ h.0 (λ os few. few) h.1)
 bounded_to (Some profile.Rev) payload version request (rev, history, is_rev, is_history, e) = at_ok request _ e (rev_bounded _ rev history _)

@@ -63,11 +63,12 @@ IsAnswerTo (Some profile.Rev) payload version answer = IsProposal payload answer
 abbrev pub IsAnswer : Payload → Version → Result Request RequestFault → Type 0
 IsAnswer payload version answer = IsAnswerTo (profile_of payload.props) payload version answer
 
--- the batch of a request is from 1 to 10,000, and at most 10,000 revisions are offered
+-- the batch of a request is from 1 to 10,000, its since key has no sequence above that by which it was sent, and at most 10,000
+-- revisions are offered
 abbrev pub IsBounded : Request → Type 0
 IsBounded (request.GetCheckpoint client) = Unit {0}
 IsBounded (request.SetCheckpoint client rev body) = Unit {0}
-IsBounded (request.SubChanges since continuous batch options) = (1 ≤ batch) × (batch ≤ 10000)
+IsBounded (request.SubChanges since continuous batch options) = (1 ≤ batch) × (batch ≤ 10000) × (since.seq ≤ since.by)
 IsBounded (request.Changes offers) = length offers ≤ 10000
 IsBounded (request.ProposeChanges offers) = length offers ≤ 10000
 IsBounded (request.Rev revision) = Unit {0}
