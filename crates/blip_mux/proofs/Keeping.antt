@@ -6,7 +6,7 @@ use Rattle.std.specs.List.Sorted.{IsStrictlySortedBy}
 use Rattle.std.specs.Map.{keys_of, values_of}
 use Rattle.std.specs.Ordering.{nat_cmp}
 use Rattle.blip_mux.specs.declared.ready.Ready.{Ready}
-use Rattle.blip_mux.specs.declared.ready.Turn.{Turn}
+use Rattle.blip_mux.specs.declared.ready.ReadyMessage.{ReadyMessage}
 use Rattle.blip_mux.specs.Sending.{Waiting, may_send, chosen, taken_out}
 use Rattle.blip_mux.specs.Stamps.{times, same_flag}
 use Rattle.blip_mux.specs.Ready.{stamps_in, NoneUrgent, IsFirst}
@@ -49,7 +49,7 @@ none_next es r sorted ready none =
       fails u q v at = no_turn u v (ap (λ (o : Option Waiting). option_map_or (turns u) o 0) (sym at) ∙ sym (ready u q) ∙ none u q)
 
 -- a message that is first in its turns is the one that sends next
-pub record Next (turn : Turn) (es : Entries) : Type 0 where
+pub record Next (turn : ReadyMessage) (es : Entries) : Type 0 where
   pub message : Waiting
   pub there : look es turn.stamp ≡ Some message
   pub mark : message.urgent ≡ turn.urgent
@@ -63,7 +63,7 @@ flag_of true false m e = absurd cc
 flag_of false true m e = absurd cc
 
 pub next_is : (es : Entries) (r : Ready) → IsStrictlySortedBy nat_cmp (keys_of es) → ((u : Bool) (q : ℕ) → times q (stamps_in u r) ≡ option_map_or (turns u) (look es q) 0)
-    → (turn : Turn) → IsFirst turn r → Next turn es
+    → (turn : ReadyMessage) → IsFirst turn r → Next turn es
 next_is es r sorted ready turn is = go (look es turn.stamp) refl where
   some : 0 < option_map_or (turns turn.urgent) (look es turn.stamp) 0
   some = subst (λ n. 0 < n) (ready turn.urgent turn.stamp) is.0.0

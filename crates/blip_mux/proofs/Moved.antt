@@ -13,7 +13,7 @@ use Rattle.std.proofs.lemmas.Map.Entries.{sum_by-remove_entry, sum_by-set_value}
 use Rattle.blip_frame.specs.Frame.{has_checksum}
 use Rattle.blip_mux.specs.declared.class.Class.{Class}
 use Rattle.blip_mux.specs.declared.ready.Ready.{Ready}
-use Rattle.blip_mux.specs.declared.ready.Turn.{Turn}
+use Rattle.blip_mux.specs.declared.ready.ReadyMessage.{ReadyMessage}
 use Rattle.blip_mux.specs.Sending.{Waiting, may_send, pause_above, heard, without_piece}
 use Rattle.blip_mux.specs.Class.{class_of, is_same}
 use Rattle.blip_mux.specs.Stamps.{times, same_flag}
@@ -114,7 +114,7 @@ pub count_may : (urgent m : Bool) (t n : ℕ) → m ≡ true → t + cond urgent
 count_may true m t n may e = ap (λ (b : Bool). t + cond b 1 0) may ∙ e
 count_may false m t n may e = e
 
-pub turn_kept : (es es' : Entries) (next : ℕ) (w : Waiting) (turn : Turn) (at at' : Class → ℕ → Option ℕ) (r r' : Ready) → IsKept es next at r → has_checksum w.kind ≡ true → look es turn.stamp ≡ Some w
+pub turn_kept : (es es' : Entries) (next : ℕ) (w : Waiting) (turn : ReadyMessage) (at at' : Class → ℕ → Option ℕ) (r r' : Ready) → IsKept es next at r → has_checksum w.kind ≡ true → look es turn.stamp ≡ Some w
     → w.urgent ≡ turn.urgent → may_send w ≡ true → es' ≡ without turn.stamp es → ((c : Class) (n : ℕ) → at' c n ≡ cond (is_same (class_of w.kind) w.number c n) None (at c n))
     → IsStrictlySortedBy nat_cmp (keys_of es')
     → ((u : Bool) (q : ℕ) → times q (stamps_in u r') + cond (same_flag turn.urgent u && eqb turn.stamp q) 1 0 ≡ times q (stamps_in u r))
@@ -133,7 +133,7 @@ turn_kept es es' next w turn at at' r r' kept own there mark may e indexes sorte
 abbrev at_others : Waiting → (Class → ℕ → Option ℕ) → Class → ℕ → Option ℕ
 at_others w at c n = cond (is_same (class_of w.kind) w.number c n) None (at c n)
 
-pub move_kept : (es es' : Entries) (last next : ℕ) (w : Waiting) (turn : Turn) (class : Class) (number : ℕ) (urgent may_then : Bool) (at at' : Class → ℕ → Option ℕ) (r r' r'' : Ready)
+pub move_kept : (es es' : Entries) (last next : ℕ) (w : Waiting) (turn : ReadyMessage) (class : Class) (number : ℕ) (urgent may_then : Bool) (at at' : Class → ℕ → Option ℕ) (r r' r'' : Ready)
     → class ≡ class_of w.kind → number ≡ w.number → urgent ≡ w.urgent → may_then ≡ may_send (without_piece w)
     → IsKept es last at r → has_checksum w.kind ≡ true → look es turn.stamp ≡ Some w → w.urgent ≡ turn.urgent → may_send w ≡ true
     → es' ≡ without turn.stamp es ++ (last, without_piece w) ∷ [] → IsStrictlySortedBy nat_cmp (keys_of (without turn.stamp es)) → IsStrictlySortedBy nat_cmp (keys_of es')
@@ -302,15 +302,15 @@ module _ (es es' : Entries) (s next : ℕ) (w : Waiting) (bytes : ℕ) (at : Cla
           go false it = off (same_flag w.urgent u && (not (may_send w) && may_send (heard bytes w))) (option_map_or (turns u) (look es q) 0)
 
   -- the message paused, and has its turn again
-  pub heard_kept_on : (turn : Turn) → turn ≡ record { urgent = w.urgent; stamp = s } → (not (may_send w) && may_send (heard bytes w)) ≡ true → IsStrictlySortedBy nat_cmp (keys_of es')
+  pub heard_kept_on : (turn : ReadyMessage) → turn ≡ record { urgent = w.urgent; stamp = s } → (not (may_send w) && may_send (heard bytes w)) ≡ true → IsStrictlySortedBy nat_cmp (keys_of es')
       → ((u : Bool) (q : ℕ) → times q (stamps_in u r') ≡ cond (same_flag turn.urgent u && eqb turn.stamp q) 1 0 + times q (stamps_in u r))
       → ((u : Bool) → count_in u r' ≡ cond (same_flag turn.urgent u) 1 0 + count_in u r)
       → ((u : Bool) → room_in u r ≤ room_in u r') → IsKept es' next at r'
   heard_kept_on turn its on sorted more counts room =
       heard_kept sorted
-      (λ u q. more u q ∙ ap (λ (t : Turn). cond (same_flag t.urgent u && eqb t.stamp q) 1 0 + times q (stamps_in u r)) its
+      (λ u q. more u q ∙ ap (λ (t : ReadyMessage). cond (same_flag t.urgent u && eqb t.stamp q) 1 0 + times q (stamps_in u r)) its
       ∙ ap (λ b. cond (b && eqb s q) 1 0 + times q (stamps_in u r)) (sym (with_on (same_flag w.urgent u) (not (may_send w) && may_send (heard bytes w)) on)))
-      (λ u. counts u ∙ ap (λ (t : Turn). cond (same_flag t.urgent u) 1 0 + count_in u r) its
+      (λ u. counts u ∙ ap (λ (t : ReadyMessage). cond (same_flag t.urgent u) 1 0 + count_in u r) its
       ∙ ap (λ b. cond b 1 0 + count_in u r) (sym (with_on (same_flag w.urgent u) (not (may_send w) && may_send (heard bytes w)) on)))
       room where
         with_on : (u m : Bool) → m ≡ true → (u && m) ≡ u
@@ -336,10 +336,10 @@ heard_kept_off es es' s next w bytes at r kept there e off sorted =
       nothing true m n e = ap (λ (x : Bool). cond x 1 0 + n) e ∙ zero_and n
       nothing false m n e = zero_and n
 
-pub turn_on : (m : Bool) (turn t : Turn) → Some turn ≡ cond m (Some t) None → (m ≡ true) × (turn ≡ t)
+pub turn_on : (m : Bool) (turn t : ReadyMessage) → Some turn ≡ cond m (Some t) None → (m ≡ true) × (turn ≡ t)
 turn_on true turn t e = (refl, cc)
 turn_on false turn t e = some_none e
 
-pub turn_off : (m : Bool) (t : Turn) → None ≡ cond m (Some t) None → m ≡ false
+pub turn_off : (m : Bool) (t : ReadyMessage) → None ≡ cond m (Some t) None → m ≡ false
 turn_off true t e = some_none (sym e)
 turn_off false t e = refl

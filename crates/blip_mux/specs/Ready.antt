@@ -3,7 +3,7 @@ use Rattle.std.specs.Prelude.{◌≡◌, ℕ, Bool, true, false, List}
 use Rattle.std.specs.BinaryHeap.{heap_items, heap_len, heap_capacity}
 use Rattle.std.specs.declared.cmp.Reverse.{Reverse}
 use Rattle.blip_mux.specs.declared.ready.Ready.{Ready}
-use Rattle.blip_mux.specs.declared.ready.Turn.{Turn}
+use Rattle.blip_mux.specs.declared.ready.ReadyMessage.{ReadyMessage}
 use Rattle.blip_mux.specs.Stamps.{times, IsLowest}
 
 -- the stamps of the urgent messages, or of the others
@@ -27,5 +27,5 @@ NoneUrgent true r = Unit {0}
 NoneUrgent false r = (q : ℕ) → times q (stamps_in true r) ≡ 0
 
 -- the message that sends next
-abbrev pub IsFirst : Turn → Ready → Type 0
+abbrev pub IsFirst : ReadyMessage → Ready → Type 0
 IsFirst turn r = IsLowest turn.stamp (stamps_in turn.urgent r) × NoneUrgent turn.urgent r

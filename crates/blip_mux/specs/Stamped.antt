@@ -14,7 +14,7 @@ use Rattle.blip_mux.specs.Class.{is_in, stamp_at}
 use Rattle.blip_mux.specs.Stamps.{times, IsLowest, same_flag}
 use Rattle.blip_mux.specs.Ready.{stamps_in, count_in, room_in}
 use Rattle.blip_mux.specs.declared.ready.Ready.{Ready}
-use Rattle.blip_mux.specs.declared.ready.Turn.{Turn}
+use Rattle.blip_mux.specs.declared.ready.ReadyMessage.{ReadyMessage}
 use Rattle.blip_mux.specs.declared.stamped.Stamped.{Stamped}
 
 -- whether a message has this class and this number
@@ -54,7 +54,7 @@ abbrev pub Keeps : Stamped → Type 0
 Keeps s = IsKept s.messages.entries s.next (λ c n. stamp_at c n s.index.requests s.index.replies) s.ready
 
 -- the message that sends next has this turn
-pub record IsNext (turn : Turn) (s : Stamped) : Type 0 where
+pub record IsNext (turn : ReadyMessage) (s : Stamped) : Type 0 where
   pub message : Waiting
   pub there : look s.messages.entries turn.stamp ≡ Some message
   pub mark : message.urgent ≡ turn.urgent

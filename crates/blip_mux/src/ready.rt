@@ -8,7 +8,7 @@ use std::alloc::{AllocError, Global};
 
 /// A message that may send: whether it is urgent, and its stamp.
 #[derive(Clone, Copy, Debug, PartialEq, Eq)]
-pub(crate) struct Turn {
+pub(crate) struct ReadyMessage {
     pub urgent: bool,
     pub stamp: u64,
 }
@@ -46,18 +46,18 @@ impl Ready {
     }
 
     /// The first urgent message, or else the first of the others.
-    pub(crate) fn first(&self) -> Option<Turn>
+    pub(crate) fn first(&self) -> Option<ReadyMessage>
         ensures some { IfSome result (λ turn. IsFirst turn self.now) }
         ensures none { IfNone result ((u : Bool) (q : ℕ) → times q (stamps_in u self.now) ≡ 0) }
     {
         if let Some(stamp) = self.urgent.lowest() {
-            return Some(Turn {
+            return Some(ReadyMessage {
                 urgent: true,
                 stamp,
             });
         }
         match self.plain.lowest() {
-            Some(stamp) => Some(Turn {
+            Some(stamp) => Some(ReadyMessage {
                 urgent: false,
                 stamp,
             }),
@@ -66,7 +66,7 @@ impl Ready {
     }
 
     /// Puts a message, for which there is room.
-    pub(crate) fn put(&mut self, turn: Turn)
+    pub(crate) fn put(&mut self, turn: ReadyMessage)
         requires { count_in turn.urgent self.old < room_in turn.urgent self.old }
         ensures times { (u : Bool) (q : ℕ) → times q (stamps_in u self.new)
             ≡ cond (same_flag turn.urgent u && turn.stamp == q) 1 0 + times q (stamps_in u self.old) }
@@ -82,7 +82,7 @@ impl Ready {
     }
 
     /// Puts a message, for which there is room, if it may send.
-    pub(crate) fn put_if(&mut self, may_send: bool, turn: Turn)
+    pub(crate) fn put_if(&mut self, may_send: bool, turn: ReadyMessage)
         requires { count_in turn.urgent self.old < room_in turn.urgent self.old }
         ensures times { (u : Bool) (q : ℕ) → times q (stamps_in u self.new)
             ≡ cond ((same_flag turn.urgent u && may_send) && turn.stamp == q) 1 0
@@ -97,7 +97,7 @@ impl Ready {
     }
 
     /// Takes a message away that is the first of the urgent ones, or of the others.
-    pub(crate) fn drop_first(&mut self, turn: Turn)
+    pub(crate) fn drop_first(&mut self, turn: ReadyMessage)
         requires { IsLowest turn.stamp (stamps_in turn.urgent self.old) }
         ensures times { (u : Bool) (q : ℕ) → times q (stamps_in u self.new)
             + cond (same_flag turn.urgent u && turn.stamp == q) 1 0 ≡ times q (stamps_in u self.old) }

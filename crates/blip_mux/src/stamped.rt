@@ -8,7 +8,7 @@ ghost use Rattle.blip_mux.specs.Sending.{chosen, without_piece, has_more, may_se
 
 use crate::class::Class;
 use crate::index::Index;
-use crate::ready::{Ready, Turn};
+use crate::ready::{Ready, ReadyMessage};
 use crate::waiting::WaitingMessage;
 use blip_frame::{Crc, Kind, write_frame};
 use sg_outside::{Bytes, Memory};
@@ -51,7 +51,7 @@ impl Stamped {
     }
 
     /// The turn of the message that sends next.
-    pub(crate) fn next_turn(&self) -> Option<Turn>
+    pub(crate) fn next_turn(&self) -> Option<ReadyMessage>
         requires { Keeps self.now }
         ensures some { IfSome result (λ turn. IsNext turn self.now) }
         ensures none { IfNone result (chosen (listed self.now) ≡ None) }
@@ -86,7 +86,7 @@ impl Stamped {
         let class = message.class();
         let number = message.number();
         let may_send = message.may_send();
-        let turn = Turn {
+        let turn = ReadyMessage {
             urgent: message.is_urgent(),
             stamp,
         };
@@ -102,7 +102,7 @@ impl Stamped {
     }
 
     /// Whether more of a message is left than one frame carries.
-    pub(crate) fn has_more(&self, turn: Turn) -> bool
+    pub(crate) fn has_more(&self, turn: ReadyMessage) -> bool
         requires { IsNext turn self.now }
         ensures { IfSome (message_at self.now turn.stamp) (λ w. result ≡ has_more w) }
     {
@@ -123,7 +123,7 @@ impl Stamped {
     /// Writes the last frame of the message that sends next, and then lets the message go.
     pub(crate) fn send_last(
         &mut self,
-        turn: Turn,
+        turn: ReadyMessage,
         crc: &mut Crc,
         out: &mut Bytes,
     ) -> Result<(), Memory>
@@ -148,7 +148,7 @@ impl Stamped {
     /// memory.
     pub(crate) fn send_part(
         &mut self,
-        turn: Turn,
+        turn: ReadyMessage,
         crc: &mut Crc,
         out: &mut Bytes,
     ) -> Result<(), Memory>
@@ -177,7 +177,7 @@ impl Stamped {
         message.go_on();
         let _ = self.index.put(message.class(), message.number(), stamp);
         self.ready.drop_first(turn);
-        let last = Turn {
+        let last = ReadyMessage {
             urgent: message.is_urgent(),
             stamp,
         };
@@ -220,7 +220,11 @@ impl Stamped {
 
 /// Notes that so many bytes of the message of a stamp have come. Answers the turn that the message has
 /// again, if it paused.
-fn hear(messages: &mut BTreeMap<u64, WaitingMessage>, stamp: u64, bytes: u64) -> Option<Turn>
+fn hear(
+    messages: &mut BTreeMap<u64, WaitingMessage>,
+    stamp: u64,
+    bytes: u64,
+) -> Option<ReadyMessage>
     requires { IfSome (look messages.old.entries stamp) (λ w. bytes ≤ w.sent) }
     ensures set { IfSome (look messages.old.entries stamp)
         (λ w. messages.new.entries ≡ with_message stamp messages.old.entries (heard bytes w)) }
@@ -231,7 +235,7 @@ fn hear(messages: &mut BTreeMap<u64, WaitingMessage>, stamp: u64, bytes: u64) ->
 {
     let message = messages.get_mut(&stamp)?;
     if message.heard(bytes) {
-        return Some(Turn {
+        return Some(ReadyMessage {
             urgent: message.is_urgent(),
             stamp,
         });

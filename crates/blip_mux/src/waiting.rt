@@ -128,7 +128,7 @@ impl WaitingMessage {
             urgent: self.urgent,
             no_reply: self.no_reply,
             more: self.has_more(),
-            payload: front_of(rest),
+            payload: leading_bytes(rest),
         }
     }
 
@@ -145,7 +145,7 @@ impl WaitingMessage {
 }
 
 /// As many bytes as one frame carries, or all of them.
-fn front_of(rest: &[u8]) -> &[u8]
+fn leading_bytes(rest: &[u8]) -> &[u8]
     ensures value { result.now ≡ take largest_written rest.now }
     ensures size { length result.now ≤ largest_written }
 {

@@ -37,9 +37,9 @@ body_bytes (candidate.Write w tree base) = length w.body
 body_bytes (candidate.Plain e) = 0
 
 -- the front at which a write was judged, or the log's length before another entry
-abbrev pub front_of : Candidate → ℕ → ℕ
-front_of (candidate.Write w tree base) before = w.at
-front_of (candidate.Plain e) before = before
+abbrev pub made_at : Candidate → ℕ → ℕ
+made_at (candidate.Write w tree base) before = w.at
+made_at (candidate.Plain e) before = before
 
 -- the tree accepts the write, the new tree is the one with it, and the write names that tree's winner
 pub record ExtendsTree (before : List Node) (w : Write) (after : List Node) : Type 0 where

@@ -7,7 +7,7 @@ ghost use Rattle.sg_history.specs.Principals as principals;
 ghost use Rattle.rev_tree.specs.Writes.{AreAccepted};
 ghost use Rattle.doc_board.specs.Answers.{IsStep, proposer_exists};
 ghost use Rattle.sg_history.specs.declared.entries.Entry.TheVariants as kinds;
-ghost use Rattle.doc_board.specs.Candidates.{MayBeStored, ExtendsTree, Fits, IfStored, IfStale, is_stale, entry_of, front_of, last_of};
+ghost use Rattle.doc_board.specs.Candidates.{MayBeStored, ExtendsTree, Fits, IfStored, IfStale, is_stale, entry_of, made_at, last_of};
 ghost use Rattle.sg_history.specs.Journal.{IsEntry};
 ghost use Rattle.sg_history.specs.Line.{is_write};
 ghost use Rattle.doc_board.specs.Lawful.{AreLawful};
@@ -256,7 +256,7 @@ impl Board {
             × (last ≡ last_of self.old candidate)) }
         ensures same { IfStale result (λ r n c last. self.new ≡ self.old) }
         ensures answer { IfStored result (λ sequence at. (sequence ≡ number.value)
-            × (at ≡ front_of candidate (length self.old.log))) }
+            × (at ≡ made_at candidate (length self.old.log))) }
         ensures log { IfStored result (λ sequence at. self.new.log ≡ self.old.log
             ++ entry_of candidate ∷ []) }
         ensures rooms { IfStored result

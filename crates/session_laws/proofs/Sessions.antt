@@ -27,6 +27,7 @@ use Rattle.session_core.specs.Transitions.{Done, Does}
 use Rattle.write_path.specs.Reads.{IsLaterThanAll}
 use Rattle.session_run.specs.Answered.{Moment, AreAnswered, look_fronts}
 use Rattle.session_laws.specs.Rising.{AreFronts, IsWithin}
+use Rattle.session_laws.proofs.Opening.{asked_sized}
 use Rattle.session_laws.proofs.Resuming.{Members, Ordered, Plainly, looks_rise, resumes}
 
 -- ---- what was wanted
@@ -134,11 +135,11 @@ Feeds = (h : List Entry) (user : List ℕ) (version : Version) (strict : Bool) (
 pub resume_sessions : Members → Ordered → Plainly → Wants → Feeds → AnswersRight → AnswersRise → AnswersWithin
     → (start now : Moment) (h : List Entry) (user : List ℕ) (version : Version) (strict : Bool) (asked : Subscription) (front : ℕ) (rows : List Row) (earlier more : List Step) (before first after : Machine) (s : Step)
     → Leads (new_machine user version strict) earlier before → before.pending ≡ pending.Feed asked → s.event ≡ event.Fed (fed.Rows front rows) → Steps before s first
-    → LeadsFeed first more after → AreAnswered start user strict (more ++ s ∷ earlier) now → IsLaterThanAll now.read h → asked.since.seq ≤ asked.since.by
+    → LeadsFeed first more after → AreAnswered start user strict (more ++ s ∷ earlier) now → IsLaterThanAll now.read h
     → (offered : List Row) × AreOffered version (put_by (more ++ s ∷ [])) offered
     × ((sent row : Row) → HasRow offered sent → HasRow (feed (all_of h) user asked.since asked.options) row
     → HasRow offered row ⊎ IsAhead (feed (all_of h) user sent.key asked.options) sent.key row)
-resume_sessions members ordered plainly wants feeds rights rises within start now h user version strict asked front rows earlier more before first after s leads awaited came made feed answered later key =
+resume_sessions members ordered plainly wants feeds rights rises within start now h user version strict asked front rows earlier more before first after s leads awaited came made feed answered later =
     let right : AreRight h user strict (more ++ s ∷ earlier) = rights start now user strict (more ++ s ∷ earlier) h answered later in
     let by : asked.since.by ≤ front =
     first_within h user strict asked front rows (wanted_after earlier) s.event (wanted_at wants user version strict earlier before asked leads awaited) came (right_at h user strict more s earlier right) in
@@ -158,5 +159,5 @@ resume_sessions members ordered plainly wants feeds rights rises within start no
       given.0,
       given.1,
       λ sent row has there.
-          resumes members ordered plainly h user asked.since asked.options (feed_looks (more ++ s ∷ [])) given.0 (not_offered after.feed) sent row key first_look fronts given.2 has there,
+          resumes members ordered plainly h user asked.since asked.options (feed_looks (more ++ s ∷ [])) given.0 (not_offered after.feed) sent row (asked_sized user version strict earlier before asked leads awaited).2 first_look fronts given.2 has there,
     )

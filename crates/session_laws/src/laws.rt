@@ -37,7 +37,7 @@ pub fn order()
 
 /// To resume at any sent key misses none, over every history that is later than all boards that the session read by then: while a
 /// feed runs, each row of the feed at the history's end, from its own since key, was offered, or has a key above the sent one and
-/// stands in the feed from that. A since key has no sequence above that by which it was sent, as each has that can be read.
+/// stands in the feed from that.
 pub fn resume()
     ensures { (start now : Moment) (h : List Entry) (user : List ℕ) (version : Version)
         (strict : Bool) (asked : Subscription) (front : ℕ) (rows : List Row)
@@ -47,7 +47,6 @@ pub fn resume()
         → s.event ≡ Event.Fed (Fed.Rows front rows) → Steps before s first
         → LeadsFeed first more after
         → AreAnswered start user strict (more ++ s ∷ earlier) now → IsLaterThanAll now.read h
-        → asked.since.seq ≤ asked.since.by
         → (offered : List Row) × AreOffered version (put_by (more ++ s ∷ [])) offered
         × ((sent row : Row) → HasRow offered sent
         → HasRow (feed (all_of h) user asked.since asked.options) row

@@ -1,6 +1,6 @@
 use Rattle.std.proofs.Common.{◌<◌, ◌&&◌, not, sym, subst}
 use Rattle.blip_mux.specs.Sending.{may_send, heard}
-use Rattle.blip_mux.specs.declared.ready.Turn.{Turn}
+use Rattle.blip_mux.specs.declared.ready.ReadyMessage.{ReadyMessage}
 use Rattle.blip_mux.specs.Ready.{count_in, room_in}
 use Rattle.blip_mux.proofs.Moved.{room_for, heard_kept_on, heard_kept_off, turn_on, turn_off}
 use Rattle.blip_mux.proofs.stamped.Stamped.heard.Goals as goal
@@ -11,7 +11,7 @@ put-requires c =
     let old = kept.found c.args.class c.args.number c.in-Some.stamp (sym c.in-Some.ensures) in
     let w = old.0 in
     let has = turn_on (not (may_send w) && may_send (heard c.args.bytes w)) c.in-Some-hear.turn (record { urgent = w.urgent; stamp = c.in-Some.stamp }) (rw old.1 at c.in-Some-hear.ensures.turn) in
-    subst (λ (t : Turn). count_in t.urgent c.args.self.now.ready < room_in t.urgent c.args.self.now.ready) (sym has.1)
+    subst (λ (t : ReadyMessage). count_in t.urgent c.args.self.now.ready < room_in t.urgent c.args.self.now.ready) (sym has.1)
     (room_for c.args.self.now.messages.entries c.hear.new.messages.entries c.in-Some.stamp c.args.self.now.next w c.args.bytes _ c.args.self.now.ready c.args.self.now.ready kept old.1 (rw old.1 at c.in-Some-hear.ensures.set) has.0)
 
 pub returns-in-Some-hear-clause-keeps : goal.returns-in-Some-hear-clause-keeps

@@ -1,7 +1,7 @@
 use Rattle.std.proofs.Common.{sym, arith}
 use Rattle.std.proofs.lemmas.List.{take_all, length-take-le}
 use Rattle.blip_frame.specs.Frame.{largest_written}
-use Rattle.blip_mux.proofs.waiting.front_of.Goals as goal
+use Rattle.blip_mux.proofs.waiting.leading_bytes.Goals as goal
 
 pub slice_bounds-result-end : goal.slice_bounds-result-end
 slice_bounds-result-end c = sym (length-take-le largest_written c.args.rest.now (omega arith))
