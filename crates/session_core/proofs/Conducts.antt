@@ -37,7 +37,7 @@ use Rattle.session_core.specs.declared.machine.Subscription.{Subscription}
 use Rattle.session_core.specs.declared.machine.Pending.{Pending}
 use Rattle.session_core.specs.declared.machine.Pending.TheVariants as pending
 use Rattle.session_core.specs.Acts.{chosen, reply_act, refusal_act, acceptance_act, outcome_act, error_of, body_act, body_acts, offer_act}
-use Rattle.session_core.specs.Conduct.{AreOnOffer, request_acts, are_requests, AreAnswers, due_with, due_at, IsStillDue, feed_front, WantsFor, most_answers, is_answer, AreWithin, IsKept}
+use Rattle.session_core.specs.Conduct.{AreOnOffer, requests_among, are_requests, AreAnswers, due_with, due_at, IsStillDue, feed_front, WantsFor, most_answers, is_answer, AreWithin, IsKept}
 use Rattle.session_core.specs.Fronts.{front_told}
 use Rattle.session_core.specs.Running.{Running, rest, is_none, is_silent, next_acts, next_requests, next_feed_with}
 use Rattle.session_core.specs.State.{Machine, AwaitsBy, Awaits}
@@ -60,7 +60,7 @@ answers_on due (act.Reply to kind urgent payload ∷ acts) more (is, reply, requ
 answers_on due (act.Request payload no_reply ∷ acts) more a b = requests_on acts more a b
 answers_on due (act.Want want ∷ acts) more a b = absurd a
 
-count_on : (acts more : List Act) → request_acts (acts ++ more) ≡ request_acts acts + request_acts more
+count_on : (acts more : List Act) → requests_among (acts ++ more) ≡ requests_among acts + requests_among more
 count_on [] more = omega arith
 count_on (act.Reply to kind urgent payload ∷ acts) more = count_on acts more
 count_on (act.Request payload no_reply ∷ acts) more = omega (arith, count_on acts more)
@@ -72,9 +72,9 @@ reply_due asker kind payload is =
     elim (asker.no_reply) as (λ b. AreAnswers (Some asker.number) (if b then [] else act.Reply asker.number kind asker.urgent payload ∷ []))
     [ true ↦ tt | false ↦ (refl, is, refl) ]
 
-reply_count : (asker : Asker) (kind : Kind) (payload : Payload) → request_acts (reply_act asker kind payload) ≡ 0
+reply_count : (asker : Asker) (kind : Kind) (payload : Payload) → requests_among (reply_act asker kind payload) ≡ 0
 reply_count asker kind payload =
-    elim (asker.no_reply) as (λ b. request_acts (if b then [] else act.Reply asker.number kind asker.urgent payload ∷ []) ≡ 0)
+    elim (asker.no_reply) as (λ b. requests_among (if b then [] else act.Reply asker.number kind asker.urgent payload ∷ []) ≡ 0)
     [ true ↦ refl | false ↦ refl ]
 
 -- the next offer of a feed
@@ -83,9 +83,9 @@ next_requested version r =
     elim (is_silent r) as (λ b. are_requests (if b then [] else offer_act r.rows r.batch version ∷ []) ≡ true)
     [ true ↦ refl | false ↦ refl ]
 
-next_counted : (version : Version) (requests : ℕ) (r : Running) → next_requests requests r ≡ requests + request_acts (next_acts version r)
+next_counted : (version : Version) (requests : ℕ) (r : Running) → next_requests requests r ≡ requests + requests_among (next_acts version r)
 next_counted version requests r =
-    elim (is_silent r) as (λ b. (if b then requests else requests + 1) ≡ requests + request_acts (if b then [] else offer_act r.rows r.batch version ∷ []))
+    elim (is_silent r) as (λ b. (if b then requests else requests + 1) ≡ requests + requests_among (if b then [] else offer_act r.rows r.batch version ∷ []))
     [ true ↦ omega arith | false ↦ omega arith ]
 
 -- bodies
@@ -99,12 +99,12 @@ bodies_requested [] bodies = refl
 bodies_requested (row ∷ rows) [] = refl
 bodies_requested (row ∷ rows) (b ∷ bodies) = one_body row b (body_acts rows bodies) ∙ bodies_requested rows bodies
 
-count_one : (row : Row) (b : Body) (acts : List Act) → request_acts (body_act row b ∷ acts) ≡ suc (request_acts acts)
+count_one : (row : Row) (b : Body) (acts : List Act) → requests_among (body_act row b ∷ acts) ≡ suc (requests_among acts)
 count_one row (body.Rev ancestors bytes) acts = omega arith
 count_one row body.Removed acts = omega arith
 count_one row body.NoRev acts = omega arith
 
-bodies_counted : (rows : List Row) (bodies : List Body) → length bodies ≡ length rows → request_acts (body_acts rows bodies) ≡ length rows
+bodies_counted : (rows : List Row) (bodies : List Body) → length bodies ≡ length rows → requests_among (body_acts rows bodies) ≡ length rows
 bodies_counted [] bodies e = refl
 bodies_counted (row ∷ rows) [] e = absurd (omega (arith, e))
 bodies_counted (row ∷ rows) (b ∷ bodies) e = count_one row b (body_acts rows bodies) ∙ ap suc (bodies_counted rows bodies (omega (arith, e)))
@@ -122,10 +122,10 @@ pub record Conducted (m : Machine) (due : Option ℕ) (fronts : List ℕ) (done 
   pub user : done.after.user ≡ m.user
   pub version : done.after.version ≡ m.version
   pub strict : done.after.strict ≡ m.strict
-  pub requests : done.after.requests ≡ m.requests + request_acts done.acts
+  pub requests : done.after.requests ≡ m.requests + requests_among done.acts
   pub front : (most : ℕ) → feed_front m.feed ≤ most → AreWithin most fronts → feed_front done.after.feed ≤ most
 
-puts_are : (m : Machine) (due : Option ℕ) (fronts : List ℕ) (acts : List Act) → AreAnswers due acts → request_acts acts ≡ 0 → Conducted m due fronts (puts m acts)
+puts_are : (m : Machine) (due : Option ℕ) (fronts : List ℕ) (acts : List Act) → AreAnswers due acts → requests_among acts ≡ 0 → Conducted m due fronts (puts m acts)
 puts_are m due fronts acts are none = record {
   puts = are;
   still = inl refl;
@@ -168,7 +168,7 @@ next_front [] requests r most a =
 next_front (row ∷ rows) requests r most a = a
 
 goes : (m : Machine) (due : Option ℕ) (fronts : List ℕ) (acts : List Act) (requests : ℕ) (r : Running)
-    → AreAnswers due acts → requests ≡ m.requests + request_acts acts
+    → AreAnswers due acts → requests ≡ m.requests + requests_among acts
     → ((most : ℕ) → feed_front m.feed ≤ most → AreWithin most fronts → r.front ≤ most)
     → Conducted m due fronts (goes_on m acts requests r)
 goes m due fronts acts requests r are counted within = record {
@@ -183,7 +183,7 @@ goes m due fronts acts requests r are counted within = record {
 }
 
 looks : (m : Machine) (due : Option ℕ) (fronts : List ℕ) (acts : List Act) (requests : ℕ) (r : Running)
-    → AreAnswers due acts → requests ≡ m.requests + request_acts acts
+    → AreAnswers due acts → requests ≡ m.requests + requests_among acts
     → ((most : ℕ) → feed_front m.feed ≤ most → AreWithin most fronts → r.front ≤ most)
     → Conducted m due fronts (looks_again m acts requests r)
 looks m due fronts acts requests r are counted within = record {
@@ -198,7 +198,7 @@ looks m due fronts acts requests r are counted within = record {
 }
 
 are_answered : (b : Bool) (m : Machine) (due : Option ℕ) (fronts : List ℕ) (acts : List Act) (requests : ℕ) (r : Running)
-    → AreAnswers due acts → requests ≡ m.requests + request_acts acts
+    → AreAnswers due acts → requests ≡ m.requests + requests_among acts
     → ((most : ℕ) → feed_front m.feed ≤ most → AreWithin most fronts → r.front ≤ most)
     → Conducted m due fronts (answered_by b m acts requests r)
 are_answered true m due fronts acts requests r are counted within = looks m due fronts acts requests r are counted within

@@ -43,7 +43,7 @@ use Rattle.session_core.specs.declared.machine.Subscription.{Subscription}
 use Rattle.session_core.specs.declared.machine.Pending.{Pending}
 use Rattle.session_core.specs.declared.machine.Pending.TheVariants as pending
 use Rattle.session_core.specs.Acts.{messages_from, request_message, reply_message, error_of, reply_act, refusal_act, acceptance_act, outcome_act, body_act, body_acts, offer_act}
-use Rattle.session_core.specs.Conduct.{request_acts, WantsFor}
+use Rattle.session_core.specs.Conduct.{requests_among, WantsFor}
 use Rattle.session_core.specs.Feeds.{AreOffered, not_offered, rows_at, feed_look, feed_looks, LeadsFeed}
 use Rattle.session_core.specs.Right.{IsRight, AreRight}
 use Rattle.session_core.specs.Running.{Running, rest, is_none, is_silent, waits, next_since, next_acts, next_feed, next_feed_with}
@@ -60,11 +60,11 @@ offered_on version (m ∷ ms) ns rows more (inl (not, a)) b = inl (not, offered_
 offered_on version (m ∷ ms) ns rows more (inr (first, later, is, payload, rows_are, a)) b =
     inr (first, later ++ more, is, payload, ap (λ rs. rs ++ more) rows_are ∙ append_assoc first later more, offered_on version ms ns later more a b)
 
-messages_on : (n : ℕ) (acts more : List Act) → messages_from n (acts ++ more) ≡ messages_from n acts ++ messages_from (n + request_acts acts) more
+messages_on : (n : ℕ) (acts more : List Act) → messages_from n (acts ++ more) ≡ messages_from n acts ++ messages_from (n + requests_among acts) more
 messages_on n [] more = ap (λ k. messages_from k more) (sym (add-zero n))
 messages_on n (act.Reply to kind urgent payload ∷ acts) more = ap (λ ms. reply_message to kind urgent payload ∷ ms) (messages_on n acts more)
 messages_on n (act.Request payload no_reply ∷ acts) more =
-    let count : n + 1 + request_acts acts ≡ n + (1 + request_acts acts) = omega arith in
+    let count : n + 1 + requests_among acts ≡ n + (1 + requests_among acts) = omega arith in
     ap (λ ms. request_message n no_reply payload ∷ ms) (messages_on (n + 1) acts more ∙ ap (λ k. messages_from (n + 1) acts ++ messages_from k more) count)
 messages_on n (act.Want want ∷ acts) more = messages_on n acts more
 
@@ -231,9 +231,9 @@ goes h user version asked messages fronts m acts requests r offered are sum opti
   offered = offered ++ take r.batch r.rows;
   are = offered_on version messages (messages_from (m.requests + 1) (acts ++ next_acts m.version r)) offered (take r.batch r.rows) are
       (subst (λ ms. AreOffered version ms (take r.batch r.rows)) (sym (messages_on (m.requests + 1) acts (next_acts m.version r)))
-      (offered_on version (messages_from (m.requests + 1) acts) (messages_from (m.requests + 1 + request_acts acts) (next_acts m.version r)) [] (take r.batch r.rows)
+      (offered_on version (messages_from (m.requests + 1) acts) (messages_from (m.requests + 1 + requests_among acts) (next_acts m.version r)) [] (take r.batch r.rows)
       (none_offered version (m.requests + 1) acts none)
-      (subst (λ v. AreOffered version (messages_from (m.requests + 1 + request_acts acts) (next_acts v r)) (take r.batch r.rows)) (sym version_is) (next_offered version (m.requests + 1 + request_acts acts) r))));
+      (subst (λ v. AreOffered version (messages_from (m.requests + 1 + requests_among acts) (next_acts v r)) (take r.batch r.rows)) (sym version_is) (next_offered version (m.requests + 1 + requests_among acts) r))));
   sum = ap (λ rs. (offered ++ take r.batch r.rows) ++ rs) (next_left requests r) ∙ append_assoc offered (take r.batch r.rows) (drop r.batch r.rows)
       ∙ ap (λ rs. offered ++ rs) (take-append-drop r.batch r.rows) ∙ sum;
   runs = next_runs asked fronts r.rows requests r options front;

@@ -21,11 +21,11 @@ use Rattle.session_core.specs.Transitions.{Done}
 -- ---- what is put
 
 -- how many requests are among acts
-abbrev pub request_acts : List Act → ℕ
-request_acts [] = 0
-request_acts (act.Reply to kind urgent payload ∷ acts) = request_acts acts
-request_acts (act.Request payload no_reply ∷ acts) = 1 + request_acts acts
-request_acts (act.Want want ∷ acts) = request_acts acts
+abbrev pub requests_among : List Act → ℕ
+requests_among [] = 0
+requests_among (act.Reply to kind urgent payload ∷ acts) = requests_among acts
+requests_among (act.Request payload no_reply ∷ acts) = 1 + requests_among acts
+requests_among (act.Want want ∷ acts) = requests_among acts
 
 -- whether all are requests
 abbrev pub are_requests : List Act → Bool
@@ -114,5 +114,5 @@ pub record IsKept (m : Machine) (event : Event) (done : Done) : Type 0 where
   pub user : done.after.user ≡ m.user
   pub version : done.after.version ≡ m.version
   pub strict : done.after.strict ≡ m.strict
-  pub requests : done.after.requests ≡ m.requests + request_acts done.acts
+  pub requests : done.after.requests ≡ m.requests + requests_among done.acts
   pub front : (most : ℕ) → feed_front m.feed ≤ most → AreWithin most (front_told event) → feed_front done.after.feed ≤ most

@@ -1,7 +1,6 @@
 -- A session, event by event.
 use Rattle.std.specs.Prelude.{◌≡◌, ℕ, ◌+◌, List, [], ◌∷◌, ◌++◌, Option, None, if◌then◌else◌}
 use Rattle.blip_mux.specs.declared.message.Message.{Message}
-use Rattle.blip_mux.specs.Joining.{is_request}
 use Rattle.session_core.specs.declared.act.Want.{Want}
 use Rattle.session_core.specs.declared.event.Event.{Event}
 use Rattle.session_core.specs.Acts.{messages_from}
@@ -38,7 +37,3 @@ abbrev pub put_by : List Step → List Message
 put_by [] = []
 put_by (s ∷ earlier) = put_by earlier ++ s.puts
 
--- how many of the messages are requests
-abbrev pub requests_among : List Message → ℕ
-requests_among [] = 0
-requests_among (m ∷ messages) = (if is_request m.kind then 1 else 0) + requests_among messages

@@ -22,7 +22,7 @@ use Rattle.session_core.specs.declared.event.Event.TheVariants as event
 use Rattle.session_core.specs.declared.machine.Subscription.{Subscription}
 use Rattle.session_core.specs.declared.machine.Pending.TheVariants as pending
 use Rattle.session_core.specs.Acts.{messages_from, acceptance_act, offer_act}
-use Rattle.session_core.specs.Conduct.{request_acts, WantsFor}
+use Rattle.session_core.specs.Conduct.{requests_among, WantsFor}
 use Rattle.session_core.specs.Feeds.{not_offered, rows_at, feed_look, feed_looks, LeadsFeed}
 use Rattle.session_core.specs.Right.{IsRight, AreRight}
 use Rattle.session_core.specs.Running.{Running, rest, is_none, is_silent, next_since, next_acts, next_feed, next_feed_with}
@@ -174,9 +174,9 @@ goes h user version asked messages fronts m acts requests r offers are sum runs 
       offers = offers ++ next_offers r;
       are = offers_on version messages (messages_from (m.requests + 1) (acts ++ next_acts m.version r)) offers (next_offers r) are
           (subst (λ ms. AreOffers version ms (next_offers r)) (sym (messages_on (m.requests + 1) acts (next_acts m.version r)))
-          (offers_on version (messages_from (m.requests + 1) acts) (messages_from (m.requests + 1 + request_acts acts) (next_acts m.version r)) [] (next_offers r)
+          (offers_on version (messages_from (m.requests + 1) acts) (messages_from (m.requests + 1 + requests_among acts) (next_acts m.version r)) [] (next_offers r)
           (none_of version (messages_from (m.requests + 1) acts) (none.none (m.requests + 1)))
-          (subst (λ v. AreOffers version (messages_from (m.requests + 1 + request_acts acts) (next_acts v r)) (next_offers r)) (sym version_is) (next_are version (m.requests + 1 + request_acts acts) r))));
+          (subst (λ v. AreOffers version (messages_from (m.requests + 1 + requests_among acts) (next_acts v r)) (next_offers r)) (sym version_is) (next_are version (m.requests + 1 + requests_among acts) r))));
       sum = ap (λ rows. with_rows (offers ++ next_offers r) ++ batches asked.batch rows) (next_left requests r)
           ∙ ap (λ os. os ++ batches asked.batch (drop r.batch r.rows)) (filter-append (λ rows. not (is_none rows)) offers (next_offers r))
           ∙ append_assoc (with_rows offers) (with_rows (next_offers r)) (batches asked.batch (drop r.batch r.rows))

@@ -17,7 +17,7 @@ use Rattle.session_core.specs.declared.machine.Subscription.{Subscription}
 use Rattle.session_core.specs.declared.machine.Pending.{Pending}
 use Rattle.session_core.specs.declared.machine.Pending.TheVariants as pending
 use Rattle.session_core.specs.Acts.{messages_from, request_message, reply_message, acceptance_act, offer_act, wants_no_reply}
-use Rattle.session_core.specs.Conduct.{request_acts, IsKept}
+use Rattle.session_core.specs.Conduct.{requests_among, IsKept}
 use Rattle.session_core.specs.Running.{Running, rest, is_none, is_silent, next_acts, next_feed, next_feed_with}
 use Rattle.session_core.specs.State.{Machine, new_machine, Awaits}
 use Rattle.session_core.specs.Steps.{Step, Steps, Leads}
@@ -27,11 +27,11 @@ use Rattle.session_laws.proofs.Shapes.{OffersNone, nothing_offered, reply_none, 
 
 -- ---- messages
 
-pub messages_on : (n : ℕ) (acts more : List Act) → messages_from n (acts ++ more) ≡ messages_from n acts ++ messages_from (n + request_acts acts) more
+pub messages_on : (n : ℕ) (acts more : List Act) → messages_from n (acts ++ more) ≡ messages_from n acts ++ messages_from (n + requests_among acts) more
 messages_on n [] more = ap (λ k. messages_from k more) (sym (add-zero n))
 messages_on n (act.Reply to kind urgent payload ∷ acts) more = ap (λ ms. reply_message to kind urgent payload ∷ ms) (messages_on n acts more)
 messages_on n (act.Request payload no_reply ∷ acts) more =
-    let count : n + 1 + request_acts acts ≡ n + (1 + request_acts acts) = omega arith in
+    let count : n + 1 + requests_among acts ≡ n + (1 + requests_among acts) = omega arith in
     ap (λ ms. request_message n no_reply payload ∷ ms) (messages_on (n + 1) acts more ∙ ap (λ k. messages_from (n + 1) acts ++ messages_from k more) count)
 messages_on n (act.Want want ∷ acts) more = messages_on n acts more
 
@@ -151,28 +151,28 @@ offers_nothing f p m x done none fits sized same =
     }
 
 -- where a feed goes on
-feed_goes : (f : Option Running) (p : Pending) (m : Machine) (x : Event) (acts : List Act) (requests : ℕ) (r : Running) → OffersNone acts → requests ≡ m.requests + request_acts acts
+feed_goes : (f : Option Running) (p : Pending) (m : Machine) (x : Event) (acts : List Act) (requests : ℕ) (r : Running) → OffersNone acts → requests ≡ m.requests + requests_among acts
     → closed_by x (open_of f p) ≡ None → Follows f p m x (goes_on m acts requests r)
 feed_goes f p m x acts requests r none counted closed =
     let first : List Message = messages_from (m.requests + 1) acts in
-    let second : List Message = messages_from (m.requests + 1 + request_acts acts) (next_acts m.version r) in
+    let second : List Message = messages_from (m.requests + 1 + requests_among acts) (next_acts m.version r) in
     let parts : messages_of m (goes_on m acts requests r) ≡ first ++ second = messages_on (m.requests + 1) acts (next_acts m.version r) in
     let count : offers_among first ≡ 0 = none.none (m.requests + 1) in record {
       fits = fits_nothing (next_feed requests r);
       opens = ap (λ ms. opened_by ms (closed_by x (open_of f p))) parts ∙ ap (opened_by (first ++ second)) closed ∙ opened_on first second None
-          ∙ ap (opened_by second) (none_opened first None count) ∙ next_opens m.version (m.requests + 1 + request_acts acts) requests r (omega (arith, counted));
+          ∙ ap (opened_by second) (none_opened first None count) ∙ next_opens m.version (m.requests + 1 + requests_among acts) requests r (omega (arith, counted));
       waits = λ some. absurd (none_open (closed_by x (open_of f p)) closed some);
       replies = subst (WantReplies m.version) (sym parts)
-          (wants_on m.version first second (none_wanted m.version first count) (next_wants m.version (m.requests + 1 + request_acts acts) r));
+          (wants_on m.version first second (none_wanted m.version first count) (next_wants m.version (m.requests + 1 + requests_among acts) r));
       sized = tt;
-      one = omega (arith, ap offers_among parts, counted_on first second, count, offer_counted m.version (m.requests + 1 + request_acts acts) r (is_silent r));
+      one = omega (arith, ap offers_among parts, counted_on first second, count, offer_counted m.version (m.requests + 1 + requests_among acts) r (is_silent r));
     }
 
 pub acceptance_none : (asker : Asker) → OffersNone (acceptance_act asker)
 acceptance_none asker = reply_none asker kinds.Rpy _ refl
 
-acceptance_counted : (asker : Asker) → request_acts (acceptance_act asker) ≡ 0
-acceptance_counted asker = elim (asker.no_reply) as (λ b. request_acts (if b then [] else act.Reply asker.number kinds.Rpy asker.urgent ok_payload ∷ []) ≡ 0) [ true ↦ refl | false ↦ refl ]
+acceptance_counted : (asker : Asker) → requests_among (acceptance_act asker) ≡ 0
+acceptance_counted asker = elim (asker.no_reply) as (λ b. requests_among (if b then [] else act.Reply asker.number kinds.Rpy asker.urgent ok_payload ∷ []) ≡ 0) [ true ↦ refl | false ↦ refl ]
 
 follows : (f : Option Running) (p : Pending) (m : Machine) (x : Event) (done : Done) → Shape f p m x done → Follows f p m x done
 follows f p m x done (stays none same fits sized look closed) =

@@ -35,7 +35,7 @@ use Rattle.session_core.specs.declared.machine.Subscription.{Subscription}
 use Rattle.session_core.specs.declared.machine.Pending.{Pending}
 use Rattle.session_core.specs.declared.machine.Pending.TheVariants as pending
 use Rattle.session_core.specs.Acts.{messages_from, error_of, reply_act, refusal_act, acceptance_act, outcome_act, body_acts}
-use Rattle.session_core.specs.Conduct.{request_acts}
+use Rattle.session_core.specs.Conduct.{requests_among}
 use Rattle.session_core.specs.Feeds.{feed_look}
 use Rattle.session_core.specs.Running.{Running, rest, is_none}
 use Rattle.session_core.specs.State.{Machine, AwaitsBy, Awaits}
@@ -68,7 +68,7 @@ bodies_at n (row ∷ rows) (body.NoRev ∷ given) = omega (arith, bodies_at (n +
 bodies_none : (rows : List Row) (given : List Body) → OffersNone (body_acts rows given)
 bodies_none rows given = record { none = λ n. bodies_at n rows given }
 
-bodies_counted : (rows : List Row) (given : List Body) → length given ≡ length rows → request_acts (body_acts rows given) ≡ length rows
+bodies_counted : (rows : List Row) (given : List Body) → length given ≡ length rows → requests_among (body_acts rows given) ≡ length rows
 bodies_counted [] given e = refl
 bodies_counted (row ∷ rows) [] e = absurd (omega (arith, e))
 bodies_counted (row ∷ rows) (body.Rev ancestors bytes ∷ given) e = omega (arith, bodies_counted rows given (omega (arith, e)))
@@ -137,7 +137,7 @@ pub data Shape (f : Option Running) (p : Pending) (m : Machine) (x : Event) (don
   looks_next : (r : Running) (acts : List Act) (requests : ℕ) → f ≡ Some r → OffersNone acts → is_none (rest r).rows ≡ true → feed_look x ≡ [] → closed_by x (open_of f p) ≡ None
       → done ≡ looks_again m acts requests (rest r) → Shape f p m x done
   -- the rows on offer are answered, and the feed goes on
-  answers_all : (r : Running) (acts : List Act) (requests : ℕ) → f ≡ Some r → OffersNone acts → requests ≡ m.requests + request_acts acts → feed_look x ≡ [] → closed_by x (open_of f p) ≡ None
+  answers_all : (r : Running) (acts : List Act) (requests : ℕ) → f ≡ Some r → OffersNone acts → requests ≡ m.requests + requests_among acts → feed_look x ≡ [] → closed_by x (open_of f p) ≡ None
       → done ≡ goes_on m acts requests (rest r) → Shape f p m x done
   -- a feed begins
   begins_first : (asked : Subscription) (front : ℕ) (rows : List Row) → f ≡ None → p ≡ pending.Feed asked → x ≡ event.Fed (fed.Rows front rows)
@@ -217,7 +217,7 @@ second_of true b e = e
 second_of false b e = absurd (false≢true e)
 
 answered_shape : (b : Bool) (p : Pending) (m : Machine) (x : Event) (r : Running) (acts : List Act) (requests : ℕ)
-    → (r.continuous && is_none (rest r).rows) ≡ b → OffersNone acts → requests ≡ m.requests + request_acts acts → feed_look x ≡ [] → closed_by x (open_of (Some r) p) ≡ None
+    → (r.continuous && is_none (rest r).rows) ≡ b → OffersNone acts → requests ≡ m.requests + requests_among acts → feed_look x ≡ [] → closed_by x (open_of (Some r) p) ≡ None
     → Shape (Some r) p m x (answered_by b m acts requests (rest r))
 answered_shape true p m x r acts requests is none counted look closed = looks_next r acts requests refl none (second_of r.continuous (is_none (rest r).rows) is) look closed refl
 answered_shape false p m x r acts requests is none counted look closed = answers_all r acts requests refl none counted look closed refl

@@ -16,7 +16,7 @@ use Rattle.blip_mux.specs.Told.{Acknowledgement}
 use Rattle.session_core.specs.declared.act.Act.{Act}
 use Rattle.session_core.specs.declared.act.Act.TheVariants as act
 use Rattle.session_core.specs.Acts.{messages_from, request_message, reply_message}
-use Rattle.session_core.specs.Conduct.{AreAnswers, are_requests, request_acts}
+use Rattle.session_core.specs.Conduct.{AreAnswers, are_requests, requests_among}
 use Rattle.session_mux.specs.declared.mux.Mux.{Mux}
 use Rattle.session_mux.specs.Sent.{expecting_by}
 use Rattle.session_run.specs.Putting.{MayPut, MayPutAll, MayReply, put_one, put_all, put_as}
@@ -46,16 +46,16 @@ acts_put due (act.Want want ∷ acts) m a = absurd a
 
 -- ---- the requests are counted
 
-requests_counted : (acts : List Act) (m : Mux) → are_requests acts ≡ true → (put_all acts m).outbox.requests ≡ request_acts acts + m.outbox.requests
+requests_counted : (acts : List Act) (m : Mux) → are_requests acts ≡ true → (put_all acts m).outbox.requests ≡ requests_among acts + m.outbox.requests
 requests_counted [] m e = sym (zero-add m.outbox.requests)
 requests_counted (act.Reply to kind urgent payload ∷ acts) m e = absurd (false≢true e)
 requests_counted (act.Request payload no_reply ∷ acts) m e = omega (arith, requests_counted acts (put_one (act.Request payload no_reply) m) e)
 requests_counted (act.Want want ∷ acts) m e = absurd (false≢true e)
 
-pub acts_counted : (due : Option ℕ) (acts : List Act) (m : Mux) → AreAnswers due acts → (put_all acts m).outbox.requests ≡ request_acts acts + m.outbox.requests
+pub acts_counted : (due : Option ℕ) (acts : List Act) (m : Mux) → AreAnswers due acts → (put_all acts m).outbox.requests ≡ requests_among acts + m.outbox.requests
 acts_counted due [] m a = sym (zero-add m.outbox.requests)
 acts_counted due (act.Reply to kind urgent payload ∷ acts) m (is, reply, requests) =
-    requests_counted acts (put_one (act.Reply to kind urgent payload) m) requests ∙ ap (λ n. request_acts acts + n) (reply_requests m.outbox to kind urgent payload reply)
+    requests_counted acts (put_one (act.Reply to kind urgent payload) m) requests ∙ ap (λ n. requests_among acts + n) (reply_requests m.outbox to kind urgent payload reply)
 acts_counted due (act.Request payload no_reply ∷ acts) m a = omega (arith, requests_counted acts (put_one (act.Request payload no_reply) m) a)
 acts_counted due (act.Want want ∷ acts) m a = absurd a
 

@@ -4,7 +4,7 @@ use Rattle.std.specs.Prelude.{OnErr}
 use Rattle.session_core.specs.declared.act.Acts.{Acts}
 use Rattle.session_core.specs.declared.event.Event.{Event}
 use Rattle.session_core.specs.Acts.{messages_from}
-use Rattle.session_core.specs.Conduct.{AreAnswers, due_at, due_with, IsStillDue, WantsFor, most_answers, is_answer, IsKept, request_acts, feed_front, AreWithin}
+use Rattle.session_core.specs.Conduct.{AreAnswers, due_at, due_with, IsStillDue, WantsFor, most_answers, is_answer, IsKept, requests_among, feed_front, AreWithin}
 use Rattle.session_core.specs.Fronts.{front_told}
 use Rattle.session_core.specs.State.{Machine, Awaits}
 use Rattle.session_core.specs.Steps.{Step, Steps}
@@ -39,9 +39,9 @@ Stepped old event new acts = IsDoneBy (λ (done : Done). Does old event done) ne
 pub answers_of : Puts → (old new : Machine) (event : Event) (acts : Acts) → Awaits old event → Stepped old event new acts → AreAnswers (due_at old.pending event) acts.puts.items
 answers_of law old new event acts awaits (done, does, (after, puts, want)) = subst (AreAnswers (due_at old.pending event)) puts (law old event done awaits does)
 
-pub counted_of : Kept → (old new : Machine) (event : Event) (acts : Acts) → Awaits old event → Stepped old event new acts → new.requests ≡ old.requests + request_acts acts.puts.items
+pub counted_of : Kept → (old new : Machine) (event : Event) (acts : Acts) → Awaits old event → Stepped old event new acts → new.requests ≡ old.requests + requests_among acts.puts.items
 counted_of law old new event acts awaits (done, does, (after, puts, want)) =
-    ap (λ (m : Machine). m.requests) (sym after) ∙ (law old event done awaits does).requests ∙ ap (λ acts. old.requests + request_acts acts) puts
+    ap (λ (m : Machine). m.requests) (sym after) ∙ (law old event done awaits does).requests ∙ ap (λ acts. old.requests + requests_among acts) puts
 
 pub wants_of : Wants → (old new : Machine) (event : Event) (acts : Acts) → Awaits old event → Stepped old event new acts → WantsFor new.feed new.pending acts.want
 wants_of law old new event acts awaits (done, does, (after, puts, want)) =
@@ -131,7 +131,7 @@ pub may_put : Puts → (old : Session) (new : Machine) (event : Event) (acts : A
 may_put law old new event acts awaits stepped may = answers_may (due_at old.core.pending event) old.mux acts.puts.items may (answers_of law old.core new event acts awaits stepped)
 
 pub room_for : Kept → (old : Session) (new : Machine) (event : Event) (acts : Acts) → Awaits old.core event → Stepped old.core event new acts → IsReady old
-    → old.core.requests ≤ 9223372036854775808 → new.requests ≤ old.core.requests + 10001 → old.mux.outbox.requests + request_acts acts.puts.items < 18446744073709551615
+    → old.core.requests ≤ 9223372036854775808 → new.requests ≤ old.core.requests + 10001 → old.mux.outbox.requests + requests_among acts.puts.items < 18446744073709551615
 room_for law old new event acts awaits stepped ready room few = omega (arith, ready.requests, room, few, counted_of law old.core new event acts awaits stepped)
 
 -- where it failed

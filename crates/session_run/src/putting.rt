@@ -1,7 +1,7 @@
 //! Messages that are put.
 
 ghost use Rattle.std.specs.Prelude.{◌≡◌, ◌+◌, ◌<◌, OnOk};
-ghost use Rattle.session_core.specs.Conduct.{request_acts};
+ghost use Rattle.session_core.specs.Conduct.{requests_among};
 ghost use Rattle.session_run.specs.Putting.{MayPut, MayPutAll, put_one, put_all};
 
 use session_core::Act;
@@ -11,7 +11,7 @@ use sg_outside::Memory;
 /// Puts messages. Out of memory some of them may be put.
 pub(crate) fn put(mux: &mut Mux, acts: Vec<Act>) -> Result<(), Memory>
     requires may { MayPutAll mux.old.outbox.waiting acts.items }
-    requires room { mux.old.outbox.requests + request_acts acts.items < 18446744073709551615 }
+    requires room { mux.old.outbox.requests + requests_among acts.items < 18446744073709551615 }
     ensures ok { OnOk result (mux.new ≡ put_all acts.items mux.old) }
     ensures received { mux.new.received ≡ mux.old.received }
     ensures sent { mux.new.sent ≡ mux.old.sent }
