@@ -10,6 +10,8 @@ mod growing;
 #[cfg(test)]
 mod journals;
 #[cfg(test)]
+mod machine;
+#[cfg(test)]
 mod proposals;
 #[cfg(test)]
 mod sessions;
