@@ -18,36 +18,36 @@ ghost use Rattle.rev_tree.specs.Documents.{tree_at, tree_when, last_at, base_wri
 
 use crate::candidate::{Candidate, Commit, NoRoom};
 use crate::document::{self, Document, Documents};
+use crate::granted::channels_at_end;
 use crate::open::{OpenFault, documents_of};
 use crate::room::{self, Room};
 use crate::snapshot::{Snapshot, snapshot_of};
-use feed_rows::channels_of;
-use log_index::LogIndex;
+use grant_history::GrantHistory;
 use repl_messages::Revision;
 use rev_tree::Tree;
 use rev_tree::laws::{histories, trees_of_writes};
-use sg_history::{Channels, DocId, Entry, Log, Name, Number, RoomFor, Write};
+use sg_history::{Channels, DocId, Entry, Log, LogReads, Name, Number, RoomFor, Write};
 use sg_outside::Memory;
 use std::alloc::{AllocError, Global};
 use std::collections::BTreeMap;
 use std::marker::Model;
 
-/// The log, with each document's tree of revisions, the rooms that are out, and an index of the log. What is
-/// stored takes no memory then: a room has it beforehand. The index is brought up to the log by the calls that
-/// may take memory.
+/// The log, with each document's tree of revisions, the rooms that are out, and the history of its grants, which has
+/// an index of the log. What is stored takes no memory then: a room has it beforehand. The grants are brought up to
+/// the log by the calls that may take memory.
 #[derive(Drop)]
 pub struct Board {
     log: Log,
     documents: Documents,
     rooms: Vec<RoomFor>,
-    index: LogIndex,
+    grants: GrantHistory,
 }
 
 impl Model for Board {
     ghost use Rattle.std.specs.Prelude.{◌≤◌, reverse, length, IsTrue};
     ghost use Rattle.std.specs.List.{list_all};
     ghost use Rattle.sg_history.specs.History.{entries_of};
-    ghost use Rattle.log_index.specs.Index.{IsBehind};
+    ghost use Rattle.grant_history.specs.Stands.{StandsFor};
     ghost use Rattle.doc_board.specs.Kept.{IsKept};
     ghost use Rattle.doc_board.specs.State.{State};
 
@@ -56,7 +56,7 @@ impl Model for Board {
     ghost view = { λ b. record { log = entries_of b.log; rooms = b.rooms.items } };
 
     ghost invariant = { λ b. IsKept b.log.entries b.documents b.rooms.items
-        × IsBehind b.index b.log.entries.list };
+        × StandsFor b.grants b.log.entries.list };
 }
 
 impl Board {
@@ -69,7 +69,7 @@ impl Board {
             log: Log::new(alloc),
             documents: BTreeMap::new(alloc),
             rooms: Vec::new(alloc),
-            index: LogIndex::new(alloc),
+            grants: GrantHistory::new(alloc),
         })
     }
 
@@ -87,7 +87,7 @@ impl Board {
             log,
             documents,
             rooms: Vec::new(alloc),
-            index: LogIndex::new(alloc),
+            grants: GrantHistory::new(alloc),
         })
     }
 
@@ -140,7 +140,10 @@ impl Board {
             (λ channels. (channel : List ℕ) → among channels channel ≡ principals.has_channel
             (newest_first self.old) user.now channel)) }
     {
-        channels_of(*self.rooms.allocator(), &self.log, self.front(), user)
+        let front = self.front();
+        let mut log = LogReads::new(&self.log);
+        self.grants.apply(&mut log, front)?;
+        channels_at_end(&self.grants, user)
     }
 
     /// What is needed to judge a revision that is proposed, by a user or by the administrator.
@@ -164,12 +167,14 @@ impl Board {
     {
         histories();
         let alloc = *self.rooms.allocator();
-        self.index.catch_up(self.log.entries.as_slice())?;
+        let front = self.front();
+        let mut log = LogReads::new(&self.log);
+        self.grants.apply(&mut log, front)?;
         snapshot_of(
             alloc,
             &self.log,
             &self.documents,
-            &self.index,
+            self.grants.index(),
             revision,
             strict,
             by,
@@ -217,7 +222,7 @@ impl Board {
         ensures log { self.new.log ≡ self.old.log ++ entry ∷ [] }
         ensures rooms { self.new.rooms ≡ without room.made_for self.old.rooms }
     {
-        log_index::laws::behind();
+        grant_history::laws::extended(&self.grants);
         room.close(&mut self.rooms);
         self.log.entries.put(entry);
     }
@@ -234,7 +239,7 @@ impl Board {
     {
         trees_of_writes();
         histories();
-        log_index::laws::behind();
+        grant_history::laws::extended(&self.grants);
         let document = Document {
             last: sequence,
             tree,

@@ -4,6 +4,7 @@
 pub mod board;
 pub mod candidate;
 pub mod document;
+mod granted;
 pub mod laws;
 pub mod offers;
 pub mod open;

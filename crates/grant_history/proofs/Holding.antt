@@ -165,6 +165,13 @@ chained first second third at one two d e = record {
 pub recounted_at : (old new : Store) (at : ℕ) (one other : Fact → ℕ) → Dated count_at has_at IsStore old new at one → ((f : Fact) → one f ≡ other f) → Dated count_at has_at IsStore old new at other
 recounted_at old new at one other d same = record { counts = λ f. d.counts f ∙ same f; before = d.before; up_to = d.up_to }
 
+pub same_store : (store : Store) (at : ℕ) → Dated count_at has_at IsStore store store at (count_at store)
+same_store store at = record {
+  counts = λ f. refl;
+  before = λ f k less. refl;
+  up_to = λ n less is. record { users = later_all store.users n at less is.users; roles = later_all store.roles n at less is.roles };
+}
+
 pub less_step : (b : Bool) (count all start rest dropped : ℕ) → count + all ≡ start + dropped → dropped ≡ (if b then 1 else 0) + rest → all ≤ start → (if b then count - 1 else count) + all ≡ start + rest
 less_step true count all start rest dropped h d le = omega (arith, h, d, le)
 less_step false count all start rest dropped h d le = omega (arith, h, d, le)

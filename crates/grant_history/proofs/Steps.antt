@@ -1,5 +1,6 @@
 -- what an entry does to the sources of a fact
 use Rattle.std.proofs.Common.{◌≡◌, ◌+◌, ℕ, refl, sym, ◌∙◌, ap, subst, arith, Bool, true, false, ◌&&◌, ◌||◌, if◌then◌else◌, List, [], ◌∷◌, ◌++◌, length, map, Option, Some, None}
+use Rattle.std.specs.BTreeMap.{get_by_text}
 use Rattle.std.specs.Str.{bytes_eq}
 use Rattle.std.specs.Cmp.Lexicographic.{bytes_decides}
 use Rattle.std.proofs.lemmas.Bool.{false≢true, true≢false}
@@ -14,6 +15,7 @@ use Rattle.grant_history.specs.declared.facts.What.{What}
 use Rattle.grant_history.specs.declared.facts.What.TheVariants as what
 use Rattle.grant_history.specs.declared.facts.Fact.{Fact}
 use Rattle.grant_history.specs.Facts.{same_what, same_fact, times, fact, channel_facts, role_facts, put_facts, document_facts}
+use Rattle.grant_history.specs.Ledger.{Lists, facts_in, facts_of_list}
 use Rattle.grant_history.specs.Sources.{standing_of, with_document, documents_once, given_by, sources}
 use Rattle.grant_history.proofs.Same.{texts_swap, grantees}
 
@@ -206,3 +208,14 @@ write_step e es w is put f = by (among (documents_once es) w.doc) refl
         cases false old =
             let nothing : times (document_facts (current es w.doc)) f ≡ 0 = ap (λ (c : Option Current). times (document_facts c) f) (no_current es w.doc old) in
             omega (arith, nothing, given_other e es w is (documents_once es) f old)
+
+no_facts : (facts : List Fact) → length facts ≡ 0 → facts ≡ []
+no_facts [] e = refl
+no_facts (f ∷ fs) e = absurd (omega (arith, e))
+
+-- where nothing is kept under a name, and nothing is to be, all is as it was
+pub still_none : (lists : Lists) (name other : List ℕ) (facts : List Fact) → length facts ≡ 0 → get_by_text lists name ≡ None → facts_in lists other ≡ (if bytes_eq name other then facts else facts_in lists other)
+still_none lists name other facts none absent = go (bytes_eq name other) refl where
+  go : (b : Bool) → bytes_eq name other ≡ b → facts_in lists other ≡ (if b then facts else facts_in lists other)
+  go true same = ap (facts_in lists) (sym ((bytes_decides name other).0 same)) ∙ ap facts_of_list absent ∙ sym (no_facts facts none)
+  go false same = refl

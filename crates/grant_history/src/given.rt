@@ -109,7 +109,9 @@ fn of_write(alloc: Global, write: &Write) -> Result<Vec<Fact>, Memory>
     ensures { IfOk result (λ list. list.items
         ≡ grant_facts write.now.grants ++ gift_facts write.now.roles) }
 {
-    let mut list = Vec::new(alloc);
+    let grants = write.grants.as_slice().len();
+    let most = grants.saturating_add(write.roles.as_slice().len());
+    let mut list = Vec::with_capacity(alloc, most)?;
     add_grants(alloc, &mut list, write.grants.as_slice())?;
     add_gifts(alloc, &mut list, write.roles.as_slice())?;
     Ok(list)

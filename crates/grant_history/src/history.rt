@@ -1,6 +1,6 @@
 //! The history of grants.
 
-ghost use Rattle.std.specs.Prelude.{◌≡◌, ◌⊎◌, ◌<◌, ◌≤◌, ◌+◌, ◌-◌, ◌*◌, ℕ, List, ◌∷◌, length, max, OnOk, OnErr, IfOk};
+ghost use Rattle.std.specs.Prelude.{◌≡◌, ◌⊎◌, ◌<◌, ◌≤◌, ◌+◌, ◌-◌, ◌*◌, ℕ, List, ◌∷◌, length, max, reverse, OnOk, OnErr, IfOk};
 ghost use Rattle.log_index.specs.Index.{Indexes};
 ghost use Rattle.sg_history.specs.declared.entries.Entry as entry;
 ghost use Rattle.sg_history.specs.History.{among, past};
@@ -67,6 +67,14 @@ impl GrantHistory {
         ensures { result ≡ self.now.applied }
     {
         self.applied
+    }
+
+    /// The index of the log that it keeps: that of all of the log where that is applied to its end.
+    pub fn index(&self) -> &LogIndex
+        ensures { (entries : List entry.Entry) → StandsFor self.now entries
+            → self.now.applied ≡ length entries → Indexes result.now (reverse entries) }
+    {
+        &self.index
     }
 
     /// What a document gives as it is after the entries that the index has.

@@ -36,8 +36,8 @@ pub struct Ledger {
     roles: Lists,
 }
 
-/// A source gives other facts from a place on. Out of memory nothing changes but room.
-fn replace(
+/// A source gives other facts from a place on, in the place of its name. Out of memory nothing changes but room.
+fn exchange(
     alloc: Global,
     store: &mut Store,
     lists: &mut Lists,
@@ -63,6 +63,35 @@ fn replace(
     let before = swap(lists, name, facts);
     store.take_all(before.as_slice(), at);
     Ok(())
+}
+
+/// A source gives other facts from a place on. Out of memory nothing changes but room; of one that
+/// never gave anything, and still gives nothing, nothing is kept.
+fn replace(
+    alloc: Global,
+    store: &mut Store,
+    lists: &mut Lists,
+    name: &str,
+    facts: Vec<Fact>,
+    at: u64,
+) -> Result<(), Memory>
+    requires up_to { IsStore store.old at }
+    requires given { (f : Fact) → times (facts_in lists.old name.now) f
+        ≤ count_at store.old f + times facts.items f }
+    ensures store { OnOk result (Dated count_at has_at IsStore store.old store.new at
+        (λ f. count_at store.old f + times facts.items f
+        - times (facts_in lists.old name.now) f)) }
+    ensures lists { OnOk result ((other : List ℕ) → facts_in lists.new other
+        ≡ (if bytes_eq name.now other then facts.items else facts_in lists.old other)) }
+    ensures err_store { OnErr result (Dated count_at has_at IsStore store.old store.new at
+        (count_at store.old)) }
+    ensures err_lists { OnErr result ((other : List ℕ)
+        → facts_in lists.new other ≡ facts_in lists.old other) }
+{
+    if facts.is_empty() && !lists.contains_key(name) {
+        return Ok(());
+    }
+    exchange(alloc, store, lists, name, facts, at)
 }
 
 impl Ledger {

@@ -1,7 +1,7 @@
-use Rattle.std.proofs.Common.{◌≡◌, ◌+◌, ◌++◌, ◌∷◌, [], ◌∙◌, ap, subst, sym, true, List, Option, ℕ, length}
+use Rattle.std.proofs.Common.{◌≡◌, ◌+◌, ◌++◌, ◌∷◌, [], ◌∙◌, ap, refl, subst, sym, true, List, Option, ℕ, length}
 use Rattle.sg_history.specs.declared.entries.Entry.{Entry}
 use Rattle.sg_history.specs.declared.entries.Entry.TheVariants as kinds
-use Rattle.log_index.specs.Index.{IsBehind}
+use Rattle.grant_history.specs.Stands.{StandsFor}
 use Rattle.doc_board.specs.Candidates.{ExtendsTree}
 use Rattle.doc_board.specs.Kept.{has_place}
 use Rattle.doc_board.specs.Rooms.{is_out}
@@ -27,11 +27,11 @@ invariant_of-self c =
     let h = c.args.self.now.log in
     let same = c.histories.ensures.trees h (length h) c.args.entry.doc ∙ whole (λ es. tree_at es c.args.entry.doc) h in
     let extends : E c.args.self.now = subst (λ (t : List Node). ExtendsTree t c.args.entry c.args.tree) same c.requires.extends in
-    let B : List Entry → Type 0 = λ es. IsBehind c.self.inside.index es in (
+    let B : List Entry → Type 0 = λ es. StandsFor c.self.inside.grants es in (
       rw c.close.ensures
           (kept_write c.trees_of_writes.ensures.revisions c.trees_of_writes.ensures.leaves c.args.entry c.self.inside.log.entries c.put-2.new.self c.self.inside.documents c.put.new.documents c.self.inside.rooms.items c.args.room.made_for c.args.sequence c.args.tree
           c.self.invariant.0 (subst O (sym c.self.view_is) c.requires.out) c.requires.entry c.requires.at (subst S (sym c.self.view_is) c.requires.sequence) (subst E (sym c.self.view_is) extends) c.put.ensures c.put-2.ensures.list c.put-2.ensures.spare),
-      subst B (sym c.put-2.ensures.list) (c.behind.ensures c.self.inside.index c.self.inside.log.entries.list (kinds.Write c.args.entry ∷ []) c.self.invariant.1),
+      subst B (sym c.put-2.ensures.list) (c.extended.ensures c.self.inside.log.entries.list (c.self.inside.log.entries.list ++ kinds.Write c.args.entry ∷ []) c.self.invariant.1 (kinds.Write c.args.entry ∷ [], refl)),
     )
 
 pub returns-clause-log : goal.returns-clause-log
