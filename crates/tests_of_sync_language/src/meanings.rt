@@ -3,7 +3,9 @@ use sg_names::{Channels, Name, Names};
 use sg_outside::Bytes;
 use std::alloc::Global;
 use std::test::Fail;
-use sync_meaning::{Context, Effects, Stop, evaluate, evaluate_within};
+use sync_eval::{Context, Effects, Rule, Verdict, judge};
+use sync_meaning::{Stop, evaluate_within};
+use sync_resolve::{Resolved, resolve};
 use sync_syntax::parse;
 use sync_syntax::tree::Program;
 
@@ -186,6 +188,13 @@ fn program(alloc: Global, text: &str) -> Result<Program, Fail> {
     }
 }
 
+fn resolved(alloc: Global, text: &str) -> Result<Resolved, Fail> {
+    match resolve(alloc, program(alloc, text)?) {
+        Ok(resolved) => Ok(resolved),
+        Err(_) => Err(Fail::from("a name stands for nothing")),
+    }
+}
+
 fn doc(alloc: Global, text: &str) -> Result<Doc, Fail> {
     match read_doc(alloc, text.as_bytes()) {
         Ok(doc) => Ok(doc),
@@ -193,64 +202,113 @@ fn doc(alloc: Global, text: &str) -> Result<Doc, Fail> {
     }
 }
 
+/// The document before, where there is one.
+fn old_doc(alloc: Global, text: &str) -> Result<Option<Doc>, Fail> {
+    if text == "-" {
+        return Ok(None);
+    }
+    Ok(Some(doc(alloc, text)?))
+}
+
 fn names(alloc: Global, text: &str) -> Result<Names, Fail> {
-    Names::parse(alloc, text).map_err(|_| Fail::from("no names"))
+    match Names::parse(alloc, text) {
+        Ok(names) => Ok(names),
+        Err(_) => Err(Fail::from("no names")),
+    }
 }
 
 fn channels(alloc: Global, text: &str) -> Result<Channels, Fail> {
-    Channels::parse(alloc, text).map_err(|_| Fail::from("no channels"))
+    match Channels::parse(alloc, text) {
+        Ok(channels) => Ok(channels),
+        Err(_) => Err(Fail::from("no channels")),
+    }
 }
 
-/// Who writes.
-fn context(alloc: Global, who: &str) -> Result<Context, Fail> {
-    let (user, roles, all) = match who {
-        "a" => ("ann", "editor", "!,A"),
-        "*" => ("bob", "-", "*"),
-        _ => ("", "-", "-"),
-    };
+/// The user, with what it has.
+fn user(alloc: Global, name: &str, roles: &str, all: &str) -> Result<Context, Fail> {
     Ok(Context {
-        user: Name::parse(alloc, user).ok(),
+        user: Name::parse(alloc, name).ok(),
         roles: names(alloc, roles)?,
         channels: channels(alloc, all)?,
     })
 }
 
+/// Who writes.
+fn context(alloc: Global, who: &str) -> Result<Context, Fail> {
+    match who {
+        "a" => user(alloc, "ann", "editor", "!,A"),
+        "*" => user(alloc, "bob", "-", "*"),
+        _ => user(alloc, "", "-", "-"),
+    }
+}
+
+fn write_channels(out: &mut Bytes, effects: &Effects) -> Result<(), Fail> {
+    effects.channels.write(out)?;
+    Ok(out.push(b' ')?)
+}
+
+fn write_grants(out: &mut Bytes, effects: &Effects) -> Result<(), Fail> {
+    effects.grants.write(out)?;
+    Ok(out.push(b' ')?)
+}
+
 /// The channels, the grants and the roles.
 fn effects_text(alloc: Global, effects: &Effects) -> Result<Bytes, Fail> {
     let mut out = Bytes::new(alloc);
-    effects.channels.write(&mut out)?;
-    out.push(b' ')?;
-    effects.grants.write(&mut out)?;
-    out.push(b' ')?;
+    write_channels(&mut out, effects)?;
+    write_grants(&mut out, effects)?;
     effects.roles.write(&mut out)?;
     Ok(out)
 }
 
-fn verdict_text(alloc: Global, verdict: Result<Effects, Stop>) -> Result<Bytes, Fail> {
+fn rule_text(alloc: Global, rule: &Rule) -> Result<Bytes, Fail> {
+    let text = rule.text(alloc)?;
+    Ok(Bytes::from_slice(alloc, text.as_str().as_bytes())?)
+}
+
+fn verdict_text(alloc: Global, verdict: Verdict) -> Result<Bytes, Fail> {
     match verdict {
-        Ok(effects) => effects_text(alloc, &effects),
-        Err(Stop::Deny(rule)) => {
-            let text = rule.text(alloc)?;
-            Ok(Bytes::from_slice(alloc, text.as_str().as_bytes())?)
-        }
-        Err(Stop::Memory) => Err(Fail::from("no memory")),
+        Verdict::Accept(effects) => effects_text(alloc, &effects),
+        Verdict::Deny(rule) => rule_text(alloc, &rule),
+        Verdict::Memory => Err(Fail::from("no memory")),
     }
 }
 
-/// What a function says, where the line gives the document, the one before, who writes, and what is wanted.
+/// What a program says of a document and the one before, where this one writes.
+fn judged(
+    alloc: Global,
+    program: &Resolved,
+    first: &Doc,
+    old: Option<&Doc>,
+    who: &str,
+) -> Result<Bytes, Fail> {
+    let context = context(alloc, who)?;
+    verdict_text(alloc, judge(alloc, program, first, old, &context))
+}
+
+/// What a program says of the texts of two documents.
+fn said(
+    alloc: Global,
+    program: &Resolved,
+    first: &str,
+    old: &str,
+    who: &str,
+) -> Result<Bytes, Fail> {
+    let first = doc(alloc, first)?;
+    let old = old_doc(alloc, old)?;
+    judged(alloc, program, &first, old.as_ref(), who)
+}
+
+/// Whether a function says what is wanted, where the line gives the document, the one before, who writes, and what is
+/// wanted.
 fn says(alloc: Global, text: &str, line: &str) -> Result<bool, Fail> {
+    let program = resolved(alloc, text)?;
     let mut parts = line.split('#').skip(1);
-    let first = doc(alloc, parts.next().unwrap_or(""))?;
-    let before = parts.next().unwrap_or("");
-    let who = context(alloc, parts.next().unwrap_or(""))?;
-    let old = if before == "-" {
-        None
-    } else {
-        Some(doc(alloc, before)?)
-    };
-    let found = evaluate(alloc, &program(alloc, text)?, &first, old.as_ref(), &who);
+    let first = parts.next().unwrap_or("");
+    let old = parts.next().unwrap_or("");
+    let who = parts.next().unwrap_or("");
     let want = parts.next().unwrap_or("");
-    Ok(verdict_text(alloc, found)?.as_slice() == want.as_bytes())
+    Ok(said(alloc, &program, first, old, who)?.as_slice() == want.as_bytes())
 }
 
 #[test]
@@ -278,6 +336,64 @@ fn whole_texts(rt: HostRuntime) -> Result<(), Fail> {
     Ok(())
 }
 
+/// A list literal has at most 1,024 items.
+#[test]
+fn items_of_a_literal(rt: HostRuntime) -> Result<(), Fail> {
+    let alloc = rt.alloc();
+    for (count, line) in [(1023, "#{}#-#a#1024 - -"), (1024, "#{}#-#a#size at 1:26")] {
+        let items = "0,".repeat(alloc, count)?;
+        let text = format!(in alloc; "function(doc) {{ channel(([{items}0]).length + '') }}")?;
+        assert!(rt; says(alloc, text.as_str(), line)?, "{line}");
+    }
+    Ok(())
+}
+
+/// A list of a document may have more; joined it may not.
+#[test]
+fn items_of_a_document(rt: HostRuntime) -> Result<(), Fail> {
+    let alloc = rt.alloc();
+    let items = "0,".repeat(alloc, 1024)?;
+    for (body, want) in [
+        ("channel(doc.l.length + '')", "1025 - -"),
+        (
+            "channel(doc.l[1024] + '', doc.l.indexOf(1) + '')",
+            "-1,0 - -",
+        ),
+        (
+            "let n = 0; for (let x of doc.l) n++; channel(n + '')",
+            "1025 - -",
+        ),
+        ("channel(doc.l.concat([]).length + '')", "size at 1:25"),
+        ("channel([].concat(doc.l).length + '')", "size at 1:25"),
+    ] {
+        let text = format!(in alloc; "function(doc) {{ {body} }}")?;
+        let line = format!(in alloc; "#{{\"l\":[{items}0]}}#-#a#{want}")?;
+        assert!(rt; says(alloc, text.as_str(), line.as_str())?, "{body}");
+    }
+    Ok(())
+}
+
+/// A document as deep as one may be: 126 lists, one in the other, in an object.
+#[test]
+fn depth_of_a_document(rt: HostRuntime) -> Result<(), Fail> {
+    let alloc = rt.alloc();
+    let open = "[".repeat(alloc, 126)?;
+    let close = "]".repeat(alloc, 126)?;
+    let line = format!(in alloc; "#{{\"a\":{open}{close}}}#-#a#126 - -")?;
+    let text =
+        "function(doc) { let n = 0; for (let x = doc.a; Array.isArray(x); x = x[0]) n++; channel(n + '') }";
+    assert!(rt; says(alloc, text, line.as_str())?);
+    Ok(())
+}
+
+fn found_text(alloc: Global, found: Result<Effects, Stop>) -> Result<Bytes, Fail> {
+    match found {
+        Ok(effects) => effects_text(alloc, &effects),
+        Err(Stop::Deny(rule)) => rule_text(alloc, &rule),
+        Err(Stop::Memory) => Err(Fail::from("no memory")),
+    }
+}
+
 /// The default function takes five visits, and where there are fewer the node denies that would be the next.
 #[test]
 fn visits_of_the_default_function(rt: HostRuntime) -> Result<(), Fail> {
@@ -295,8 +411,10 @@ fn visits_of_the_default_function(rt: HostRuntime) -> Result<(), Fail> {
     ];
     for (visits, want) in cases {
         let found = evaluate_within(alloc, visits, &default, &empty, None, &who);
-        let text = verdict_text(alloc, found)?;
-        assert!(rt; text.as_slice() == want.as_bytes(), "at {visits}");
+        assert!(rt;
+            found_text(alloc, found)?.as_slice() == want.as_bytes(),
+            "at {visits}"
+        );
     }
     Ok(())
 }

@@ -1,6 +1,7 @@
-use std::alloc::Global;
+use std::alloc::{AllocError, Global};
 use std::test::Fail;
-use sync_resolve::{ResolveFault, resolve};
+use sync_resolve::{ResolveFault, Resolved, resolve};
+use sync_syntax::tree::Program;
 use sync_syntax::{Place, parse};
 
 /// Bodies with the first fault of their names. A body stands on the second line of its function, whose parameters
@@ -111,26 +112,54 @@ function channel(doc) { channel(doc.c); }#resolved\n\
 function sync(doc) { sync(doc) }#unknown name at 1:22\n\
 function(doc) { oldDoc }#unknown name at 1:17";
 
-fn fault_text(alloc: Global, what: &str, place: Place) -> Result<String, Fail> {
+/// The kind of a fault.
+fn kind(fault: &ResolveFault) -> &'static str {
+    match fault {
+        ResolveFault::UnknownName(_) => "unknown name",
+        ResolveFault::WrongCount(_) => "wrong count",
+        ResolveFault::Redeclared(_) => "redeclared",
+        ResolveFault::ConstWritten(_) => "const written",
+        ResolveFault::Memory => "no memory",
+    }
+}
+
+/// Where a fault stands.
+fn place(fault: &ResolveFault) -> Place {
+    match fault {
+        ResolveFault::UnknownName(place)
+        | ResolveFault::WrongCount(place)
+        | ResolveFault::Redeclared(place)
+        | ResolveFault::ConstWritten(place) => *place,
+        ResolveFault::Memory => Place { line: 0, column: 0 },
+    }
+}
+
+fn fault_text(alloc: Global, fault: &ResolveFault) -> Result<String, AllocError> {
+    let what = kind(fault);
+    let place = place(fault);
     let line = place.line;
     let column = place.column;
-    Ok(format!(in alloc; "{what} at {line}:{column}")?)
+    format!(in alloc; "{what} at {line}:{column}")
+}
+
+fn found_text(alloc: Global, found: Result<Resolved, ResolveFault>) -> Result<String, AllocError> {
+    match found {
+        Ok(_) => String::from_str(alloc, "resolved"),
+        Err(fault) => fault_text(alloc, &fault),
+    }
+}
+
+fn program(alloc: Global, text: &str) -> Result<Program, Fail> {
+    match parse(alloc, text) {
+        Ok(program) => Ok(program),
+        Err(_) => Err(Fail::from("no program")),
+    }
 }
 
 /// Whether the names of a text have this first fault.
 fn has(alloc: Global, text: &str, want: &str) -> Result<bool, Fail> {
-    let Ok(program) = parse(alloc, text) else {
-        return Err(Fail::from("no program"));
-    };
-    let found = match resolve(alloc, program) {
-        Ok(_) => String::from_str(alloc, "resolved")?,
-        Err(ResolveFault::UnknownName(place)) => fault_text(alloc, "unknown name", place)?,
-        Err(ResolveFault::WrongCount(place)) => fault_text(alloc, "wrong count", place)?,
-        Err(ResolveFault::Redeclared(place)) => fault_text(alloc, "redeclared", place)?,
-        Err(ResolveFault::ConstWritten(place)) => fault_text(alloc, "const written", place)?,
-        Err(ResolveFault::Memory) => return Err(Fail::from("no memory")),
-    };
-    Ok(found.as_str() == want)
+    let found = resolve(alloc, program(alloc, text)?);
+    Ok(found_text(alloc, found)?.as_str() == want)
 }
 
 #[test]
