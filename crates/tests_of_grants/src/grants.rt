@@ -33,7 +33,10 @@ named_before_put=U|ann|-|staff;R|staff|C;DR|staff;R|staff|D;\n\
 role_that_is_given=R|staff|C;U|ann|-|-;W|g|1-a|-|0|7b7d|-|2|1-a|-|role:staff=E|ann=staff;W|g|2-a|1-a|1|7b7d|-|3|2-a|-|-|-;\n\
 two_roles=R|one|C;R|two|C;U|ann|-|one,two;U|ann|-|two;DR|two;\n\
 winner=U|ann|-|-;W|g|1-a|-|0|7b7d|-|1|1-a|-|ann=A|-;W|g|1-b|-|0|7b7d|-|2|1-b|-|ann=B|-;W|g|2-c|1-b|1|7b7d|-|3|1-a|-|-|-;\n\
-before_the_user=W|g|1-a|-|0|7b7d|-|0|1-a|-|ann=A|-;U|ann|-|-;";
+before_the_user=W|g|1-a|-|0|7b7d|-|0|1-a|-|ann=A|-;U|ann|-|-;\n\
+comes_and_goes=U|ann|-|-;W|g|1-a|-|0|7b7d|-|1|1-a|-|ann=B|-;W|g|2-a|1-a|0|7b7d|-|2|2-a|-|-|-;W|g|3-a|2-a|0|7b7d|-|3|3-a|-|ann=B|-;W|g|4-a|3-a|0|7b7d|-|4|4-a|-|-|-;W|g|5-a|4-a|0|7b7d|-|5|5-a|-|ann=B|-;\n\
+dropped_twice=U|bob|A|-;DU|bob;U|bob|A|-;DU|bob;U|bob|B|-;\n\
+each_role_its_own=R|one|C;R|two|D;U|ann|-|one,two;DR|two;";
 
 /// The log of a worked journal.
 fn worked(alloc: Global, name: &str) -> Result<Log, Fail> {
@@ -92,7 +95,10 @@ named_before_put ann>! 1-;C 2-3;D 4-;\n\
 role_that_is_given ann>! 2-;C 3-4;E 3-4;\n\
 two_roles ann>! 3-;C 3-5;\n\
 winner ann>! 1-;A 2-3;A 4-;B 3-4;\n\
-before_the_user ann>! 2-;A 2-;";
+before_the_user ann>! 2-;A 2-;\n\
+comes_and_goes ann>! 1-;B 2-3;B 4-5;B 6-;\n\
+dropped_twice bob>! 1-2;! 3-4;! 5-;A 1-2;A 3-4;B 5-;\n\
+each_role_its_own ann>! 3-;C 3-;D 3-4;";
 
 #[test]
 fn periods_of_users(rt: HostRuntime) -> Result<(), Fail> {
@@ -151,7 +157,13 @@ role_that_is_given 2 ann> !|\n\
 role_that_is_given 3 ann> ! C E| staff\n\
 winner 2 ann> ! A|\n\
 winner 3 ann> ! B|\n\
-winner 4 ann> ! A|";
+winner 4 ann> ! A|\n\
+comes_and_goes 2 ann> ! B|\n\
+comes_and_goes 3 ann> !|\n\
+comes_and_goes 4 ann> ! B|\n\
+comes_and_goes 5 ann> !|\n\
+dropped_twice 3 bob> ! A|\n\
+dropped_twice 4 bob>none";
 
 #[test]
 fn standings_of_users(rt: HostRuntime) -> Result<(), Fail> {
