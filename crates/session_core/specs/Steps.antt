@@ -36,4 +36,3 @@ wanted_after (s ∷ earlier) = s.want
 abbrev pub put_by : List Step → List Message
 put_by [] = []
 put_by (s ∷ earlier) = put_by earlier ++ s.puts
-

@@ -96,7 +96,7 @@ both_thrown s t c d small small' e =
 both_plain : (k m : RuleKind) (c d : ℕ) → c < 2 ^ 32 → d < 2 ^ 32 → IsPlain k → IsPlain m → bare k ≡ bare m → decimal c ++ said k ≡ decimal d ++ said m → SameEnd k m c d
 both_plain k m c d small small' p q b e =
     let alone : decimal c ≡ decimal d =
-        sym (append-nil (decimal c)) ∙ ap (λ w. decimal c ++ w) (sym p.none) ∙ e ∙ ap (λ w. decimal d ++ w) q.none ∙ append-nil (decimal d) in
+    sym (append-nil (decimal c)) ∙ ap (λ w. decimal c ++ w) (sym p.none) ∙ e ∙ ap (λ w. decimal d ++ w) q.none ∙ append-nil (decimal d) in
     record { columns = decimal_injective c d (omega (arith, small)) (omega (arith, small')) alone; kinds = sym p.same ∙ b ∙ q.same }
 
 one_thrown : (m : RuleKind) → IsPlain m → rules.Forbidden [] ≡ bare m → ⊥
@@ -135,7 +135,7 @@ same_rule r s h g e =
     let rest : behind r ≡ behind s = append_cancel_left (rule_name r.kind) (behind r) (behind s) (texts ∙ ap (λ n. n ++ behind s) (sym names)) in
     let places : place_text r.place ++ said r.kind ≡ place_text s.place ++ said s.kind = append_cancel_left (codes " at ") _ _ rest in
     let cut = cut_same 58 (decimal r.place.line) (decimal r.place.column ++ said r.kind) (decimal s.place.line) (decimal s.place.column ++ said s.kind)
-        (colon_lacks r.place.line h.0) (colon_lacks s.place.line g.0) (sym (spread r.place (said r.kind)) ∙ places ∙ spread s.place (said s.kind)) in
+    (colon_lacks r.place.line h.0) (colon_lacks s.place.line g.0) (sym (spread r.place (said r.kind)) ∙ places ∙ spread s.place (said s.kind)) in
     let lines = decimal_injective r.place.line s.place.line (omega (arith, h.0)) (omega (arith, g.0)) cut.0 in
     let end = same_end r.kind s.kind r.place.column s.place.column h.1 g.1 kinds cut.1 in
     λ i. record { kind = end.kinds i; place = record { line = lines i; column = end.columns i } }
