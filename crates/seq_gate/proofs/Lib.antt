@@ -1,0 +1,9 @@
+pub mod Counting
+pub mod Holding
+pub mod Keeping
+pub mod Leaving
+pub mod Passing
+pub mod Resting
+pub mod Rooms
+pub mod Sums
+pub mod Worlds

@@ -1,0 +1,72 @@
+-- How often a number or a room stands somewhere. That each number is exactly one of several things is said by sums of these.
+use Rattle.std.specs.Prelude.{ℕ, ◌+◌, Bool, true, false, ◌&&◌, nat_eq, nat_lt, List, [], ◌∷◌, Option, Some, None, if◌then◌else◌}
+use Rattle.std.specs.Str.{bytes_eq}
+use Rattle.sg_history.specs.declared.book.Waiting.{Waiting}
+use Rattle.sg_history.specs.declared.entries.Entry.{Entry}
+use Rattle.sg_history.specs.declared.entries.Entry.TheVariants.{Unused}
+use Rattle.sg_history.specs.declared.room.RoomFor.{RoomFor}
+
+-- once where it is so, else not at all
+abbrev pub once : Bool → ℕ
+once b = if b then 1 else 0
+
+-- how often a number stands in a list
+abbrev pub times : ℕ → List ℕ → ℕ
+times k [] = 0
+times k (n ∷ ns) = once (nat_eq n k) + times k ns
+
+-- the numbers of entries
+abbrev pub numbers : List Waiting → List ℕ
+numbers [] = []
+numbers (first ∷ others) = first.number ∷ numbers others
+
+-- whether both are one document, or none
+abbrev pub same_doc : Option (List ℕ) → Option (List ℕ) → Bool
+same_doc None None = true
+same_doc None (Some b) = false
+same_doc (Some a) None = false
+same_doc (Some a) (Some b) = bytes_eq a b
+
+-- whether two rooms are for the same document, or both for none, and for as many bytes
+abbrev pub same_room : RoomFor → RoomFor → Bool
+same_room a b = same_doc a.doc b.doc && nat_eq a.bytes b.bytes
+
+-- how often a room stands in a list
+abbrev pub room_times : RoomFor → List RoomFor → ℕ
+room_times room [] = 0
+room_times room (first ∷ others) = once (same_room first room) + room_times room others
+
+-- the rooms without one that is so, where there is one
+abbrev pub without_room : RoomFor → List RoomFor → List RoomFor
+without_room room [] = []
+without_room room (first ∷ others) = if same_room first room then others else first ∷ without_room room others
+
+-- the rooms without each of these, once for each time that it stands there
+abbrev pub without_rooms : List RoomFor → List RoomFor → List RoomFor
+without_rooms [] rooms = rooms
+without_rooms (gone ∷ others) rooms = without_rooms others (without_room gone rooms)
+
+-- whether a sequence was given up
+abbrev pub is_unused : Entry → Bool
+is_unused Unused = true
+is_unused other = false
+
+-- how many entries stand where this one was looked up: one or none
+abbrev pub stands : Option Entry → ℕ
+stands None = 0
+stands (Some e) = 1
+
+-- the same, where a sequence that was given up counts for none
+abbrev pub used : Option Entry → ℕ
+used None = 0
+used (Some e) = if is_unused e then 0 else 1
+
+-- how often a number is one of the first so many from 0: once or not at all
+abbrev pub below : ℕ → ℕ → ℕ
+below k n = once (nat_lt k n)
+
+module _ {V : Type 0} where
+  -- what the views have together
+  abbrev pub total : (V → ℕ) → List V → ℕ
+  total f [] = 0
+  total f (v ∷ vs) = f v + total f vs

@@ -1,0 +1,9 @@
+pub mod Boards
+pub mod Counts
+pub mod Laws
+pub mod Lending
+pub mod Passes
+pub mod Resting
+pub mod Rule
+pub mod Turns
+pub mod Views
