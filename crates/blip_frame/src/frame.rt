@@ -81,7 +81,7 @@ const MORE_COMING: u32 = 6;
 const LARGEST_READ: usize = 1_048_576;
 
 /// Reads a frame in a direction whose checksum so far is `crc`, which is that of the direction with
-/// the frame afterwards, and stays as it was at a fault. Takes no memory.
+/// the frame afterwards, and stays as it was at a fault. Allocates nothing.
 pub fn read_frame<'a>(crc: &mut Crc, bytes: &'a [u8]) -> Result<Frame<'a>, FrameFault>
     // The frames of the grammar are read, and nothing else.
     ensures found { IfOk result (λ f. IsFrameFrom crc.old.value bytes.now (parts_of f)) }
@@ -226,7 +226,7 @@ fn checked(crc: Crc, payload: &[u8], kept: Option<u32>) -> Result<Crc, FrameFaul
 }
 
 /// Puts a frame at the end of `out`, in its one spelling, and takes its payload into the checksum of
-/// the direction. At want of memory both stay as they were.
+/// the direction. Out of memory both stay as they were.
 pub fn write_frame(crc: &mut Crc, frame: &Frame<'_>, out: &mut Bytes) -> Result<(), Memory>
     requires size { length frame.now.payload.now ≤ largest_written }
     requires marked { IsMarkedAsKind (parts_of frame.now) }
@@ -261,7 +261,7 @@ fn crc_after(mut crc: Crc, frame: &Frame<'_>) -> Crc
     crc
 }
 
-/// The same for the checksum of the direction up to the frame's end; at want of memory it may leave
+/// The same for the checksum of the direction up to the frame's end; out of memory it may leave
 /// some bytes there.
 fn push_frame(kept: u32, frame: &Frame<'_>, out: &mut Bytes) -> Result<(), Memory>
     ensures ok { OnOk result (out.new ≡ out.old ++ spelling kept (parts_of frame.now)) }

@@ -38,7 +38,7 @@ pub enum PayloadFault {
     NotText,
     /// A key stands twice.
     Twice,
-    /// Want of memory.
+    /// Memory ran out.
     Memory,
 }
 
@@ -266,7 +266,7 @@ fn text_len(block: &[u8]) -> usize
 }
 
 /// Puts a payload at the end of `out`: the length of the property block, the block, and the body. At
-/// want of memory `out` stays as it was.
+/// lack of memory `out` stays as it was.
 pub fn write_payload(payload: &Payload, out: &mut Bytes) -> Result<(), Memory>
     ensures ok { OnOk result (out.new ≡ out.old ++ payload_text payload.now.props payload.now.body) }
     ensures again { All HasNoNul payload.now.props → stands_twice (keys_of payload.now.props) ≡ false
@@ -283,7 +283,7 @@ pub fn write_payload(payload: &Payload, out: &mut Bytes) -> Result<(), Memory>
     }
 }
 
-/// The same, which at want of memory may leave some bytes there.
+/// The same, which out of memory may leave some bytes there.
 fn push_payload(props: &[Prop], body: &[u8], out: &mut Bytes) -> Result<(), Memory>
     ensures ok { OnOk result (out.new ≡ out.old ++ payload_text (pairs_of props.now) body.now) }
     ensures err { OnErr result (AddsSome out.old out.new) }

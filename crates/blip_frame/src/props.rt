@@ -31,7 +31,7 @@ impl Model for Props {
 }
 
 impl Props {
-    /// No properties. Takes no memory.
+    /// No properties. Allocates nothing.
     pub fn new(alloc: Global) -> Props
         ensures { result ≡ [] }
     {
@@ -40,14 +40,14 @@ impl Props {
         }
     }
 
-    /// The properties of a vector. Takes no memory.
+    /// The properties of a vector. Allocates nothing.
     pub fn from_vec(items: Vec<Prop>) -> Props
         ensures { result ≡ pairs_of items.items }
     {
         Props { items }
     }
 
-    /// The vector of the properties. Takes no memory.
+    /// The vector of the properties. Allocates nothing.
     pub fn into_vec(self) -> Vec<Prop>
         ensures { pairs_of result.items ≡ self }
     {

@@ -41,7 +41,7 @@ impl Acknowledgement {
         }
     }
 
-    /// Writes its frame. At want of memory checksum and `out` stay as they were.
+    /// Writes its frame. Out of memory checksum and `out` stay as they were.
     pub(crate) fn write(&self, crc: &mut Crc, out: &mut Bytes) -> Result<(), Memory>
         ensures ok { OnOk result (out.new ≡ out.old ++ spelling (value_after crc.old.value (told_by self.now)) (told_by self.now)) }
         ensures value { OnOk result (crc.new.value ≡ value_after crc.old.value (told_by self.now)) }

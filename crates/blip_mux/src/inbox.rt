@@ -35,11 +35,11 @@ pub enum Taken {
 pub enum TakeFault {
     /// The frame is of no message that may come now.
     OutOfOrder { number: u64 },
-    /// The payload of the message is none. Never with want of memory.
+    /// The payload of the message is none. Never with lack of memory.
     Payload(PayloadFault),
     /// The payload of an acknowledgement is not one varint.
     BadAckPayload,
-    /// Want of memory.
+    /// Memory ran out.
     Memory,
 }
 
@@ -64,7 +64,7 @@ impl Model for Inbox {
 }
 
 impl Inbox {
-    /// An inbox to which nothing has come. Takes no memory.
+    /// An inbox to which nothing has come. Allocates nothing.
     pub fn new(alloc: Global) -> Inbox
         ensures { result ≡ new_standing }
     {
@@ -76,7 +76,7 @@ impl Inbox {
         }
     }
 
-    /// Notes a request that was sent, whose reply may come. At want of memory the inbox stays as it
+    /// Notes a request that was sent, whose reply may come. Out of memory the inbox stays as it
     /// was.
     pub fn expect(&mut self, number: u64) -> Result<(), Memory>
         ensures ok { OnOk result (self.new ≡ expecting self.old number) }
@@ -95,7 +95,7 @@ impl Inbox {
         ensures after { OnOk result (self.new ≡ taken_after self.old (parts_of frame.now)) }
         ensures unchanged { OnErr result (self.new ≡ self.old) }
 
-        // What takes no memory.
+        // What allocates nothing.
         ensures acknowledgement { has_checksum frame.now.kind ≡ false → result ≡ answer_at self.old (parts_of frame.now) }
         ensures order { has_checksum frame.now.kind ≡ true
             → may_come self.old.requests (set.contains self.old.expected frame.now.number) (so_far_at self.old (parts_of frame.now)) (parts_of frame.now) ≡ false

@@ -16,7 +16,7 @@ pub(crate) struct Index {
 }
 
 impl Index {
-    /// No messages. Takes no memory.
+    /// No messages. Allocates nothing.
     pub(crate) fn new(alloc: Global) -> Index
         ensures { (c : AClass) (n : ℕ) → stamp_at c n result.requests result.replies ≡ None }
     {
@@ -36,7 +36,7 @@ impl Index {
         }
     }
 
-    /// Puts the stamp of a message, in the place of the one that it had. Takes no memory where it had
+    /// Puts the stamp of a message, in the place of the one that it had. Allocates nothing where it had
     /// one.
     pub(crate) fn put(&mut self, class: Class, number: u64, stamp: u64) -> Result<(), AllocError>
         ensures ok { OnOk result ((c : AClass) (n : ℕ)

@@ -26,7 +26,7 @@ impl Model for Numbers {
 }
 
 impl Numbers {
-    /// No numbers. Takes no memory.
+    /// No numbers. Allocates nothing.
     pub(crate) fn new(alloc: Global) -> Numbers
         ensures { result ≡ set.empty }
     {

@@ -67,7 +67,7 @@ impl Model for Outbox {
 }
 
 impl Outbox {
-    /// An outbox in which nothing waits. Takes no memory.
+    /// An outbox in which nothing waits. Allocates nothing.
     pub fn new(alloc: Global) -> Outbox
         ensures { result ≡ new_sending }
     {
@@ -88,7 +88,7 @@ impl Outbox {
     }
 
     /// Puts a request last, and answers its number, which is one more than that of the request before
-    /// it. At want of memory the outbox stays as it was.
+    /// it. Out of memory the outbox stays as it was.
     pub fn put_request(&mut self, payload: Payload, no_reply: bool) -> Result<u64, Memory>
         requires { self.old.requests < 18446744073709551615 }
         ensures number { IfOk result (λ number. number ≡ self.old.requests + 1) }
@@ -106,7 +106,7 @@ impl Outbox {
         Ok(number)
     }
 
-    /// Puts a reply last. At want of memory the outbox stays as it was.
+    /// Puts a reply last. Out of memory the outbox stays as it was.
     pub fn put_reply(
         &mut self,
         number: u64,
@@ -137,7 +137,7 @@ impl Outbox {
     }
 
     /// Puts an acknowledgement behind those that wait: that so many bytes of a message have come. At
-    /// want of memory the outbox stays as it was.
+    /// lack of memory the outbox stays as it was.
     pub fn put_ack(&mut self, kind: Kind, number: u64, bytes: u64) -> Result<(), Memory>
         requires { has_checksum kind ≡ false }
         ensures ok { OnOk result (self.new ≡ record self.old {
@@ -152,7 +152,7 @@ impl Outbox {
 
     /// Puts the next frame at the end of `out`: the first acknowledgement that waits, else the next
     /// 16,384 bytes, or the rest, of the first urgent message that may send, else of the first message
-    /// that may send. A message with more to come goes to the back of the list. At want of memory
+    /// that may send. A message with more to come goes to the back of the list. Out of memory
     /// outbox, checksum and `out` stay as they were.
     pub fn next_frame(&mut self, crc: &mut Crc, out: &mut Bytes) -> Result<Next, Memory>
         ensures frame { IfOk result (λ next. Sends (picked self.old) next crc.old.value crc.new.value out.old out.new) }
@@ -176,7 +176,7 @@ impl Outbox {
     }
 
     /// Takes an acknowledgement that has come: so many bytes of a message that was sent. The greatest
-    /// count is kept; one for a message that does not wait is passed over. Takes no memory.
+    /// count is kept; one for a message that does not wait is passed over. Allocates nothing.
     pub fn acked(&mut self, kind: Kind, number: u64, bytes: u64) -> Result<(), BadAck>
         requires { has_checksum kind ≡ false }
         ensures answer { MatchResult result (λ _. is_bad_ack kind number bytes self.old ≡ false) (λ _. is_bad_ack kind number bytes self.old ≡ true) }

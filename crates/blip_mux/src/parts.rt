@@ -35,7 +35,7 @@ impl Model for Parts {
 }
 
 impl Parts {
-    /// No messages. Takes no memory.
+    /// No messages. Allocates nothing.
     pub(crate) fn new(alloc: Global) -> Parts
         ensures { result ≡ map.empty }
     {

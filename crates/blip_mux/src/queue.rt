@@ -34,7 +34,7 @@ impl Model for Queue {
 }
 
 impl Queue {
-    /// No messages. Takes no memory.
+    /// No messages. Allocates nothing.
     pub(crate) fn new(alloc: Global) -> Queue
         ensures { result ≡ [] }
     {

@@ -23,7 +23,7 @@ pub(crate) struct Ready {
 impl Ready {
     ghost use Rattle.blip_mux.specs.Ready.{stamps_in, count_in, room_in, IsFirst};
 
-    /// No messages. Takes no memory.
+    /// No messages. Allocates nothing.
     pub(crate) fn new(alloc: Global) -> Ready
         ensures times { (u : Bool) (q : ℕ) → times q (stamps_in u result) ≡ 0 }
         ensures count { (u : Bool) → count_in u result ≡ 0 }

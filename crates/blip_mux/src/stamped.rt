@@ -29,7 +29,7 @@ impl Stamped {
     ghost use Rattle.blip_mux.specs.Class.{class_of};
     ghost use Rattle.blip_mux.specs.Stamped.{listed, listed_without, message_at, stands, Keeps, IsNext, Writes};
 
-    /// No messages. Takes no memory.
+    /// No messages. Allocates nothing.
     pub(crate) fn new(alloc: Global) -> Stamped
         ensures keeps { Keeps result }
         ensures none { result.messages.entries ≡ [] }
@@ -71,7 +71,7 @@ impl Stamped {
         }
     }
 
-    /// Puts a message last. Refuses, as at want of memory, where the last stamp of all is reached.
+    /// Puts a message last. Refuses, as out of memory, where the last stamp of all is reached.
     pub(crate) fn push(&mut self, message: WaitingMessage) -> Result<(), AllocError>
         requires keeps { Keeps self.old }
         requires alone { stands (class_of message.kind) message.number self.old ≡ None }

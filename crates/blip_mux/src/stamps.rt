@@ -18,7 +18,7 @@ pub(crate) struct Stamps {
 }
 
 impl Stamps {
-    /// No stamps. Takes no memory.
+    /// No stamps. Allocates nothing.
     pub(crate) fn new(alloc: Global) -> Stamps
         ensures times { (q : ℕ) → times q (heap_items result.heap) ≡ 0 }
         ensures len { heap_len result.heap ≡ 0 }

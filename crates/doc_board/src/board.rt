@@ -33,7 +33,7 @@ use std::collections::BTreeMap;
 use std::marker::Model;
 
 /// The log, with each document's tree of revisions, the rooms that are out, and the history of its grants, which has
-/// an index of the log. What is stored takes no memory then: a room has it beforehand. The grants are brought up to
+/// an index of the log. What is stored allocates nothing then: a room has it beforehand. The grants are brought up to
 /// the log by the calls that may take memory.
 #[derive(Drop)]
 pub struct Board {
@@ -96,7 +96,7 @@ impl Board {
         *self.rooms.allocator()
     }
 
-    /// The log's length. Takes no memory.
+    /// The log's length. Allocates nothing.
     pub fn front(&self) -> u64
         ensures front { result ≡ length self.now.log }
         ensures below { result < 9223372036854775808 }
@@ -104,7 +104,7 @@ impl Board {
         self.log.entries.as_slice().len() as u64
     }
 
-    /// The log. Takes no memory.
+    /// The log. Allocates nothing.
     pub fn log(&self) -> &Log
         ensures log { entries_of result.now ≡ self.now.log }
         ensures lawful { AreLawful (newest_first self.now) }
@@ -114,7 +114,7 @@ impl Board {
         &self.log
     }
 
-    /// The tree that the writes of a document make; none where it was never written. Takes no memory.
+    /// The tree that the writes of a document make; none where it was never written. Allocates nothing.
     pub fn tree(&self, doc: &DocId) -> Option<&Tree>
         ensures tree { option_copied result ≡ tree_when (writes_on self.now doc.now) }
         ensures accepted { AreAccepted (writes_on self.now doc.now) }
@@ -249,7 +249,7 @@ impl Board {
         self.log.entries.put(Entry::Write(entry));
     }
 
-    /// Stores a candidate at a sequence in a room, or hands all back where its document was written since. Takes no memory.
+    /// Stores a candidate at a sequence in a room, or hands all back where its document was written since. Allocates nothing.
     pub fn commit(&mut self, room: Room, number: Number, candidate: Candidate) -> Commit
         requires number { number.value ≡ length self.old.log + 1 }
         requires out { IsTrue (is_out self.old.rooms room.made_for) }
@@ -294,7 +294,7 @@ impl Board {
         }
     }
 
-    /// Gives up a sequence and the room for its entry: it stays unused. Takes no memory.
+    /// Gives up a sequence and the room for its entry: it stays unused. Allocates nothing.
     pub fn void(&mut self, room: Room, number: Number)
         requires number { number.value ≡ length self.old.log + 1 }
         requires out { IsTrue (is_out self.old.rooms room.made_for) }

@@ -32,6 +32,6 @@ pub enum Commit {
 /// Why there is no room.
 #[derive(Clone, Copy, Debug, PartialEq, Eq)]
 pub enum NoRoom {
-    /// Want of memory.
+    /// Memory ran out.
     Memory,
 }

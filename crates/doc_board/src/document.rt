@@ -83,7 +83,7 @@ pub fn make_place_for(
     }
 }
 
-/// Keeps this of a document that has a place. Takes no memory.
+/// Keeps this of a document that has a place. Allocates nothing.
 pub fn put(documents: &mut Documents, doc: &DocId, document: Document)
     requires { IsTrue (is_some (get_by_text documents.old doc.now)) }
     ensures { (name : List ℕ) → get_by_text documents.new name

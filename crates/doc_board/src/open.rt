@@ -17,7 +17,7 @@ use sg_history::{Entry, RevId, Write};
 use std::alloc::{AllocError, Global};
 use std::collections::BTreeMap;
 
-/// Why a log is that of no board. `Memory` is want of memory, which may come at any log.
+/// Why a log is that of no board. `Memory` says that memory ran out, which may come at any log.
 #[derive(Clone, Copy, Debug, PartialEq, Eq)]
 pub enum OpenFault {
     /// The write of this sequence is the first whose body is no document, that is no accepted extension of the tree of its

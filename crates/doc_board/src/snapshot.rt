@@ -25,7 +25,7 @@ pub struct Snapshot {
     pub at: u64,
     /// The sequence of the document's last write, 0 where there is none.
     pub last: u64,
-    /// What comes of the revision in the document's tree; never want of memory.
+    /// What comes of the revision in the document's tree; never lack of memory.
     pub step: Extended,
     /// The body of the write on which the revision is based; none where its first ancestor was never written.
     pub old: Option<Bytes>,

@@ -14,6 +14,6 @@ pub enum Status {
     ReadFault,
     /// The output could not be written.
     WriteFault,
-    /// Want of memory.
+    /// Memory ran out.
     Memory,
 }

@@ -20,7 +20,7 @@ pub struct FeedRequest<'a> {
 #[derive(Clone, Copy, Debug, PartialEq, Eq)]
 pub enum WordsFault {
     BadWords,
-    /// Want of memory.
+    /// Memory ran out.
     Memory,
 }
 

@@ -6,7 +6,7 @@ use Rattle.json_doc.specs.declared.doc.DocFault.TheVariants as fault
 use Rattle.json_doc.specs.Reading.{IsNotJson, IsNotObject, IsReserved, IsDocument}
 use Rattle.json_doc.specs.View.{node_tree}
 
--- the document that the bytes are, or the refusal that is due; want of memory says nothing
+-- the document that the bytes are, or the refusal that is due; lack of memory says nothing
 abbrev pub IsVerdict : List ℕ → Result Node DocFault → Type 0
 IsVerdict bytes (Ok doc) = IsDocument bytes (node_tree doc)
 IsVerdict bytes (Err fault.NotJson) = IsNotJson bytes

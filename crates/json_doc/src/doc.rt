@@ -12,7 +12,7 @@ use serde_json::{Map, Value};
 use std::alloc::{AllocError, Global};
 use std::marker::Model;
 
-/// Why bytes are no document. `Memory` is want of memory, which may come at any bytes.
+/// Why bytes are no document. `Memory` says that memory ran out, which may come at any bytes.
 #[derive(Clone, Copy, Debug, PartialEq, Eq)]
 pub enum DocFault {
     /// The bytes are no JSON, or nest deeper than 127.
@@ -99,7 +99,7 @@ impl Doc {
         self.object.get(name)
     }
 
-    /// Gives the top members back, which takes no memory.
+    /// Gives the top members back, which allocates nothing.
     pub fn into_members(self) -> Members
         ensures { node_tree self ≡ object (members_fields result) }
     {
@@ -127,7 +127,7 @@ pub fn read_doc(alloc: Global, bytes: &[u8]) -> Result<Doc, DocFault>
     ensures accepts { (t : Tree) → IsDocument bytes.now t → result ≢ Err DocFault.Memory
         → IsOkAnd result (λ doc. node_tree doc ≡ t) }
 
-    // Want of memory apart, each refusal comes exactly where it is due.
+    // But for `Memory`, each refusal comes exactly where it is due.
     ensures not_json { result ≢ Err DocFault.Memory
         → ((result ≡ Err DocFault.NotJson) ↔ IsNotJson bytes.now) }
     ensures not_object { result ≢ Err DocFault.Memory

@@ -12,5 +12,5 @@ pub use node::{Members, Node, Nodes};
 pub use system::with_system;
 pub use text::DocText;
 
-/// Want of memory.
+/// Memory ran out.
 pub type Memory = std::alloc::AllocError;

@@ -98,14 +98,14 @@ impl Node {
 }
 
 impl Nodes {
-    /// Gives the nodes back, which takes no memory.
+    /// Gives the nodes back, which allocates nothing.
     pub fn into_vec(self) -> Vec<Node>
         ensures { row_trees result.items ≡ nodes_trees self }
     {
         self.items
     }
 
-    /// The empty list, which takes no memory.
+    /// The empty list, which allocates nothing.
     pub fn new(alloc: Global) -> Nodes
         ensures { nodes_trees result ≡ no_trees }
     {
@@ -127,7 +127,7 @@ impl Nodes {
         self.as_slice().len()
     }
 
-    /// Adds the node at the end; at want of memory the list is as before.
+    /// Adds the node at the end; out of memory the list is as before.
     pub fn push(&mut self, node: Node) -> Result<(), Memory>
         ensures ok { OnOk result (nodes_trees self.new ≡ add_tree (nodes_trees self.old) (node_tree node)) }
         ensures err { OnErr result (nodes_trees self.new ≡ nodes_trees self.old) }
@@ -155,14 +155,14 @@ impl Nodes {
 }
 
 impl Members {
-    /// Gives the members back as a map, which takes no memory.
+    /// Gives the members back as a map, which allocates nothing.
     pub fn into_map(self) -> BTreeMap<String, Node>
         ensures { entry_fields result.entries ≡ members_fields self }
     {
         self.map
     }
 
-    /// No members, which takes no memory.
+    /// No members, which allocates nothing.
     pub fn new(alloc: Global) -> Members
         ensures { members_fields result ≡ no_fields }
     {
@@ -190,7 +190,7 @@ impl Members {
         self.len() == 0
     }
 
-    /// Puts the value at the name, in the place of one that is there; at want of memory the
+    /// Puts the value at the name, in the place of one that is there; out of memory the
     /// members are as before.
     pub fn insert(&mut self, name: String, node: Node) -> Result<(), Memory>
         ensures ok { OnOk result (members_fields self.new

@@ -27,7 +27,7 @@ impl From<String> for DocText {
 }
 
 impl DocText {
-    /// The empty text, which takes no memory.
+    /// The empty text, which allocates nothing.
     pub fn new(alloc: Global) -> DocText
         ensures { result ≡ [] }
     {
@@ -64,7 +64,7 @@ impl DocText {
         self.text.is_empty()
     }
 
-    /// Writes more at the end; at want of memory the text is as before.
+    /// Writes more at the end; out of memory the text is as before.
     pub fn push_str(&mut self, more: &str) -> Result<(), Memory>
         ensures ok { OnOk result (self.new ≡ self.old ++ more.now) }
         ensures err { OnErr result (self.new ≡ self.old) }
@@ -78,7 +78,7 @@ impl DocText {
         DocText::from_str(alloc, self.as_str())
     }
 
-    /// Gives the text back, which takes no memory.
+    /// Gives the text back, which allocates nothing.
     pub fn into_string(self) -> String
         ensures { string_bytes result ≡ self }
     {

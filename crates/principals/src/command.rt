@@ -17,7 +17,7 @@ pub enum Command {
 }
 
 impl Command {
-    /// The entry of a history that records it. Takes no memory.
+    /// The entry of a history that records it. Allocates nothing.
     pub fn into_entry(self) -> Entry
         ensures { result ≡ entry_of self }
     {

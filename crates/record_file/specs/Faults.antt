@@ -81,12 +81,12 @@ bad_among (line ∷ more) = at_place 1 (header_fault line) (bad_owner more)
 abbrev pub bad_line : List ℕ → Option BadLine
 bad_line bytes = bad_among (pieces 10 bytes)
 
--- a refusal that is not for want of memory tells this
+-- a refusal other than that memory ran out tells this
 abbrev pub TellsWhy : Option Why → LineFault → Type 0
 TellsWhy fault (line.Bad why) = fault ≡ Some why
 TellsWhy fault line.Memory = Unit {0}
 
--- a refusal of a file that is not for want of memory tells this line
+-- a refusal of a file other than that memory ran out tells this line
 abbrev pub Tells : Option BadLine → ReadLog → Type 0
 Tells found (file.Bad bad) = found ≡ Some bad
 Tells found file.Memory = Unit {0}

@@ -50,7 +50,7 @@ fn inputs_of(alloc: Global, items: Vec<Item>) -> Result<Vec<Input>, Memory>
 }
 
 impl Items {
-    /// None. Takes no memory.
+    /// None. Allocates nothing.
     pub fn new(alloc: Global) -> Items
         ensures { result ≡ [] }
     {
@@ -59,14 +59,14 @@ impl Items {
         }
     }
 
-    /// The list of a vector's items. Takes no memory.
+    /// The list of a vector's items. Allocates nothing.
     pub fn from_vec(items: Vec<Item>) -> Items
         ensures { result ≡ items.items }
     {
         Items { items }
     }
 
-    /// The vector of the items. Takes no memory.
+    /// The vector of the items. Allocates nothing.
     pub fn into_vec(self) -> Vec<Item>
         ensures { result.items ≡ self }
     {
@@ -88,7 +88,7 @@ impl Items {
         Ok(())
     }
 
-    /// The wire in memory that gives these one after another, and then its end. No frame is copied; at want of memory
+    /// The wire in memory that gives these one after another, and then its end. No frame is copied; out of memory
     /// the items are let go.
     pub fn into_wire(self, alloc: Global) -> Result<MemWire, Memory>
         ensures { IfOk result

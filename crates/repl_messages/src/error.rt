@@ -47,7 +47,7 @@ pub enum ErrorKind {
     PendingFull503,
     /// Too many checkpoints are stored.
     CheckpointsFull503,
-    /// Want of memory.
+    /// Memory ran out.
     Memory507,
     /// The history has as many entries or bytes as it may have.
     LogFull509,
@@ -143,7 +143,7 @@ fn write_checkpoint(current: u64, out: &mut Bytes) -> Result<(), Memory>
     write_decimal(current, out)
 }
 
-/// The empty reply. Takes no memory.
+/// The empty reply. Allocates nothing.
 pub fn write_ok(alloc: Global) -> Payload
     ensures { result ≡ ok_payload }
 {

@@ -20,7 +20,7 @@ impl Model for Flags {
 }
 
 impl Flags {
-    /// None. Takes no memory.
+    /// None. Allocates nothing.
     pub fn new(alloc: Global) -> Flags
         ensures { result ≡ [] }
     {
@@ -29,14 +29,14 @@ impl Flags {
         }
     }
 
-    /// The list of a vector's flags. Takes no memory.
+    /// The list of a vector's flags. Allocates nothing.
     pub fn from_vec(items: Vec<bool>) -> Flags
         ensures { result ≡ items.items }
     {
         Flags { items }
     }
 
-    /// The vector of the flags. Takes no memory.
+    /// The vector of the flags. Allocates nothing.
     pub fn into_vec(self) -> Vec<bool>
         ensures { result.items ≡ self }
     {

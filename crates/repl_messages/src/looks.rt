@@ -43,7 +43,7 @@ impl Model for BodyList {
 }
 
 impl BodyList {
-    /// None. Takes no memory.
+    /// None. Allocates nothing.
     pub fn new(alloc: Global) -> BodyList
         ensures { result ≡ [] }
     {
@@ -52,14 +52,14 @@ impl BodyList {
         }
     }
 
-    /// The list of a vector's items. Takes no memory.
+    /// The list of a vector's items. Allocates nothing.
     pub fn from_vec(items: Vec<Body>) -> BodyList
         ensures { result ≡ items.items }
     {
         BodyList { items }
     }
 
-    /// The vector of the items. Takes no memory.
+    /// The vector of the items. Allocates nothing.
     pub fn into_vec(self) -> Vec<Body>
         ensures { result.items ≡ self }
     {

@@ -31,7 +31,7 @@ impl Model for Offers {
 }
 
 impl Offers {
-    /// None. Takes no memory.
+    /// None. Allocates nothing.
     pub fn new(alloc: Global) -> Offers
         ensures { result ≡ [] }
     {
@@ -40,14 +40,14 @@ impl Offers {
         }
     }
 
-    /// The list of a vector's items. Takes no memory.
+    /// The list of a vector's items. Allocates nothing.
     pub fn from_vec(items: Vec<Offer>) -> Offers
         ensures { result ≡ items.items }
     {
         Offers { items }
     }
 
-    /// The vector of the items. Takes no memory.
+    /// The vector of the items. Allocates nothing.
     pub fn into_vec(self) -> Vec<Offer>
         ensures { result.items ≡ self }
     {
@@ -101,7 +101,7 @@ impl Model for OfferAnswers {
 }
 
 impl OfferAnswers {
-    /// None. Takes no memory.
+    /// None. Allocates nothing.
     pub fn new(alloc: Global) -> OfferAnswers
         ensures { result ≡ [] }
     {
@@ -110,14 +110,14 @@ impl OfferAnswers {
         }
     }
 
-    /// The list of a vector's items. Takes no memory.
+    /// The list of a vector's items. Allocates nothing.
     pub fn from_vec(items: Vec<OfferAnswer>) -> OfferAnswers
         ensures { result ≡ items.items }
     {
         OfferAnswers { items }
     }
 
-    /// The vector of the items. Takes no memory.
+    /// The vector of the items. Allocates nothing.
     pub fn into_vec(self) -> Vec<OfferAnswer>
         ensures { result.items ≡ self }
     {

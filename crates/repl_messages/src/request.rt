@@ -105,7 +105,7 @@ pub enum RequestFault {
     LowForm400,
     /// The message is of no name that the gateway knows.
     Unknown404,
-    /// Want of memory.
+    /// Memory ran out.
     Memory,
 }
 
@@ -156,7 +156,7 @@ pub fn read_request(
 
     ensures bounded { IfOk result IsBounded }
 
-    // Want of memory apart, a message has this one answer.
+    // But for `Memory`, a message has this one answer.
     ensures only { (answer : Result Request RequestFault) → IsAnswer message.now.payload version answer
         → result ≢ Err RequestFault.Memory → result ≡ answer }
 {

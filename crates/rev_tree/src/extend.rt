@@ -15,6 +15,6 @@ pub enum Extended {
     BadHistory400,
     /// The revision would make a conflict, where none is allowed, with the winner.
     Conflict409 { leaf: RevId },
-    /// Want of memory.
+    /// Memory ran out.
     Memory,
 }

@@ -45,7 +45,7 @@ impl Model for Leaves {
 }
 
 impl Leaves {
-    /// None. Takes no memory.
+    /// None. Allocates nothing.
     pub fn new(alloc: Global) -> Leaves
         ensures { result ≡ [] }
     {
@@ -54,14 +54,14 @@ impl Leaves {
         }
     }
 
-    /// The list of a vector's leaves. Takes no memory.
+    /// The list of a vector's leaves. Allocates nothing.
     pub fn from_vec(items: Vec<Leaf>) -> Leaves
         ensures { result ≡ items.items }
     {
         Leaves { items }
     }
 
-    /// The vector of the leaves. Takes no memory.
+    /// The vector of the leaves. Allocates nothing.
     pub fn into_vec(self) -> Vec<Leaf>
         ensures { result.items ≡ self }
     {

@@ -51,7 +51,7 @@ impl Model for Tree {
 }
 
 impl Tree {
-    /// The tree without revisions. Takes no memory.
+    /// The tree without revisions. Allocates nothing.
     pub fn new(alloc: Global) -> Tree
         ensures { result ≡ [] }
     {
@@ -61,7 +61,7 @@ impl Tree {
         }
     }
 
-    /// Whether the tree has this revision. Takes no memory.
+    /// Whether the tree has this revision. Allocates nothing.
     pub fn knows(&self, rev: &RevId) -> bool
         ensures { result ≡ trees.knows self.now rev.now }
     {
@@ -69,7 +69,7 @@ impl Tree {
     }
 
     /// The leaf that wins: one that is not deleted before one that is, then the greater generation, then
-    /// the greater digest by bytes. None where the tree is empty. Takes no memory.
+    /// the greater digest by bytes. None where the tree is empty. Allocates nothing.
     pub fn winner(&self) -> Option<&Leaf>
         ensures value { option_copied result ≡ trees.winner_of self.now }
         ensures none { trees.winner_of self.now ≡ None ↔ self.now ≡ [] }

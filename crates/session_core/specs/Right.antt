@@ -40,7 +40,7 @@ pub record IsStoredIn (h : List Entry) (strict : Bool) (by : Option (List ℕ)) 
   pub is_write : IsWriteOf by r judged.board write
   pub there : book_of h sequence ≡ Some (entry.Write write)
 
--- the outcome of a revision that was proposed: by the revision itself where that is refused, else by a board; at want of memory none
+-- the outcome of a revision that was proposed: by the revision itself where that is refused, else by a board; out of memory none
 abbrev pub IsProposedIn : List Entry → Bool → Option (List ℕ) → Revision → Outcome → Type 0
 IsProposedIn h strict by r (outcome.Bad400 field) = IsBadField r field
 IsProposedIn h strict by r (outcome.TooLarge413 bytes) = IsTooLarge r bytes

@@ -87,7 +87,7 @@ impl Model for Core {
 }
 
 impl Core {
-    /// A session to which nothing has happened. Where it is strict, conflicts are off. Takes no memory.
+    /// A session to which nothing has happened. Where it is strict, conflicts are off. Allocates nothing.
     pub fn new(user: Name, version: Version, strict: bool) -> Core
         ensures { result ≡ new_machine user version strict }
     {

@@ -20,7 +20,7 @@ why_of frame_faults.Compressed = why.Compressed
 why_of (frame_faults.TooLong bytes) = why.FrameTooLong bytes
 why_of (frame_faults.BadChecksum kept computed) = why.BadChecksum kept computed
 
--- the fault of a frame among those before it; want of memory is none
+-- the fault of a frame among those before it; lack of memory is none
 abbrev pub IsFault : TakeFault → FrameWhy → Type 0
 IsFault (take_faults.OutOfOrder number) w = w ≡ why.OutOfOrder number
 IsFault (take_faults.Payload fault) w = w ≡ why.Payload fault

@@ -68,7 +68,7 @@ most_results = 1099511627776
 
 -- The end, by the results that were taken in these turns, the last one, and the sending that failed: the wire's end; its fault as it
 -- received or as it sent; the frame after those of the turns, which is at fault; none, where all results that a session receives were
--- taken; at want of memory a frame or none.
+-- taken; out of memory a frame or none.
 abbrev pub EndsBy : List Turn → Sending → End → List Got → List Got → List Gave → Type 0
 EndsBy turns left end.Closed taken last failed = (last ≡ got.End ∷ []) × (failed ≡ [])
 EndsBy turns left end.WireFault taken last failed = ((last ≡ got.Failed ∷ []) × (failed ≡ [])) ⊎ ((last ≡ []) × (failed ≡ gave.Failed ∷ []))

@@ -50,7 +50,7 @@ abbrev pub IsBadJournal : List ℕ → BadLine → Type 0
 IsBadJournal bytes bad =
     ((bad.place ≡ 1) × IsHeadFault bytes bad.why) ⊎ ((lines : List ℕ) × (bytes ≡ header ++ lines) × IsBadAfter lines bad)
 
--- a refusal of a file that is not for want of memory names such a line
+-- a refusal of a file other than that memory ran out names such a line
 abbrev pub NamesLine : (BadLine → Type 0) → ReadLog → Type 0
 NamesLine P (file.Bad bad) = P bad
 NamesLine P file.Memory = Unit {0}

@@ -121,12 +121,12 @@ abbrev pub AreFields : List (List ℕ) → Type 0
 AreFields [] = ⊥
 AreFields (kind ∷ texts) = AreTextsUnder (grammars_of kind) texts
 
--- a refusal that is not for want of memory has such a reason
+-- a refusal other than that memory ran out has such a reason
 abbrev pub HasReason : (Why → Type 0) → LineFault → Type 0
 HasReason P (line.Bad why) = P why
 HasReason P line.Memory = Unit {0}
 
--- a refusal that is not for want of memory names this field, whose text is outside its grammar
+-- a refusal other than that memory ran out names this field, whose text is outside its grammar
 abbrev pub IsBadField : ℕ → Grammar → List ℕ → LineFault → Type 0
 IsBadField n grammar text (line.Bad why) = (why ≡ reason.Field n) × ¬ (IsText grammar text)
 IsBadField n grammar text line.Memory = Unit {0}

@@ -112,7 +112,7 @@ impl Model for Entries {
 }
 
 impl Entries {
-    /// No entries. Takes no memory.
+    /// No entries. Allocates nothing.
     pub fn new(alloc: Global) -> Entries
         ensures { result.list ≡ [] }
     {
@@ -155,7 +155,7 @@ impl Entries {
         Ok(())
     }
 
-    /// Puts an entry into reserved room at the end. Takes no memory.
+    /// Puts an entry into reserved room at the end. Allocates nothing.
     pub fn put(&mut self, entry: Entry)
         requires { 0 < self.old.spare }
         ensures list { self.new.list ≡ self.old.list ++ entry ∷ [] }
@@ -172,7 +172,7 @@ pub struct Log {
 }
 
 impl Log {
-    /// An empty log. Takes no memory.
+    /// An empty log. Allocates nothing.
     pub fn new(alloc: Global) -> Log
         ensures { result.entries.list ≡ [] }
     {

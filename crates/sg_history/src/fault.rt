@@ -32,7 +32,7 @@ pub struct BadLine {
 #[derive(Clone, Copy, Debug, PartialEq, Eq)]
 pub enum ReadLog {
     Bad(BadLine),
-    /// Want of memory.
+    /// Memory ran out.
     Memory,
 }
 
@@ -52,7 +52,7 @@ impl From<AllocError> for ReadLog {
 #[derive(Clone, Copy, Debug, PartialEq, Eq)]
 pub enum LineFault {
     Bad(Why),
-    /// Want of memory.
+    /// Memory ran out.
     Memory,
 }
 

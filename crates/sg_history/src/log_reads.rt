@@ -22,7 +22,7 @@ impl<'a> Model for LogReads<'a> {
 }
 
 impl<'a> LogReads<'a> {
-    /// A reader that has read nothing. Takes no memory.
+    /// A reader that has read nothing. Allocates nothing.
     pub fn new(log: &'a Log) -> LogReads<'a>
         ensures entries { result.entries ≡ log.now.entries.list }
         ensures reads { result.reads ≡ 0 }
@@ -44,7 +44,7 @@ impl<'a> LogReads<'a> {
         self.reads
     }
 
-    /// Reads the entry of this sequence, counted from 1. Takes no memory.
+    /// Reads the entry of this sequence, counted from 1. Allocates nothing.
     pub fn entry(&mut self, k: u64) -> &'a Entry
         requires low { 1 ≤ k }
         requires high { k ≤ length self.old.entries }

@@ -25,7 +25,7 @@ impl<'a> Model for Written<'a> {
 }
 
 impl<'a> Written<'a> {
-    /// None. Takes no memory.
+    /// None. Allocates nothing.
     pub fn new(alloc: Global) -> Written<'a>
         ensures { result ≡ [] }
     {

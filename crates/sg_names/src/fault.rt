@@ -7,7 +7,7 @@ use std::alloc::{AllocError, AllocFailed};
 pub enum TextFault {
     /// The text is outside its grammar.
     Bad,
-    /// Want of memory.
+    /// Memory ran out.
     Memory,
 }
 

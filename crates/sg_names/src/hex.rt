@@ -76,7 +76,7 @@ fn byte_of(high: u8, low: u8) -> Option<u8>
     }
 }
 
-/// Want of memory, where the text is one of digits, else its refusal.
+/// Memory ran out, where the text is one of digits, else its refusal.
 fn no_memory(text: &[u8]) -> TextFault
     ensures bad { result ≡ TextFault.Bad → list_all (λ b. hex.is_hex_digit b) text.now ≡ false }
     ensures memory { result ≡ TextFault.Memory

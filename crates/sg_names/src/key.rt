@@ -30,7 +30,7 @@ pub enum KeyFault {
 }
 
 impl Key {
-    /// Reads one, in the form `S` or `T:S`. Takes no memory.
+    /// Reads one, in the form `S` or `T:S`. Allocates nothing.
     pub fn parse(text: &str) -> Result<Key, KeyFault>
         ensures ok { IfOk result (λ k. ReadsKey text.now k) }
         ensures read { (k : Key) → ReadsKey text.now k → result ≡ Ok k }

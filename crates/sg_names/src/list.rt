@@ -21,7 +21,7 @@ impl<T> Model for List<T> {
 }
 
 impl<T> List<T> {
-    /// None. Takes no memory.
+    /// None. Allocates nothing.
     pub fn new(alloc: Global) -> List<T>
         ensures { result ≡ [] }
     {
@@ -30,14 +30,14 @@ impl<T> List<T> {
         }
     }
 
-    /// The list of a vector's items. Takes no memory.
+    /// The list of a vector's items. Allocates nothing.
     pub fn from_vec(items: Vec<T>) -> List<T>
         ensures { result ≡ items.items }
     {
         List { items }
     }
 
-    /// The vector of the items. Takes no memory.
+    /// The vector of the items. Allocates nothing.
     pub fn into_vec(self) -> Vec<T>
         ensures { result.items ≡ self }
     {

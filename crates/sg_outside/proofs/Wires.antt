@@ -41,7 +41,7 @@ same_traffic sent gave p q = rw (p, q) refl
 pub traffic_next : (script : List Got) (calls : ℕ) (sent : List (List ℕ)) (gave : List Gave) → traffic script (calls + 1) sent gave ≡ received (traffic script calls sent gave) (next_of (drop calls script))
 traffic_next script calls sent gave = simp unary_clauses (same_traffic sent gave (results_next script calls) (sym (after_drop script calls)))
 
--- the next result, which is not want of memory, is received
+-- the next result, which is not that memory ran out, is received
 pub receives : (before : Traffic) (result : Got) → result ≢ got.Memory → result ≡ next_of before.coming → Receives before result (received before result)
 receives before (got.Frame frame) fine next = (next, refl)
 receives before got.Text fine next = (next, refl)
@@ -59,7 +59,7 @@ not_counted n got.End fine = le_refl n
 not_counted n got.Failed fine = absurd (fine refl)
 not_counted n got.Memory fine = le_refl n
 
--- a wire with a script of results receives its next one, which is not want of memory
+-- a wire with a script of results receives its next one, which is not that memory ran out
 pub script_receives : (script : List Got) (calls : ℕ) (sent : List (List ℕ)) (gave : List Gave) (result : Got) → result ≢ got.Memory → result ≡ next_of (drop calls script)
     → (after : Traffic) × (Some (traffic script (calls + 1) sent gave) ≡ Some after) × Receives (traffic script calls sent gave) result after
 script_receives script calls sent gave result fine next = (

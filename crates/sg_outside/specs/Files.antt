@@ -21,7 +21,7 @@ Appends Longer before after = after ≡ before
 Appends Failed before after = after ≡ before
 Appends Memory before after = after ≡ before
 
--- the answer to a load of a file with these bytes, or of none; want of memory and a failure may come instead
+-- the answer to a load of a file with these bytes, or of none; that memory ran out, or a failure, may come instead
 abbrev pub Loads : Option (List ℕ) → Loaded → List ℕ → List ℕ → Type 0
 Loads (Some file) Whole before after = (length file ≤ largest_file) × (after ≡ before ++ file)
 Loads (Some file) Longer before after = (largest_file < length file) × (after ≡ before)

@@ -30,18 +30,18 @@ fails_at fails call = unwrap_or (slice_get fails call) false
 abbrev pub fault_at : List (Option ℕ) → ℕ → Option ℕ
 fault_at script call = unwrap_or (slice_get script call) None
 
--- a load fails exactly where the script says so, or where there is no such file; want of memory may come instead
+-- a load fails exactly where the script says so, or where there is no such file; that memory ran out may come instead
 abbrev pub LoadsByScript : Bool → Option (List ℕ) → Loaded → Type 0
 LoadsByScript true file loaded = (loaded ≡ load.Failed) ⊎ (loaded ≡ load.Memory)
 LoadsByScript false None loaded = (loaded ≡ load.Failed) ⊎ (loaded ≡ load.Memory)
 LoadsByScript false (Some bytes) loaded = loaded ≢ load.Failed
 
--- giving fails exactly where the script says so, and so many of the bytes are then taken; want of memory may come instead
+-- giving fails exactly where the script says so, and so many of the bytes are then taken; that memory ran out may come instead
 abbrev pub GivesByScript : Option ℕ → List ℕ → List ℕ → Gave → List ℕ → Type 0
 GivesByScript None before bytes answer after = answer ≢ gave.Failed
 GivesByScript (Some most) before bytes answer after = (answer ≢ gave.Done) × (answer ≡ gave.Failed → after ≡ before ++ take most bytes)
 
--- a sending fails exactly where the script says so; want of memory may come instead
+-- a sending fails exactly where the script says so; that memory ran out may come instead
 abbrev pub SendsByScript : Bool → Gave → Type 0
 SendsByScript true answer = answer ≢ gave.Done
 SendsByScript false answer = answer ≢ gave.Failed

@@ -9,7 +9,7 @@ Counts before Done after = before ≤ after
 Counts before Failed after = before < after
 Counts before Memory after = before ≤ after
 
--- all bytes are taken, at a fault a beginning of them, at want of memory none
+-- all bytes are taken, at a fault a beginning of them, out of memory none
 abbrev pub Takes : List ℕ → List ℕ → Gave → List ℕ → Type 0
 Takes before bytes Done after = after ≡ before ++ bytes
 Takes before bytes Failed after = (part : List ℕ) × (rest : List ℕ) × (bytes ≡ part ++ rest) × (after ≡ before ++ part)

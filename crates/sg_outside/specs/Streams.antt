@@ -10,7 +10,7 @@ abbrev pub LoadsRest : Option (List ℕ) → Loaded → List ℕ → List ℕ �
 LoadsRest None loaded before after = Appends loaded before after
 LoadsRest (Some rest) loaded before after = Loads (Some rest) loaded before after
 
--- what a writer holds once it was given bytes, where that is known: all of them, at a fault a beginning, at want of memory none
+-- what a writer holds once it was given bytes, where that is known: all of them, at a fault a beginning, out of memory none
 abbrev pub Writes : Option (List ℕ) → List ℕ → Gave → Option (List ℕ) → Type 0
 Writes None bytes gave after = Unit {0}
 Writes (Some before) bytes gave after = (held : List ℕ) × (after ≡ Some held) × Takes before bytes gave held

@@ -39,7 +39,7 @@ received before result = record before { got = before.got ++ result ∷ []; comi
 abbrev pub ReceivesNext : Traffic → Got → Traffic → Type 0
 ReceivesNext before result after = (result ≡ next_of before.coming) × (after ≡ received before result)
 
--- the next result is received, at want of memory none
+-- the next result is received, out of memory none
 abbrev pub Receives : Traffic → Got → Traffic → Type 0
 Receives before (got.Frame frame) after = ReceivesNext before (got.Frame frame) after
 Receives before got.Text after = ReceivesNext before got.Text after
@@ -53,7 +53,7 @@ abbrev pub ReceivesIfTold : Option Traffic → Got → Option Traffic → Type 0
 ReceivesIfTold None result after = after ≡ None
 ReceivesIfTold (Some before) result after = (traffic : Traffic) × (after ≡ Some traffic) × Receives before result traffic
 
--- the frame is sent, at a fault it is not; at want of memory nothing happened
+-- the frame is sent, at a fault it is not; out of memory nothing happened
 abbrev pub sent_after : Traffic → List ℕ → Gave → Traffic
 sent_after before frame gave.Done = record before { sent = before.sent ++ frame ∷ []; gave = before.gave ++ gave.Done ∷ [] }
 sent_after before frame gave.Failed = record before { gave = before.gave ++ gave.Failed ∷ [] }

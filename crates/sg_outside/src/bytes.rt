@@ -21,7 +21,7 @@ impl Model for Bytes {
 }
 
 impl Bytes {
-    /// No bytes. Takes no memory.
+    /// No bytes. Allocates nothing.
     pub fn new(alloc: Global) -> Bytes
         ensures { result ≡ [] }
     {
@@ -39,14 +39,14 @@ impl Bytes {
         })
     }
 
-    /// The bytes of a vector. Takes no memory.
+    /// The bytes of a vector. Allocates nothing.
     pub fn from_vec(items: Vec<u8>) -> Bytes
         ensures { result ≡ items.items }
     {
         Bytes { items }
     }
 
-    /// The vector of the bytes. Takes no memory.
+    /// The vector of the bytes. Allocates nothing.
     pub fn into_vec(self) -> Vec<u8>
         ensures { result.items ≡ self }
     {
@@ -88,7 +88,7 @@ impl Bytes {
         self.items.extend_from_slice(bytes)
     }
 
-    /// Makes room for `more` further bytes, so that putting them at the end takes no memory.
+    /// Makes room for `more` further bytes, so that putting them at the end allocates nothing.
     pub fn reserve(&mut self, more: usize) -> Result<(), AllocError>
         ensures { self.new ≡ self.old }
     {

@@ -18,11 +18,11 @@ pub enum Loaded {
     Longer,
     /// A fault, or no such file.
     Failed,
-    /// Want of memory.
+    /// Memory ran out.
     Memory,
 }
 
-/// Counts a fault; at the counter's end it can't be counted, and is answered as want of memory.
+/// Counts a fault; at the counter's end it can't be counted, and is answered as lack of memory.
 pub(crate) fn count_fault(faults: &mut u64) -> Loaded
     ensures counted { CountsLoad faults.old result faults.new }
     ensures answer { (result ≡ Loaded.Failed) ⊎ (result ≡ Loaded.Memory) }

@@ -24,5 +24,5 @@ pub use sink::{Gave, MemSink, Sink};
 pub use streams::{read_whole, write_whole};
 pub use wire::{Got, Wire};
 
-/// Want of memory.
+/// Memory ran out.
 pub type Memory = std::alloc::AllocError;

@@ -50,7 +50,7 @@ pub struct MemFiles {
 }
 
 impl MemFiles {
-    /// No files. Takes no memory.
+    /// No files. Allocates nothing.
     pub fn new(alloc: Global) -> MemFiles
         ensures { result.files.items ≡ [] }
     {
@@ -86,7 +86,7 @@ pub struct ScriptedFiles {
 impl ScriptedFiles {
     ghost use Rattle.sg_outside.specs.Scripts.{loads_of};
 
-    /// These files, of which no call was made yet. Takes no memory.
+    /// These files, of which no call was made yet. Allocates nothing.
     pub fn new(files: Vec<MemFile>, fails: Vec<bool>) -> ScriptedFiles
         ensures files { result.files.items ≡ files.items }
         ensures fails { result.fails.items ≡ fails.items }

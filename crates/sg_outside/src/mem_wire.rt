@@ -20,7 +20,7 @@ pub enum Input {
     Idle,
 }
 
-/// What receiving an input gives: a copy, or want of memory.
+/// What receiving an input gives: a copy, or lack of memory.
 fn receive(alloc: Global, input: &Input) -> Result<Got, AllocError>
     ensures value { IfOk result (λ got. got ≡ got_of input.now) }
     ensures fine { IfOk result (λ got. got ≢ Got.Memory) }
@@ -57,7 +57,7 @@ pub struct MemWire {
 }
 
 impl MemWire {
-    /// A wire with these inputs, of which none has come yet. Takes no memory.
+    /// A wire with these inputs, of which none has come yet. Allocates nothing.
     pub fn new(alloc: Global, inputs: Vec<Input>) -> MemWire
         ensures inputs { result.inputs.items ≡ inputs.items }
         ensures sent { result.sent.items ≡ [] }

@@ -21,7 +21,7 @@ pub struct ScriptedSink {
 impl ScriptedSink {
     ghost use Rattle.sg_outside.specs.Scripts.{gives_of};
 
-    /// A sink that took nothing yet. Takes no memory.
+    /// A sink that took nothing yet. Allocates nothing.
     pub fn new(alloc: Global, script: Vec<Option<usize>>) -> ScriptedSink
         ensures bytes { result.bytes ≡ [] }
         ensures script { result.script.items ≡ script.items }

@@ -14,7 +14,7 @@ use crate::sink::Gave;
 use crate::wire::{Got, Wire};
 use std::alloc::{AllocError, Global};
 
-/// A result as it is, a frame copied, or want of memory.
+/// A result as it is, a frame copied, or lack of memory.
 fn copy_of(alloc: Global, step: &Got) -> Result<Got, AllocError>
     ensures { IfOk result (λ got. (got ≡ step.now) × (got ≢ Got.Memory)) }
 {
@@ -90,7 +90,7 @@ fn send_or_fail(
 
 /// A wire in memory, which tells what was received and sent: the results of its script come one after
 /// another, and then its end; the k-th sending fails where the k-th mark says so, and one past the marks
-/// does not. Want of memory in the script is answered at this call and all that follow.
+/// does not. Lack of memory in the script is answered at this call and all that follow.
 #[derive(Drop)]
 pub struct ScriptedWire {
     pub script: Vec<Got>,
@@ -108,7 +108,7 @@ pub struct ScriptedWire {
 impl ScriptedWire {
     ghost use Rattle.sg_outside.specs.Scripts.{sendings_of};
 
-    /// A wire with this script, of which nothing has come yet. Takes no memory.
+    /// A wire with this script, of which nothing has come yet. Allocates nothing.
     pub fn new(alloc: Global, script: Vec<Got>, send_fails: Vec<bool>) -> ScriptedWire
         ensures script { result.script.items ≡ script.items }
         ensures send_fails { result.send_fails.items ≡ send_fails.items }

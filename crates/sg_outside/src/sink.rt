@@ -13,7 +13,7 @@ pub enum Gave {
     Done,
     /// A fault: a beginning was taken.
     Failed,
-    /// Want of memory: nothing was taken.
+    /// Memory ran out: nothing was taken.
     Memory,
 }
 

@@ -12,7 +12,7 @@ use crate::files::{LARGEST_FILE, Loaded, count_fault};
 use crate::sink::Gave;
 use std::io::{Error, ErrorKind, Read, Write};
 
-/// What an error of a file answers: want of memory is no fault, and all else is counted.
+/// What an error of a file answers: that memory ran out is no fault, and all else is counted.
 pub(crate) fn load_fault(error: &Error, faults: &mut u64) -> Loaded
     ensures counted { CountsLoad faults.old result faults.new }
     ensures answer { (result ≡ Loaded.Failed) ⊎ (result ≡ Loaded.Memory) }

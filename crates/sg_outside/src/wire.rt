@@ -20,7 +20,7 @@ pub enum Got {
     End,
     /// A fault.
     Failed,
-    /// Want of memory: nothing was received.
+    /// Memory ran out: nothing was received.
     Memory,
 }
 

@@ -44,7 +44,7 @@ pub struct Rule {
     pub place: Place,
 }
 
-/// What ends a run. `Memory` is want of memory, which may come at any place.
+/// What ends a run. `Memory` says that memory ran out, which may come at any place.
 #[derive(Debug, Drop)]
 pub enum Stop {
     Deny(Rule),

@@ -24,5 +24,5 @@ pub use fault::{FaultKind, Rule, RuleKind, Stop};
 pub use meaning::{evaluate, evaluate_within};
 pub use state::Context;
 
-/// Want of memory.
+/// Memory ran out.
 pub type Memory = std::alloc::AllocError;

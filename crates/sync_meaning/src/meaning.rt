@@ -123,7 +123,7 @@ pub fn evaluate(
     old: Option<&Doc>,
     context: &Context,
 ) -> Result<Effects, Stop>
-    // It is what the definition says, want of memory apart.
+    // It is what the definition says, but for `Memory`.
     ensures { Gives (spec.meaning program.now (node_tree doc.now)
         (option_map (λ doc. node_tree doc.now) old.entry) context.now) result }
 {

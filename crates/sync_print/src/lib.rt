@@ -10,5 +10,5 @@ mod statement;
 
 pub use program::print;
 
-/// Want of memory.
+/// Memory ran out.
 pub type Memory = std::alloc::AllocError;

@@ -7,7 +7,7 @@ use std::alloc::AllocError;
 use sync_tokens::Place;
 
 /// Why a program's names stand for nothing, with the place of the name, or of the call. `Memory` is
-/// want of memory, which may come at any program.
+/// lack of memory, which may come at any program.
 #[derive(Clone, Copy, Debug, PartialEq, Eq)]
 pub enum ResolveFault {
     /// A name that is declared nowhere in sight, or is that of a function that is built in and is

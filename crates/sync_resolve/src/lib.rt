@@ -13,5 +13,5 @@ mod statement;
 pub use fault::ResolveFault;
 pub use program::{Resolved, resolve};
 
-/// Want of memory.
+/// Memory ran out.
 pub type Memory = std::alloc::AllocError;

@@ -47,7 +47,7 @@ impl Resolved {
         &self.program
     }
 
-    /// Gives the program back, which takes no memory.
+    /// Gives the program back, which allocates nothing.
     pub fn into_program(self) -> Program
         ensures { result ≡ self }
     {
@@ -96,7 +96,7 @@ fn check(alloc: Global, program: &Program) -> Result<(), ResolveFault>
 pub fn resolve(alloc: Global, program: Program) -> Result<Resolved, ResolveFault>
     // It is the program, where its names have no fault.
     ensures ok { IfOk result (λ resolved. (resolved ≡ program) × IsResolved program) }
-    // Else it is the first fault, want of memory apart.
+    // Else it is the first fault, but for `Memory`.
     ensures fault { IfErr result (λ e. e ≢ Memory → IsFirst e (faults program)) }
 {
     check(alloc, &program)?;

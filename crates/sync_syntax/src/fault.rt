@@ -8,7 +8,7 @@ pub struct SyntaxFault {
     pub why: SyntaxWhy,
 }
 
-/// Why a text gives no program. `Memory` is want of memory, which may come at any text.
+/// Why a text gives no program. `Memory` says that memory ran out, which may come at any text.
 #[derive(Clone, Copy, Debug, PartialEq, Eq)]
 pub enum ParseFault {
     Bad(SyntaxFault),

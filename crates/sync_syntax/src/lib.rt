@@ -16,5 +16,5 @@ pub use fault::{ParseFault, SyntaxFault};
 pub use program::parse;
 pub use sync_tokens::{Place, SyntaxWhy};
 
-/// Want of memory.
+/// Memory ran out.
 pub type Memory = std::alloc::AllocError;

@@ -14,5 +14,5 @@ pub use place::{Place, SyntaxWhy};
 pub use scan::tokens;
 pub use token::{Kind, Sign, Token, Word};
 
-/// Want of memory.
+/// Memory ran out.
 pub type Memory = std::alloc::AllocError;
