@@ -3,7 +3,7 @@
 use sg_history::Why;
 
 /// How a command ends.
-#[derive(Clone, Copy, Debug, PartialEq, Eq)]
+#[derive(Debug, Drop)]
 pub enum Status {
     Ok,
     /// The words are in no command's form.

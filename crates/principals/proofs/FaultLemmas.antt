@@ -60,6 +60,7 @@ apart_among parts texts reason.Fields fault h = fault (as_many parts texts h)
 apart_among parts texts (reason.Field n) fault h = none_bad parts texts (n - 2) fault.2 h
 apart_among parts texts (reason.Rule n) fault h = fault
 apart_among parts texts reason.Long fault h = fault
+apart_among parts texts (reason.Config path why) fault h = fault
 
 apart_under : (parts : Option (List Part)) (texts : List (List ℕ)) (why : Why) → IsFaultUnder parts texts why → ¬ (ArePartsUnder parts texts)
 apart_under None texts why fault h = h
@@ -103,6 +104,7 @@ fields_or_field parts texts reason.Fields a b = refl
 fields_or_field parts texts (reason.Field m) a b = absurd (a b.0)
 fields_or_field parts texts (reason.Rule m) a b = absurd b
 fields_or_field parts texts reason.Long a b = absurd b
+fields_or_field parts texts (reason.Config path why) a b = absurd b
 
 field_or_fields : (parts : List Part) (texts : List (List ℕ)) (n : ℕ) (b : Why) → IsFaultAmong parts texts (reason.Field n) → IsFaultAmong parts texts b
     → reason.Field n ≡ b
@@ -113,6 +115,7 @@ field_or_fields parts texts n reason.Fields a b = absurd (b a.0)
 field_or_fields parts texts n (reason.Field m) a b = ap reason.Field (field_one parts texts n m a b)
 field_or_fields parts texts n (reason.Rule m) a b = absurd b
 field_or_fields parts texts n reason.Long a b = absurd b
+field_or_fields parts texts n (reason.Config path why) a b = absurd b
 
 among_one : (parts : List Part) (texts : List (List ℕ)) (a b : Why) → IsFaultAmong parts texts a → IsFaultAmong parts texts b → a ≡ b
 among_one parts texts reason.Head b x y = absurd x
@@ -122,6 +125,7 @@ among_one parts texts reason.Fields b x y = fields_or_field parts texts b x y
 among_one parts texts (reason.Field n) b x y = field_or_fields parts texts n b x y
 among_one parts texts (reason.Rule n) b x y = absurd x
 among_one parts texts reason.Long b x y = absurd x
+among_one parts texts (reason.Config path why) b x y = absurd x
 
 under_one : (parts : Option (List Part)) (texts : List (List ℕ)) (a b : Why) → IsFaultUnder parts texts a → IsFaultUnder parts texts b → a ≡ b
 under_one None texts a b x y = x ∙ sym y

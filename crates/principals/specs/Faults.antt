@@ -52,6 +52,7 @@ IsFaultAmong parts texts reason.Fields = length texts ≢ length parts
 IsFaultAmong parts texts (reason.Field n) = (length texts ≡ length parts) × (2 ≤ n) × IsFirstBad parts texts (n - 2)
 IsFaultAmong parts texts (reason.Rule n) = ⊥
 IsFaultAmong parts texts reason.Long = ⊥
+IsFaultAmong parts texts (reason.Config path why) = ⊥
 
 -- what is wrong with texts under a kind, which may be none
 abbrev pub IsFaultUnder : Option (List Part) → List (List ℕ) → Why → Type 0

@@ -34,6 +34,7 @@ apart_among grammars texts reason.Fields fault h = fault (as_many grammars texts
 apart_among grammars texts (reason.Field n) fault h = none_bad grammars texts (n - 2) fault.2 h
 apart_among grammars texts (reason.Rule n) fault h = fault
 apart_among grammars texts reason.Long fault h = fault
+apart_among grammars texts (reason.Config path why) fault h = fault
 
 apart_under : (grammars : Option (List Grammar)) (texts : List (List ℕ)) (why : Why) → IsFaultUnder grammars texts why → ¬ (AreTextsUnder grammars texts)
 apart_under None texts why fault h = h

@@ -100,6 +100,7 @@ IsFaultAmong grammars texts reason.Fields = length texts ≢ length grammars
 IsFaultAmong grammars texts (reason.Field n) = (length texts ≡ length grammars) × (2 ≤ n) × IsFirstBad grammars texts (n - 2)
 IsFaultAmong grammars texts (reason.Rule n) = ⊥
 IsFaultAmong grammars texts reason.Long = ⊥
+IsFaultAmong grammars texts (reason.Config path why) = ⊥
 
 -- what is wrong with texts under a kind, which may be none
 abbrev pub IsFaultUnder : Option (List Grammar) → List (List ℕ) → Why → Type 0

@@ -1,9 +1,10 @@
 //! Why a journal is refused.
 
+use crate::config_fault::{ConfigWhy, Path};
 use std::alloc::AllocError;
 
-/// What is wrong with a line.
-#[derive(Clone, Copy, Debug, PartialEq, Eq)]
+/// What is wrong with a line, or with a whole file.
+#[derive(Debug, Drop)]
 pub enum Why {
     /// The first line isn't the header.
     Head,
@@ -19,17 +20,19 @@ pub enum Why {
     Rule(u64),
     /// The file is longer than a file may be.
     Long,
+    /// The file is a configuration, and what is at this path is refused.
+    Config { path: Path, why: ConfigWhy },
 }
 
 /// The first bad line, counted from 1 with the header as line 1; 0 stands for a whole file.
-#[derive(Clone, Copy, Debug, PartialEq, Eq)]
+#[derive(Debug, Drop)]
 pub struct BadLine {
     pub place: u64,
     pub why: Why,
 }
 
 /// Why a file of lines is refused.
-#[derive(Clone, Copy, Debug, PartialEq, Eq)]
+#[derive(Debug, Drop)]
 pub enum ReadLog {
     Bad(BadLine),
     /// Memory ran out.
@@ -49,7 +52,7 @@ impl From<AllocError> for ReadLog {
 }
 
 /// Why one line is refused.
-#[derive(Clone, Copy, Debug, PartialEq, Eq)]
+#[derive(Debug, Drop)]
 pub enum LineFault {
     Bad(Why),
     /// Memory ran out.

@@ -84,14 +84,16 @@ fn read_lines(alloc: Global, lines: Bytes) -> Result<Lines, AllocError>
     let mut entries = Entries::new(alloc);
     let mut rest = lines;
     'parts: while !rest.is_empty() {
-        let part = read_part(alloc, rest.as_slice(), rest.len() / 2 + 1, &mut entries)?;
-        if part.fault.is_some() {
-            return Ok(Lines {
-                entries,
-                fault: part.fault,
-            });
+        let Part { rest: left, fault } = read_part(
+            alloc,
+            rest.as_slice(),
+            rest.len() / 2 + 1,
+            &mut entries,
+        )?;
+        if fault.is_some() {
+            return Ok(Lines { entries, fault });
         }
-        let passed = rest.len() - part.rest.len();
+        let passed = rest.len() - left.len();
         rest.drop_front(passed);
     }
     Ok(Lines {
@@ -105,11 +107,8 @@ fn read_borrowed(alloc: Global, lines: &[u8]) -> Result<Lines, AllocError>
     ensures { IfOk result (λ read. AreAllLines lines.now read.entries.list read.fault) }
 {
     let mut entries = Entries::new(alloc);
-    let part = read_part(alloc, lines, lines.len(), &mut entries)?;
-    Ok(Lines {
-        entries,
-        fault: part.fault,
-    })
+    let Part { rest: _, fault } = read_part(alloc, lines, lines.len(), &mut entries)?;
+    Ok(Lines { entries, fault })
 }
 
 /// The log of lines that were read, if none of them breaks a rule.

@@ -3,6 +3,7 @@
 #![tactic(auto)]
 
 pub mod book;
+pub mod config_fault;
 pub mod entries;
 pub mod fault;
 pub mod field;
@@ -21,6 +22,7 @@ mod write_line;
 mod written;
 
 pub use book::{Waiting, entry_at};
+pub use config_fault::{ConfigWhy, Path};
 pub use entries::{Entries, Entry, Log, Write};
 pub use fault::{BadLine, ReadLog, Why};
 pub use journal::{read_journal, take_journal};
