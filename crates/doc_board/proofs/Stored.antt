@@ -7,7 +7,7 @@ use Rattle.std.specs.Str.{bytes_eq}
 use Rattle.sg_history.specs.declared.entries.Entry.{Entry}
 use Rattle.sg_history.specs.declared.entries.Entry.TheVariants as entry
 use Rattle.sg_history.specs.declared.entries.Write.{Write}
-use Rattle.sg_history.specs.Kept as entries
+use Rattle.sg_history.specs.EntryList as entries
 use Rattle.sg_history.specs.History.{as_write}
 use Rattle.sg_history.specs.Journal.{IsEntry, may_follow, write_may_follow}
 use Rattle.rev_tree.specs.declared.tree.Node.{Node}
@@ -23,7 +23,7 @@ use Rattle.rev_tree.specs.Documents.{writes_of, tree_at}
 use Rattle.doc_board.proofs.Documents.{Documents, kept_with, accepted_with, kept_past, accepted_past, place_made}
 use Rattle.doc_board.proofs.OutRooms.{all_without, one_less, places_stay, all_placed, all_with}
 
-newest : (log new : entries.Kept) (e : Entry) → new.list ≡ log.list ++ e ∷ [] → reverse new.list ≡ e ∷ reverse log.list
+newest : (log new : entries.EntryList) (e : Entry) → new.list ≡ log.list ++ e ∷ [] → reverse new.list ≡ e ∷ reverse log.list
 newest log new e h = ap (λ (es : List Entry). reverse es) h ∙ reverse-append log.list (e ∷ [])
 
 none_may_follow : (o : Option Write) (es : List Entry) → is_some o ≡ false → write_may_follow es o ≡ true
@@ -34,7 +34,7 @@ no_rule : (e : Entry) (es : List Entry) → is_write e ≡ false → may_follow 
 no_rule e es h = none_may_follow (as_write e) es h
 
 -- a write
-pub kept_write : SameRevisions → SameLeaves → (w : Write) (log new : entries.Kept) (before after : Documents) (rooms : List RoomFor) (room : RoomFor) (sequence : ℕ) (tree : List Node) → IsKept log before rooms → is_out rooms room ≡ true → IsEntry (entry.Write w) → w.at < sequence → sequence ≡ length log.list + 1 → ExtendsTree (tree_at (reverse log.list) w.doc) w tree → ((name : List ℕ) → get_by_text after name ≡ (if bytes_eq w.doc name then Some (record { last = sequence; tree = tree }) else get_by_text before name)) → new.list ≡ log.list ++ entry.Write w ∷ [] → new.spare + 1 ≡ log.spare → IsKept new after (without room rooms)
+pub kept_write : SameRevisions → SameLeaves → (w : Write) (log new : entries.EntryList) (before after : Documents) (rooms : List RoomFor) (room : RoomFor) (sequence : ℕ) (tree : List Node) → IsKept log before rooms → is_out rooms room ≡ true → IsEntry (entry.Write w) → w.at < sequence → sequence ≡ length log.list + 1 → ExtendsTree (tree_at (reverse log.list) w.doc) w tree → ((name : List ℕ) → get_by_text after name ≡ (if bytes_eq w.doc name then Some (record { last = sequence; tree = tree }) else get_by_text before name)) → new.list ≡ log.list ++ entry.Write w ∷ [] → new.spare + 1 ≡ log.spare → IsKept new after (without room rooms)
 kept_write same_revisions same_leaves w log new before after rooms room sequence tree kept out named judged next extends put list spare =
     let es : List Entry = reverse log.list in
     let at : sequence ≡ length es + 1 = next ∙ ap (λ (n : ℕ). n + 1) (sym (length-reverse log.list)) in
@@ -50,7 +50,7 @@ kept_write same_revisions same_leaves w log new before after rooms room sequence
     }
 
 -- an entry that is no write
-pub kept_plain : (e : Entry) (log new : entries.Kept) (places : Documents) (rooms : List RoomFor) (room : RoomFor) → IsKept log places rooms → is_out rooms room ≡ true → IsEntry e → is_write e ≡ false → new.list ≡ log.list ++ e ∷ [] → new.spare + 1 ≡ log.spare → IsKept new places (without room rooms)
+pub kept_plain : (e : Entry) (log new : entries.EntryList) (places : Documents) (rooms : List RoomFor) (room : RoomFor) → IsKept log places rooms → is_out rooms room ≡ true → IsEntry e → is_write e ≡ false → new.list ≡ log.list ++ e ∷ [] → new.spare + 1 ≡ log.spare → IsKept new places (without room rooms)
 kept_plain e log new places rooms room kept out named plain list spare =
     let es : List Entry = reverse log.list in
     let less = one_less room rooms out in
@@ -67,7 +67,7 @@ kept_plain e log new places rooms room kept out named plain list spare =
 -- ---- a room
 
 -- places of the log that are not needed yet
-pub kept_spare : (log new : entries.Kept) (places : Documents) (rooms : List RoomFor) → IsKept log places rooms → new.list ≡ log.list → 2 * length rooms ≤ new.spare → IsKept new places rooms
+pub kept_spare : (log new : entries.EntryList) (places : Documents) (rooms : List RoomFor) → IsKept log places rooms → new.list ≡ log.list → 2 * length rooms ≤ new.spare → IsKept new places rooms
 kept_spare log new places rooms kept same spare =
     let P : List Entry → Type 0 = λ x. AreKept (reverse x) places in
     let Q : List Entry → Type 0 = λ x. (doc : List ℕ) → AreAccepted (writes_of (reverse x) doc) in
@@ -80,7 +80,7 @@ kept_spare log new places rooms kept same spare =
     }
 
 -- a place of a document that is not needed yet
-pub kept_placed : (log : entries.Kept) (before after : Documents) (rooms : List RoomFor) (doc : Option (List ℕ)) → IsKept log before rooms → ((name : List ℕ) → get_by_text after name ≡ placed doc before name) → IsKept log after rooms
+pub kept_placed : (log : entries.EntryList) (before after : Documents) (rooms : List RoomFor) (doc : Option (List ℕ)) → IsKept log before rooms → ((name : List ℕ) → get_by_text after name ≡ placed doc before name) → IsKept log after rooms
 kept_placed log before after rooms doc kept made =
     record {
       documents = place_made (reverse log.list) before after doc made kept.documents;
@@ -90,11 +90,11 @@ kept_placed log before after rooms doc kept made =
       lawful = kept.lawful;
     }
 
-pub kept_same : (log : entries.Kept) (before after : Documents) (rooms : List RoomFor) → IsKept log before rooms → ((name : List ℕ) → get_by_text after name ≡ get_by_text before name) → IsKept log after rooms
+pub kept_same : (log : entries.EntryList) (before after : Documents) (rooms : List RoomFor) → IsKept log before rooms → ((name : List ℕ) → get_by_text after name ≡ get_by_text before name) → IsKept log after rooms
 kept_same log before after rooms kept same = kept_placed log before after rooms None kept same
 
 -- a room, for which a place was made
-pub kept_room : (log : entries.Kept) (before after : Documents) (rooms : List RoomFor) (room : RoomFor) → IsKept log before rooms → ((name : List ℕ) → get_by_text after name ≡ placed room.doc before name) → 2 * (length rooms + 1) ≤ log.spare → IsKept log after (rooms ++ room ∷ [])
+pub kept_room : (log : entries.EntryList) (before after : Documents) (rooms : List RoomFor) (room : RoomFor) → IsKept log before rooms → ((name : List ℕ) → get_by_text after name ≡ placed room.doc before name) → 2 * (length rooms + 1) ≤ log.spare → IsKept log after (rooms ++ room ∷ [])
 kept_room log before after rooms room kept made spare =
     record {
       documents = place_made (reverse log.list) before after room.doc made kept.documents;

@@ -6,7 +6,7 @@ use Rattle.std.specs.Str.{bytes_eq}
 use Rattle.std.specs.Global.{Global}
 use Rattle.std.specs.Prelude.{String}
 use Rattle.sg_history.specs.declared.entries.Entry.{Entry}
-use Rattle.sg_history.specs.Kept as entries
+use Rattle.sg_history.specs.EntryList as entries
 use Rattle.rev_tree.specs.declared.tree.Node.{Node}
 use Rattle.rev_tree.specs.Writes.{AreAccepted}
 use Rattle.doc_board.specs.declared.document.Document.{Document}
@@ -56,7 +56,7 @@ kept_nodes None = []
 kept_nodes (Some kept) = kept.tree
 
 -- a board keeps each document that was written; each room that is out has the place of its document, and two places of the log; each write of a document was an accepted extension of the tree of those before it; and each entry is in its grammar and follows the rules of a journal
-pub record IsKept (log : entries.Kept) (places : BTreeMap (String Global) Document) (rooms : List RoomFor) : Type 0 where
+pub record IsKept (log : entries.EntryList) (places : BTreeMap (String Global) Document) (rooms : List RoomFor) : Type 0 where
   pub documents : AreKept (reverse log.list) places
   pub out : list_all (λ r. has_place places r.doc) rooms ≡ true
   pub spare : 2 * length rooms ≤ log.spare

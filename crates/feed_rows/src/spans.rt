@@ -51,7 +51,7 @@ fn add_span<'a>(
         list.push(span)?;
         return Ok(());
     }
-    let mut list = Vec::new(alloc);
+    let mut list = Vec::with_capacity(alloc, 1)?;
     list.push(span)?;
     spans.insert(channel, list)?;
     Ok(())

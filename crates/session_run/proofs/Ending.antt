@@ -30,7 +30,7 @@ use Rattle.session_run.specs.declared.session.Session.{Session}
 use Rattle.session_run.specs.Answered.{Moment, HasRead, AreAnswered}
 use Rattle.session_run.specs.Held.{IsAtRest, Holds, Turned, Leaves, Takes, Runs, RunsOn}
 use Rattle.session_run.specs.Served.{bytes_of, IsBadAfter, EndsBy, IsSentAt, IsClosedAt, IsSession, IsServed}
-use Rattle.session_run.specs.Turns.{Turn, undone, steps_of, frames_of, events_of}
+use Rattle.session_run.specs.Turns.{SessionTurn, undone, steps_of, frames_of, events_of}
 use Rattle.session_run.proofs.Holding.{Came, Expects, Joins, Received, received_on, front_ok, front_err, written_more, looks_after, stored_after, turn_answered, holds_on}
 use Rattle.session_run.proofs.Taking.{Kept, Wants}
 
@@ -71,7 +71,7 @@ abbrev pub ended_as : End → Session → Ended
 ended_as e s = record { end = e; looks = s.listing.looks; stored = s.listing.stored }
 
 -- a session that ends after its turns, by these last results
-session_after : (setup : Setup) (start now : Moment) (s : Session) (turns : List Turn) (frames : List FrameParts) (results last : List Got) (sent : List (List ℕ)) (e : End) (failed : List Gave)
+session_after : (setup : Setup) (start now : Moment) (s : Session) (turns : List SessionTurn) (frames : List FrameParts) (results last : List Got) (sent : List (List ℕ)) (e : End) (failed : List Gave)
     → Holds setup start now s turns frames results sent → HasRead now now → length (results ++ last) ≤ 1099511627776 → EndsBy turns s.mux.outbox e results last failed
     → IsSession setup start now (ended_as e s) (results ++ last) sent failed
 session_after setup start now s turns frames results last sent e failed held read count by = record {
@@ -111,7 +111,7 @@ at_most_one results last count e below few = omega (arith, length-append results
 pub run_ends : TellsOn → (setup : Setup) (start now final : Moment) (told told_now told_after : Option Traffic) (s new : Session) (count : ℕ) (e : End) (last : List Got)
     → final ≡ now → HasRead now now → new.listing.looks ≡ s.listing.looks → new.listing.stored ≡ s.listing.stored
     → count + length last ≤ 1099511627776
-    → ((turns : List Turn) (frames : List FrameParts) (results : List Got) (sent : List (List ℕ)) → Holds setup start now s turns frames results sent → length results ≡ count → EndsBy turns s.mux.outbox e results last [])
+    → ((turns : List SessionTurn) (frames : List FrameParts) (results : List Got) (sent : List (List ℕ)) → Holds setup start now s turns frames results sent → length results ≡ count → EndsBy turns s.mux.outbox e results last [])
     → Tells told_now last [] [] told_after
     → Runs setup start now told s told_now count → IsServed setup start final told (ended_as e new) told_after
 run_ends law setup start now final told told_now told_after s new count e last same read looks stored few by tells runs =
@@ -129,8 +129,8 @@ run_ends law setup start now final told told_now told_after s new count e last s
 -- ---- in a turn
 
 -- a session that ends in a turn, of which this is left
-turn_session : Came → Joins → (setup : Setup) (start now final : Moment) (old new : Session) (turns : List Turn) (frames : List FrameParts) (results : List Got) (sent : List (List ℕ)) (e : End)
-    (result : Got) (told told_after : Option Traffic) (t : Turn) (halted : Option Event) (left : Sending) (failed : List Gave)
+turn_session : Came → Joins → (setup : Setup) (start now final : Moment) (old new : Session) (turns : List SessionTurn) (frames : List FrameParts) (results : List Got) (sent : List (List ℕ)) (e : End)
+    (result : Got) (told told_after : Option Traffic) (t : SessionTurn) (halted : Option Event) (left : Sending) (failed : List Gave)
     → Holds setup start now old turns frames results sent → (did : Turned old new result now final told told_after t halted left failed)
     → length (results ++ result ∷ []) ≤ 1099511627776
     → IsClosedAt e new.core halted → IsSentAt e left → EndsBy (t ∷ turns) left e (results ++ result ∷ []) [] failed
@@ -167,7 +167,7 @@ turn_session came_law joins setup start now final old new turns frames results s
 
 -- ---- a frame at fault
 
-bad_bytes : (turns : List Turn) (left : Sending) (found : Result (FrameParts × ℕ) FrameFault) (answer : FrameParts → Result Taken TakeFault) (w : FrameWhy)
+bad_bytes : (turns : List SessionTurn) (left : Sending) (found : Result (FrameParts × ℕ) FrameFault) (answer : FrameParts → Result Taken TakeFault) (w : FrameWhy)
     → ((f : FrameParts) → answer f ≡ answer_in (events_of turns) f)
     → IsBadFrame found answer left w
     → IsBadAfter turns left (with_front (frames_of turns) (found >>= λ one. with_first one.0 (frames_at one.1 []))) w
@@ -175,7 +175,7 @@ bad_bytes turns left (Err fault) answer w same bad = subst (λ r. IsBadAfter tur
 bad_bytes turns left (Ok one) answer w same bad =
     subst (λ r. IsBadAfter turns left r w) (sym (front_ok (frames_of turns) (one.0 ∷ []))) (one.0, refl, subst (λ r. IsBadTaken r left w) (same one.0) bad)
 
-bad_after : Joins → (setup : Setup) (start now : Moment) (s : Session) (turns : List Turn) (frames : List FrameParts) (results : List Got) (sent : List (List ℕ)) (bytes : List ℕ) (w : FrameWhy)
+bad_after : Joins → (setup : Setup) (start now : Moment) (s : Session) (turns : List SessionTurn) (frames : List FrameParts) (results : List Got) (sent : List (List ℕ)) (bytes : List ℕ) (w : FrameWhy)
     → Holds setup start now s turns frames results sent
     → IsBadFrame (frame_at s.mux.received.value bytes) (answer_at s.mux.inbox) s.mux.outbox w
     → IsBadAfter turns s.mux.outbox (frames_at 0 (bytes_of results ++ bytes ∷ [])) w
@@ -201,11 +201,11 @@ turn_runs law came_law expects joins kept wants setup start now final told told_
 }
 
 -- in whose turn the session ends
-turn_ends : TellsOn → Came → Joins → (setup : Setup) (start now final : Moment) (told told_now told_between told_after : Option Traffic) (old new : Session) (count : ℕ) (result : Got) (e : End) (t : Turn) (halted : Option Event) (left : Sending) (failed : List Gave)
+turn_ends : TellsOn → Came → Joins → (setup : Setup) (start now final : Moment) (told told_now told_between told_after : Option Traffic) (old new : Session) (count : ℕ) (result : Got) (e : End) (t : SessionTurn) (halted : Option Event) (left : Sending) (failed : List Gave)
     → count < 1099511627776
     → Tells told_now (result ∷ []) [] [] told_between
     → Turned old new result now final told_between told_after t halted left failed
-    → IsClosedAt e new.core halted → IsSentAt e left → ((turns : List Turn) (results : List Got) → EndsBy turns left e results [] failed)
+    → IsClosedAt e new.core halted → IsSentAt e left → ((turns : List SessionTurn) (results : List Got) → EndsBy turns left e results [] failed)
     → Runs setup start now told old told_now count → IsServed setup start final told (ended_as e new) told_after
 turn_ends law came_law joins setup start now final told told_now told_between told_after old new count result e t halted left failed below tells did is_closed whole by runs = record {
   results = runs.results ++ result ∷ [];
@@ -220,7 +220,7 @@ turn_ends law came_law joins setup start now final told told_now told_between to
 leaves_ends : TellsOn → (setup : Setup) (start now final : Moment) (told told_now told_between told_after : Option Traffic) (old new : Session) (count : ℕ) (bytes : List ℕ) (e : End)
     → count < 1099511627776 → HasRead now now
     → Tells told_now (got.Frame bytes ∷ []) [] [] told_between
-    → ((turns : List Turn) (frames : List FrameParts) (results : List Got) (sent : List (List ℕ)) → Holds setup start now old turns frames results sent → length results ≡ count → EndsBy turns old.mux.outbox e results (got.Frame bytes ∷ []) [])
+    → ((turns : List SessionTurn) (frames : List FrameParts) (results : List Got) (sent : List (List ℕ)) → Holds setup start now old turns frames results sent → length results ≡ count → EndsBy turns old.mux.outbox e results (got.Frame bytes ∷ []) [])
     → Leaves old new now final told_between told_after
     → Runs setup start now told old told_now count → IsServed setup start final told (ended_as e new) told_after
 leaves_ends law setup start now final told told_now told_between told_after old new count bytes e below read tells by leaves runs =

@@ -30,7 +30,7 @@ use Rattle.session_run.specs.declared.session.Session.{Session}
 use Rattle.session_run.specs.Answered.{Moment, IsAnswered, AreAnswered}
 use Rattle.session_run.specs.Held.{IsAtRest, IsRead, Holds, Turned, inbox_after, counted}
 use Rattle.session_run.specs.Served.{are_frames, bytes_of}
-use Rattle.session_run.specs.Turns.{Turn, steps_of, frame_in, frames_of, is_frame, framed, framed_by, events_of, came_after, put_after, all_put_after, IsJoined}
+use Rattle.session_run.specs.Turns.{SessionTurn, steps_of, frame_in, frames_of, is_frame, framed, framed_by, events_of, came_after, put_after, all_put_after, IsJoined}
 use Rattle.session_run.proofs.Taking.{Kept, Wants}
 
 -- ---- what is expected
@@ -109,14 +109,14 @@ read_on results frames f bytes value value_after read one later =
     ∙ sym (front_end frames f (frames_at value_after later))
 
 -- what holds of one result more
-pub record Received (old new : Session) (turns : List Turn) (results : List Got) (result : Got) (f : Option FrameParts) (given : Taken) : Type 0 where
+pub record Received (old new : Session) (turns : List SessionTurn) (results : List Got) (result : Got) (f : Option FrameParts) (given : Taken) : Type 0 where
   pub taken : are_frames (results ++ result ∷ []) ≡ true
   pub kinds : framed_by (results ++ result ∷ []) ≡ framed turns ++ is_frame f ∷ []
   pub read : (later : List (List ℕ)) → frames_at 0 (bytes_of (results ++ result ∷ []) ++ later) ≡ with_front (frames_of turns ++ frame_in f) (frames_at new.mux.received.value later)
   pub joined : IsJoined f given (events_of turns)
   pub inbox : StandsFor (inbox_after old.mux.inbox f) (came_after f (events_of turns))
 
-pub received_on : Came → Joins → (setup : Setup) (start now : Moment) (old new : Session) (turns : List Turn) (frames : List FrameParts) (results : List Got) (sent : List (List ℕ)) (result : Got) (f : Option FrameParts) (given : Taken)
+pub received_on : Came → Joins → (setup : Setup) (start now : Moment) (old new : Session) (turns : List SessionTurn) (frames : List FrameParts) (results : List Got) (sent : List (List ℕ)) (result : Got) (f : Option FrameParts) (given : Taken)
     → Holds setup start now old turns frames results sent → IsRead result old.mux new.mux f given → Received old new turns results result f given
 received_on came_law joins setup start now old new turns frames results sent (got.Frame bytes) (Some f) given held (read, answer) = record {
   taken = frames_on results (got.Frame bytes ∷ []) held.taken refl;
@@ -206,11 +206,11 @@ counted_frames : (f : Option FrameParts) → length (frame_in f) ≡ counted f
 counted_frames None = refl
 counted_frames (Some f) = refl
 
-counted_on : (old new : Session) (turns : List Turn) (t : Turn) → new.frames ≡ old.frames + counted t.frame → old.frames ≡ length (frames_of turns) → new.frames ≡ length (frames_of (t ∷ turns))
+counted_on : (old new : Session) (turns : List SessionTurn) (t : SessionTurn) → new.frames ≡ old.frames + counted t.frame → old.frames ≡ length (frames_of turns) → new.frames ≡ length (frames_of (t ∷ turns))
 counted_on old new turns t more count = omega (arith, more, count, counted_frames t.frame, length-append (frames_of turns) (frame_in t.frame))
 
 -- a turn's steps were answered after all before it
-pub turn_answered : (setup : Setup) (start now final : Moment) (old : Session) (turns : List Turn) (steps : List Step) (frames : List FrameParts) (results : List Got) (sent : List (List ℕ))
+pub turn_answered : (setup : Setup) (start now final : Moment) (old : Session) (turns : List SessionTurn) (steps : List Step) (frames : List FrameParts) (results : List Got) (sent : List (List ℕ))
     → Holds setup start now old turns frames results sent → AreAnswered now old.core.user old.core.strict steps final
     → AreAnswered start setup.user setup.strict (steps ++ steps_of turns) final
 turn_answered setup start now final old turns steps frames results sent held a =
@@ -218,8 +218,8 @@ turn_answered setup start now final old turns steps frames results sent held a =
     (subst (λ s. AreAnswered now setup.user s steps final) held.strict (subst (λ u. AreAnswered now u old.core.strict steps final) held.user a))
 
 pub holds_on : Came → Expects → Joins → Kept → Wants
-    → (setup : Setup) (start now final : Moment) (old new : Session) (turns : List Turn) (frames : List FrameParts) (results : List Got) (sent : List (List ℕ))
-    (result : Got) (told told_after : Option Traffic) (t : Turn)
+    → (setup : Setup) (start now final : Moment) (old new : Session) (turns : List SessionTurn) (frames : List FrameParts) (results : List Got) (sent : List (List ℕ))
+    (result : Got) (told told_after : Option Traffic) (t : SessionTurn)
     → Holds setup start now old turns frames results sent
     → (did : Turned old new result now final told told_after t None new.mux.outbox []) → did.value ≡ new.mux.sent.value → IsAtRest new → did.now ≡ final
     → new.mux.inbox ≡ expecting_all (put_by t.steps) (inbox_after old.mux.inbox t.frame)

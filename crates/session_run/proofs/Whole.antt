@@ -20,14 +20,14 @@ use Rattle.session_run.specs.declared.serve.Setup.{Setup}
 use Rattle.session_run.specs.Answered.{Moment, AreAnswered, AreLooksAt, look_fronts}
 use Rattle.session_run.specs.Own.{HasOwnBodies, HaveOwnBodies}
 use Rattle.session_run.specs.Served.{IsSession}
-use Rattle.session_run.specs.Turns.{Turn, undone, steps_of, AreLed}
+use Rattle.session_run.specs.Turns.{SessionTurn, undone, steps_of, AreLed}
 use Rattle.session_run.proofs.Answering.{looks_on, rise_on}
 
 leads_on : (start middle after : Machine) (steps earlier : List Step) → Leads start earlier middle → Leads middle steps after → Leads start (steps ++ earlier) after
 leads_on start middle after [] earlier lead is = subst (Leads start earlier) (sym is) lead
 leads_on start middle after (s ∷ steps) earlier lead (before, leads, made) = (before, leads_on start middle before steps earlier lead leads, made)
 
-pub all_lead : (start : Machine) (halted : Option Event) (turns : List Turn) (m : Machine) → AreLed start halted turns m → Leads start (steps_of turns) m
+pub all_lead : (start : Machine) (halted : Option Event) (turns : List SessionTurn) (m : Machine) → AreLed start halted turns m → Leads start (steps_of turns) m
 all_lead start halted [] m (is, none) = is
 all_lead start halted (t ∷ earlier) m (before, led, leads, calls) =
     leads_on start before m t.steps (steps_of earlier) (all_lead start None earlier before led) leads

@@ -32,7 +32,7 @@ use Rattle.session_run.specs.declared.session.Session.{Session}
 use Rattle.session_run.specs.Answered.{Moment, HasRead, AreAnswered}
 use Rattle.session_run.specs.Putting.{put_as, MayReply}
 use Rattle.session_run.specs.Served.{are_frames, bytes_of, IsServed}
-use Rattle.session_run.specs.Turns.{Turn, undone, steps_of, frames_of, framed, framed_by, events_of, IsExchange, IsFor, AreLed, AreJoined, AreSent, puts_all, done_in}
+use Rattle.session_run.specs.Turns.{SessionTurn, undone, steps_of, frames_of, framed, framed_by, events_of, IsExchange, IsFor, AreLed, AreJoined, AreSent, puts_all, done_in}
 
 -- ---- steps
 
@@ -129,7 +129,7 @@ counted None = 0
 counted (Some f) = 1
 
 -- a result of the wire was taken in a turn, and this is left of what was to be sent
-pub record Turned (old new : Session) (result : Got) (before final : Moment) (told told_after : Option Traffic) (t : Turn) (halted : Option Event) (left : Sending) (failed : List Gave) : Type 0 where
+pub record Turned (old new : Session) (result : Got) (before final : Moment) (told told_after : Option Traffic) (t : SessionTurn) (halted : Option Event) (left : Sending) (failed : List Gave) : Type 0 where
   pub now : Moment
   pub frames : List FrameParts
   pub sent : List (List ℕ)
@@ -163,23 +163,23 @@ pub record Leaves (old new : Session) (before final : Moment) (told told_after :
 -- a result was taken and all was sent that may be sent, or the session ends by it
 abbrev pub Takes : Session → Session → Got → Moment → Moment → Option Traffic → Option Traffic → Option End → Type 0
 Takes old new result before final told told_after None =
-    (t : Turn) × (did : Turned old new result before final told told_after t None new.mux.outbox []) × (did.value ≡ new.mux.sent.value) × IsAtRest new
+    (t : SessionTurn) × (did : Turned old new result before final told told_after t None new.mux.outbox []) × (did.value ≡ new.mux.sent.value) × IsAtRest new
     × (did.now ≡ final) × (new.mux.inbox ≡ expecting_all (put_by t.steps) (inbox_after old.mux.inbox t.frame)) × (feed_front new.core.feed ≤ final.lowest)
     × (new.core.requests ≤ old.core.requests + 30003)
 Takes old new result before final told told_after (Some end.WireFault) =
-    (t : Turn) × (left : Sending) × Turned old new result before final told told_after t None left (gave.Failed ∷ []) × (new.core.pending ≡ pending.Nothing)
+    (t : SessionTurn) × (left : Sending) × Turned old new result before final told told_after t None left (gave.Failed ∷ []) × (new.core.pending ≡ pending.Nothing)
 Takes old new result before final told told_after (Some (end.BadFrame index w)) =
     (bytes : List ℕ) × (result ≡ got.Frame bytes) × (index ≡ old.frames + 1)
     × IsBadFrame (frame_at old.mux.received.value bytes) (answer_at old.mux.inbox) old.mux.outbox w × Leaves old new before final told told_after
 Takes old new result before final told told_after (Some end.Memory) =
-    ((t : Turn) × (halted : Option Event) × (left : Sending) × Turned old new result before final told told_after t halted left [])
+    ((t : SessionTurn) × (halted : Option Event) × (left : Sending) × Turned old new result before final told told_after t halted left [])
     ⊎ ((bytes : List ℕ) × (result ≡ got.Frame bytes) × Leaves old new before final told told_after)
 Takes old new result before final told told_after (Some other) = ⊥
 
 -- ---- from the beginning
 
 -- a session that runs, after these turns, which took these results and sent these frames
-pub record Holds (setup : Setup) (start now : Moment) (s : Session) (turns : List Turn) (frames : List FrameParts) (results : List Got) (sent : List (List ℕ)) : Type 0 where
+pub record Holds (setup : Setup) (start now : Moment) (s : Session) (turns : List SessionTurn) (frames : List FrameParts) (results : List Got) (sent : List (List ℕ)) : Type 0 where
   pub user : s.core.user ≡ setup.user
   pub strict : s.core.strict ≡ setup.strict
   pub led : AreLed (new_machine setup.user setup.version setup.strict) None turns s.core
@@ -200,7 +200,7 @@ pub record Holds (setup : Setup) (start now : Moment) (s : Session) (turns : Lis
 
 -- the session runs, after so many results, of which the wire tells
 pub record Runs (setup : Setup) (start now : Moment) (told : Option Traffic) (s : Session) (told_now : Option Traffic) (count : ℕ) : Type 0 where
-  pub turns : List Turn
+  pub turns : List SessionTurn
   pub frames : List FrameParts
   pub results : List Got
   pub sent : List (List ℕ)

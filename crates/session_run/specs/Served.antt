@@ -22,7 +22,7 @@ use Rattle.session_run.specs.declared.ended.End.TheVariants as end
 use Rattle.session_run.specs.declared.ended.Ended.{Ended}
 use Rattle.session_run.specs.declared.serve.Setup.{Setup}
 use Rattle.session_run.specs.Answered.{Moment, HasRead, AreAnswered}
-use Rattle.session_run.specs.Turns.{Turn, undone, steps_of, frames_of, framed, framed_by, events_of, AreLed, AreJoined, AreSent}
+use Rattle.session_run.specs.Turns.{SessionTurn, undone, steps_of, frames_of, framed, framed_by, events_of, AreLed, AreJoined, AreSent}
 
 -- ---- what was received
 
@@ -49,12 +49,12 @@ bytes_of (got.Memory ∷ results) = bytes_of results
 -- ---- how it ended
 
 -- the last of these frames is at fault: its bytes are none, or after these turns, which left this to be sent, it gives nothing that can be
-abbrev pub IsBadAfter : List Turn → Sending → Result (List FrameParts) FrameFault → FrameWhy → Type 0
+abbrev pub IsBadAfter : List SessionTurn → Sending → Result (List FrameParts) FrameFault → FrameWhy → Type 0
 IsBadAfter turns left (Err fault) w = w ≡ why_of fault
 IsBadAfter turns left (Ok frames) w = (f : FrameParts) × (frames ≡ frames_of turns ++ f ∷ []) × IsBadTaken (answer_in (events_of turns) f) left w
 
 -- the result that ended it is a frame at fault, or a text message
-abbrev pub IsBad : List Turn → Sending → List (List ℕ) → Got → FrameWhy → Type 0
+abbrev pub IsBad : List SessionTurn → Sending → List (List ℕ) → Got → FrameWhy → Type 0
 IsBad turns left before (got.Frame bytes) w = IsBadAfter turns left (frames_at 0 (before ++ bytes ∷ [])) w
 IsBad turns left before got.Text w = w ≡ why.NotBinary
 IsBad turns left before got.Idle w = ⊥
@@ -69,7 +69,7 @@ most_results = 1099511627776
 -- The end, by the results that were taken in these turns, the last one, and the sending that failed: the wire's end; its fault as it
 -- received or as it sent; the frame after those of the turns, which is at fault; none, where all results that a session receives were
 -- taken; out of memory a frame or none.
-abbrev pub EndsBy : List Turn → Sending → End → List Got → List Got → List Gave → Type 0
+abbrev pub EndsBy : List SessionTurn → Sending → End → List Got → List Got → List Gave → Type 0
 EndsBy turns left end.Closed taken last failed = (last ≡ got.End ∷ []) × (failed ≡ [])
 EndsBy turns left end.WireFault taken last failed = ((last ≡ got.Failed ∷ []) × (failed ≡ [])) ⊎ ((last ≡ []) × (failed ≡ gave.Failed ∷ []))
 EndsBy turns left (end.BadFrame index w) taken last failed =
@@ -98,7 +98,7 @@ IsClosedAt other m halted = (m.pending ≡ pending.Nothing) × (halted ≡ None)
 -- sequences are those of the steps. Where memory ran out, the last event may be one for which nothing was done: its look is listed, and
 -- what it stored, but nothing is put or wanted for it.
 pub record IsSession (setup : Setup) (start final : Moment) (ended : Ended) (results : List Got) (sent : List (List ℕ)) (failed : List Gave) : Type 0 where
-  pub turns : List Turn
+  pub turns : List SessionTurn
   pub halted : Option Event
   pub taken : List Got
   pub last : List Got

@@ -20,13 +20,13 @@ use Rattle.session_mux.specs.Muxed.{acknowledged_by, IsHeard}
 
 -- a frame that was taken and what it gave, or an idle moment, which gave nothing; and the steps that the session made for it, the last
 -- of which is the first of the list
-pub record Turn : Type 0 where
+pub record SessionTurn : Type 0 where
   pub frame : Option FrameParts
   pub given : Taken
   pub steps : List Step
 
 -- all steps, the last of which is the first of the list, as of the turns
-abbrev pub steps_of : List Turn → List Step
+abbrev pub steps_of : List SessionTurn → List Step
 steps_of [] = []
 steps_of (t ∷ earlier) = t.steps ++ steps_of earlier
 
@@ -35,7 +35,7 @@ frame_in None = []
 frame_in (Some f) = f ∷ []
 
 -- the frames that were taken, in order
-abbrev pub frames_of : List Turn → List FrameParts
+abbrev pub frames_of : List SessionTurn → List FrameParts
 frames_of [] = []
 frames_of (t ∷ earlier) = frames_of earlier ++ frame_in t.frame
 
@@ -46,7 +46,7 @@ is_frame None = false
 is_frame (Some f) = true
 
 -- of each turn whether it is a frame's, in order
-abbrev pub framed : List Turn → List Bool
+abbrev pub framed : List SessionTurn → List Bool
 framed [] = []
 framed (t ∷ earlier) = framed earlier ++ is_frame t.frame ∷ []
 
@@ -87,7 +87,7 @@ undone (Some e) = record { event = e; puts = []; want = None } ∷ []
 
 -- The turns lead the machine from one state to another, each by what it calls for; but in the last turn, where memory ran out, nothing
 -- was done for this last event, if there is one.
-abbrev pub AreLed : Machine → Option session.Event → List Turn → Machine → Type 0
+abbrev pub AreLed : Machine → Option session.Event → List SessionTurn → Machine → Type 0
 AreLed start halted [] m = (m ≡ start) × (halted ≡ None)
 AreLed start halted (t ∷ earlier) m =
     (before : Machine) × AreLed start None earlier before × Leads before t.steps m × IsFor before t.frame t.given (undone halted ++ t.steps)
@@ -107,7 +107,7 @@ came_after None before = before
 came_after (Some f) before = came f ∷ before
 
 -- what has come, and which replies are expected; the last event is the first of the list
-abbrev pub events_of : List Turn → List Event
+abbrev pub events_of : List SessionTurn → List Event
 events_of [] = []
 events_of (t ∷ earlier) = all_put_after (put_by t.steps) (came_after t.frame (events_of earlier))
 
@@ -116,7 +116,7 @@ IsJoined None given before = given ≡ takens.Nothing
 IsJoined (Some f) given before = answer_in before f ≡ Ok given
 
 -- each frame gave what joining says, by all that came before it
-abbrev pub AreJoined : List Turn → Type 0
+abbrev pub AreJoined : List SessionTurn → Type 0
 AreJoined [] = Unit {0}
 AreJoined (t ∷ earlier) = IsJoined t.frame t.given (events_of earlier) × AreJoined earlier
 
@@ -126,12 +126,12 @@ AreJoined (t ∷ earlier) = IsJoined t.frame t.given (events_of earlier) × AreJ
 abbrev pub puts_all : List Message → List Deed
 puts_all messages = map (λ m. puts (waiting_of m)) messages
 
-abbrev pub done_in : Turn → List Deed
+abbrev pub done_in : SessionTurn → List Deed
 done_in t = acknowledged_by t.given ++ puts_all (put_by t.steps)
 
 -- The frames that went: after each turn those that are picked, one after another, until there is none; but for the last turn, after
 -- which this is left.
-abbrev pub AreSent : List Turn → List FrameParts → Sending → Type 0
+abbrev pub AreSent : List SessionTurn → List FrameParts → Sending → Type 0
 AreSent [] frames left = (frames ≡ []) × (left ≡ new_sending)
 AreSent (t ∷ earlier) frames left =
     (before : List FrameParts) × (last : List FrameParts) × (s : Sending) × (frames ≡ before ++ last)

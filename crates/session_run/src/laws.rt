@@ -14,7 +14,7 @@ ghost use Rattle.write_path.specs.Reads.{Reads, IsLaterThanAll};
 ghost use Rattle.session_run.specs.Own.{HasOwnBodies, HaveOwnBodies};
 ghost use Rattle.session_run.specs.Answered.{Moment, AreAnswered, recorded_by, AreAtLength, AreLooksAt, look_fronts};
 ghost use Rattle.session_run.specs.Served.{IsSession};
-ghost use Rattle.session_run.specs.Turns.{Turn, AreLed, steps_of};
+ghost use Rattle.session_run.specs.Turns.{SessionTurn, AreLed, steps_of};
 ghost use Rattle.session_run.specs.declared.ended.Ended.{Ended};
 ghost use Rattle.session_run.specs.declared.serve.Setup.{Setup};
 ghost use Rattle.sg_outside.specs.declared.sink.Gave.{Gave};
@@ -80,7 +80,7 @@ pub fn own_bodies()
 /// read, each for that look, and don't fall.
 pub fn sessions()
     ensures leads { (user : List ℕ) (version : Version) (strict : Bool) (halted : Option Event)
-        (turns : List Turn) (m : Machine)
+        (turns : List SessionTurn) (m : Machine)
         → AreLed (new_machine user version strict) halted turns m
         → Leads (new_machine user version strict) (steps_of turns) m }
     ensures right { (setup : Setup) (start final : Moment) (ended : Ended) (results : List Got)

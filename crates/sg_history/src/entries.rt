@@ -5,7 +5,7 @@ ghost use Rattle.std.specs.Option.{option_copied};
 ghost use Rattle.sg_history.specs.declared.entries.Entry.TheVariants as kinds;
 ghost use Rattle.sg_history.specs.declared.entries.Write as writes;
 ghost use Rattle.sg_history.specs.History.{as_write};
-ghost use Rattle.sg_history.specs.Kept.{Kept};
+ghost use Rattle.sg_history.specs.EntryList.{EntryList};
 ghost use Rattle.sg_history.specs.Principals.{as_put};
 ghost use Rattle.sg_history.specs.Puts.{put_in};
 
@@ -104,9 +104,9 @@ pub struct Entries {
 
 impl Model for Entries {
     ghost use Rattle.std.specs.Prelude.{◌-◌, vec_len, vec_capacity};
-    ghost use Rattle.sg_history.specs.Kept.{Kept};
+    ghost use Rattle.sg_history.specs.EntryList.{EntryList};
 
-    ghost Value = { Kept };
+    ghost Value = { EntryList };
 
     ghost view = { λ e. record { list = e.items.items; spare = vec_capacity e.items - vec_len e.items } };
 }

@@ -3,7 +3,7 @@
 ghost use Rattle.std.specs.Prelude.{length};
 ghost use Rattle.write_path.specs.Reads.{Reads};
 
-use crate::grounds::ground_of;
+use crate::journals::ground_of;
 use crate::sessions::{serve_on, served_text, wire_of_frames};
 use repl_messages::{Asked, Bodies, Fed, Offer, Revision};
 use session_run::Ended;

@@ -4,14 +4,16 @@ ghost use Rattle.std.specs.Prelude.{reverse, IfOk};
 ghost use Rattle.sg_history.specs.History.{entries_of};
 ghost use Rattle.doc_board.specs.Lawful.{AreLawful};
 
+use doc_board::Board;
 use doc_board::laws::recorded;
 use sg_history::{Log, read_journal};
 use sg_outside::Bytes;
 use std::alloc::Global;
 use std::test::Fail;
+use write_path::{Shelf, SoloGround};
 
 /// The log of a journal whose lines are given with `|` for TAB and `;` for the line feed.
-pub fn log_of(alloc: Global, lines: &str) -> Result<Log, Fail>
+fn log_of(alloc: Global, lines: &str) -> Result<Log, Fail>
     ensures { IfOk result (λ log. AreLawful (reverse (entries_of log))) }
 {
     let mut journal = Bytes::from_slice(alloc, b"sgjournal 1\n")?;
@@ -24,4 +26,10 @@ pub fn log_of(alloc: Global, lines: &str) -> Result<Log, Fail>
     }
     recorded();
     Ok(read_journal(alloc, journal.as_slice())?)
+}
+
+/// A ground over the board of a journal.
+pub fn ground_of(alloc: Global, lines: &str) -> Result<SoloGround, Fail> {
+    let board = Board::open(alloc, log_of(alloc, lines)?)?;
+    Ok(SoloGround::new(Shelf::new(board)?))
 }

@@ -1,17 +1,11 @@
-//! Tests of the board, of grounds and of whole sessions.
+//! Tests of whole sessions, and of a session's machine.
 #![tactic(auto)]
 
-#[cfg(test)]
-mod boards;
-#[cfg(test)]
-mod grounds;
 #[cfg(test)]
 mod growing;
 #[cfg(test)]
 mod journals;
 #[cfg(test)]
 mod machine;
-#[cfg(test)]
-mod proposals;
 #[cfg(test)]
 mod sessions;

@@ -1,6 +1,6 @@
 //! A session's machine: which events it takes, and its replies, requests and want in one list.
 
-use blip_frame::{Kind, read_payload};
+use blip_frame::{Kind, Payload, read_payload};
 use blip_mux::Message;
 use repl_messages::{Offers, Version};
 use session_core::{Act, Acts, Core, Event, Want};
@@ -11,14 +11,18 @@ use std::test::Fail;
 /// The bytes of a `subChanges` from the start: how long its properties are, and these.
 const SUB_CHANGES: &[u8] = b"\x13Profile\0subChanges\0";
 
-fn sub_changes(alloc: Global) -> Result<Event, Fail> {
-    Ok(Event::Whole(Message {
+fn request_of(payload: Payload) -> Event {
+    Event::Whole(Message {
         number: 1,
         kind: Kind::Msg,
         urgent: false,
         no_reply: false,
-        payload: read_payload(alloc, SUB_CHANGES)?,
-    }))
+        payload,
+    })
+}
+
+fn sub_changes(alloc: Global) -> Result<Event, Fail> {
+    Ok(request_of(read_payload(alloc, SUB_CHANGES)?))
 }
 
 fn new_core(alloc: Global) -> Result<Core, Fail> {
@@ -39,7 +43,7 @@ fn take_sub_changes(alloc: Global, core: &mut Core) -> Result<bool, Fail> {
     take(alloc, core, event)
 }
 
-/// While the first look of a feed is awaited no message and no idle moment is taken.
+/// Without a feed no idle moment is taken, and while its first look is awaited no message.
 #[test]
 fn a_message_is_taken_once_nothing_is_awaited(rt: HostRuntime) -> Result<(), Fail> {
     let mut core = new_core(rt.alloc())?;
@@ -49,13 +53,19 @@ fn a_message_is_taken_once_nothing_is_awaited(rt: HostRuntime) -> Result<(), Fai
     Ok(())
 }
 
+/// A request without a reply.
+fn unanswered(payload: Payload) -> Act {
+    Act::Request {
+        payload,
+        no_reply: true,
+    }
+}
+
 /// A request without a reply, and what is wanted.
 fn one_request(alloc: Global, want: Option<Want>) -> Result<Acts, Fail> {
+    let request = unanswered(read_payload(alloc, SUB_CHANGES)?);
     let mut puts = Vec::new(alloc);
-    puts.push(Act::Request {
-        payload: read_payload(alloc, SUB_CHANGES)?,
-        no_reply: true,
-    })?;
+    puts.push(request)?;
     Ok(Acts { puts, want })
 }
 

@@ -1,6 +1,6 @@
 //! Worked sessions, frame by frame. The frames were made by another program, with the CRC-32 of zlib.
 
-use crate::grounds::ground_of;
+use crate::journals::ground_of;
 use repl_messages::Version;
 use session_core::Purpose;
 use session_run::{Ended, Setup, serve_session};

@@ -22,4 +22,4 @@ returns c =
     let name = c.args.channel.now in
     let sets : (x : List ℕ) → listed_in new x ≡ (if bytes_eq name x then Some c.push-2.new.self else listed_in old x) = λ x. grind (arith, text_keys) in
     let none : listed_in old name ≡ None = grind (arith, text_keys) in
-    spans_grown old new name c.push-2.new.self c.args.span sets None none (c.in_ok-push-2.ensures.items ∙ ap (λ (l : List Span). l ++ c.args.span ∷ []) c.new-list.ensures.items)
+    spans_grown old new name c.push-2.new.self c.args.span sets None none (c.in_ok-push-2.ensures.items ∙ ap (λ (l : List Span). l ++ c.args.span ∷ []) c.in_ok-list.ensures.items)

@@ -3,6 +3,6 @@ use Rattle.std.specs.Prelude.{ℕ, List}
 use Rattle.sg_history.specs.declared.entries.Entry.{Entry}
 
 -- a list of entries with how many more fit without memory
-pub record Kept : Type 0 where
+pub record EntryList : Type 0 where
   pub list : List Entry
   pub spare : ℕ

@@ -1,0 +1,11 @@
+//! Tests of the board and of grounds.
+#![tactic(auto)]
+
+#[cfg(test)]
+mod boards;
+#[cfg(test)]
+mod grounds;
+#[cfg(test)]
+mod journals;
+#[cfg(test)]
+mod proposals;
