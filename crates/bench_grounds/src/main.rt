@@ -1,4 +1,4 @@
-//! Makes a board of so many documents, and proposes revisions to it, or pulls all documents with their bodies, so that what it
+//! Makes a board of so many documents and users, and proposes revisions to it, or pulls all documents with their bodies, so that what it
 //! takes can be measured from outside.
 #![tactic(auto)]
 
@@ -68,25 +68,48 @@ fn write_line(journal: &mut Bytes, number: u64) -> Result<(), Stop> {
     Ok(())
 }
 
-/// A journal: a put of a user who has channel A, and so many documents.
-fn journal_of(alloc: Global, documents: u64) -> Result<Bytes, Stop> {
+/// The put of a user who has channel A.
+fn user_line(journal: &mut Bytes, number: u64) -> Result<(), Stop> {
+    journal.extend_from_slice(b"U\tu")?;
+    write_decimal(number, journal)?;
+    journal.extend_from_slice(b"\tA\t-\n")?;
+    Ok(())
+}
+
+fn user_lines(journal: &mut Bytes, users: u64) -> Result<(), Stop> {
+    for number in 0..users {
+        user_line(journal, number)?;
+    }
+    Ok(())
+}
+
+/// How many documents a board has, and how many users besides the one who proposes.
+#[derive(Clone, Copy)]
+struct Size {
+    documents: u64,
+    users: u64,
+}
+
+/// A journal: a put of a user who has channel A, so many others, and so many documents.
+fn journal_of(alloc: Global, size: Size) -> Result<Bytes, Stop> {
     let mut journal = Bytes::from_slice(alloc, b"sgjournal 1\nU\tann\tA\t-\n")?;
-    for number in 0..documents {
+    user_lines(&mut journal, size.users)?;
+    for number in 0..size.documents {
         write_line(&mut journal, number)?;
     }
     Ok(journal)
 }
 
-fn log_of(alloc: Global, documents: u64) -> Result<Log, Stop>
+fn log_of(alloc: Global, size: Size) -> Result<Log, Stop>
     ensures { IfOk result (λ log. AreLawful (reverse (entries_of log))) }
 {
     recorded();
-    let journal = journal_of(alloc, documents)?;
+    let journal = journal_of(alloc, size)?;
     Ok(read_journal(alloc, journal.as_slice())?)
 }
 
-fn ground_of(alloc: Global, documents: u64) -> Result<SoloGround, Stop> {
-    let board = Board::open(alloc, log_of(alloc, documents)?)?;
+fn ground_of(alloc: Global, size: Size) -> Result<SoloGround, Stop> {
+    let board = Board::open(alloc, log_of(alloc, size)?)?;
     Ok(SoloGround::new(Shelf::new(board)?))
 }
 
@@ -112,8 +135,8 @@ fn revision_of(alloc: Global, number: u64) -> Result<Revision, Stop> {
 }
 
 /// Proposes so many revisions, and counts those that are stored.
-fn stored(alloc: Global, documents: u64, proposals: u64) -> Result<u64, Stop> {
-    let mut ground = ground_of(alloc, documents)?;
+fn stored(alloc: Global, size: Size, proposals: u64) -> Result<u64, Stop> {
+    let mut ground = ground_of(alloc, size)?;
     let user = Name::parse(alloc, "ann")?;
     let mut count = 0u64;
     for number in 0..proposals {
@@ -138,8 +161,8 @@ fn bodies(alloc: Global, ground: &mut SoloGround, user: &Name, rows: &[Row]) -> 
 }
 
 /// Pulls all documents: their rows, and the bodies of so many rows at a time, where that is not 0.
-fn pulled(alloc: Global, documents: u64, batch: u64) -> Result<u64, Stop> {
-    let mut ground = ground_of(alloc, documents)?;
+fn pulled(alloc: Global, size: Size, batch: u64) -> Result<u64, Stop> {
+    let mut ground = ground_of(alloc, size)?;
     let user = Name::parse(alloc, "ann")?;
     let since = Key { by: 0, seq: 0 };
     let Fed::Rows { rows, .. } = ground.feed(alloc, &user, &since, &OPTIONS)? else {
@@ -155,10 +178,10 @@ fn pulled(alloc: Global, documents: u64, batch: u64) -> Result<u64, Stop> {
     Ok(count)
 }
 
-fn job(alloc: Global, name: &str, documents: u64, number: u64) -> Result<u64, Stop> {
+fn job(alloc: Global, name: &str, size: Size, number: u64) -> Result<u64, Stop> {
     match name {
-        "propose" => stored(alloc, documents, number),
-        _ => pulled(alloc, documents, number),
+        "propose" => stored(alloc, size, number),
+        _ => pulled(alloc, size, number),
     }
 }
 
@@ -174,7 +197,8 @@ fn main(rt: HostRuntime) -> io::Result<()> {
     };
     let documents = number_of(words.next());
     let number = number_of(words.next());
-    match job(rt.alloc(), name.as_str(), documents, number) {
+    let users = number_of(words.next());
+    match job(rt.alloc(), name.as_str(), Size { documents, users }, number) {
         Ok(count) => println!(rt; "{count} of {documents}, {number}"),
         Err(stop) => println!(rt; "{stop:?}"),
     }

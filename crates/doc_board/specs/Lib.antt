@@ -1,6 +1,7 @@
 pub mod Answers
 pub mod Boards
 pub mod Candidates
+pub mod Contexts
 pub mod Kept
 pub mod Lawful
 pub mod Offers

@@ -6,6 +6,7 @@ ghost use Rattle.sg_history.specs.History.{entries_of, among};
 ghost use Rattle.sg_history.specs.Principals as principals;
 ghost use Rattle.rev_tree.specs.Writes.{AreAccepted};
 ghost use Rattle.doc_board.specs.Answers.{IsStep, proposer_exists};
+ghost use Rattle.doc_board.specs.Contexts.{IsContext};
 ghost use Rattle.sg_history.specs.declared.entries.Entry.TheVariants as kinds;
 ghost use Rattle.doc_board.specs.Candidates.{MayBeStored, ExtendsTree, Fits, IfStored, IfStale, is_stale, entry_of, made_at, last_of};
 ghost use Rattle.sg_history.specs.Journal.{IsEntry};
@@ -18,7 +19,7 @@ ghost use Rattle.rev_tree.specs.Documents.{tree_at, tree_when, last_at, base_wri
 
 use crate::candidate::{Candidate, Commit, NoRoom};
 use crate::document::{self, Document, Documents};
-use crate::granted::channels_at_end;
+use crate::granted::{channels_at_end, context_at_end};
 use crate::open::{OpenFault, documents_of};
 use crate::room::{self, Room};
 use crate::snapshot::{Snapshot, snapshot_of};
@@ -164,12 +165,15 @@ impl Board {
             (base_on self.old revision.now.doc revision.now.ancestors)) }
         ensures user { IfOk result (λ s. s.user_exists ≡ proposer_exists (newest_first self.old)
             (option_copied by.entry)) }
+        ensures context { IfOk result (λ s. IsContext (newest_first self.old)
+            (option_copied by.entry) s.context) }
     {
         histories();
         let alloc = *self.rooms.allocator();
         let front = self.front();
         let mut log = LogReads::new(&self.log);
         self.grants.apply(&mut log, front)?;
+        let context = context_at_end(alloc, &self.grants, by)?;
         snapshot_of(
             alloc,
             &self.log,
@@ -178,6 +182,7 @@ impl Board {
             revision,
             strict,
             by,
+            context,
         )
     }
 

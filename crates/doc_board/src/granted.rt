@@ -1,14 +1,18 @@
-//! The channels of a user by the history of grants.
+//! What a user is given by the history of grants.
 
 ghost use Rattle.std.specs.Prelude.{◌≡◌, ℕ, List, is_some, length, reverse, IfOk, IfSome};
+ghost use Rattle.std.specs.Option.{option_copied};
+ghost use Rattle.doc_board.specs.Contexts.{IsContext, IsUserWith};
 ghost use Rattle.sg_history.specs.declared.entries.Entry.{Entry};
 ghost use Rattle.sg_history.specs.History.{among};
 ghost use Rattle.sg_history.specs.Principals.{exists, user_at, has_channel};
 ghost use Rattle.grant_history.specs.Stands.{StandsFor};
 
 use grant_history::GrantHistory;
-use sg_history::{Channels, Name};
+use sg_history::{Channels, Name, Names};
 use sg_outside::Memory;
+use std::alloc::Global;
+use sync_meaning::Context;
 
 /// The channels that a user has at the end of a log that is applied to its end, by rising bytes; none where the user does not
 /// exist there.
@@ -28,4 +32,39 @@ pub(crate) fn channels_at_end(
         return Ok(None);
     }
     Ok(Some(grants.channels_at(user, end)?))
+}
+
+/// A user with the roles and channels that it has at the end of a log that is applied to its end.
+fn context_of_user(alloc: Global, grants: &GrantHistory, user: &Name) -> Result<Context, Memory>
+    ensures { IfOk result (λ context. (entries : List Entry) → StandsFor grants.now entries
+        → grants.now.applied ≡ length entries → IsUserWith (reverse entries) user.now context) }
+{
+    let end = grants.applied();
+    let roles = grants.roles_at(user, end)?;
+    let channels = grants.channels_at(user, end)?;
+    Ok(Context {
+        user: Some(user.copy(alloc)?),
+        roles,
+        channels,
+    })
+}
+
+/// Who proposes a revision, a user or the administrator, at the end of a log that is applied to its end.
+pub(crate) fn context_at_end(
+    alloc: Global,
+    grants: &GrantHistory,
+    by: Option<&Name>,
+) -> Result<Context, Memory>
+    ensures { IfOk result (λ context. (entries : List Entry) → StandsFor grants.now entries
+        → grants.now.applied ≡ length entries
+        → IsContext (reverse entries) (option_copied by.entry) context) }
+{
+    match by {
+        None => Ok(Context {
+            user: None,
+            roles: Names::new(alloc),
+            channels: Channels::new(alloc),
+        }),
+        Some(user) => context_of_user(alloc, grants, user),
+    }
 }

@@ -17,6 +17,7 @@ use rev_tree::{Extended, Tree};
 use sg_history::{DocId, Entry, Log, Name, RevId, Write};
 use sg_outside::{Bytes, Memory};
 use std::alloc::{AllocError, Global};
+use sync_meaning::Context;
 
 /// A board at one moment, for a revision that is proposed.
 #[derive(Drop)]
@@ -33,6 +34,8 @@ pub struct Snapshot {
     pub old_deleted: bool,
     /// Whether the user exists who proposes it; the administrator does.
     pub user_exists: bool,
+    /// Who proposes it, with the roles and channels of a user at `at`, by rising bytes; the administrator has none.
+    pub context: Context,
 }
 
 /// What comes of a revision in a document's tree, or in the tree without revisions where there is no document.
@@ -109,7 +112,7 @@ fn proposer_exists(index: &LogIndex, entries: &[Entry], by: Option<&Name>) -> bo
     }
 }
 
-/// What a board with this log, these documents and this index of the log tells of a revision that is proposed.
+/// What a board with this log, these documents and this index of the log tells of a revision that is proposed in a context.
 pub(crate) fn snapshot_of(
     alloc: Global,
     log: &Log,
@@ -118,6 +121,7 @@ pub(crate) fn snapshot_of(
     revision: &Revision,
     strict: bool,
     by: Option<&Name>,
+    context: Context,
 ) -> Result<Snapshot, Memory>
     requires kept { kept.AreKept (reverse (entries_of log.now)) documents.now }
     requires indexes { Indexes index.now (reverse (entries_of log.now)) }
@@ -132,6 +136,7 @@ pub(crate) fn snapshot_of(
         (base_write (reverse (entries_of log.now)) revision.now.doc revision.now.ancestors)) }
     ensures user { IfOk result (λ s. s.user_exists ≡ answers.proposer_exists
         (reverse (entries_of log.now)) (option_copied by.entry)) }
+    ensures context { IfOk result (λ s. s.context ≡ context) }
 {
     let entries = log.entries.as_slice();
     let document = document::document_of(documents, &revision.doc);
@@ -143,5 +148,6 @@ pub(crate) fn snapshot_of(
         old: body_of(alloc, base)?,
         old_deleted: is_deletion(base),
         user_exists: proposer_exists(index, entries, by),
+        context,
     })
 }

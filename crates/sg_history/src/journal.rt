@@ -84,12 +84,8 @@ fn read_lines(alloc: Global, lines: Bytes) -> Result<Lines, AllocError>
     let mut entries = Entries::new(alloc);
     let mut rest = lines;
     'parts: while !rest.is_empty() {
-        let Part { rest: left, fault } = read_part(
-            alloc,
-            rest.as_slice(),
-            rest.len() / 2 + 1,
-            &mut entries,
-        )?;
+        let part = read_part(alloc, rest.as_slice(), rest.len() / 2 + 1, &mut entries)?;
+        let Part { rest: left, fault } = part;
         if fault.is_some() {
             return Ok(Lines { entries, fault });
         }

@@ -8,6 +8,7 @@ use sg_history::{DocId, Entry, Name, Number, RevId, Revs, TextFault};
 use sg_outside::Bytes;
 use std::alloc::{AllocError, Global};
 use std::test::Fail;
+use sync_meaning::Context;
 
 /// After a tombstone on one branch the leaf of the other branch wins again.
 const BRANCHES: &str =
@@ -86,11 +87,31 @@ fn channels_text(alloc: Global, board: &mut Board, user: &str) -> Result<String,
     Ok(format!(in alloc; "{count:?}")?)
 }
 
-/// Whether the one who proposes a revision exists.
+/// The roles and channels of a context, as a journal has them.
+fn grants_text(alloc: Global, context: &Context) -> Result<Bytes, Fail> {
+    let mut text = Bytes::new(alloc);
+    context.roles.write(&mut text)?;
+    text.push(b' ')?;
+    context.channels.write(&mut text)?;
+    Ok(text)
+}
+
+/// A user's name, or `-` for the administrator.
+fn user_text(user: &Option<Name>) -> &str {
+    match user {
+        None => "-",
+        Some(user) => user.as_str(),
+    }
+}
+
+/// Whether the one who proposes a revision exists, and who that is, with the roles and channels.
 fn proposer_exists(alloc: Global, board: &mut Board, by: Option<&Name>) -> Result<String, Fail> {
     let revision = revision_of(alloc, "2-d", "1-a")?;
-    let exists = board.snapshot(&revision, true, by)?.user_exists;
-    Ok(format!(in alloc; "{exists}")?)
+    let snapshot = board.snapshot(&revision, true, by)?;
+    let grants = grants_text(alloc, &snapshot.context)?;
+    let grants = std::str::from_utf8(grants.as_slice()).unwrap_or("no text");
+    let exists = snapshot.user_exists;
+    Ok(format!(in alloc; "{exists} {} {grants}", user_text(&snapshot.context.user))?)
 }
 
 fn proposer_text(alloc: Global, board: &mut Board, name: &str) -> Result<String, Fail> {
@@ -118,8 +139,9 @@ const ANSWERS: &str = "\
 2-d 2-c|4 4 bad history {} true\n\
 channels ann|Some(2)\n\
 channels zed|None\n\
-proposer zed|false\n\
-proposer |true\n\
+proposer ann|true ann - !,A\n\
+proposer zed|false zed - -\n\
+proposer |true - - -\n\
 winner d1|Some(1)\n\
 winner d2|None";
 
