@@ -33,7 +33,8 @@ impl<B: Kept> Model for Gate<B> {
     ghost invariant = { λ g. (g.table.shared.table_id.words ≡ 4) × (g.table.shared.table_id.slots ≡ 1) };
 }
 
-/// A gate to a board at which nothing waits and no room is outstanding, and its first pass, which has 2^62 draws.
+/// A gate to a board at which nothing waits and no room is outstanding, and its first pass, which has 2^62 draws. Out of memory the
+/// board is dropped.
 pub fn open<B: Kept>(alloc: Global, board: B) -> Result<(Gate<B>, Pass<B>), Memory>
     requires pending { (B.seen board).pending ≡ [] }
     requires rooms { (B.seen board).rooms ≡ [] }
