@@ -1,14 +1,13 @@
 //! Snapshots, trees and channels of a board, and what it stores.
 
 use crate::journals::log_of;
-use doc_board::{Board, Candidate, Commit, Snapshot};
+use doc_board::{Board, Candidate, Commit, Context, Snapshot};
 use repl_messages::Revision;
 use rev_tree::Extended;
 use sg_history::{DocId, Entry, Name, Number, RevId, Revs, TextFault};
 use sg_outside::Bytes;
 use std::alloc::{AllocError, Global};
 use std::test::Fail;
-use sync_meaning::Context;
 
 /// After a tombstone on one branch the leaf of the other branch wins again.
 const BRANCHES: &str =
