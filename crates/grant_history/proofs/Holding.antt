@@ -1,6 +1,7 @@
 -- holders of which one has another list
-use Rattle.std.proofs.Common.{◌≡◌, ◌<◌, ◌≤◌, ◌+◌, ◌-◌, ℕ, refl, sym, ◌∙◌, ap, subst, arith, Bool, true, false, ◌&&◌, if◌then◌else◌, List, [], Option, Some, None}
+use Rattle.std.proofs.Common.{◌≡◌, ◌<◌, ◌≤◌, ◌+◌, ◌-◌, ℕ, refl, sym, ◌∙◌, ap, subst, arith, Bool, true, false, ◌&&◌, if◌then◌else◌, List, [], Option, Some, None, Vec}
 use Rattle.std.specs.BTreeMap.{get_by_text}
+use Rattle.std.specs.Global.{Global}
 use Rattle.std.specs.Str.{bytes_eq}
 use Rattle.std.specs.Cmp.Lexicographic.{bytes_decides}
 use Rattle.std.proofs.lemmas.Option.{same_Some}
@@ -45,23 +46,25 @@ module _ (old new : Holders) (name : List ℕ) (list : Things)
       by true same = d ∙ ap (λ (other : List ℕ). held_by_list (get_by_text old other) x.1 k) ((bytes_decides name x.0).0 same)
       by false same = refl
 
-  new_up_to : (n at : ℕ) → n ≤ at → AreAllUpTo old n → AreUpTo list.items at → AreAllUpTo new at
+  new_up_to : (n at : ℕ) → n ≤ at → AreAllUpTo old n → AreUpTo list.items at × (list.since ≤ at) → AreAllUpTo new at
   new_up_to n at le up here other found is = by (bytes_eq name other) refl
     where
-      by : (b : Bool) → bytes_eq name other ≡ b → AreUpTo found.items at
-      by true same = subst (λ (l : Things). AreUpTo l.items at) (same_Some list found (sym (ap (λ (b : Bool). if b then Some list else get_by_text old other) same) ∙ sym (sets other) ∙ is)) here
-      by false same = later_list found.items n at le (up other found (sym (ap (λ (b : Bool). if b then Some list else get_by_text old other) same) ∙ sym (sets other) ∙ is))
+      by : (b : Bool) → bytes_eq name other ≡ b → AreUpTo found.items at × (found.since ≤ at)
+      by true same = subst (λ (l : Things). AreUpTo l.items at × (l.since ≤ at)) (same_Some list found (sym (ap (λ (b : Bool). if b then Some list else get_by_text old other) same) ∙ sym (sets other) ∙ is)) here
+      by false same =
+          let had = up other found (sym (ap (λ (b : Bool). if b then Some list else get_by_text old other) same) ∙ sym (sets other) ∙ is) in
+          (later_list found.items n at le had.0, omega (arith, le, had.1))
 
   old_up_to : (n : ℕ) (o : Option Things) → get_by_text old name ≡ o → AreAllUpTo old n → AreUpTo (items_in o) n
   old_up_to n None is up = tt
-  old_up_to n (Some l) is up = up name l is
+  old_up_to n (Some l) is up = (up name l is).0
 
-  pub holder_dated : (o : Option Things) (at : ℕ) (after : What → ℕ) → get_by_text old name ≡ o → Dated count_in held_in AreUpTo (items_in o) list.items at after
+  pub holder_dated : (o : Option Things) (at : ℕ) (after : What → ℕ) → get_by_text old name ≡ o → list.since ≤ at → Dated count_in held_in AreUpTo (items_in o) list.items at after
       → Dated count_of held_of AreAllUpTo old new at (λ x. if bytes_eq name x.0 then after x.1 else count_of old x)
-  holder_dated o at after is d = record {
+  holder_dated o at after is since d = record {
     counts = λ x. new_count after x d.counts;
     before = λ x k below. new_held x k (d.before x.1 k below ∙ held_items o x.1 k ∙ ap (λ (p : Option Things). held_by_list p x.1 k) (sym is));
-    up_to = λ n le up. new_up_to n at le up (d.up_to n le (old_up_to n o is up));
+    up_to = λ n le up. new_up_to n at le up (d.up_to n le (old_up_to n o is up), since);
   }
 
 pub recounted_of : (old new : Holders) (at : ℕ) (one other : List ℕ × What → ℕ) → Dated count_of held_of AreAllUpTo old new at one → ((x : List ℕ × What) → one x ≡ other x) → Dated count_of held_of AreAllUpTo old new at other
@@ -93,7 +96,9 @@ module _ (old : Holders) (name : List ℕ) (o : Option Things) (is : get_by_text
       by false same = refl
 
 pub later_all : (holders : Holders) (n m : ℕ) → n ≤ m → AreAllUpTo holders n → AreAllUpTo holders m
-later_all holders n m le up name list is = later_list list.items n m le (up name list is)
+later_all holders n m le up name list is =
+    let had = up name list is in
+    (later_list list.items n m le had.0, omega (arith, le, had.1))
 
 -- a store of which the users, or the roles, moved
 pub users_dated : (old new : Store) (at : ℕ) (after : List ℕ × What → ℕ) (counts : Fact → ℕ) → Dated count_of held_of AreAllUpTo old.users new.users at after → new.roles ≡ old.roles
@@ -136,7 +141,9 @@ pub unchanged : (old new : Holders) (at : ℕ) → ((other : List ℕ) → get_b
 unchanged old new at same = record {
   counts = λ x. ap (λ (o : Option Things). count_by_list o x.1) (same x.0);
   before = λ x k below. ap (λ (o : Option Things). held_by_list o x.1 k) (same x.0);
-  up_to = λ n le up name list is. later_list list.items n at le (up name list (sym (same name) ∙ is));
+  up_to = λ n le up name list is.
+      let had = up name list (sym (same name) ∙ is) in
+      (later_list list.items n at le had.0, omega (arith, le, had.1));
 }
 
 module _ (g : ℕ → ℕ) (store : Store) (f : Fact) (n m : List ℕ) (v : What) where

@@ -73,7 +73,7 @@ settled_holders holders n name w up = by (get_by_text holders name) refl
         none : false ≡ nat_lt 0 0
         none = refl
     by (Some list) is =
-        ap (λ (o : Option Things). held_by_list o w n) is ∙ settled_list list.items n w (up name list is)
+        ap (λ (o : Option Things). held_by_list o w n) is ∙ settled_list list.items n w (up name list is).0
         ∙ ap (λ (o : Option Things). nat_lt 0 (count_by_list o w)) (sym is)
 
 pub settled : (store : Store) (n : ℕ) (f : Fact) → IsStore store n → has_at store f n ≡ nat_lt 0 (count_at store f)

@@ -1,6 +1,8 @@
 pub mod Same
 pub mod Steps
 pub mod Ordered
+pub mod Blocked
+pub mod Picking
 pub mod Tracked
 pub mod Holding
 pub mod Has

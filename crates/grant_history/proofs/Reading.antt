@@ -1,10 +1,13 @@
 -- what is read of a store that is kept right is what the history says
-use Rattle.std.proofs.Common.{◌≡◌, ◌⊎◌, inl, inr, ℕ, refl, sym, ◌∙◌, ap, subst, Bool, true, false, ◌&&◌, ◌||◌, if◌then◌else◌, List, [], ◌∷◌, ◌++◌, Option, Some, None}
+use Rattle.std.proofs.Common.{◌≡◌, ◌⊎◌, inl, inr, ◌+◌, ℕ, refl, sym, ◌∙◌, ap, subst, Bool, true, false, ◌&&◌, ◌||◌, if◌then◌else◌, List, [], ◌∷◌, ◌++◌, Option, Some, None, Vec}
+use Rattle.std.specs.Prelude.{option_map}
 use Rattle.std.specs.BTreeMap.{get_by_text}
+use Rattle.std.specs.Global.{Global}
 use Rattle.std.specs.List.{list_any}
 use Rattle.std.specs.Str.{bytes_eq}
 use Rattle.std.specs.Cmp.Lexicographic.{bytes_decides}
 use Rattle.std.proofs.lemmas.Bool.{false≢true}
+use Rattle.std.proofs.lemmas.Option.{none-some}
 use Rattle.sg_names.specs.declared.grants.Grantee.{Grantee}
 use Rattle.sg_names.specs.declared.grants.Grantee.TheVariants.{User, Role}
 use Rattle.sg_history.specs.declared.entries.Entry.{Entry}
@@ -17,12 +20,12 @@ use Rattle.grant_history.specs.declared.held.Held.{Held}
 use Rattle.grant_history.specs.declared.store.Store.{Store}
 use Rattle.grant_history.specs.Tracks.{held_at}
 use Rattle.grant_history.specs.Facts.{same_what, fact}
-use Rattle.grant_history.specs.Holdings.{held_in, held_by_list, held_of, has_at, IsStore}
+use Rattle.grant_history.specs.Holdings.{place_of, held_in, AreUpTo, held_by_list, held_of, has_at, IsStore}
 use Rattle.grant_history.specs.Sources.{is_held}
-use Rattle.grant_history.specs.Reads.{channel_among, channel_by, role_channel, gives_channel, by_roles, list_channel, user_channel, is_existing, role_among, list_role, user_role}
+use Rattle.grant_history.specs.Reads.{is_channel, channel_among, channel_by, role_channel, gives_channel, by_roles, list_channel, user_channel, is_existing, role_among, list_role, user_role}
 use Rattle.grant_history.proofs.Same.{whats, what_itself, text_itself, texts_swap}
 use Rattle.grant_history.proofs.Once.{once_of, any_of, channel_any}
-use Rattle.grant_history.proofs.Has.{channel_held, role_held, exists_held}
+use Rattle.grant_history.proofs.Has.{channel_held, role_held, exists_held, any_same}
 use Rattle.grant_history.specs.Things.{Things}
 
 and_swap : (a b : Bool) → (a && b) ≡ (b && a)
@@ -79,7 +82,7 @@ module _ (store : Store) (n k : ℕ) (es : List Entry) (up : IsStore store n) (i
 
   channel_by_list : (o : Option Things) (role x : List ℕ) → get_by_text store.roles role ≡ o → channel_by o k x ≡ (held_by_list o what.Exists k && held_by_list o (what.Channel x) k)
   channel_by_list None role x at = refl
-  channel_by_list (Some list) role x at = ap (λ (b : Bool). held_in list.items what.Exists k && b) (channel_any list.items k x (once_of list.items n (up.roles role list at)))
+  channel_by_list (Some list) role x at = ap (λ (b : Bool). held_in list.items what.Exists k && b) (channel_any list.items k x (once_of list.items n (up.roles role list at).0))
 
   role_has : (role x : List ℕ) → role_channel store.roles role k x ≡ role_has_channel es role x
   role_has role x =
@@ -95,14 +98,14 @@ module _ (store : Store) (n k : ℕ) (es : List Entry) (up : IsStore store n) (i
     user_exists = here what.Exists ∙ is (fact (User user) what.Exists) ∙ exists_held es (User user)
 
     own : (x : List ℕ) → channel_among list.items k x ≡ (names_channel (user_at es user) x || is_granted es (User user) x)
-    own x = channel_any list.items k x (once_of list.items n (up.users user list at)) ∙ here (what.Channel x) ∙ is (fact (User user) (what.Channel x)) ∙ channel_held es (User user) x
+    own x = channel_any list.items k x (once_of list.items n (up.users user list at).0) ∙ here (what.Channel x) ∙ is (fact (User user) (what.Channel x)) ∙ channel_held es (User user) x
 
     named : (role : List ℕ) → held_in list.items (what.Role role) k ≡ (names_role (user_at es user) role || is_given es user role)
     named role = here (what.Role role) ∙ is (fact (User user) (what.Role role)) ∙ role_held es user role
 
     -- a held thing is held by its name
     held_named : (h : Held) → IsIn list.items h → held_at h.track k ≡ true → held_in list.items h.what k ≡ true
-    held_named h there held = sym (any_of list.items k h.what (once_of list.items n (up.users user list at))) ∙ passes_in (λ g. same_what g.what h.what && held_at g.track k) list.items h there (both (same_what h.what h.what) (held_at h.track k) (what_itself h.what) held)
+    held_named h there held = sym (any_of list.items k h.what (once_of list.items n (up.users user list at).0)) ∙ passes_in (λ g. same_what g.what h.what && held_at g.track k) list.items h there (both (same_what h.what h.what) (held_at h.track k) (what_itself h.what) held)
 
     module _ (alive : exists (user_at es user) ≡ true) (x : List ℕ) where
       abbrev by_role : Bool
@@ -132,7 +135,7 @@ module _ (store : Store) (n k : ℕ) (es : List Entry) (up : IsStore store n) (i
           let mine = first_of (has_role es user p.one) (role_has_channel es p.one x) p.is in
           let gives = second_of (has_role es user p.one) (role_has_channel es p.one x) p.is in
           let held : held_in list.items (what.Role p.one) k ≡ true = named p.one ∙ second_of (exists (user_at es user) && exists (role_at es p.one)) (names_role (user_at es user) p.one || is_given es user p.one) mine in
-          let q = passing (λ g. same_what g.what (what.Role p.one) && held_at g.track k) list.items (any_of list.items k (what.Role p.one) (once_of list.items n (up.users user list at)) ∙ held) in
+          let q = passing (λ g. same_what g.what (what.Role p.one) && held_at g.track k) list.items (any_of list.items k (what.Role p.one) (once_of list.items n (up.users user list at).0) ∙ held) in
           let one : q.one.what ≡ what.Role p.one = whats q.one.what (what.Role p.one) (first_of (same_what q.one.what (what.Role p.one)) (held_at q.one.track k) q.is) in
           passes_in (λ h. held_at h.track k && gives_channel store.roles h.what k x) list.items q.one q.there
           (both (held_at q.one.track k) (gives_channel store.roles q.one.what k x) (second_of (same_what q.one.what (what.Role p.one)) (held_at q.one.track k) q.is)
@@ -161,7 +164,7 @@ module _ (store : Store) (n k : ℕ) (es : List Entry) (up : IsStore store n) (i
       among_from h =
           let there = second_of (exists (user_at es user)) (exists (role_at es x)) (first_of (exists (user_at es user) && exists (role_at es x)) (names_role (user_at es user) x || is_given es user x) h) in
           let held : held_in list.items (what.Role x) k ≡ true = named x ∙ second_of (exists (user_at es user) && exists (role_at es x)) (names_role (user_at es user) x || is_given es user x) h in
-          let q = passing (λ g. same_what g.what (what.Role x) && held_at g.track k) list.items (any_of list.items k (what.Role x) (once_of list.items n (up.users user list at)) ∙ held) in
+          let q = passing (λ g. same_what g.what (what.Role x) && held_at g.track k) list.items (any_of list.items k (what.Role x) (once_of list.items n (up.users user list at).0) ∙ held) in
           let one : q.one.what ≡ what.Role x = whats q.one.what (what.Role x) (first_of (same_what q.one.what (what.Role x)) (held_at q.one.track k) q.is) in
           passes_in (λ h. held_at h.track k && is_existing store.roles h.what k x) list.items q.one q.there
           (both (held_at q.one.track k) (is_existing store.roles q.one.what k x) (second_of (same_what q.one.what (what.Role x)) (held_at q.one.track k) q.is)

@@ -210,7 +210,7 @@ place_append (y ∷ ys) x v h apart =
     ap (λ (b : Bool). if b then Some 0 else option_map (λ (m : ℕ). m + 1) (place_of (ys ++ x ∷ []) v)) parts.0
     ∙ ap (λ (o : Option ℕ). option_map (λ (m : ℕ). m + 1) o) (place_append ys x v parts.1 apart)
 
-fresh_held : (t : Track) (k : ℕ) → t.count ≡ 0 → t.closed.items ≡ [] → held_at t k ≡ false
+pub fresh_held : (t : Track) (k : ℕ) → t.count ≡ 0 → t.closed.items ≡ [] → held_at t k ≡ false
 fresh_held t k none empty = grind (arith, none, empty)
 
 pub fresh_up_to : (t : Track) (n : ℕ) → t.count ≡ 0 → t.closed.items ≡ [] → IsTrack t n
@@ -265,14 +265,14 @@ pub begun : (w : What) (x : Held) (at : ℕ) → x.what ≡ w → BeginsAt x.tra
 begun w x at is b list new pushed none =
     subst (λ (l : List Held). Dated count_in held_in AreUpTo list l at (one_more (count_in list) w)) (sym pushed) (added w x b.fresh at is b.none b.empty b.moves list none)
 
-track_up_to : (list : List Held) (i n : ℕ) (h : Held) → slice_get list i ≡ Some h → AreUpTo list n → IsTrack h.track n
+pub track_up_to : (list : List Held) (i n : ℕ) (h : Held) → slice_get list i ≡ Some h → AreUpTo list n → IsTrack h.track n
 track_up_to [] i n h got up = absurd (none-some h got)
 track_up_to (y ∷ ys) zero n h got up = subst (λ (x : Held). IsTrack x.track n) (same_Some y h got) up.0
 track_up_to (y ∷ ys) (suc i) n h got up = track_up_to ys i n h got up.2
 
 -- what a list is once the track that stands at a place of it moved
 module _ (list : List Held) (w : What) (i : ℕ) (old : Held) (place : place_of list w ≡ Some i) (is : old ≡ get_or list i old) where
-  got_old : slice_get list i ≡ Some old
+  pub got_old : slice_get list i ≡ Some old
   got_old =
       let stands = standing list w i place in
       stands.got ∙ ap (λ (h : Held). Some h) (sym (is ∙ get_or_from_slice_get list i stands.held old stands.got))

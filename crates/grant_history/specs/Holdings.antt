@@ -1,5 +1,5 @@
 -- What is kept of users and roles: for each, what it has or had, with its track.
-use Rattle.std.specs.Prelude.{◌≡◌, ℕ, ◌+◌, ◌-◌, Bool, false, ◌&&◌, List, String, Option, Some, None, if◌then◌else◌}
+use Rattle.std.specs.Prelude.{◌≡◌, ◌≤◌, ℕ, ◌+◌, ◌-◌, Bool, false, ◌&&◌, List, [], ◌∷◌, String, Vec, Option, Some, None, option_map, if◌then◌else◌}
 use Rattle.std.specs.BTreeMap.{BTreeMap, get_by_text}
 use Rattle.std.specs.Global.{Global}
 use Rattle.std.specs.Str.{bytes_eq}
@@ -32,7 +32,7 @@ abbrev pub held_of : Holders → List ℕ × What → ℕ → Bool
 held_of holders x k = held_by_list (get_by_text holders x.0) x.1 k
 
 abbrev pub AreAllUpTo : Holders → ℕ → Type 0
-AreAllUpTo holders n = (name : List ℕ) (list : Things) → get_by_text holders name ≡ Some list → AreUpTo list.items n
+AreAllUpTo holders n = (name : List ℕ) (list : Things) → get_by_text holders name ≡ Some list → AreUpTo list.items n × (list.since ≤ n)
 
 -- the counts with one more
 abbrev pub one_more : (What → ℕ) → What → What → ℕ

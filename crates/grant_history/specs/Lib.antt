@@ -6,6 +6,10 @@ pub mod Things
 pub mod HeldLists
 pub mod Holdings
 pub mod Places
+pub mod Listed
+pub mod Blocks
+pub mod Near
+pub mod Passing
 pub mod Ledger
 pub mod Stands
 pub mod Reads

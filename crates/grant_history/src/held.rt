@@ -1,13 +1,19 @@
 //! What one user or role has or had.
 
-ghost use Rattle.std.specs.Prelude.{◌≡◌, ◌<◌, ◌++◌, ◌∷◌, [], ℕ, false, length, None, MatchOption, IfOk, OnOk, OnErr};
+ghost use Rattle.std.specs.Prelude.{◌≡◌, ◌<◌, ◌≤◌, ◌&&◌, ◌++◌, ◌∷◌, [], ℕ, Bool, true, false, None, Some, MatchOption, IfOk, OnOk, OnErr};
+ghost use Rattle.std.specs.List.{list_any};
+ghost use Rattle.std.specs.Option.{option_copied};
 ghost use Rattle.grant_history.specs.declared.facts.What.TheVariants as what;
 ghost use Rattle.grant_history.specs.Cuts.{Covers};
 ghost use Rattle.grant_history.specs.Dated.{Dated};
 ghost use Rattle.grant_history.specs.Holdings.{place_of, count_in, held_in, AreUpTo, one_more, one_less};
+ghost use Rattle.grant_history.specs.Listed.{is_in};
+ghost use Rattle.grant_history.specs.Passing.{fits, given_in, is_given_at, passes_at};
 ghost use Rattle.grant_history.specs.Reads.{channel_among};
+ghost use Rattle.grant_history.specs.declared.held.Held.{Held};
 ghost use Rattle.grant_history.specs.Tracks.{BeginsAt, held_at};
 
+use crate::blocks::Blocks;
 use crate::facts::What;
 use crate::places::Places;
 use crate::track::Track;
@@ -28,19 +34,21 @@ pub struct Held {
 pub struct Holding {
     list: Vec<Held>,
     places: Places,
+    blocks: Blocks,
 }
 
 impl Model for Holding {
     ghost use Rattle.std.specs.Prelude.{◌≡◌, length, vec_len};
     ghost use Rattle.grant_history.specs.Things.{Things};
+    ghost use Rattle.grant_history.specs.Near.{MissNothing};
     ghost use Rattle.grant_history.specs.Places.{ArePlaces, StandOnce};
 
     ghost Value = { Things };
 
-    ghost view = { λ h. record { items = h.list.items } };
+    ghost view = { λ h. record { items = h.list.items; since = h.blocks.from } };
 
     ghost invariant = { λ h. ArePlaces h.places h.list.items × StandOnce h.list.items
-        × (vec_len h.list ≡ length h.list.items) };
+        × (vec_len h.list ≡ length h.list.items) × MissNothing h.list.items h.blocks };
 }
 
 /// One thing that begins to be held at a place.
@@ -48,21 +56,89 @@ fn held_from(alloc: Global, what: &What, at: u64) -> Result<Held, Memory>
     ensures what { IfOk result (λ h. h.what ≡ what.now) }
     ensures track { IfOk result (λ h. BeginsAt h.track at) }
 {
-    let mut track = Track::new(alloc);
-    track.give(at)?;
+    let track = Track::begun(alloc, at)?;
     let what = what.copy(alloc)?;
     Ok(Held { what, track })
+}
+
+/// Whether a source gives the thing that stands at a place of a list.
+fn is_given(all: &[Held], i: usize) -> bool
+    ensures { result ≡ is_given_at all.now i }
+{
+    match all.get(i) {
+        None => false,
+        Some(held) => held.track.is_given(),
+    }
+}
+
+/// Those of some things that a source gives, each by where it stands.
+fn given_of(alloc: Global, all: &[Held], list: &[usize]) -> Result<Vec<usize>, Memory>
+    ensures { IfOk result (λ given. (x : ℕ)
+        → is_in given.items x ≡ given_in all.now list.now x) }
+{
+    let mut given = Vec::new(alloc);
+    for i in list {
+        if is_given(all, *i) {
+            given.push(*i)?;
+        }
+    }
+    Ok(given)
+}
+
+/// What stands at a place of a list, where it is held at a place of the log.
+fn held_one(all: &[Held], i: usize, k: u64) -> Option<&Held>
+    ensures { (test : Held → Bool) → fits test (option_copied result)
+        ≡ passes_at all.now k test i }
+{
+    match all.get(i) {
+        None => None,
+        Some(one) => {
+            if one.track.holds(k) {
+                return Some(one);
+            }
+            None
+        }
+    }
+}
+
+/// Those of some things that are held at a place.
+fn held_of<'a>(
+    alloc: Global,
+    all: &'a [Held],
+    list: &[usize],
+    k: u64,
+) -> Result<Vec<&'a Held>, Memory>
+    ensures { IfOk result (λ held. (test : Held → Bool) → list_any (λ h. test h.now) held.items
+        ≡ list_any (passes_at all.now k test) list.now) }
+{
+    let mut held = Vec::new(alloc);
+    for i in list {
+        if let Some(one) = held_one(all, *i, k) {
+            held.push(one)?;
+        }
+    }
+    Ok(held)
 }
 
 impl Holding {
     /// Nothing. Allocates nothing.
     pub fn new(alloc: Global) -> Holding
-        ensures { result.items ≡ [] }
+        ensures items { result.items ≡ [] }
+        ensures since { result.since ≡ 0 }
     {
         Holding {
             list: Vec::new(alloc),
             places: Places::new(alloc),
+            blocks: Blocks::new(alloc),
         }
+    }
+
+    /// The things that are held at a place.
+    pub fn held(&self, alloc: Global, k: u64) -> Result<Vec<&Held>, Memory>
+        ensures { IfOk result (λ held. (test : Held → Bool) → list_any (λ h. test h.now) held.items
+            ≡ list_any (λ h. held_at h.track k && test h) self.now.items) }
+    {
+        held_of(alloc, self.list.as_slice(), self.blocks.at(k), k)
     }
 
     /// All that is or was held.
@@ -154,50 +230,142 @@ impl Holding {
         self.add_channel(cuts, channel)
     }
 
+    /// Begins a block at a place, where much changed since the last one began.
+    fn make_block(&mut self, alloc: Global, at: u64)
+        requires up_to { AreUpTo self.old.items at }
+        requires since { self.old.since ≤ at }
+        ensures items { self.new.items ≡ self.old.items }
+        ensures since { self.new.since ≤ at }
+    {
+        if self.blocks.is_full() {
+            if let Ok(given) = given_of(alloc, self.list.as_slice(), self.blocks.last()) {
+                self.blocks.begin(at, given);
+            }
+        }
+    }
+
     /// Keeps one thing more.
-    fn keep(&mut self, alloc: Global, held: Held) -> Result<(), Memory>
-        requires { place_of self.old.items held.what ≡ None }
+    fn keep(&mut self, alloc: Global, held: Held, at: u64) -> Result<(), Memory>
+        requires place { place_of self.old.items held.what ≡ None }
+        requires since { self.old.since ≤ at }
+        requires begins { BeginsAt held.track at }
         ensures ok { OnOk result (self.new.items ≡ self.old.items ++ held ∷ []) }
         ensures err { OnErr result (self.new.items ≡ self.old.items) }
+        ensures since { self.new.since ≡ self.old.since }
     {
+        let place = self.list.len();
         self.list.reserve(1)?;
-        self.places.put(alloc, &held.what, self.list.len())?;
+        self.blocks.add(place)?;
+        self.places.put(alloc, &held.what, place)?;
         self.list.push_reserved(held);
         Ok(())
     }
 
     fn add(&mut self, alloc: Global, what: &What, at: u64) -> Result<(), Memory>
-        requires { place_of self.old.items what.now ≡ None }
+        requires place { place_of self.old.items what.now ≡ None }
+        requires since { self.old.since ≤ at }
         ensures ok { OnOk result (Dated count_in held_in AreUpTo self.old.items self.new.items at
             (one_more (count_in self.old.items) what.now)) }
         ensures err { OnErr result (self.new.items ≡ self.old.items) }
+        ensures since { self.new.since ≡ self.old.since }
     {
         let held = held_from(alloc, what, at)?;
-        self.keep(alloc, held)
+        self.keep(alloc, held, at)
     }
 
-    /// One source more gives it from a place on.
-    pub fn give(&mut self, alloc: Global, what: &What, at: u64) -> Result<(), Memory>
-        requires { AreUpTo self.old.items at }
+    /// One source more gives what stands at a place of the list, which another one gives.
+    fn give_more(&mut self, i: usize, what: &What, at: u64) -> Result<(), Memory>
+        requires place { place_of self.old.items what.now ≡ Some i }
+        requires given { 0 < count_in self.old.items what.now }
+        requires up_to { AreUpTo self.old.items at }
         ensures ok { OnOk result (Dated count_in held_in AreUpTo self.old.items self.new.items at
             (one_more (count_in self.old.items) what.now)) }
         ensures err { OnErr result (Dated count_in held_in AreUpTo self.old.items self.new.items at
             (count_in self.old.items)) }
+        ensures since { self.new.since ≡ self.old.since }
     {
+        self.list[i].track.give(at)
+    }
+
+    /// One source gives what stands at a place of the list.
+    fn give_first(&mut self, i: usize, what: &What, at: u64) -> Result<(), Memory>
+        requires place { place_of self.old.items what.now ≡ Some i }
+        requires up_to { AreUpTo self.old.items at }
+        requires since { self.old.since ≤ at }
+        ensures ok { OnOk result (Dated count_in held_in AreUpTo self.old.items self.new.items at
+            (one_more (count_in self.old.items) what.now)) }
+        ensures err { OnErr result (Dated count_in held_in AreUpTo self.old.items self.new.items at
+            (count_in self.old.items)) }
+        ensures since { self.new.since ≡ self.old.since }
+    {
+        self.blocks.add(i)?;
+        self.list[i].track.give(at)
+    }
+
+    /// Whether a source gives what stands at a place of the list.
+    fn gives(&self, i: usize, what: &What) -> bool
+        requires { place_of self.now.items what.now ≡ Some i }
+        ensures { result ≡ true → 0 < count_in self.now.items what.now }
+    {
+        self.list[i].track.is_given()
+    }
+
+    /// One source more gives what stands at a place of the list.
+    fn give_at(&mut self, i: usize, what: &What, at: u64) -> Result<(), Memory>
+        requires place { place_of self.old.items what.now ≡ Some i }
+        requires up_to { AreUpTo self.old.items at }
+        requires since { self.old.since ≤ at }
+        ensures ok { OnOk result (Dated count_in held_in AreUpTo self.old.items self.new.items at
+            (one_more (count_in self.old.items) what.now)) }
+        ensures err { OnErr result (Dated count_in held_in AreUpTo self.old.items self.new.items at
+            (count_in self.old.items)) }
+        ensures since { self.new.since ≡ self.old.since }
+    {
+        if self.gives(i, what) {
+            return self.give_more(i, what, at);
+        }
+        self.give_first(i, what, at)
+    }
+
+    /// One source more gives it from a place on.
+    pub fn give(&mut self, alloc: Global, what: &What, at: u64) -> Result<(), Memory>
+        requires up_to { AreUpTo self.old.items at }
+        requires since { self.old.since ≤ at }
+        ensures ok { OnOk result (Dated count_in held_in AreUpTo self.old.items self.new.items at
+            (one_more (count_in self.old.items) what.now)) }
+        ensures err { OnErr result (Dated count_in held_in AreUpTo self.old.items self.new.items at
+            (count_in self.old.items)) }
+        ensures since { self.new.since ≤ at }
+    {
+        self.make_block(alloc, at);
         match self.places.find(what) {
             None => self.add(alloc, what, at),
-            Some(i) => self.list[i].track.give(at),
+            Some(i) => self.give_at(i, what, at),
         }
     }
 
-    /// One source that gave it does not from a place on. Allocates nothing.
-    pub fn take(&mut self, what: &What, at: u64)
+    /// One source that gave it does not from a place on.
+    pub fn take(&mut self, alloc: Global, what: &What, at: u64)
         requires given { 0 < count_in self.old.items what.now }
         requires up_to { AreUpTo self.old.items at }
-        ensures { Dated count_in held_in AreUpTo self.old.items self.new.items at
+        requires since { self.old.since ≤ at }
+        ensures dated { Dated count_in held_in AreUpTo self.old.items self.new.items at
             (one_less (count_in self.old.items) what.now) }
+        ensures since { self.new.since ≤ at }
+    {
+        self.make_block(alloc, at);
+        self.take_one(what, at);
+    }
+
+    fn take_one(&mut self, what: &What, at: u64)
+        requires given { 0 < count_in self.old.items what.now }
+        requires up_to { AreUpTo self.old.items at }
+        ensures dated { Dated count_in held_in AreUpTo self.old.items self.new.items at
+            (one_less (count_in self.old.items) what.now) }
+        ensures since { self.new.since ≡ self.old.since }
     {
         if let Some(i) = self.places.find(what) {
+            self.blocks.count();
             self.list[i].track.take(at);
         }
     }

@@ -58,14 +58,14 @@ fn add(alloc: Global, holders: &mut Holders, name: &str, what: &What, at: u64) -
     Ok(())
 }
 
-/// One source that gave it to the holder of a name does not from a place on. Allocates nothing.
-pub fn take(holders: &mut Holders, name: &str, what: &What, at: u64)
+/// One source that gave it to the holder of a name does not from a place on.
+pub fn take(alloc: Global, holders: &mut Holders, name: &str, what: &What, at: u64)
     requires given { 0 < count_of holders.old (name.now, what.now) }
     requires up_to { AreAllUpTo holders.old at }
     ensures { Dated count_of held_of AreAllUpTo holders.old holders.new at
         (less_of (count_of holders.old) name.now what.now) }
 {
     if let Some(holding) = holders.get_mut(name) {
-        holding.take(what, at);
+        holding.take(alloc, what, at);
     }
 }

@@ -36,7 +36,7 @@ pub struct Ledger {
     roles: Lists,
 }
 
-/// A source gives other facts from a place on, in the place of its name. Out of memory nothing changes but room.
+/// A source gives other facts from a place on. Out of memory each gives what it gave.
 fn exchange(
     alloc: Global,
     store: &mut Store,
@@ -61,12 +61,11 @@ fn exchange(
     make_place(alloc, lists, name)?;
     store.give_all(alloc, facts.as_slice(), at)?;
     let before = swap(lists, name, facts);
-    store.take_all(before.as_slice(), at);
+    store.take_all(alloc, before.as_slice(), at);
     Ok(())
 }
 
-/// A source gives other facts from a place on. Out of memory nothing changes but room; of one that
-/// never gave anything, and still gives nothing, nothing is kept.
+/// The same. One that gave nothing, and gives nothing now, changes nothing.
 fn replace(
     alloc: Global,
     store: &mut Store,

@@ -5,7 +5,7 @@ ghost use Rattle.std.specs.BTreeMap.{get_by_text};
 ghost use Rattle.std.specs.Str.{bytes_eq};
 ghost use Rattle.sg_history.specs.History.{among};
 ghost use Rattle.sg_history.specs.Principals as principals;
-ghost use Rattle.grant_history.specs.Tracks.{held_at};
+ghost use Rattle.std.specs.List.{list_any};
 ghost use Rattle.grant_history.specs.Reads as reads;
 ghost use Rattle.grant_history.specs.Sorted.{AreSorted};
 
@@ -50,22 +50,29 @@ pub fn add_if_channel(alloc: Global, list: &mut Vec<ChannelName>, what: &What) -
     }
 }
 
+/// Adds those of these things that are channels.
+fn add_channels(alloc: Global, list: &mut Vec<ChannelName>, held: &[&Held]) -> Result<(), Memory>
+    ensures among { OnOk result ((x : List ℕ) → among list.new.items x
+        ≡ (list_any (λ h. reads.is_channel h.now.what x) held.now || among list.old.items x)) }
+{
+    for one in held {
+        add_if_channel(alloc, list, &one.what)?;
+    }
+    Ok(())
+}
+
 /// Adds the channels that are held at a place.
-fn add_channels(
+fn add_held_channels(
     alloc: Global,
     list: &mut Vec<ChannelName>,
-    all: &[Held],
+    all: &Holding,
     k: u64,
 ) -> Result<(), Memory>
     ensures among { OnOk result ((x : List ℕ) → among list.new.items x
-        ≡ (reads.channel_among all.now k x || among list.old.items x)) }
+        ≡ (reads.channel_among all.now.items k x || among list.old.items x)) }
 {
-    for held in all {
-        if held.track.holds(k) {
-            add_if_channel(alloc, list, &held.what)?;
-        }
-    }
-    Ok(())
+    let held = all.held(alloc, k)?;
+    add_channels(alloc, list, held.as_slice())
 }
 
 /// Adds the channels of a role where it exists.
@@ -81,7 +88,7 @@ fn add_role_channels(
 {
     if let Some(kept) = roles.get(role.as_str()) {
         if kept.holds(&What::Exists, k) {
-            add_channels(alloc, list, kept.all(), k)?;
+            add_held_channels(alloc, list, kept, k)?;
         }
     }
     Ok(())
@@ -103,23 +110,55 @@ fn add_if_role(
     }
 }
 
-/// Adds the channels of the roles that are held at a place.
+/// Adds the channels of those of these things that are roles.
 fn add_by_roles(
     alloc: Global,
     list: &mut Vec<ChannelName>,
     roles: &Holders,
-    all: &[Held],
+    held: &[&Held],
     k: u64,
 ) -> Result<(), Memory>
     ensures among { OnOk result ((x : List ℕ) → among list.new.items x
-        ≡ (reads.by_roles roles.now all.now k x || among list.old.items x)) }
+        ≡ (list_any (λ h. reads.gives_channel roles.now h.now.what k x) held.now
+        || among list.old.items x)) }
 {
-    for held in all {
-        if held.track.holds(k) {
-            add_if_role(alloc, list, roles, &held.what, k)?;
-        }
+    for one in held {
+        add_if_role(alloc, list, roles, &one.what, k)?;
     }
     Ok(())
+}
+
+/// Adds the channels that are held at a place, and those of the roles that are.
+fn add_held(
+    alloc: Global,
+    list: &mut Vec<ChannelName>,
+    roles: &Holders,
+    held: &[&Held],
+    k: u64,
+) -> Result<(), Memory>
+    ensures among { OnOk result ((x : List ℕ) → among list.new.items x
+        ≡ (list_any (λ h. reads.gives_channel roles.now h.now.what k x) held.now
+        || (list_any (λ h. reads.is_channel h.now.what x) held.now
+        || among list.old.items x))) }
+{
+    add_channels(alloc, list, held)?;
+    add_by_roles(alloc, list, roles, held, k)
+}
+
+/// Adds the channels of a user that exists, but for the one that every user has.
+fn add_own(
+    alloc: Global,
+    list: &mut Vec<ChannelName>,
+    roles: &Holders,
+    all: &Holding,
+    k: u64,
+) -> Result<(), Memory>
+    ensures among { OnOk result ((x : List ℕ) → among list.new.items x
+        ≡ (reads.by_roles roles.now all.now.items k x || (reads.channel_among all.now.items k x
+        || among list.old.items x))) }
+{
+    let held = all.held(alloc, k)?;
+    add_held(alloc, list, roles, held.as_slice(), k)
 }
 
 /// Adds the channels of a user that exists.
@@ -127,17 +166,16 @@ fn add_user(
     alloc: Global,
     list: &mut Vec<ChannelName>,
     roles: &Holders,
-    all: &[Held],
+    all: &Holding,
     k: u64,
 ) -> Result<(), Memory>
     ensures among { OnOk result ((x : List ℕ) → among list.new.items x
-        ≡ (reads.by_roles roles.now all.now k x || (reads.channel_among all.now k x
+        ≡ (reads.by_roles roles.now all.now.items k x || (reads.channel_among all.now.items k x
         || (bytes_eq principals.everyone x || among list.old.items x)))) }
 {
     let everyone = everyone(alloc)?;
     add_channel(alloc, list, &everyone)?;
-    add_channels(alloc, list, all, k)?;
-    add_by_roles(alloc, list, roles, all, k)
+    add_own(alloc, list, roles, all, k)
 }
 
 /// The channels of a user that has or had these, none where it does not exist at the place.
@@ -152,7 +190,7 @@ fn channels_in(
 {
     let mut list = Vec::new(alloc);
     if all.holds(&What::Exists, k) {
-        add_user(alloc, &mut list, roles, all.all(), k)?;
+        add_user(alloc, &mut list, roles, all, k)?;
     }
     Ok(list)
 }
@@ -216,23 +254,37 @@ fn add_if_existing(
     Ok(())
 }
 
-/// Adds the roles that exist and are held at a place.
+/// Adds those of these things that are roles that exist at a place.
 fn add_roles(
     alloc: Global,
     list: &mut Vec<Name>,
     roles: &Holders,
-    all: &[Held],
+    held: &[&Held],
     k: u64,
 ) -> Result<(), Memory>
     ensures among { OnOk result ((x : List ℕ) → among list.new.items x
-        ≡ (reads.role_among roles.now all.now k x || among list.old.items x)) }
+        ≡ (list_any (λ h. reads.is_existing roles.now h.now.what k x) held.now
+        || among list.old.items x)) }
 {
-    for held in all {
-        if held.track.holds(k) {
-            add_if_existing(alloc, list, roles, &held.what, k)?;
-        }
+    for one in held {
+        add_if_existing(alloc, list, roles, &one.what, k)?;
     }
     Ok(())
+}
+
+/// Adds the roles that exist and are held at a place.
+fn add_held_roles(
+    alloc: Global,
+    list: &mut Vec<Name>,
+    roles: &Holders,
+    all: &Holding,
+    k: u64,
+) -> Result<(), Memory>
+    ensures among { OnOk result ((x : List ℕ) → among list.new.items x
+        ≡ (reads.role_among roles.now all.now.items k x || among list.old.items x)) }
+{
+    let held = all.held(alloc, k)?;
+    add_roles(alloc, list, roles, held.as_slice(), k)
 }
 
 /// The roles of a user that has or had these, none where it does not exist at the place.
@@ -242,7 +294,7 @@ fn roles_in(alloc: Global, roles: &Holders, all: &Holding, k: u64) -> Result<Vec
 {
     let mut list = Vec::new(alloc);
     if all.holds(&What::Exists, k) {
-        add_roles(alloc, &mut list, roles, all.all(), k)?;
+        add_held_roles(alloc, &mut list, roles, all, k)?;
     }
     Ok(list)
 }

@@ -59,8 +59,8 @@ impl Store {
         }
     }
 
-    /// One source that gave a fact does not from a place on. Allocates nothing.
-    fn take(&mut self, fact: &Fact, at: u64)
+    /// One source that gave a fact does not from a place on.
+    fn take(&mut self, alloc: Global, fact: &Fact, at: u64)
         requires given { 0 < count_at self.old fact.now }
         requires up_to { IsStore self.old at }
         ensures { Dated count_at has_at IsStore self.old self.new at
@@ -68,23 +68,23 @@ impl Store {
     {
         match &fact.of {
             Grantee::User(name) => {
-                holders::take(&mut self.users, name.as_str(), &fact.what, at);
+                holders::take(alloc, &mut self.users, name.as_str(), &fact.what, at);
             }
             Grantee::Role(name) => {
-                holders::take(&mut self.roles, name.as_str(), &fact.what, at);
+                holders::take(alloc, &mut self.roles, name.as_str(), &fact.what, at);
             }
         }
     }
 
-    /// A source that gave these facts does not from a place on. Allocates nothing.
-    pub fn take_all(&mut self, facts: &[Fact], at: u64)
+    /// A source that gave these facts does not from a place on.
+    pub fn take_all(&mut self, alloc: Global, facts: &[Fact], at: u64)
         requires given { (f : Fact) → times facts.now f ≤ count_at self.old f }
         requires up_to { IsStore self.old at }
         ensures { Dated count_at has_at IsStore self.old self.new at
             (λ f. count_at self.old f - times facts.now f) }
     {
         for fact in facts {
-            self.take(fact, at);
+            self.take(alloc, fact, at);
         }
     }
 
@@ -98,7 +98,7 @@ impl Store {
     {
         for (i, fact) in facts.iter().enumerate() {
             if self.give(alloc, fact, at).is_err() {
-                self.take_all(&facts[..i], at);
+                self.take_all(alloc, &facts[..i], at);
                 return Err(AllocError);
             }
         }

@@ -1,6 +1,6 @@
 //! When something is held: by how many sources, and in which spans of places.
 
-ghost use Rattle.std.specs.Prelude.{◌≡◌, ◌≤◌, ◌<◌, ◌+◌, ◌-◌, ◌++◌, ◌∷◌, [], ℕ, length, slice_index_or, OnOk, OnErr};
+ghost use Rattle.std.specs.Prelude.{◌≡◌, ◌≤◌, ◌<◌, ◌+◌, ◌-◌, ◌++◌, ◌∷◌, [], ℕ, length, slice_index_or, nat_lt, IfOk, OnOk, OnErr};
 ghost use Rattle.std.specs.List.Sorted.{IsNonDecreasingBy};
 ghost use Rattle.grant_history.specs.declared.track.Span.{Span};
 
@@ -52,18 +52,34 @@ fn ended(spans: &[Span], k: u64) -> usize
 
 impl Track {
     ghost use Rattle.grant_history.specs.Cuts.{Covers};
-    ghost use Rattle.grant_history.specs.Tracks.{IsTrack, Moves, held_at, was_held};
+    ghost use Rattle.grant_history.specs.Tracks.{BeginsAt, IsTrack, Moves, held_at, was_held};
 
-    /// A track of what no source gives. Allocates nothing.
-    pub fn new(alloc: Global) -> Track
-        ensures count { result.count ≡ 0 }
-        ensures closed { result.closed.items ≡ [] }
+    /// A track of what no source gives, with room for one span.
+    fn new(alloc: Global) -> Result<Track, Memory>
+        ensures count { IfOk result (λ track. track.count ≡ 0) }
+        ensures closed { IfOk result (λ track. track.closed.items ≡ []) }
     {
-        Track {
+        Ok(Track {
             count: 0,
             opened: 0,
-            closed: Vec::new(alloc),
-        }
+            closed: Vec::with_capacity(alloc, 1)?,
+        })
+    }
+
+    /// A track of what one source gives from a place on.
+    pub fn begun(alloc: Global, at: u64) -> Result<Track, Memory>
+        ensures { IfOk result (λ track. BeginsAt track at) }
+    {
+        let mut track = Track::new(alloc)?;
+        track.give(at)?;
+        Ok(track)
+    }
+
+    /// Whether any source gives it.
+    pub fn is_given(&self) -> bool
+        ensures { result ≡ nat_lt 0 self.now.count }
+    {
+        self.count > 0
     }
 
     /// Whether any source gives it at a place.

@@ -10,7 +10,10 @@ use Rattle.grant_history.proofs.Holding.{holder_dated, recounted_of, more_counts
 use Rattle.grant_history.proofs.holders.add.Goals as goal
 
 pub give-requires : goal.give-requires
-give-requires c = subst (λ (l : List Held). AreUpTo l c.args.at) (sym c.new-holding.ensures) tt
+give-requires c = record {
+  up_to = subst (λ (l : List Held). AreUpTo l c.args.at) (sym c.new-holding.ensures.items) tt;
+  since = omega (arith, c.new-holding.ensures.since);
+}
 
 pub returns-clause-ok : goal.returns-clause-ok
 returns-clause-ok c =
@@ -19,8 +22,8 @@ returns-clause-ok c =
     let name = c.args.name.now in
     let list = c.give.new.self in
     let sets : (other : List ℕ) → get_by_text new other ≡ (if bytes_eq name other then Some list else get_by_text old other) = λ other. grind (arith, text_keys) in
-    let d = subst (λ (l : List Held). Dated count_in held_in AreUpTo l list.items c.args.at (one_more (count_in l) c.args.what.now)) c.new-holding.ensures c.in_ok-give.ensures.ok in
-    recounted_of old new c.args.at _ _ (holder_dated old new name list sets None c.args.at (one_more (count_in []) c.args.what.now) c.requires d) (more_counts_of old name None c.requires c.args.what.now)
+    let d = subst (λ (l : List Held). Dated count_in held_in AreUpTo l list.items c.args.at (one_more (count_in l) c.args.what.now)) c.new-holding.ensures.items c.in_ok-give.ensures.ok in
+    recounted_of old new c.args.at _ _ (holder_dated old new name list sets None c.args.at (one_more (count_in []) c.args.what.now) c.requires c.give.ensures.since d) (more_counts_of old name None c.requires c.args.what.now)
 
 pub returns-in_err-give-clause-err : goal.returns-in_err-give-clause-err
 returns-in_err-give-clause-err c = any_err c.from_residual.result _ (unchanged c.args.holders.now c.args.holders.now c.args.at (λ other. refl))

@@ -6,6 +6,12 @@ use Rattle.grant_history.specs.Holdings.{count_in, one_less}
 use Rattle.grant_history.proofs.Holding.{holder_dated, recounted_of, less_counts_of}
 use Rattle.grant_history.proofs.holders.take.Goals as goal
 
+pub take-requires-clause-up_to : goal.take-requires-clause-up_to
+take-requires-clause-up_to c = (c.requires.up_to c.args.name.now c.in-Some.holding.now (grind (arith, text_keys))).0
+
+pub take-requires-clause-since : goal.take-requires-clause-since
+take-requires-clause-since c = (c.requires.up_to c.args.name.now c.in-Some.holding.now (grind (arith, text_keys))).1
+
 pub returns-in-Some : goal.returns-in-Some
 returns-in-Some c =
     let old = c.args.holders.now in
@@ -13,5 +19,5 @@ returns-in-Some c =
     let name = c.args.name.now in
     let sets : (other : List ℕ) → get_by_text new other ≡ (if bytes_eq name other then Some c.take.new.self else get_by_text old other) = λ other. grind (arith, text_keys) in
     let there : get_by_text old name ≡ Some c.in-Some.holding.now = grind (arith, text_keys) in
-    recounted_of old new c.args.at _ _ (holder_dated old new name c.take.new.self sets (Some c.in-Some.holding.now) c.args.at (one_less (count_in c.in-Some.holding.now.items) c.args.what.now) there c.take.ensures)
+    recounted_of old new c.args.at _ _ (holder_dated old new name c.take.new.self sets (Some c.in-Some.holding.now) c.args.at (one_less (count_in c.in-Some.holding.now.items) c.args.what.now) there c.take.ensures.since c.take.ensures.dated)
     (less_counts_of old name (Some c.in-Some.holding.now) there c.args.what.now)
