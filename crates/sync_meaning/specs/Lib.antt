@@ -8,3 +8,4 @@ pub mod Meaning
 pub mod Nests
 pub mod Texts
 pub mod Laws
+pub mod formers

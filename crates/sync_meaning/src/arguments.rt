@@ -21,7 +21,7 @@ pub(crate) fn text_in(value: &Value) -> Option<&DocText>
     ensures { option_map (λ text. text.now) result ≡ spec.text_in value.now }
 {
     match value {
-        Value::Text(text) => Some(text),
+        Value::Text(text) => Some(text.get()),
         _ => None,
     }
 }
@@ -51,10 +51,10 @@ fn texts_in(alloc: Global, place: Place, value: &Value) -> Result<Items<DocText>
         Value::Undefined | Value::Null => Some(Items::new(alloc)),
         Value::Text(text) => {
             let mut one = Items::new(alloc);
-            one.push(text.copy(alloc)?)?;
+            one.push(text.get().copy(alloc)?)?;
             Some(one)
         }
-        Value::List(values) => texts_of(alloc, values.as_slice())?,
+        Value::List(values) => texts_of(alloc, values.get().as_slice())?,
         _ => None,
     };
     match found {

@@ -1,13 +1,14 @@
 //! Expressions, each rule by its own function. They take what evaluates an expression inside as a
 //! parameter, so that each is proved by itself.
 
-ghost use Rattle.std.specs.Prelude.{◌≡◌, Ok};
+ghost use Rattle.std.specs.Prelude.{◌≡◌, IfOk, Ok};
 ghost use Rattle.sync_meaning.specs.declared.value.Value as Value;
 ghost use Rattle.sync_meaning.specs.Acts.{Does};
 ghost use Rattle.sync_meaning.specs.Expressions as spec;
 ghost use Rattle.sync_meaning.specs.Expressions.{evaluated};
 ghost use Rattle.sync_meaning.specs.Nests.{Nests};
 
+use crate::Memory;
 use crate::builtin::built_in;
 use crate::callee::{Builtin, Method, Target};
 use crate::fault::{FaultKind, Rule, RuleKind, Stop};
@@ -173,28 +174,29 @@ fn literal(state: &mut State, place: Place, found: Result<Value, Stop>) -> Resul
     found
 }
 
+/// A text of the program as a value.
+fn text_value(alloc: Global, text: &DocText) -> Result<Value, Memory>
+    ensures { IfOk result (λ made. made ≡ Value.Text text.now) }
+{
+    Value::text(alloc, text.copy(alloc)?)
+}
+
 /// What a text of the program comes to.
 #[tactic(auto, unfolding(crate::specs::Expressions::literal))]
 fn text(alloc: Global, state: &mut State, place: Place, text: &DocText) -> Result<Value, Stop>
     ensures { Does (spec.literal place (Ok (Value.Text text.now)) state.old) result state.new }
 {
     state.visit(place)?;
-    Ok(Value::Text(text.copy(alloc)?))
+    Ok(text_value(alloc, text)?)
 }
 
 /// What a name comes to.
 #[tactic(auto, unfolding(crate::specs::Expressions::name))]
-fn name(
-    alloc: Global,
-    scope: &Scope,
-    state: &mut State,
-    place: Place,
-    name: &DocText,
-) -> Result<Value, Stop>
+fn name(scope: &Scope, state: &mut State, place: Place, name: &DocText) -> Result<Value, Stop>
     ensures { Does (spec.name scope.now place name.now state.old) result state.new }
 {
     state.visit(place)?;
-    state.read(alloc, scope, name)
+    state.read(scope, name)
 }
 
 /// What is called is called with these arguments.
@@ -217,7 +219,6 @@ fn call_by(
 /// A member, or before a call a method.
 #[tactic(auto, unfolding(crate::specs::Expressions::member_or_method))]
 fn member_or_method(
-    alloc: Global,
     state: &mut State,
     called: bool,
     place: Place,
@@ -230,7 +231,7 @@ fn member_or_method(
     if called {
         Ok(method_of(value, name))
     } else {
-        Ok(Target::Value(member(alloc, place, name, &value)?))
+        Ok(Target::Value(member(place, name, &value)?))
     }
 }
 
@@ -322,7 +323,7 @@ impl<F: Fn(Global, u64, &Scope, &mut State, &Expr, bool) -> Result<Target, Stop>
     {
         state.visit(place)?;
         let values = self.values(scope, state, exprs)?;
-        listed(place, values)
+        listed(self.alloc, place, values)
     }
 
     #[tactic(auto, unfolding(crate::specs::Expressions::object))]
@@ -339,7 +340,7 @@ impl<F: Fn(Global, u64, &Scope, &mut State, &Expr, bool) -> Result<Target, Stop>
     {
         state.visit(place)?;
         let members = self.members(scope, state, exprs)?;
-        Ok(Value::Object(members))
+        Ok(Value::object(self.alloc, members)?)
     }
 
     #[tactic(auto, unfolding(crate::specs::Expressions::prefix))]
@@ -520,7 +521,7 @@ impl<F: Fn(Global, u64, &Scope, &mut State, &Expr, bool) -> Result<Target, Stop>
     {
         let value = as_value(place, target)?;
         let index = self.value(scope, state, expr)?;
-        Ok(Target::Value(indexed(self.alloc, place, &value, &index)?))
+        Ok(Target::Value(indexed(place, &value, &index)?))
     }
 
     /// One suffix behind what was found.
@@ -539,9 +540,7 @@ impl<F: Fn(Global, u64, &Scope, &mut State, &Expr, bool) -> Result<Target, Stop>
             suffix.now state.old) result state.new }
     {
         match suffix {
-            Suffix::Member(name) => {
-                member_or_method(self.alloc, state, called, place, target, name.as_str())
-            }
+            Suffix::Member(name) => member_or_method(state, called, place, target, name.as_str()),
             Suffix::Index(expr) => self.index(scope, state, place, target, expr),
             Suffix::Call(exprs) => {
                 let value = self.call(scope, state, place, target, exprs.as_slice())?;
@@ -651,7 +650,7 @@ impl<F: Fn(Global, u64, &Scope, &mut State, &Expr, bool) -> Result<Target, Stop>
             Expr::Bool(place, truth) => literal(state, *place, Ok(Value::Bool(*truth))),
             Expr::Integer(place, n) => literal(state, *place, bounded(*place, *n as i128)),
             Expr::Text(place, found) => text(self.alloc, state, *place, found),
-            Expr::Name(place, found) => name(self.alloc, scope, state, *place, found),
+            Expr::Name(place, found) => name(scope, state, *place, found),
             Expr::List(place, exprs) => self.list(scope, state, *place, exprs.as_slice()),
             Expr::Object(place, exprs) => self.object(scope, state, *place, exprs.as_slice()),
             Expr::Prefix(place, op, expr) => self.prefix(scope, state, *place, *op, expr.get()),

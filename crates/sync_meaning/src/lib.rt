@@ -13,6 +13,7 @@ mod meaning;
 mod methods;
 mod operators;
 mod scope;
+mod shared;
 mod simple;
 mod state;
 mod statement;

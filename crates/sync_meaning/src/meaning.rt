@@ -76,17 +76,13 @@ fn parameters(
 fn body(alloc: Global, depth: u64, program: &Program, state: &mut State) -> Result<Completion, Stop>
     ensures { Does (spec.body depth program.now state.old) result state.new }
 {
+    let scope = Scope::top(alloc)?;
     Statements {
         alloc,
         depth,
         inner: run,
     }
-    .block(
-        &Scope::top(alloc),
-        state,
-        program.place,
-        program.body.as_slice(),
-    )
+    .block(&scope, state, program.place, program.body.as_slice())
 }
 
 /// What a program says of a document, with so many visits.

@@ -1,6 +1,6 @@
 //! Members and methods of values.
 
-ghost use Rattle.std.specs.Prelude.{◌≡◌, IfOk, pos, option_map};
+ghost use Rattle.std.specs.Prelude.{◌≡◌, ◌++◌, IfOk, pos, option_map};
 ghost use Rattle.sync_meaning.specs.declared.value.Value as Value;
 ghost use Rattle.sync_meaning.specs.Acts.{Gives};
 ghost use Rattle.sync_meaning.specs.Builtins as builtins;
@@ -10,7 +10,7 @@ use crate::Memory;
 use crate::callee::Method;
 use crate::fault::{FaultKind, Stop};
 use crate::operators::same;
-use crate::value::{Value, copy_all, last_named};
+use crate::value::{Value, last_named, share_all};
 use sqlite_items::Items;
 use std::alloc::{AllocError, Global};
 use sync_tokens::Place;
@@ -58,12 +58,12 @@ fn counted(count: usize) -> Result<Value, Memory>
 }
 
 /// The value, or undefined where there is none.
-fn or_undefined(alloc: Global, found: Option<&Value>) -> Result<Value, Memory>
+fn or_undefined(found: Option<&Value>) -> Result<Value, Memory>
     ensures { IfOk result (λ value. value
         ≡ spec.or_undefined (option_map (λ x. x.now) found.entry)) }
 {
     match found {
-        Some(value) => value.copy(alloc),
+        Some(value) => value.share(),
         None => Ok(Value::Undefined),
     }
 }
@@ -81,45 +81,40 @@ fn length_or(name: &str, count: usize) -> Result<Value, Memory>
 
 /// `.name`
 #[tactic(auto, unfolding(crate::specs::Values::member))]
-pub(crate) fn member(alloc: Global, place: Place, name: &str, value: &Value) -> Result<Value, Stop>
+pub(crate) fn member(place: Place, name: &str, value: &Value) -> Result<Value, Stop>
     ensures { Gives (spec.member place name.now value.now) result }
 {
     match value {
         Value::Undefined | Value::Null => Err(Stop::fault(FaultKind::NullMember, place)),
-        Value::Object(members) => { Ok(or_undefined(alloc, last_named(name, members.as_slice()))?) }
-        Value::List(values) => Ok(length_or(name, values.len())?),
-        Value::Text(text) => Ok(length_or(name, units(text.as_str().as_bytes())?)?),
+        Value::Object(members) => { Ok(or_undefined(last_named(name, members.get().as_slice()))?) }
+        Value::List(values) => Ok(length_or(name, values.get().len())?),
+        Value::Text(text) => Ok(length_or(name, units(text.get().as_str().as_bytes())?)?),
         _ => Ok(Value::Undefined),
     }
 }
 
 /// The item at a place, or undefined where there is none.
-fn item_at(alloc: Global, values: &[Value], at: i64) -> Result<Value, Memory>
+fn item_at(values: &[Value], at: i64) -> Result<Value, Memory>
     ensures { IfOk result (λ value. value ≡ spec.item_at values.now at) }
 {
     match usize::try_from(at) {
-        Ok(at) => or_undefined(alloc, values.get(at)),
+        Ok(at) => or_undefined(values.get(at)),
         Err(_) => Ok(Value::Undefined),
     }
 }
 
 /// `[e]`
 #[tactic(auto, unfolding(crate::specs::Values::indexed))]
-pub(crate) fn indexed(
-    alloc: Global,
-    place: Place,
-    value: &Value,
-    index: &Value,
-) -> Result<Value, Stop>
+pub(crate) fn indexed(place: Place, value: &Value, index: &Value) -> Result<Value, Stop>
     ensures { Gives (spec.indexed place value.now index.now) result }
 {
     match (value, index) {
         (Value::Undefined | Value::Null, _) => Err(Stop::fault(FaultKind::NullMember, place)),
-        (Value::Object(members), Value::Text(name)) => Ok(or_undefined(
-            alloc,
-            last_named(name.as_str(), members.as_slice()),
-        )?),
-        (Value::List(values), Value::Integer(at)) => Ok(item_at(alloc, values.as_slice(), *at)?),
+        (Value::Object(members), Value::Text(name)) => Ok(or_undefined(last_named(
+            name.get().as_str(),
+            members.get().as_slice(),
+        ))?),
+        (Value::List(values), Value::Integer(at)) => Ok(item_at(values.get().as_slice(), *at)?),
         _ => Err(Stop::fault(FaultKind::TypeFault, place)),
     }
 }
@@ -156,7 +151,7 @@ fn index_of(place: Place, list: &Value, value: &Value) -> Result<Value, Stop>
     match list {
         Value::List(values) => {
             if can_be_sought(value) {
-                Ok(index_from(value, values.as_slice())?)
+                Ok(index_from(value, values.get().as_slice())?)
             } else {
                 Err(Stop::fault(FaultKind::TypeFault, place))
             }
@@ -167,14 +162,24 @@ fn index_of(place: Place, list: &Value, value: &Value) -> Result<Value, Stop>
 
 /// A list of these, unless there are too many.
 #[tactic(auto, unfolding(crate::specs::Values::listed))]
-pub(crate) fn listed(place: Place, values: Items<Value>) -> Result<Value, Stop>
-    ensures { result ≡ spec.listed place values }
+pub(crate) fn listed(alloc: Global, place: Place, values: Items<Value>) -> Result<Value, Stop>
+    ensures { Gives (spec.listed place values) result }
 {
     if values.len() > MAX_ITEMS {
         Err(Stop::fault(FaultKind::Size, place))
     } else {
-        Ok(Value::List(values))
+        Ok(Value::list(alloc, values)?)
     }
+}
+
+/// The values of two lists.
+fn joined(alloc: Global, first: &[Value], second: &[Value]) -> Result<Items<Value>, Memory>
+    ensures { IfOk result (λ all. all ≡ first.now ++ second.now) }
+{
+    let mut all = share_all(alloc, first)?;
+    let more = share_all(alloc, second)?;
+    all.append(more)?;
+    Ok(all)
 }
 
 /// `list.concat(list)`
@@ -184,9 +189,8 @@ fn concat(alloc: Global, place: Place, first: &Value, second: &Value) -> Result<
 {
     match (first, second) {
         (Value::List(a), Value::List(b)) => {
-            let mut all = copy_all(alloc, a.as_slice())?;
-            all.append(copy_all(alloc, b.as_slice())?)?;
-            listed(place, all)
+            let all = joined(alloc, a.get().as_slice(), b.get().as_slice())?;
+            listed(alloc, place, all)
         }
         _ => Err(Stop::fault(FaultKind::TypeFault, place)),
     }
@@ -199,7 +203,10 @@ fn begins_with(place: Place, text: &Value, front: &Value) -> Result<Value, Stop>
 {
     match (text, front) {
         (Value::Text(a), Value::Text(b)) => Ok(Value::Bool(
-            a.as_str().as_bytes().starts_with(b.as_str().as_bytes()),
+            a.get()
+                .as_str()
+                .as_bytes()
+                .starts_with(b.get().as_str().as_bytes()),
         )),
         _ => Err(Stop::fault(FaultKind::TypeFault, place)),
     }

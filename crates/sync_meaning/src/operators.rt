@@ -31,7 +31,7 @@ pub(crate) fn truth(place: Place, value: &Value) -> Result<bool, Stop>
         Value::Bool(truth) => Ok(*truth),
         Value::Integer(n) => Ok(*n != 0),
         Value::Opaque => Err(Stop::fault(FaultKind::TypeFault, place)),
-        Value::Text(text) => Ok(0 < text.len()),
+        Value::Text(text) => Ok(0 < text.get().len()),
         Value::List(_) | Value::Object(_) => Ok(true),
     }
 }
@@ -58,7 +58,7 @@ fn joined(alloc: Global, place: Place, first: &str, second: &str) -> Result<Valu
     }
     let mut text = DocText::from_str(alloc, first)?;
     text.push_str(second)?;
-    Ok(Value::Text(text))
+    Ok(Value::text(alloc, text)?)
 }
 
 /// The decimal of an integer.
@@ -76,14 +76,19 @@ pub(crate) fn added(alloc: Global, place: Place, x: &Value, y: &Value) -> Result
 {
     match (x, y) {
         (Value::Integer(a), Value::Integer(b)) => bounded(place, *a as i128 + *b as i128),
-        (Value::Text(a), Value::Text(b)) => joined(alloc, place, a.as_str(), b.as_str()),
+        (Value::Text(a), Value::Text(b)) => joined(
+            alloc,
+            place,
+            a.get().as_str(),
+            b.get().as_str(),
+        ),
         (Value::Text(a), Value::Integer(b)) => {
             let b = decimal_of(alloc, *b)?;
-            joined(alloc, place, a.as_str(), b.as_str())
+            joined(alloc, place, a.get().as_str(), b.as_str())
         }
         (Value::Integer(a), Value::Text(b)) => {
             let a = decimal_of(alloc, *a)?;
-            joined(alloc, place, a.as_str(), b.as_str())
+            joined(alloc, place, a.as_str(), b.get().as_str())
         }
         _ => Err(Stop::fault(FaultKind::TypeFault, place)),
     }
@@ -136,7 +141,9 @@ fn compared(place: Place, x: &Value, y: &Value) -> Result<Ordering, Stop>
 {
     match (x, y) {
         (Value::Integer(a), Value::Integer(b)) => Ok(a.cmp(b)),
-        (Value::Text(a), Value::Text(b)) => Ok(a.as_str().as_bytes().cmp(b.as_str().as_bytes())),
+        (Value::Text(a), Value::Text(b)) => {
+            Ok(a.get().as_str().as_bytes().cmp(b.get().as_str().as_bytes()))
+        },
         _ => Err(Stop::fault(FaultKind::TypeFault, place)),
     }
 }
@@ -157,7 +164,7 @@ pub(crate) fn same(x: &Value, y: &Value) -> bool
         (Value::Undefined, Value::Undefined) | (Value::Null, Value::Null) => true,
         (Value::Bool(a), Value::Bool(b)) => { if *a { *b } else { !*b } }
         (Value::Integer(a), Value::Integer(b)) => *a == *b,
-        (Value::Text(a), Value::Text(b)) => a.as_str() == b.as_str(),
+        (Value::Text(a), Value::Text(b)) => a.get().as_str() == b.get().as_str(),
         _ => false,
     }
 }
@@ -260,6 +267,6 @@ pub(crate) fn prefixed(alloc: Global, place: Place, op: Prefix, x: &Value) -> Re
     match op {
         Prefix::Not => Ok(Value::Bool(!truth(place, x)?)),
         Prefix::Negate => negated(place, x),
-        Prefix::Typeof => Ok(Value::Text(DocText::from_str(alloc, kind_name(x))?)),
+        Prefix::Typeof => Ok(Value::text(alloc, DocText::from_str(alloc, kind_name(x))?)?),
     }
 }

@@ -1,12 +1,13 @@
 //! Which variables of `let` and `const` are seen at a place.
 
-ghost use Rattle.std.specs.Prelude.{◌≡◌, List, ℕ, Option, IfOk};
+ghost use Rattle.std.specs.Prelude.{◌≡◌, ◌++◌, ◌∷◌, [], List, ℕ, Option, IfOk};
 ghost use Rattle.sync_syntax.specs.declared.tree.Expr.{Expr};
 ghost use Rattle.sync_syntax.specs.declared.tree.Named.{Named};
 ghost use Rattle.sync_meaning.specs.Acts.{Gives};
 ghost use Rattle.sync_meaning.specs.Variables as spec;
 
 use crate::Memory;
+use crate::shared::Shared;
 use crate::value::last_named;
 use json_doc::DocText;
 use sqlite_items::{Boxed, Items};
@@ -14,10 +15,10 @@ use std::alloc::{AllocError, Global};
 use sync_syntax::tree::{Declares, Expr, Named, Start, Statement};
 
 /// The variables of `let` and `const` that are seen at a place, each with its number, and the
-/// number of the next one.
+/// number of the next one. The list is shared until one more is seen.
 #[derive(Drop)]
 pub struct Scope {
-    pub seen: Items<(DocText, u64)>,
+    pub seen: Shared<Items<(DocText, u64)>>,
     pub next: u64,
 }
 
@@ -33,24 +34,39 @@ fn copy_seen(alloc: Global, seen: &[(DocText, u64)]) -> Result<Items<(DocText, u
     Ok(made)
 }
 
+/// What is seen, and one more.
+fn with_one(
+    alloc: Global,
+    seen: &[(DocText, u64)],
+    name: &DocText,
+    number: u64,
+) -> Result<Items<(DocText, u64)>, Memory>
+    ensures { IfOk result (λ made. made ≡ seen.now ++ (name.now, number) ∷ []) }
+{
+    let mut made = copy_seen(alloc, seen)?;
+    let name = name.copy(alloc)?;
+    made.push((name, number))?;
+    Ok(made)
+}
+
 impl Scope {
     /// What is seen at the beginning of a program.
     #[tactic(auto, unfolding(crate::specs::Variables::top))]
-    pub(crate) fn top(alloc: Global) -> Scope
-        ensures { result ≡ spec.top }
+    pub(crate) fn top(alloc: Global) -> Result<Scope, Memory>
+        ensures { IfOk result (λ made. made ≡ spec.top) }
     {
-        Scope {
-            seen: Items::new(alloc),
+        Ok(Scope {
+            seen: Shared::new(alloc, Items::new(alloc))?,
             next: 1,
-        }
+        })
     }
 
     /// The same again.
-    pub(crate) fn copy(&self, alloc: Global) -> Result<Scope, Memory>
+    pub(crate) fn share(&self) -> Result<Scope, Memory>
         ensures { IfOk result (λ made. made ≡ self.now) }
     {
         Ok(Scope {
-            seen: copy_seen(alloc, self.seen.as_slice())?,
+            seen: self.seen.share()?,
             next: self.next,
         })
     }
@@ -60,7 +76,7 @@ impl Scope {
     pub(crate) fn number_of(&self, name: &DocText) -> u64
         ensures { result ≡ spec.number_of name.now self.now }
     {
-        match last_named(name.as_str(), self.seen.as_slice()) {
+        match last_named(name.as_str(), self.seen.get().as_slice()) {
             Some(number) => *number,
             None => 0,
         }
@@ -80,12 +96,15 @@ impl Scope {
     fn with_new(self, alloc: Global, name: &DocText) -> Result<Scope, Memory>
         ensures { IfOk result (λ made. made ≡ spec.declared Declares.Let name.now self) }
     {
-        let Scope { mut seen, next } = self;
+        let Scope { seen, next } = self;
         let Some(after) = next.checked_add(1) else {
             return Err(AllocError);
         };
-        seen.push((name.copy(alloc)?, next))?;
-        Ok(Scope { seen, next: after })
+        let seen = with_one(alloc, seen.get().as_slice(), name, next)?;
+        Ok(Scope {
+            seen: Shared::new(alloc, seen)?,
+            next: after,
+        })
     }
 
     /// What is seen behind the declaration of a variable.
@@ -141,7 +160,7 @@ impl Scope {
     }
 
     /// What is seen behind a block in which so much was declared.
-    fn left(self, seen: Items<(DocText, u64)>) -> Scope
+    fn left(self, seen: Shared<Items<(DocText, u64)>>) -> Scope
         ensures seen { result.seen ≡ seen }
         ensures next { result.next ≡ self.next }
     {
@@ -158,7 +177,7 @@ impl Scope {
     {
         match statement {
             Statement::Block(_, statements) => {
-                let seen = copy_seen(alloc, self.seen.as_slice())?;
+                let seen = self.seen.share()?;
                 Ok(self.behind_all(alloc, statements.as_slice())?.left(seen))
             }
             Statement::Declare(found) => {
@@ -172,12 +191,12 @@ impl Scope {
                 }
             }
             Statement::For(_, start, _, _, body) => {
-                let seen = copy_seen(alloc, self.seen.as_slice())?;
+                let seen = self.seen.share()?;
                 let scope = self.started(alloc, start)?;
                 Ok(scope.behind(alloc, body.get())?.left(seen))
             }
             Statement::ForOf(_, declares, name, _, body) => {
-                let seen = copy_seen(alloc, self.seen.as_slice())?;
+                let seen = self.seen.share()?;
                 let scope = self.declared(alloc, *declares, &name.name)?;
                 Ok(scope.behind(alloc, body.get())?.left(seen))
             }

@@ -12,6 +12,7 @@ use crate::expression::{Expressions, evaluated};
 use crate::fault::{FaultKind, Rule, RuleKind, Stop};
 use crate::operators::{added, bounded, integer_in, subtracted, truth};
 use crate::scope::Scope;
+use crate::shared::Shared;
 use crate::state::State;
 use crate::value::{Value, last_named};
 use json_doc::DocText;
@@ -36,7 +37,7 @@ fn forbidden_in(value: &Value) -> Option<&DocText>
     ensures { option_map (λ text. text.now) result ≡ spec.forbidden_in value.now }
 {
     match value {
-        Value::Object(members) => match last_named("forbidden", members.as_slice()) {
+        Value::Object(members) => match last_named("forbidden", members.get().as_slice()) {
             Some(found) => text_in(found),
             None => None,
         },
@@ -63,7 +64,7 @@ fn thrown(alloc: Global, place: Place, value: &Value) -> Stop
 
 /// The items of a list.
 #[tactic(auto, unfolding(crate::specs::Statements::items_in))]
-pub(crate) fn items_in(place: Place, value: Value) -> Result<Items<Value>, Stop>
+pub(crate) fn items_in(place: Place, value: Value) -> Result<Shared<Items<Value>>, Stop>
     ensures { result ≡ spec.items_in place value }
 {
     match value {
@@ -174,7 +175,7 @@ impl Parts {
             result state.new }
     {
         state.visit(found.place)?;
-        let first = scope.copy(self.alloc)?;
+        let first = scope.share()?;
         self.declare_all(first, state, found.declares, found.names.as_slice())
     }
 
@@ -199,7 +200,7 @@ impl Parts {
         ensures { Does (spec.add_to self.now.depth scope.now name.now expr.now state.old)
             result state.new }
     {
-        let first = state.read(self.alloc, scope, &name.name)?;
+        let first = state.read(scope, &name.name)?;
         let second = self.value(scope, state, expr)?;
         let value = added(self.alloc, name.place, &first, &second)?;
         state.assign(self.alloc, scope, &name.name, value)
@@ -217,7 +218,7 @@ impl Parts {
         ensures { Does (spec.subtract_from self.now.depth scope.now name.now expr.now state.old)
             result state.new }
     {
-        let first = state.read(self.alloc, scope, &name.name)?;
+        let first = state.read(scope, &name.name)?;
         let second = self.value(scope, state, expr)?;
         let value = subtracted(name.place, &first, &second)?;
         state.assign(self.alloc, scope, &name.name, value)
@@ -228,7 +229,7 @@ impl Parts {
     fn count(&self, scope: &Scope, state: &mut State, name: &Named, by: i64) -> Result<(), Stop>
         ensures { Does (spec.count scope.now name.now by state.old) result state.new }
     {
-        let first = state.read(self.alloc, scope, &name.name)?;
+        let first = state.read(scope, &name.name)?;
         let value = one_more(name.place, &first, by)?;
         state.assign(self.alloc, scope, &name.name, value)
     }

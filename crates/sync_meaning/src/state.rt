@@ -60,16 +60,11 @@ impl State {
 
     /// What a variable of the scope holds.
     #[tactic(auto, unfolding(crate::specs::Expressions::read))]
-    pub(crate) fn read(
-        &mut self,
-        alloc: Global,
-        scope: &Scope,
-        name: &DocText,
-    ) -> Result<Value, Stop>
+    pub(crate) fn read(&mut self, scope: &Scope, name: &DocText) -> Result<Value, Stop>
         ensures { Does (expressions.read scope.now name.now self.old) result self.new }
     {
         let number = scope.number_of(name);
-        Ok(variables::value_in(alloc, name, number, self.variables.as_slice())?)
+        Ok(variables::value_in(name, number, self.variables.as_slice())?)
     }
 
     /// The variable of this name and number takes a value.

@@ -108,7 +108,7 @@ impl<F: Fn(Global, u64, &Scope, &mut State, &Statement) -> Result<Completion, St
             statements.now state.old) result state.new }
     {
         state.visit(place)?;
-        self.run_all(scope.copy(self.alloc)?, state, statements)
+        self.run_all(scope.share()?, state, statements)
     }
 
     /// The statement behind `else`, which sees what the first one declares.
@@ -125,7 +125,7 @@ impl<F: Fn(Global, u64, &Scope, &mut State, &Statement) -> Result<Completion, St
     {
         match other {
             Some(other) => {
-                let scope = scope.copy(self.alloc)?.behind(self.alloc, first)?;
+                let scope = scope.share()?.behind(self.alloc, first)?;
                 self.inner(&scope, state, other.get())
             }
             None => Ok(Completion::Normal),
@@ -203,7 +203,7 @@ impl<F: Fn(Global, u64, &Scope, &mut State, &Statement) -> Result<Completion, St
     {
         state.visit(place)?;
         self.parts().start(scope, state, start)?;
-        let inside = scope.copy(self.alloc)?.started(self.alloc, start)?;
+        let inside = scope.share()?.started(self.alloc, start)?;
         self.all_rounds(&inside, state, place, condition, step, body)
     }
 
@@ -223,7 +223,7 @@ impl<F: Fn(Global, u64, &Scope, &mut State, &Statement) -> Result<Completion, St
     {
         let mut left = items;
         while let [item, rest @ ..] = left {
-            state.store(self.alloc, name, number, item.copy(self.alloc)?)?;
+            state.store(self.alloc, name, number, item.share()?)?;
             match self.inner(scope, state, body)? {
                 Completion::Break => return Ok(Completion::Normal),
                 Completion::Return => return Ok(Completion::Return),
@@ -253,10 +253,15 @@ impl<F: Fn(Global, u64, &Scope, &mut State, &Statement) -> Result<Completion, St
         let value = self.parts().value(scope, state, expr)?;
         let items = items_in(place, value)?;
         let number = scope.new_number(declares);
-        let inside = scope
-            .copy(self.alloc)?
-            .declared(self.alloc, declares, &name.name)?;
-        self.each(&inside, state, &name.name, number, body, items.as_slice())
+        let inside = scope.share()?.declared(self.alloc, declares, &name.name)?;
+        self.each(
+            &inside,
+            state,
+            &name.name,
+            number,
+            body,
+            items.get().as_slice(),
+        )
     }
 
     #[tactic(auto, unfolding(crate::specs::Statements::opened))]

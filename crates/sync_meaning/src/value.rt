@@ -2,15 +2,17 @@
 
 ghost use Rattle.std.specs.Prelude.{◌≡◌, IfOk, option_map};
 ghost use Rattle.json_doc.specs.View.{node_tree, row_trees, members_fields};
+ghost use Rattle.sync_meaning.specs.declared.value.Value as Value;
 ghost use Rattle.sync_meaning.specs.Values.{value_of, values_of, members_of, last_named};
 
 use crate::Memory;
+use crate::shared::Shared;
 use json_doc::{DocText, Members, Node};
 use sqlite_items::Items;
 use std::alloc::Global;
 
 /// A value. Of an opaque number nothing is known but that it is a number. Of two members of one
-/// name the later counts.
+/// name the later counts. Its texts, lists and members are shared, so that no copy of them is made.
 #[derive(Debug, Drop)]
 pub enum Value {
     Undefined,
@@ -18,15 +20,14 @@ pub enum Value {
     Bool(bool),
     Integer(i64),
     Opaque,
-    Text(DocText),
-    List(Items<Value>),
-    Object(Items<(DocText, Value)>),
+    Text(Shared<DocText>),
+    List(Shared<Items<Value>>),
+    Object(Shared<Items<(DocText, Value)>>),
 }
 
 impl Value {
-    /// The same again.
-    #[cycle(copy)]
-    pub fn copy(&self, alloc: Global) -> Result<Value, Memory>
+    /// The same again, with the same texts, lists and members.
+    pub fn share(&self) -> Result<Value, Memory>
         ensures { IfOk result (λ made. made ≡ self.now) }
     {
         match self {
@@ -35,37 +36,41 @@ impl Value {
             Value::Bool(truth) => Ok(Value::Bool(*truth)),
             Value::Integer(n) => Ok(Value::Integer(*n)),
             Value::Opaque => Ok(Value::Opaque),
-            Value::Text(text) => Ok(Value::Text(text.copy(alloc)?)),
-            Value::List(values) => Ok(Value::List(copy_all(alloc, values.as_slice())?)),
-            Value::Object(members) => Ok(Value::Object(copy_members(alloc, members.as_slice())?)),
+            Value::Text(text) => Ok(Value::Text(text.share()?)),
+            Value::List(values) => Ok(Value::List(values.share()?)),
+            Value::Object(members) => Ok(Value::Object(members.share()?)),
         }
+    }
+
+    /// A text.
+    pub(crate) fn text(alloc: Global, text: DocText) -> Result<Value, Memory>
+        ensures { IfOk result (λ made. made ≡ Value.Text text) }
+    {
+        Ok(Value::Text(Shared::new(alloc, text)?))
+    }
+
+    /// A list of these.
+    pub(crate) fn list(alloc: Global, values: Items<Value>) -> Result<Value, Memory>
+        ensures { IfOk result (λ made. made ≡ Value.List values) }
+    {
+        Ok(Value::List(Shared::new(alloc, values)?))
+    }
+
+    /// An object with these members.
+    pub(crate) fn object(alloc: Global, members: Items<(DocText, Value)>) -> Result<Value, Memory>
+        ensures { IfOk result (λ made. made ≡ Value.Object members) }
+    {
+        Ok(Value::Object(Shared::new(alloc, members)?))
     }
 }
 
 /// Values, the same again.
-#[cycle(copy)]
-pub(crate) fn copy_all(alloc: Global, values: &[Value]) -> Result<Items<Value>, Memory>
+pub(crate) fn share_all(alloc: Global, values: &[Value]) -> Result<Items<Value>, Memory>
     ensures { IfOk result (λ made. made ≡ values.now) }
 {
     let mut made = Items::new(alloc);
     for value in values {
-        made.push(value.copy(alloc)?)?;
-    }
-    Ok(made)
-}
-
-#[cycle(copy)]
-fn copy_members(
-    alloc: Global,
-    members: &[(DocText, Value)],
-) -> Result<Items<(DocText, Value)>, Memory>
-    ensures { IfOk result (λ made. made ≡ members.now) }
-{
-    let mut made = Items::new(alloc);
-    for member in members {
-        let name = member.0.copy(alloc)?;
-        let value = member.1.copy(alloc)?;
-        made.push((name, value))?;
+        made.push(value.share()?)?;
     }
     Ok(made)
 }
@@ -80,9 +85,9 @@ pub(crate) fn value_of(alloc: Global, node: &Node) -> Result<Value, Memory>
         Node::Bool(truth) => Ok(Value::Bool(*truth)),
         Node::Int(n) => Ok(Value::Integer(*n)),
         Node::Opaque => Ok(Value::Opaque),
-        Node::Text(text) => Ok(Value::Text(text.copy(alloc)?)),
-        Node::List(nodes) => Ok(Value::List(values_of(alloc, nodes.as_slice())?)),
-        Node::Object(members) => Ok(Value::Object(members_of(alloc, members)?)),
+        Node::Text(text) => Value::text(alloc, text.copy(alloc)?),
+        Node::List(nodes) => Value::list(alloc, values_of(alloc, nodes.as_slice())?),
+        Node::Object(members) => Value::object(alloc, members_of(alloc, members)?),
     }
 }
 

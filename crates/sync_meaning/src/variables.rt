@@ -29,18 +29,13 @@ impl Variable {
 }
 
 /// What a variable holds.
-pub(crate) fn value_in(
-    alloc: Global,
-    name: &DocText,
-    number: u64,
-    variables: &[Variable],
-) -> Result<Value, Memory>
+pub(crate) fn value_in(name: &DocText, number: u64, variables: &[Variable]) -> Result<Value, Memory>
     ensures { IfOk result (λ value. value ≡ spec.value_in name.now number variables.now) }
 {
     let mut left = variables;
     while let [variable, rest @ ..] = left {
         if variable.is(name, number) {
-            return variable.value.copy(alloc);
+            return variable.value.share();
         }
         left = rest;
     }
