@@ -7,15 +7,15 @@ use Rattle.grant_history.specs.Sorted.{AreSorted}
 use Rattle.sync_meaning.specs.declared.state.Context.{Context}
 
 -- names in their order, each once, which are those of which something holds
-pub record AreNamed (holds : List ℕ → Bool) (names : List (List ℕ)) : Type 0 where
-  pub order : AreSorted names
-  pub names : (name : List ℕ) → among names name ≡ holds name
+pub record AreNamed (holds : List ℕ → Bool) (list : List (List ℕ)) : Type 0 where
+  pub order : AreSorted list
+  pub names : (name : List ℕ) → among list name ≡ holds name
 
 -- the user, with the roles and channels that it has after these entries
-pub record IsUserWith (es : List Entry) (user : List ℕ) (context : Context) : Type 0 where
-  pub user : context.user ≡ Some user
-  pub roles : AreNamed (has_role es user) context.roles
-  pub channels : AreNamed (has_channel es user) context.channels
+pub record IsUserWith (es : List Entry) (name : List ℕ) (context : Context) : Type 0 where
+  pub user : context.user ≡ Some name
+  pub roles : AreNamed (has_role es name) context.roles
+  pub channels : AreNamed (has_channel es name) context.channels
 
 -- a user with its roles and channels after these entries, or the administrator, who has none
 abbrev pub IsContext : List Entry → Option (List ℕ) → Context → Type 0
