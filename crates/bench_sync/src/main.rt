@@ -1,9 +1,13 @@
 //! Reads or prints a program of the sync language as often as it is told, so that a clock outside can time it: the
 //! default function, or one of so many statements. Or reads one of the bad texts, and prints its fault. Or reads one
-//! of the longest texts as often as it is told, and prints what it is read as.
+//! of the longest texts as often as it is told, and prints what it is read as. Or judges a document by one of the
+//! functions as often as it is told, or does the same work in plain code.
 #![tactic(auto)]
 
+mod judging;
+
 use json_doc::DocText;
+use judging::{judged, plain, work_of};
 use std::alloc::{AllocError, Global};
 use std::{env, io};
 use sync_print::print;
@@ -258,6 +262,27 @@ fn number(word: Option<String>) -> u32 {
     }
 }
 
+/// Judges by one of the functions, or does its work in plain code.
+fn print_work(
+    rt: &impl Print,
+    alloc: Global,
+    is_plain: bool,
+    which: u32,
+    count: u32,
+) -> io::Result<()> {
+    let Some(work) = work_of(which) else {
+        return Ok(());
+    };
+    let name = work.name;
+    if is_plain {
+        let found = plain(alloc, which, work, count)?;
+        println!(rt; "{name}: {found}")
+    } else {
+        let found = judged(alloc, work, count)?;
+        println!(rt; "{name}: {found} times")
+    }
+}
+
 fn main(rt: HostRuntime) -> io::Result<()> {
     let alloc = rt.alloc();
     let mut words = env::args(&rt)?;
@@ -278,6 +303,9 @@ fn main(rt: HostRuntime) -> io::Result<()> {
         let found = read_and_print(alloc, text.as_str(), count);
         print!(rt; "{name}: {found} times, ")?;
         return print_fault(&rt, alloc, text.as_str());
+    }
+    if mode == 4 || mode == 5 {
+        return print_work(&rt, alloc, mode == 5, size, count);
     }
     let text = function(alloc, size)?;
     let len = text.len();
