@@ -18,6 +18,15 @@ const INDEXING: &str =
 /// Goes over a list and does nothing.
 const PASSING: &str = "function(doc) { for (let x of doc.list) {} }";
 
+/// Never ends, and does nothing.
+const IDLE: &str = "function(doc) { for (;;) ; }";
+
+/// Never ends, and puts a list into another at each round.
+const NESTING: &str = "function(doc) { let x = 1; for (;;) x = [x]; }";
+
+/// Never ends, and puts a list twice into another at each round.
+const DOUBLING: &str = "function(doc) { let x = 1; for (;;) x = [x, x]; }";
+
 /// A function with the count of items of its document.
 #[derive(Clone, Copy, Debug)]
 pub struct Work {
@@ -42,6 +51,9 @@ pub fn work_of(which: u32) -> Option<Work> {
         ),
         3 => work_with("1,000 items that are passed over", PASSING, 1000),
         4 => work_with("20,000 items that are passed over", PASSING, 20000),
+        5 => work_with("a loop that never ends", IDLE, 2),
+        6 => work_with("lists in lists without end", NESTING, 2),
+        7 => work_with("lists twice in lists without end", DOUBLING, 2),
         _ => return None,
     };
     Some(found)
@@ -174,13 +186,18 @@ fn plain_once(alloc: Global, which: u32, doc: &Doc) -> Result<usize, AllocError>
     }
 }
 
+/// How many channels or items the work came to in so many times.
+fn plain_times(alloc: Global, which: u32, doc: &Doc, count: u32) -> Result<usize, AllocError> {
+    let mut found: usize = 0;
+    for _ in 0..count {
+        found = found.saturating_add(plain_once(alloc, which, doc)?);
+    }
+    Ok(found)
+}
+
 /// The same work in plain code, so many times: how many channels or items it came to.
 pub fn plain(alloc: Global, which: u32, work: Work, count: u32) -> Result<usize, AllocError> {
     let text = document(alloc, work.items)?;
     let doc = read(alloc, text.as_str())?;
-    let mut found: usize = 0;
-    for _ in 0..count {
-        found = found.saturating_add(plain_once(alloc, which, &doc)?);
-    }
-    Ok(found)
+    plain_times(alloc, which, &doc, count)
 }
