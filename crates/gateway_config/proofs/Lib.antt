@@ -1,0 +1,4 @@
+pub mod Firsts
+pub mod Earlier
+pub mod Sets
+pub mod Sync

@@ -1,0 +1,5 @@
+//! Tests of the gateway's configuration.
+#![tactic(auto)]
+
+#[cfg(test)]
+mod configurations;
