@@ -1,16 +1,10 @@
 -- the tests of roles and users, by what earlier ones have
-use Rattle.std.proofs.Common.{◌≡◌, ℕ, List, [], ◌∷◌, ◌++◌, refl, sym, ap, ◌∙◌, Bool, true, false, ◌||◌, Option, Some, None}
+use Rattle.std.proofs.Common.{◌≡◌, ℕ, List, [], refl, ap, Bool, false, Option, Some, None}
 use Rattle.std.specs.Prelude.{option_and_then}
 use Rattle.std.specs.Option.{option_map_or, option_or}
-use Rattle.std.specs.List.{list_any}
-use Rattle.std.specs.Str.{bytes_eq}
-use Rattle.std.proofs.lemmas.List.Folds.{list_any-append}
-use Rattle.serde_json.specs.Data.{Data, null, boolean, number, string, array, object, Members}
-use Rattle.serde_json.specs.Find.{get_member}
+use Rattle.serde_json.specs.Data.{Data, null, boolean, number, string, array, object}
 use Rattle.sg_names.specs.Grammar.{is_name}
-use Rattle.gateway_config.specs.declared.config.ConfigRole.{ConfigRole}
-use Rattle.gateway_config.specs.declared.config.ConfigUser.{ConfigUser}
-use Rattle.gateway_config.specs.Faults.{has_session, is_role_of, is_session_of, is_user_of, name_why, needed_why, optional_why, session_why, twice_why}
+use Rattle.gateway_config.specs.Faults.{name_why, needed_why, optional_why, session_why, twice_why}
 use Rattle.gateway_config.specs.Grammar.{is_session}
 use Rattle.gateway_config.specs.Members.{read_or, text_in}
 use Rattle.gateway_config.specs.Objects.{role_fault, user_fault}

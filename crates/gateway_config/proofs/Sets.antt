@@ -1,5 +1,5 @@
 -- what a set of texts has once one was put in
-use Rattle.std.proofs.Common.{◌≡◌, ◌∙◌, ℕ, refl, sym, ap, Bool, true, false, ◌||◌, not, List, Option, Some, None, if◌then◌else◌, Bor}
+use Rattle.std.proofs.Common.{◌≡◌, ◌∙◌, ℕ, refl, ap, Bool, true, false, ◌||◌, not, List, Option, Some, None, if◌then◌else◌, Bor}
 use Rattle.std.specs.Prelude.{is_none, is_some}
 use Rattle.std.proofs.lemmas.Map.Text.{btree_map_updates_str}
 use Rattle.std.specs.BTreeMap.{BTreeMap, UpdatesBy, get_by}

@@ -1,6 +1,6 @@
 -- the sync function's text, its program and the faults of its names
-use Rattle.std.proofs.Common.{◌≡◌, ◌≢◌, ℕ, ◌<◌, List, [], ◌∷◌, length, refl, sym, ap, ◌∙◌, Bool, true, false, arith, Option, Some, None}
-use Rattle.std.specs.Prelude.{Result, Ok, Err}
+use Rattle.std.proofs.Common.{◌≡◌, List, [], ◌∷◌, refl, true, false, arith}
+use Rattle.std.specs.Prelude.{Result, Err}
 use Rattle.std.specs.List.{Contains}
 use Rattle.sync_syntax.specs.declared.fault.ParseFault.{ParseFault}
 use Rattle.sync_syntax.specs.declared.tree.Program.{Program}

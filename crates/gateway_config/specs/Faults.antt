@@ -1,5 +1,5 @@
 -- What is wrong with a configuration: its first bad member, and why it is bad.
-use Rattle.std.specs.Prelude.{◌≡◌, ℕ, Bool, true, false, not, List, [], ◌∷◌, ◌++◌, length, codes, decimal, Option, Some, None, option_and_then, Result, Ok, Err, if◌then◌else◌}
+use Rattle.std.specs.Prelude.{◌≡◌, ℕ, Bool, true, false, List, [], ◌∷◌, ◌++◌, length, codes, decimal, Option, Some, None, option_and_then, Result, Ok, Err, if◌then◌else◌}
 use Rattle.std.specs.List.{list_any}
 use Rattle.std.specs.Option.{option_map_or, option_or}
 use Rattle.std.specs.Str.{bytes_eq}
@@ -168,9 +168,9 @@ users_fault earlier (item d ds) =
     (users_fault (earlier ++ user_in d ∷ []) ds)
 
 -- what is wrong with a member that is to be a list, by what is wrong with its items
-abbrev pub list_fault : List ℕ → (Items → Option Fault) → Option Data → Option Fault
-list_fault name fault None = None
-list_fault name fault (Some d) = option_map_or fault (as_array d) (Some (record { path = member_path [] name; why = why.Value }))
+abbrev pub list_fault : List ℕ → List ℕ → (Items → Option Fault) → Option Data → Option Fault
+list_fault path name fault None = None
+list_fault path name fault (Some d) = option_map_or fault (as_array d) (at_member path name (Some why.Value))
 
 -- ---- the sync function
 
@@ -197,38 +197,38 @@ abbrev pub config_members : List (List ℕ)
 config_members =
     codes "database" ∷ codes "bind" ∷ codes "accepts" ∷ codes "conflicts" ∷ codes "sync" ∷ codes "roles" ∷ codes "users" ∷ []
 
-abbrev pub database_fault : Members → Option Fault
-database_fault ms = at_member [] (codes "database") (needed_why (text_in is_database) (get_member (codes "database") ms))
+abbrev pub database_fault : List ℕ → Members → Option Fault
+database_fault path ms = at_member path (codes "database") (needed_why (text_in is_database) (get_member (codes "database") ms))
 
-abbrev pub bind_fault : Members → Option Fault
-bind_fault ms = at_member [] (codes "bind") (optional_why as_str (get_member (codes "bind") ms))
+abbrev pub bind_fault : List ℕ → Members → Option Fault
+bind_fault path ms = at_member path (codes "bind") (optional_why as_str (get_member (codes "bind") ms))
 
-abbrev pub accepts_fault : Members → Option Fault
-accepts_fault ms = at_member [] (codes "accepts") (optional_why count_in (get_member (codes "accepts") ms))
+abbrev pub accepts_fault : List ℕ → Members → Option Fault
+accepts_fault path ms = at_member path (codes "accepts") (optional_why count_in (get_member (codes "accepts") ms))
 
-abbrev pub conflicts_fault : Members → Option Fault
-conflicts_fault ms = at_member [] (codes "conflicts") (optional_why as_bool (get_member (codes "conflicts") ms))
+abbrev pub conflicts_fault : List ℕ → Members → Option Fault
+conflicts_fault path ms = at_member path (codes "conflicts") (optional_why as_bool (get_member (codes "conflicts") ms))
 
-abbrev pub sync_fault : Members → Option Fault
-sync_fault ms = at_member [] (codes "sync") (sync_why (get_member (codes "sync") ms))
+abbrev pub sync_fault : List ℕ → Members → Option Fault
+sync_fault path ms = at_member path (codes "sync") (sync_why (get_member (codes "sync") ms))
 
--- the first fault of an object's members
-abbrev pub members_fault : Members → Option Fault
-members_fault ms = first_of (
-    database_fault ms
-    ∷ bind_fault ms
-    ∷ accepts_fault ms
-    ∷ conflicts_fault ms
-    ∷ sync_fault ms
-    ∷ list_fault (codes "roles") (roles_fault []) (get_member (codes "roles") ms)
-    ∷ list_fault (codes "users") (users_fault []) (get_member (codes "users") ms)
-    ∷ unknown [] config_members ms
+-- the first fault of the members of the whole, whose path is empty
+abbrev pub members_fault : List ℕ → Members → Option Fault
+members_fault path ms = first_of (
+    database_fault path ms
+    ∷ bind_fault path ms
+    ∷ accepts_fault path ms
+    ∷ conflicts_fault path ms
+    ∷ sync_fault path ms
+    ∷ list_fault path (codes "roles") (roles_fault []) (get_member (codes "roles") ms)
+    ∷ list_fault path (codes "users") (users_fault []) (get_member (codes "users") ms)
+    ∷ unknown path config_members ms
     ∷ [])
 
 -- the first fault of what bytes are read as
 abbrev pub tree_fault : Option Data → Option Fault
 tree_fault None = Some (record { path = []; why = why.NotJson })
-tree_fault (Some d) = object_fault [] why.NotObject members_fault d
+tree_fault (Some d) = object_fault [] why.NotObject (members_fault []) d
 
 -- the first fault of a configuration; none where it is accepted
 abbrev pub config_fault : List ℕ → Option Fault

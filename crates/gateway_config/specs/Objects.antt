@@ -1,5 +1,5 @@
 -- What only proofs need besides: objects as their members, and the tests of a part of an object's members.
-use Rattle.std.specs.Prelude.{◌≡◌, ℕ, Bool, List, [], ◌∷◌, codes, Option, None}
+use Rattle.std.specs.Prelude.{◌≡◌, ℕ, Bool, List, [], ◌∷◌, codes, Option}
 use Rattle.serde_json.specs.Data.{Data, Members}
 use Rattle.serde_json.specs.Find.{get_member}
 use Rattle.serde_json.specs.View.{members_view}
@@ -36,31 +36,31 @@ abbrev pub user_fault : ℕ → (List ℕ → Bool) → (List ℕ → Bool) → 
 user_fault place taken session_taken d =
     object_fault (item_path (codes "users") place) why.Value (user_object_fault (item_path (codes "users") place) taken session_taken) d
 
-abbrev pub text_tests : Members → List (Option Fault)
-text_tests ms = database_fault ms ∷ bind_fault ms ∷ []
+abbrev pub text_tests : List ℕ → Members → List (Option Fault)
+text_tests path ms = database_fault path ms ∷ bind_fault path ms ∷ []
 
-abbrev pub limit_tests : Members → List (Option Fault)
-limit_tests ms = accepts_fault ms ∷ conflicts_fault ms ∷ []
+abbrev pub limit_tests : List ℕ → Members → List (Option Fault)
+limit_tests path ms = accepts_fault path ms ∷ conflicts_fault path ms ∷ []
 
-abbrev pub setting_tests : Members → List (Option Fault)
-setting_tests ms = database_fault ms ∷ bind_fault ms ∷ accepts_fault ms ∷ conflicts_fault ms ∷ []
+abbrev pub setting_tests : List ℕ → Members → List (Option Fault)
+setting_tests path ms = database_fault path ms ∷ bind_fault path ms ∷ accepts_fault path ms ∷ conflicts_fault path ms ∷ []
 
-abbrev pub first_tests : Members → List (Option Fault)
-first_tests ms = database_fault ms ∷ bind_fault ms ∷ accepts_fault ms ∷ conflicts_fault ms ∷ sync_fault ms ∷ []
+abbrev pub first_tests : List ℕ → Members → List (Option Fault)
+first_tests path ms = database_fault path ms ∷ bind_fault path ms ∷ accepts_fault path ms ∷ conflicts_fault path ms ∷ sync_fault path ms ∷ []
 
-abbrev pub roles_test : Members → Option Fault
-roles_test ms = list_fault (codes "roles") (roles_fault []) (get_member (codes "roles") ms)
+abbrev pub roles_test : List ℕ → Members → Option Fault
+roles_test path ms = list_fault path (codes "roles") (roles_fault []) (get_member (codes "roles") ms)
 
-abbrev pub users_test : Members → Option Fault
-users_test ms = list_fault (codes "users") (users_fault []) (get_member (codes "users") ms)
+abbrev pub users_test : List ℕ → Members → Option Fault
+users_test path ms = list_fault path (codes "users") (users_fault []) (get_member (codes "users") ms)
 
-abbrev pub principal_tests : Members → List (Option Fault)
-principal_tests ms = roles_test ms ∷ users_test ms ∷ []
+abbrev pub principal_tests : List ℕ → Members → List (Option Fault)
+principal_tests path ms = roles_test path ms ∷ users_test path ms ∷ []
 
 -- the tests of a configuration but the last, for members of other names
-abbrev pub known_tests : Members → List (Option Fault)
-known_tests ms =
-    database_fault ms ∷ bind_fault ms ∷ accepts_fault ms ∷ conflicts_fault ms ∷ sync_fault ms ∷ roles_test ms ∷ users_test ms ∷ []
+abbrev pub known_tests : List ℕ → Members → List (Option Fault)
+known_tests path ms =
+    database_fault path ms ∷ bind_fault path ms ∷ accepts_fault path ms ∷ conflicts_fault path ms ∷ sync_fault path ms ∷ roles_test path ms ∷ users_test path ms ∷ []
 
 -- the settings are those of the members
 pub record HasSettings (ms : Members) (s : Settings) : Type 0 where

@@ -72,7 +72,7 @@ pub(crate) fn read_program(
     alloc: Global,
     object: &Object<'_, '_>,
 ) -> Result<Arc<Resolved>, ConfigFault>
-    ensures { Gives (sync_fault (members_of object.now)) (λ program. syntax.parsed (sync_of (members_of object.now)) ≡ Ok (arc_value program)) result }
+    ensures { Gives (sync_fault object.now.path.now (members_of object.now)) (λ program. syntax.parsed (sync_of (members_of object.now)) ≡ Ok (arc_value program)) result }
 {
     let text = read_text(alloc, object)?;
     match sound(alloc, text)? {

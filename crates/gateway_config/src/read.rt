@@ -27,7 +27,7 @@ fn read_first(
     alloc: Global,
     object: &Object<'_, '_>,
 ) -> Result<(Settings, Arc<Resolved>), ConfigFault>
-    ensures { Gives (first_of (first_tests (members_of object.now))) (λ p. HasSettings (members_of object.now) p.0 × (parsed (sync_of (members_of object.now)) ≡ Ok (arc_value p.1))) result }
+    ensures { Gives (first_of (first_tests object.now.path.now (members_of object.now))) (λ p. HasSettings (members_of object.now) p.0 × (parsed (sync_of (members_of object.now)) ≡ Ok (arc_value p.1))) result }
 {
     let settings = read_settings(alloc, object)?;
     let program = read_program(alloc, object)?;
@@ -39,7 +39,7 @@ fn read_principals(
     alloc: Global,
     object: &Object<'_, '_>,
 ) -> Result<(ConfigRoles, ConfigUsers), ConfigFault>
-    ensures { Gives (first_of (principal_tests (members_of object.now))) (λ p. (p.0 ≡ roles_of (items_at (codes "roles") (members_of object.now))) × (p.1 ≡ users_of (items_at (codes "users") (members_of object.now)))) result }
+    ensures { Gives (first_of (principal_tests object.now.path.now (members_of object.now))) (λ p. (p.0 ≡ roles_of (items_at (codes "roles") (members_of object.now))) × (p.1 ≡ users_of (items_at (codes "users") (members_of object.now)))) result }
 {
     let roles = read_roles(alloc, object)?;
     let users = read_users(alloc, object)?;
@@ -47,7 +47,7 @@ fn read_principals(
 }
 
 fn read_known(alloc: Global, object: &Object<'_, '_>) -> Result<Config, ConfigFault>
-    ensures { Gives (first_of (known_tests (members_of object.now))) (λ config. Says (members_of object.now) config) result }
+    ensures { Gives (first_of (known_tests object.now.path.now (members_of object.now))) (λ config. Says (members_of object.now) config) result }
 {
     let (settings, program) = read_first(alloc, object)?;
     let (roles, users) = read_principals(alloc, object)?;
@@ -63,7 +63,7 @@ fn read_known(alloc: Global, object: &Object<'_, '_>) -> Result<Config, ConfigFa
 }
 
 fn read_object(alloc: Global, object: &Object<'_, '_>) -> Result<Config, ConfigFault>
-    ensures { Gives (members_fault (members_of object.now)) (λ config. Says (members_of object.now) config) result }
+    ensures { Gives (members_fault object.now.path.now (members_of object.now)) (λ config. Says (members_of object.now) config) result }
 {
     let config = read_known(alloc, object)?;
     object.only(
@@ -99,7 +99,7 @@ fn value_of(alloc: Global, bytes: &[u8]) -> Result<Value, ConfigFault>
 }
 
 fn read_value(alloc: Global, value: &Value) -> Result<Config, ConfigFault>
-    ensures { Gives (object_fault [] ConfigWhy.NotObject members_fault (view value.now)) (λ config. SaysIn (view value.now) config) result }
+    ensures { Gives (object_fault [] ConfigWhy.NotObject (members_fault []) (view value.now)) (λ config. SaysIn (view value.now) config) result }
 {
     match value.as_object() {
         Some(members) => read_object(alloc, &Object::new("", members)),

@@ -124,7 +124,7 @@ fn read_items(alloc: Global, items: &[Value]) -> Result<ConfigRoles, ConfigFault
 
 /// Reads the roles of a configuration.
 pub(crate) fn read_roles(alloc: Global, object: &Object<'_, '_>) -> Result<ConfigRoles, ConfigFault>
-    ensures { Gives (roles_test (members_of object.now)) (λ roles. roles ≡ roles_of (items_at (codes "roles") (members_of object.now))) result }
+    ensures { Gives (roles_test object.now.path.now (members_of object.now)) (λ roles. roles ≡ roles_of (items_at (codes "roles") (members_of object.now))) result }
 {
     let Some(value) = object.get("roles") else {
         return Ok(ConfigRoles::new(alloc));

@@ -31,7 +31,7 @@ pub(crate) struct Settings {
 }
 
 fn read_database(alloc: Global, object: &Object<'_, '_>) -> Result<DocText, ConfigFault>
-    ensures { Gives (database_fault (members_of object.now)) (λ database. database ≡ database_of (members_of object.now)) result }
+    ensures { Gives (database_fault object.now.path.now (members_of object.now)) (λ database. database ≡ database_of (members_of object.now)) result }
 {
     let Some(value) = object.get("database") else {
         return Err(object.refuse(alloc, "database", ConfigWhy::Missing));
@@ -43,7 +43,7 @@ fn read_database(alloc: Global, object: &Object<'_, '_>) -> Result<DocText, Conf
 }
 
 fn read_bind(alloc: Global, object: &Object<'_, '_>) -> Result<DocText, ConfigFault>
-    ensures { Gives (bind_fault (members_of object.now)) (λ bind. bind ≡ bind_of (members_of object.now)) result }
+    ensures { Gives (bind_fault object.now.path.now (members_of object.now)) (λ bind. bind ≡ bind_of (members_of object.now)) result }
 {
     let Some(value) = object.get("bind") else {
         return Ok(DocText::from_str(alloc, DEFAULT_BIND)?);
@@ -67,7 +67,7 @@ fn count_in(value: &Value) -> Option<u64>
 }
 
 fn read_accepts(alloc: Global, object: &Object<'_, '_>) -> Result<u64, ConfigFault>
-    ensures { Gives (accepts_fault (members_of object.now)) (λ accepts. accepts ≡ accepts_of (members_of object.now)) result }
+    ensures { Gives (accepts_fault object.now.path.now (members_of object.now)) (λ accepts. accepts ≡ accepts_of (members_of object.now)) result }
 {
     let Some(value) = object.get("accepts") else {
         return Ok(MOST_ACCEPTS);
@@ -79,7 +79,7 @@ fn read_accepts(alloc: Global, object: &Object<'_, '_>) -> Result<u64, ConfigFau
 }
 
 fn read_conflicts(alloc: Global, object: &Object<'_, '_>) -> Result<bool, ConfigFault>
-    ensures { Gives (conflicts_fault (members_of object.now)) (λ conflicts. conflicts ≡ conflicts_of (members_of object.now)) result }
+    ensures { Gives (conflicts_fault object.now.path.now (members_of object.now)) (λ conflicts. conflicts ≡ conflicts_of (members_of object.now)) result }
 {
     let Some(value) = object.get("conflicts") else {
         return Ok(true);
@@ -91,7 +91,7 @@ fn read_conflicts(alloc: Global, object: &Object<'_, '_>) -> Result<bool, Config
 }
 
 fn read_texts(alloc: Global, object: &Object<'_, '_>) -> Result<(DocText, DocText), ConfigFault>
-    ensures { Gives (first_of (text_tests (members_of object.now))) (λ p. (p.0 ≡ database_of (members_of object.now)) × (p.1 ≡ bind_of (members_of object.now))) result }
+    ensures { Gives (first_of (text_tests object.now.path.now (members_of object.now))) (λ p. (p.0 ≡ database_of (members_of object.now)) × (p.1 ≡ bind_of (members_of object.now))) result }
 {
     let database = read_database(alloc, object)?;
     let bind = read_bind(alloc, object)?;
@@ -99,7 +99,7 @@ fn read_texts(alloc: Global, object: &Object<'_, '_>) -> Result<(DocText, DocTex
 }
 
 fn read_limits(alloc: Global, object: &Object<'_, '_>) -> Result<(u64, bool), ConfigFault>
-    ensures { Gives (first_of (limit_tests (members_of object.now))) (λ p. (p.0 ≡ accepts_of (members_of object.now)) × (p.1 ≡ conflicts_of (members_of object.now))) result }
+    ensures { Gives (first_of (limit_tests object.now.path.now (members_of object.now))) (λ p. (p.0 ≡ accepts_of (members_of object.now)) × (p.1 ≡ conflicts_of (members_of object.now))) result }
 {
     let accepts = read_accepts(alloc, object)?;
     let conflicts = read_conflicts(alloc, object)?;
@@ -108,7 +108,7 @@ fn read_limits(alloc: Global, object: &Object<'_, '_>) -> Result<(u64, bool), Co
 
 /// Reads the members from `database` to `conflicts`.
 pub(crate) fn read_settings(alloc: Global, object: &Object<'_, '_>) -> Result<Settings, ConfigFault>
-    ensures { Gives (first_of (setting_tests (members_of object.now))) (λ settings. HasSettings (members_of object.now) settings) result }
+    ensures { Gives (first_of (setting_tests object.now.path.now (members_of object.now))) (λ settings. HasSettings (members_of object.now) settings) result }
 {
     let (database, bind) = read_texts(alloc, object)?;
     let (accepts, conflicts) = read_limits(alloc, object)?;

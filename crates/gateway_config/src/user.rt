@@ -152,7 +152,7 @@ fn read_items(alloc: Global, items: &[Value]) -> Result<ConfigUsers, ConfigFault
 
 /// Reads the users of a configuration.
 pub(crate) fn read_users(alloc: Global, object: &Object<'_, '_>) -> Result<ConfigUsers, ConfigFault>
-    ensures { Gives (users_test (members_of object.now)) (λ users. users ≡ users_of (items_at (codes "users") (members_of object.now))) result }
+    ensures { Gives (users_test object.now.path.now (members_of object.now)) (λ users. users ≡ users_of (items_at (codes "users") (members_of object.now))) result }
 {
     let Some(value) = object.get("users") else {
         return Ok(ConfigUsers::new(alloc));

@@ -1,0 +1,26 @@
+use Rattle.std.proofs.Common.{[], ◌∷◌, rules}
+use Rattle.gateway_config.proofs.Firsts.{both_parts, first_part, one_named, one_none, second_part}
+use Rattle.gateway_config.specs.Faults.{sync_fault}
+use Rattle.gateway_config.specs.Objects.{members_of, setting_tests}
+use Rattle.gateway_config.proofs.read.read_first.Goals as goal
+
+pub returns-in_err-settings : goal.returns-in_err-settings
+returns-in_err-settings c =
+    let ms = members_of c.args.object.now in
+    let path = c.args.object.now.path.now in
+    let told = first_part (setting_tests path ms) (sync_fault path ms ∷ []) c.in_err-settings.field-0.0 c.in_err-settings.ensures in
+    search (rules, told)
+
+pub returns-in_err-program : goal.returns-in_err-program
+returns-in_err-program c =
+    let ms = members_of c.args.object.now in
+    let path = c.args.object.now.path.now in
+    let told = second_part (setting_tests path ms) (sync_fault path ms ∷ []) c.in_err-program.field-0.0 c.in_ok-settings.ensures.0 (one_named (sync_fault path ms) c.in_err-program.field-0.0 c.in_err-program.ensures) in
+    search (rules, told)
+
+pub returns : goal.returns
+returns c =
+    let ms = members_of c.args.object.now in
+    let path = c.args.object.now.path.now in
+    let none = both_parts (setting_tests path ms) (sync_fault path ms ∷ []) c.in_ok-settings.ensures.0 (one_none (sync_fault path ms) c.in_ok-program.ensures.0) in
+    search (rules, none)

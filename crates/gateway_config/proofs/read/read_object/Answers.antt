@@ -1,0 +1,26 @@
+use Rattle.std.proofs.Common.{[], ◌∷◌, rules}
+use Rattle.gateway_config.proofs.Firsts.{both_parts, first_part, one_named, one_none, second_part}
+use Rattle.gateway_config.specs.Faults.{config_members, unknown}
+use Rattle.gateway_config.specs.Objects.{known_tests, members_of}
+use Rattle.gateway_config.proofs.read.read_object.Goals as goal
+
+pub returns-in_err-config : goal.returns-in_err-config
+returns-in_err-config c =
+    let ms = members_of c.args.object.now in
+    let path = c.args.object.now.path.now in
+    let told = first_part (known_tests path ms) (unknown path config_members ms ∷ []) c.in_err-config.field-0.0 c.in_err-config.ensures in
+    search (rules, told)
+
+pub returns-in_err-only : goal.returns-in_err-only
+returns-in_err-only c =
+    let ms = members_of c.args.object.now in
+    let path = c.args.object.now.path.now in
+    let told = second_part (known_tests path ms) (unknown path config_members ms ∷ []) c.in_err-only.field-0.0 c.in_ok-config.ensures.0 (one_named (unknown path config_members ms) c.in_err-only.field-0.0 c.in_err-only.ensures) in
+    search (rules, told)
+
+pub returns : goal.returns
+returns c =
+    let ms = members_of c.args.object.now in
+    let path = c.args.object.now.path.now in
+    let none = both_parts (known_tests path ms) (unknown path config_members ms ∷ []) c.in_ok-config.ensures.0 (one_none (unknown path config_members ms) c.in_ok-only.ensures) in
+    search (rules, none)

@@ -1,0 +1,30 @@
+use Rattle.std.proofs.Common.{[], ◌∷◌, rules}
+use Rattle.gateway_config.proofs.Firsts.{both_parts, first_part, one_named, one_none, second_part}
+use Rattle.gateway_config.specs.Faults.{role_members, unknown}
+use Rattle.gateway_config.specs.Objects.{holder_tests, members_of}
+use Rattle.gateway_config.specs.Seen.{has}
+use Rattle.gateway_config.proofs.role.read_object.Goals as goal
+
+pub returns-in_err-role-clause-read : goal.returns-in_err-role-clause-read
+returns-in_err-role-clause-read c =
+    let ms = members_of c.args.object.now in
+    let path = c.args.object.now.path.now in
+    let had = has c.args.seen.now in
+    let told = first_part (holder_tests path had ms) (unknown path role_members ms ∷ []) c.in_err-role.field-0.0 c.in_err-role.ensures.read in
+    search (rules, told)
+
+pub returns-in_err-only-clause-read : goal.returns-in_err-only-clause-read
+returns-in_err-only-clause-read c =
+    let ms = members_of c.args.object.now in
+    let path = c.args.object.now.path.now in
+    let had = has c.args.seen.now in
+    let told = second_part (holder_tests path had ms) (unknown path role_members ms ∷ []) c.in_err-only.field-0.0 c.in_ok-role.ensures.read.0 (one_named (unknown path role_members ms) c.in_err-only.field-0.0 c.in_err-only.ensures) in
+    search (rules, told)
+
+pub returns-clause-read : goal.returns-clause-read
+returns-clause-read c =
+    let ms = members_of c.args.object.now in
+    let path = c.args.object.now.path.now in
+    let had = has c.args.seen.now in
+    let none = both_parts (holder_tests path had ms) (unknown path role_members ms ∷ []) c.in_ok-role.ensures.read.0 (one_none (unknown path role_members ms) c.in_ok-only.ensures) in
+    search (rules, none)
