@@ -6,22 +6,22 @@ use Rattle.sg_history.specs.declared.config_fault.ConfigWhy.TheVariants as why
 use Rattle.gateway_config.specs.declared.config.Config.{Config}
 use Rattle.gateway_config.specs.declared.fault.ConfigFault.{ConfigFault}
 use Rattle.gateway_config.specs.declared.fault.ConfigFault.TheVariants.{Bad, Memory}
-use Rattle.gateway_config.specs.Faults.{Fault, Gives, Names, config_fault, members_fault, object_fault, tree_fault}
+use Rattle.gateway_config.specs.Faults.{Fault, IsResultOf, NamesFault, config_fault, members_fault, object_fault, tree_fault}
 use Rattle.gateway_config.specs.Members.{json_of}
 use Rattle.gateway_config.specs.Values.{IsTextOf, SaysIn}
 
 pub config_read : (bytes : List ℕ) (d : Data) (r : Result Config ConfigFault) → json_of bytes ≡ Some d
-    → Gives (object_fault [] why.NotObject (members_fault []) d) (λ config. SaysIn d config) r → Gives (config_fault bytes) (λ config. IsTextOf bytes config) r
+    → IsResultOf (object_fault [] why.NotObject (members_fault []) d) (λ config. SaysIn d config) r → IsResultOf (config_fault bytes) (λ config. IsTextOf bytes config) r
 config_read bytes d (Ok c) is h =
     (ap (λ (o : Option Data). tree_fault o) is ∙ h.0, record { members = h.1.members; read = is ∙ ap Some h.1.is_object; says = h.1.says })
-config_read bytes d (Err e) is h = subst (λ (f : Option Fault). Names f e) (sym (ap (λ (o : Option Data). tree_fault o) is)) h
+config_read bytes d (Err e) is h = subst (λ (f : Option Fault). NamesFault f e) (sym (ap (λ (o : Option Data). tree_fault o) is)) h
 
-pub accepted_by : (f : Option Fault) (says : Config → Type 0) (r : Result Config ConfigFault) → Gives f says r → r ≢ Err Memory → (IsOk r ↔ (f ≡ None))
+pub accepted_by : (f : Option Fault) (says : Config → Type 0) (r : Result Config ConfigFault) → IsResultOf f says r → r ≢ Err Memory → (IsOk r ↔ (f ≡ None))
 accepted_by f says (Ok c) h other = ((λ _. h.0), (λ _. refl))
 accepted_by f says (Err (Bad path why)) h other = ((λ k. cc (k)), (λ none. cc (none, h)))
 accepted_by f says (Err Memory) h other = absurd (other refl)
 
-pub refused_by : (f : Option Fault) (says : Config → Type 0) (r : Result Config ConfigFault) → Gives f says r → (fault : Fault) → r ≢ Err Memory
+pub refused_by : (f : Option Fault) (says : Config → Type 0) (r : Result Config ConfigFault) → IsResultOf f says r → (fault : Fault) → r ≢ Err Memory
     → ((r ≡ Err (Bad fault.path fault.why)) ↔ (f ≡ Some fault))
 refused_by f says (Ok c) h fault other = ((λ e. cc (e)), (λ e. cc (h.0, e)))
 refused_by f says (Err (Bad path why)) h fault other = (

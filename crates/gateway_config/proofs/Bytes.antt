@@ -7,7 +7,7 @@ use Rattle.serde_json.specs.Data.{Data}
 use Rattle.serde_json.specs.Read.{read}
 use Rattle.sg_history.specs.declared.config_fault.ConfigWhy.TheVariants as why
 use Rattle.gateway_config.specs.declared.fault.ConfigFault.{ConfigFault}
-use Rattle.gateway_config.specs.Faults.{Fault, Names, config_fault, tree_fault}
+use Rattle.gateway_config.specs.Faults.{Fault, NamesFault, config_fault, tree_fault}
 use Rattle.gateway_config.specs.Members.{json_of}
 
 pub json-read : (bytes : List ℕ) (d : Data) → IsUtf8 bytes → read bytes ≡ Some d → json_of bytes ≡ Some d
@@ -21,8 +21,8 @@ json-unread : (bytes : List ℕ) → (IsUtf8 bytes → read bytes ≡ None) → 
 json-unread bytes h = json-where bytes (is_utf8 bytes) refl h
 
 -- what is no JSON is refused as such
-pub unread-named : (bytes : List ℕ) (e : ConfigFault) → (IsUtf8 bytes → read bytes ≡ None) → Names (Some (record { path = []; why = why.NotJson })) e → Names (config_fault bytes) e
-unread-named bytes e h named = subst (λ (f : Option Fault). Names f e) (sym (ap (λ (o : Option Data). tree_fault o) (json-unread bytes h))) named
+pub unread-named : (bytes : List ℕ) (e : ConfigFault) → (IsUtf8 bytes → read bytes ≡ None) → NamesFault (Some (record { path = []; why = why.NotJson })) e → NamesFault (config_fault bytes) e
+unread-named bytes e h named = subst (λ (f : Option Fault). NamesFault f e) (sym (ap (λ (o : Option Data). tree_fault o) (json-unread bytes h))) named
 
 pub never_true : IsTrue false → ⊥
 never_true h = cc

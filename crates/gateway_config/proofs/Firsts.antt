@@ -3,7 +3,7 @@ use Rattle.std.proofs.Common.{◌≡◌, List, [], ◌∷◌, ◌++◌, refl, sy
 use Rattle.std.specs.Option.{option_or}
 use Rattle.gateway_config.specs.declared.fault.ConfigFault.{ConfigFault}
 use Rattle.gateway_config.specs.declared.fault.ConfigFault.TheVariants.{Bad, Memory}
-use Rattle.gateway_config.specs.Faults.{Fault, Names, first_of}
+use Rattle.gateway_config.specs.Faults.{Fault, NamesFault, first_of}
 
 or_or : (f g h : Option Fault) → option_or f (option_or g h) ≡ option_or (option_or f g) h
 or_or None g h = refl
@@ -14,12 +14,12 @@ first_of-append [] ys = refl
 first_of-append (x ∷ xs) ys = ap (option_or x) (first_of-append xs ys) ∙ or_or x (first_of xs) (first_of ys)
 
 -- the fault of the first of two tests is named
-pub first_named : (f g : Option Fault) (e : ConfigFault) → Names f e → Names (option_or f g) e
+pub first_named : (f g : Option Fault) (e : ConfigFault) → NamesFault f e → NamesFault (option_or f g) e
 first_named f g (Bad path why) h = ap (λ o. option_or o g) h
 first_named f g Memory h = tt
 
 -- that of the second, where the first finds none
-pub second_named : (f g : Option Fault) (e : ConfigFault) → f ≡ None → Names g e → Names (option_or f g) e
+pub second_named : (f g : Option Fault) (e : ConfigFault) → f ≡ None → NamesFault g e → NamesFault (option_or f g) e
 second_named f g (Bad path why) none h = ap (λ o. option_or o g) none ∙ h
 second_named f g Memory none h = tt
 
@@ -27,11 +27,11 @@ pub both_none : (f g : Option Fault) → f ≡ None → g ≡ None → option_or
 both_none f g none h = ap (λ o. option_or o g) none ∙ h
 
 -- the same of two parts of the tests
-pub first_part : (xs ys : List (Option Fault)) (e : ConfigFault) → Names (first_of xs) e → Names (first_of (xs ++ ys)) e
-first_part xs ys e h = subst (λ f. Names f e) (sym (first_of-append xs ys)) (first_named (first_of xs) (first_of ys) e h)
+pub first_part : (xs ys : List (Option Fault)) (e : ConfigFault) → NamesFault (first_of xs) e → NamesFault (first_of (xs ++ ys)) e
+first_part xs ys e h = subst (λ f. NamesFault f e) (sym (first_of-append xs ys)) (first_named (first_of xs) (first_of ys) e h)
 
-pub second_part : (xs ys : List (Option Fault)) (e : ConfigFault) → first_of xs ≡ None → Names (first_of ys) e → Names (first_of (xs ++ ys)) e
-second_part xs ys e none h = subst (λ f. Names f e) (sym (first_of-append xs ys)) (second_named (first_of xs) (first_of ys) e none h)
+pub second_part : (xs ys : List (Option Fault)) (e : ConfigFault) → first_of xs ≡ None → NamesFault (first_of ys) e → NamesFault (first_of (xs ++ ys)) e
+second_part xs ys e none h = subst (λ f. NamesFault f e) (sym (first_of-append xs ys)) (second_named (first_of xs) (first_of ys) e none h)
 
 pub both_parts : (xs ys : List (Option Fault)) → first_of xs ≡ None → first_of ys ≡ None → first_of (xs ++ ys) ≡ None
 both_parts xs ys none h = first_of-append xs ys ∙ both_none (first_of xs) (first_of ys) none h
@@ -40,8 +40,8 @@ pub one_test : (f : Option Fault) → f ≡ first_of (f ∷ [])
 one_test None = refl
 one_test (Some x) = refl
 
-pub one_named : (f : Option Fault) (e : ConfigFault) → Names f e → Names (first_of (f ∷ [])) e
-one_named f e h = subst (λ g. Names g e) (one_test f) h
+pub one_named : (f : Option Fault) (e : ConfigFault) → NamesFault f e → NamesFault (first_of (f ∷ [])) e
+one_named f e h = subst (λ g. NamesFault g e) (one_test f) h
 
 pub one_none : (f : Option Fault) → f ≡ None → first_of (f ∷ []) ≡ None
 one_none f h = sym (one_test f) ∙ h

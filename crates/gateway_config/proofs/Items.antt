@@ -11,8 +11,8 @@ use Rattle.serde_json.specs.declared.value.Value.{Value}
 use Rattle.gateway_config.specs.declared.config.ConfigRole.{ConfigRole}
 use Rattle.gateway_config.specs.declared.config.ConfigUser.{ConfigUser}
 use Rattle.gateway_config.specs.declared.fault.ConfigFault.{ConfigFault}
-use Rattle.gateway_config.specs.Faults.{Fault, Names, has_session, is_role_of, is_session_of, is_user_of, roles_fault, users_fault}
-use Rattle.gateway_config.specs.Members.{before, text_in, texts_of}
+use Rattle.gateway_config.specs.Faults.{Fault, NamesFault, has_session, is_role_of, is_session_of, is_user_of, roles_fault, users_fault}
+use Rattle.gateway_config.specs.Members.{put_first, text_in, texts_of}
 use Rattle.gateway_config.specs.Objects.{role_fault, user_fault}
 use Rattle.gateway_config.specs.Values.{role_in, roles_of, user_in, users_of}
 use Rattle.gateway_config.proofs.Earlier.{role_same, user_same}
@@ -32,7 +32,7 @@ items_end vs i past = ap (λ ws. items_view ws) (drop_all i vs past)
 
 -- ---- lists of texts
 
-push_more : (list : List (List ℕ)) (t : List ℕ) (rest : Option (List (List ℕ))) → option_map (λ m. (list ++ t ∷ []) ++ m) rest ≡ option_map (λ m. list ++ m) (before (Some t) rest)
+push_more : (list : List (List ℕ)) (t : List ℕ) (rest : Option (List (List ℕ))) → option_map (λ m. (list ++ t ∷ []) ++ m) rest ≡ option_map (λ m. list ++ m) (put_first (Some t) rest)
 push_more list t None = refl
 push_more list t (Some ts) = ap Some (append_assoc list (t ∷ []) ts)
 
@@ -44,7 +44,7 @@ texts_kept grammar vs i v list made t low is found pushed kept =
     let rest = texts_of grammar (items_view (drop (i + 1) vs)) in
     ap (λ (l : List (List ℕ)). option_map (λ m. l ++ m) rest) pushed
     ∙ push_more list t rest
-    ∙ ap (λ (o : Option (List ℕ)). option_map (λ m. list ++ m) (before o rest)) found
+    ∙ ap (λ (o : Option (List ℕ)). option_map (λ m. list ++ m) (put_first o rest)) found
     ∙ ap (λ (ds : Items). option_map (λ m. list ++ m) (texts_of grammar ds)) (sym (items_next vs i v low is))
     ∙ kept
 
@@ -54,7 +54,7 @@ pub texts_none : (grammar : List ℕ → Bool) (vs : List Value) (i : ℕ) (v : 
     → None ≡ texts_of grammar (items_view vs)
 texts_none grammar vs i v list low is none kept =
     let rest = texts_of grammar (items_view (drop (i + 1) vs)) in
-    ap (λ (o : Option (List ℕ)). option_map (λ m. list ++ m) (before o rest)) none
+    ap (λ (o : Option (List ℕ)). option_map (λ m. list ++ m) (put_first o rest)) none
     ∙ ap (λ (ds : Items). option_map (λ m. list ++ m) (texts_of grammar ds)) (sym (items_next vs i v low is))
     ∙ kept
 
@@ -109,12 +109,12 @@ roles_faultless vs i v place had roles made role low is here before none says pu
     ∙ roles_from vs i v roles low is kept
 
 pub roles_named : (vs : List Value) (i : ℕ) (v : Value) (place : ℕ) (had : List ℕ → Bool) (roles : List ConfigRole) (e : ConfigFault) → i < length vs → v ≡ get_or vs i v
-    → place ≡ length roles → ((t : List ℕ) → had t ≡ is_role_of roles t) → Names (role_fault place had (view v)) e
-    → roles_fault roles (items_view (drop i vs)) ≡ roles_fault [] (items_view vs) → Names (roles_fault [] (items_view vs)) e
+    → place ≡ length roles → ((t : List ℕ) → had t ≡ is_role_of roles t) → NamesFault (role_fault place had (view v)) e
+    → roles_fault roles (items_view (drop i vs)) ≡ roles_fault [] (items_view vs) → NamesFault (roles_fault [] (items_view vs)) e
 roles_named vs i v place had roles e low is here before named kept =
     let same : role_fault place had (view v) ≡ role_fault (length roles) (is_role_of roles) (view v) =
     ap (λ (p : ℕ). role_fault p had (view v)) here ∙ role_same (length roles) had (is_role_of roles) (view v) before in
-    subst (λ (f : Option Fault). Names f e) (roles_from vs i v roles low is kept) (first_named _ _ e (subst (λ (f : Option Fault). Names f e) same named))
+    subst (λ (f : Option Fault). NamesFault f e) (roles_from vs i v roles low is kept) (first_named _ _ e (subst (λ (f : Option Fault). NamesFault f e) same named))
 
 pub roles_end : (vs : List Value) (i : ℕ) (roles : List ConfigRole) → length vs ≤ i
     → roles_fault roles (items_view (drop i vs)) ≡ roles_fault [] (items_view vs) → roles ++ roles_of (items_view (drop i vs)) ≡ roles_of (items_view vs)
@@ -171,12 +171,12 @@ users_faultless vs i v place had held users made user low is here before beside 
     ∙ users_from vs i v users low is kept
 
 pub users_named : (vs : List Value) (i : ℕ) (v : Value) (place : ℕ) (had held : List ℕ → Bool) (users : List ConfigUser) (e : ConfigFault) → i < length vs → v ≡ get_or vs i v
-    → place ≡ length users → ((t : List ℕ) → had t ≡ is_user_of users t) → ((t : List ℕ) → held t ≡ is_session_of users t) → Names (user_fault place had held (view v)) e
-    → users_fault users (items_view (drop i vs)) ≡ users_fault [] (items_view vs) → Names (users_fault [] (items_view vs)) e
+    → place ≡ length users → ((t : List ℕ) → had t ≡ is_user_of users t) → ((t : List ℕ) → held t ≡ is_session_of users t) → NamesFault (user_fault place had held (view v)) e
+    → users_fault users (items_view (drop i vs)) ≡ users_fault [] (items_view vs) → NamesFault (users_fault [] (items_view vs)) e
 users_named vs i v place had held users e low is here before beside named kept =
     let same : user_fault place had held (view v) ≡ user_fault (length users) (is_user_of users) (is_session_of users) (view v) =
     ap (λ (p : ℕ). user_fault p had held (view v)) here ∙ user_same (length users) had (is_user_of users) held (is_session_of users) (view v) before beside in
-    subst (λ (f : Option Fault). Names f e) (users_from vs i v users low is kept) (first_named _ _ e (subst (λ (f : Option Fault). Names f e) same named))
+    subst (λ (f : Option Fault). NamesFault f e) (users_from vs i v users low is kept) (first_named _ _ e (subst (λ (f : Option Fault). NamesFault f e) same named))
 
 pub users_end : (vs : List Value) (i : ℕ) (users : List ConfigUser) → length vs ≤ i
     → users_fault users (items_view (drop i vs)) ≡ users_fault [] (items_view vs) → users ++ users_of (items_view (drop i vs)) ≡ users_of (items_view vs)

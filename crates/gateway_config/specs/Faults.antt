@@ -28,14 +28,14 @@ pub record Fault : Type 0 where
   pub why : ConfigWhy
 
 -- a refusal, but for memory that ran out, names this fault
-abbrev pub Names : Option Fault → ConfigFault → Type 0
-Names found (Bad path why) = found ≡ Some (record { path = path; why = why })
-Names found Memory = Unit {0}
+abbrev pub NamesFault : Option Fault → ConfigFault → Type 0
+NamesFault found (Bad path why) = found ≡ Some (record { path = path; why = why })
+NamesFault found Memory = Unit {0}
 
--- what a reader answers: a value of which this holds, where there is no fault, else the fault
-abbrev pub Gives : {A : Type 0} → Option Fault → (A → Type 0) → Result A ConfigFault → Type 0
-Gives found says (Ok a) = (found ≡ None) × says a
-Gives found says (Err e) = Names found e
+-- the result of a reader that finds this fault: where it finds none, a value of which something holds; else the fault
+abbrev pub IsResultOf : {A : Type 0} → Option Fault → (A → Type 0) → Result A ConfigFault → Type 0
+IsResultOf found says (Ok a) = (found ≡ None) × says a
+IsResultOf found says (Err e) = NamesFault found e
 
 -- of tests in their order the first that finds a fault
 abbrev pub first_of : List (Option Fault) → Option Fault

@@ -27,14 +27,14 @@ text_in grammar d = passing grammar (as_str d)
 abbrev pub count_in : Data → Option ℕ
 count_in d = passing is_count (option_and_then as_u64 (as_number d))
 
--- the first text before others
-abbrev pub before : Option (List ℕ) → Option (List (List ℕ)) → Option (List (List ℕ))
-before text texts = option_and_then (λ t. option_map (λ ts. t ∷ ts) texts) text
+-- a text before others
+abbrev pub put_first : Option (List ℕ) → Option (List (List ℕ)) → Option (List (List ℕ))
+put_first text texts = option_and_then (λ t. option_map (λ ts. t ∷ ts) texts) text
 
 -- the texts that the items of a list are, where each is one in this grammar
 abbrev pub texts_of : (List ℕ → Bool) → Items → Option (List (List ℕ))
 texts_of grammar no_items = Some []
-texts_of grammar (item d ds) = before (text_in grammar d) (texts_of grammar ds)
+texts_of grammar (item d ds) = put_first (text_in grammar d) (texts_of grammar ds)
 
 -- the texts of a list, in its order, where it is one of texts in this grammar
 abbrev pub texts_in : (List ℕ → Bool) → Data → Option (List (List ℕ))

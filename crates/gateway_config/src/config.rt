@@ -39,7 +39,7 @@ pub struct ConfigUser {
     pub name: Name,
     pub channels: Channels,
     pub roles: Names,
-    /// What the user's device shows to be let in, if it has one: 1 to 100 letters, digits, `-` and `_`.
+    /// What the user's device shows to be let in, if it has one: 1 to 100 letters, digits, `-`, `_`.
     pub session: Option<DocText>,
 }
 

@@ -37,7 +37,8 @@ fn name(alloc: Global, value: &Value) -> Result<Option<Name>, Memory>
 }
 
 fn channels(alloc: Global, items: &[Value]) -> Result<Option<Channels>, Memory>
-    ensures { IfOk result (λ found. found ≡ texts_of (λ t. is_channel_name t) (items_view items.now)) }
+    ensures { IfOk result (λ found. found
+        ≡ texts_of (λ t. is_channel_name t) (items_view items.now)) }
 {
     let mut list = Channels::new(alloc);
     for item in items {

@@ -1,10 +1,10 @@
 //! An object of a configuration, and its members.
 
-ghost use Rattle.std.specs.Prelude.{◌≡◌, ◌++◌, ◌∷◌, Some, None, Ok, map, option_map, MatchResult};
+ghost use Rattle.std.specs.Prelude.{◌≡◌, Some, map, option_map};
 ghost use Rattle.serde_json.specs.Find.{get_member};
 ghost use Rattle.serde_json.specs.View.{view, members_view};
 ghost use Rattle.sg_history.specs.History.{among};
-ghost use Rattle.gateway_config.specs.Faults.{Names, at_member, unknown};
+ghost use Rattle.gateway_config.specs.Faults.{IsResultOf, NamesFault, at_member, unknown};
 
 use crate::fault::ConfigFault;
 use serde_json::{Map, Value};
@@ -33,7 +33,7 @@ fn is_among(name: &str, known: &[&str]) -> bool
 
 /// The refusal of what stands at this path.
 pub(crate) fn refuse_at(alloc: Global, path: &str, why: ConfigWhy) -> ConfigFault
-    ensures { Names (Some (record { path = path.now; why = why })) result }
+    ensures { NamesFault (Some (record { path = path.now; why = why })) result }
 {
     match String::from_str(alloc, path) {
         Ok(path) => ConfigFault::Bad {
@@ -54,14 +54,15 @@ impl<'p, 'a> Object<'p, 'a> {
 
     /// The value of the member with this name.
     pub fn get(&self, name: &str) -> Option<&'a Value>
-        ensures { option_map (λ v. view v.now) result ≡ get_member name.now (members_view self.now.members.now.entries) }
+        ensures { option_map (λ v. view v.now) result
+            ≡ get_member name.now (members_view self.now.members.now.entries) }
     {
         self.members.get(name)
     }
 
     /// The refusal of the member with this name.
     pub fn refuse(&self, alloc: Global, name: &str, why: ConfigWhy) -> ConfigFault
-        ensures { Names (at_member self.now.path.now name.now (Some why)) result }
+        ensures { NamesFault (at_member self.now.path.now name.now (Some why)) result }
     {
         match format!(in alloc; "{}/{}", self.path, name) {
             Ok(path) => ConfigFault::Bad {
@@ -74,9 +75,8 @@ impl<'p, 'a> Object<'p, 'a> {
 
     /// Refuses the first member, in the order of the names' bytes, that has none of these names.
     pub fn only(&self, alloc: Global, known: &[&str]) -> Result<(), ConfigFault>
-        ensures { MatchResult result
-            (λ _. unknown self.now.path.now (map (λ k. k.now) known.now) (members_view self.now.members.now.entries) ≡ None)
-            (Names (unknown self.now.path.now (map (λ k. k.now) known.now) (members_view self.now.members.now.entries))) }
+        ensures { IsResultOf (unknown self.now.path.now (map (λ k. k.now) known.now)
+            (members_view self.now.members.now.entries)) (λ _. Unit {0}) result }
     {
         for (name, _) in self.members.iter() {
             if !is_among(name.as_str(), known) {

@@ -5,7 +5,7 @@ ghost use Rattle.std.specs.Arc.{arc_value};
 ghost use Rattle.serde_json.specs.Find.{as_str, get_member};
 ghost use Rattle.sync_syntax.specs.Statements as syntax;
 ghost use Rattle.sync_resolve.specs.Resolving.{faults};
-ghost use Rattle.gateway_config.specs.Faults.{Gives, at_member, is_sound, no_faults, optional_why, sync_fault};
+ghost use Rattle.gateway_config.specs.Faults.{IsResultOf, at_member, is_sound, no_faults, optional_why, sync_fault};
 ghost use Rattle.gateway_config.specs.Objects.{members_of};
 ghost use Rattle.gateway_config.specs.Programs.{IsFoundIn};
 ghost use Rattle.gateway_config.specs.Values.{sync_of};
@@ -36,7 +36,8 @@ fn parsed(alloc: Global, text: &str) -> Result<Option<Program>, Memory>
 
 /// A program whose names all stand for something.
 fn resolved(alloc: Global, program: Program) -> Result<Option<Resolved>, Memory>
-    ensures { IfOk result (λ found. MatchOption found (no_faults (faults program) ≡ false) (λ r. (r ≡ program) × (no_faults (faults program) ≡ true))) }
+    ensures { IfOk result (λ found. MatchOption found (no_faults (faults program) ≡ false)
+        (λ r. (r ≡ program) × (no_faults (faults program) ≡ true))) }
 {
     match resolve(alloc, program) {
         Ok(resolved) => Ok(Some(resolved)),
@@ -47,7 +48,8 @@ fn resolved(alloc: Global, program: Program) -> Result<Option<Resolved>, Memory>
 
 /// The program that a text is, where its names all stand for something.
 fn sound(alloc: Global, text: &str) -> Result<Option<Resolved>, Memory>
-    ensures { IfOk result (λ found. MatchOption found (is_sound (syntax.parsed text.now) ≡ false) (λ r. (syntax.parsed text.now ≡ Ok r) × (is_sound (syntax.parsed text.now) ≡ true))) }
+    ensures { IfOk result (λ found. MatchOption found (is_sound (syntax.parsed text.now) ≡ false)
+        (λ r. (syntax.parsed text.now ≡ Ok r) × (is_sound (syntax.parsed text.now) ≡ true))) }
 {
     match parsed(alloc, text)? {
         Some(program) => resolved(alloc, program),
@@ -56,7 +58,9 @@ fn sound(alloc: Global, text: &str) -> Result<Option<Resolved>, Memory>
 }
 
 fn read_text<'a>(alloc: Global, object: &Object<'_, 'a>) -> Result<&'a str, ConfigFault>
-    ensures { Gives (at_member object.now.path.now (codes "sync") (optional_why as_str (get_member (codes "sync") (members_of object.now)))) (λ text. text.now ≡ sync_of (members_of object.now)) result }
+    ensures { IsResultOf (at_member object.now.path.now (codes "sync")
+        (optional_why as_str (get_member (codes "sync") (members_of object.now))))
+        (λ text. text.now ≡ sync_of (members_of object.now)) result }
 {
     let Some(value) = object.get("sync") else {
         return Ok(DEFAULT_SYNC);
@@ -72,7 +76,9 @@ pub(crate) fn read_program(
     alloc: Global,
     object: &Object<'_, '_>,
 ) -> Result<Arc<Resolved>, ConfigFault>
-    ensures { Gives (sync_fault object.now.path.now (members_of object.now)) (λ program. syntax.parsed (sync_of (members_of object.now)) ≡ Ok (arc_value program)) result }
+    ensures { IsResultOf (sync_fault object.now.path.now (members_of object.now))
+        (λ program. syntax.parsed (sync_of (members_of object.now)) ≡ Ok (arc_value program))
+        result }
 {
     let text = read_text(alloc, object)?;
     match sound(alloc, text)? {

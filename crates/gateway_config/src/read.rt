@@ -4,7 +4,7 @@ ghost use Rattle.std.specs.Prelude.{◌≡◌, ◌≢◌, ◌↔◌, [], codes, 
 ghost use Rattle.std.specs.Arc.{arc_value};
 ghost use Rattle.serde_json.specs.View.{view};
 ghost use Rattle.sync_syntax.specs.Statements.{parsed};
-ghost use Rattle.gateway_config.specs.Faults.{Fault, Gives, Names, config_fault, first_of, members_fault, object_fault};
+ghost use Rattle.gateway_config.specs.Faults.{Fault, IsResultOf, NamesFault, config_fault, first_of, members_fault, object_fault};
 ghost use Rattle.gateway_config.specs.Members.{json_of};
 ghost use Rattle.gateway_config.specs.Objects.{HasSettings, first_tests, known_tests, members_of, principal_tests};
 ghost use Rattle.gateway_config.specs.Values.{IsTextOf, Says, SaysIn, items_at, roles_of, sync_of, users_of};
@@ -27,7 +27,9 @@ fn read_first(
     alloc: Global,
     object: &Object<'_, '_>,
 ) -> Result<(Settings, Arc<Resolved>), ConfigFault>
-    ensures { Gives (first_of (first_tests object.now.path.now (members_of object.now))) (λ p. HasSettings (members_of object.now) p.0 × (parsed (sync_of (members_of object.now)) ≡ Ok (arc_value p.1))) result }
+    ensures { IsResultOf (first_of (first_tests object.now.path.now (members_of object.now)))
+        (λ p. HasSettings (members_of object.now) p.0
+        × (parsed (sync_of (members_of object.now)) ≡ Ok (arc_value p.1))) result }
 {
     let settings = read_settings(alloc, object)?;
     let program = read_program(alloc, object)?;
@@ -39,7 +41,9 @@ fn read_principals(
     alloc: Global,
     object: &Object<'_, '_>,
 ) -> Result<(ConfigRoles, ConfigUsers), ConfigFault>
-    ensures { Gives (first_of (principal_tests object.now.path.now (members_of object.now))) (λ p. (p.0 ≡ roles_of (items_at (codes "roles") (members_of object.now))) × (p.1 ≡ users_of (items_at (codes "users") (members_of object.now)))) result }
+    ensures { IsResultOf (first_of (principal_tests object.now.path.now (members_of object.now)))
+        (λ p. (p.0 ≡ roles_of (items_at (codes "roles") (members_of object.now)))
+        × (p.1 ≡ users_of (items_at (codes "users") (members_of object.now)))) result }
 {
     let roles = read_roles(alloc, object)?;
     let users = read_users(alloc, object)?;
@@ -47,7 +51,8 @@ fn read_principals(
 }
 
 fn read_known(alloc: Global, object: &Object<'_, '_>) -> Result<Config, ConfigFault>
-    ensures { Gives (first_of (known_tests object.now.path.now (members_of object.now))) (λ config. Says (members_of object.now) config) result }
+    ensures { IsResultOf (first_of (known_tests object.now.path.now (members_of object.now)))
+        (λ config. Says (members_of object.now) config) result }
 {
     let (settings, program) = read_first(alloc, object)?;
     let (roles, users) = read_principals(alloc, object)?;
@@ -63,7 +68,8 @@ fn read_known(alloc: Global, object: &Object<'_, '_>) -> Result<Config, ConfigFa
 }
 
 fn read_object(alloc: Global, object: &Object<'_, '_>) -> Result<Config, ConfigFault>
-    ensures { Gives (members_fault object.now.path.now (members_of object.now)) (λ config. Says (members_of object.now) config) result }
+    ensures { IsResultOf (members_fault object.now.path.now (members_of object.now))
+        (λ config. Says (members_of object.now) config) result }
 {
     let config = read_known(alloc, object)?;
     object.only(
@@ -84,7 +90,7 @@ fn read_object(alloc: Global, object: &Object<'_, '_>) -> Result<Config, ConfigF
 /// What the bytes are read as.
 fn value_of(alloc: Global, bytes: &[u8]) -> Result<Value, ConfigFault>
     ensures ok { IfOk result (λ value. json_of bytes.now ≡ Some (view value)) }
-    ensures fault { IfErr result (λ e. Names (config_fault bytes.now) e) }
+    ensures fault { IfErr result (λ e. NamesFault (config_fault bytes.now) e) }
 {
     match Value::from_slice(alloc, bytes) {
         Ok(value) => Ok(value),
@@ -99,7 +105,8 @@ fn value_of(alloc: Global, bytes: &[u8]) -> Result<Value, ConfigFault>
 }
 
 fn read_value(alloc: Global, value: &Value) -> Result<Config, ConfigFault>
-    ensures { Gives (object_fault [] ConfigWhy.NotObject (members_fault []) (view value.now)) (λ config. SaysIn (view value.now) config) result }
+    ensures { IsResultOf (object_fault [] ConfigWhy.NotObject (members_fault []) (view value.now))
+        (λ config. SaysIn (view value.now) config) result }
 {
     match value.as_object() {
         Some(members) => read_object(alloc, &Object::new("", members)),
@@ -107,16 +114,20 @@ fn read_value(alloc: Global, value: &Value) -> Result<Config, ConfigFault>
     }
 }
 
-/// Reads a configuration, or names its first bad member and why it is bad. The members are tested in the order in which
-/// `Config` lists them, those of a role or a user likewise, and members of other names after them, in the order of their
-/// names' bytes. `Memory` may come at any bytes.
+/// Reads a configuration, or names its first bad member and why it is bad. The members are tested in
+/// the order in which `Config` lists them (`program` is the member `sync`), those of a role or a user
+/// likewise, and members of other names after them, in the order of their names' bytes. Of two
+/// members of one name the last counts. `Memory` may come at any bytes.
 pub fn read_config(alloc: Global, bytes: &[u8]) -> Result<Config, ConfigFault>
     // A configuration comes with what the bytes say, where they have no fault; else their first fault is named.
-    ensures exact { Gives (config_fault bytes.now) (λ config. IsTextOf bytes.now config) result }
+    ensures exact { IsResultOf (config_fault bytes.now)
+        (λ config. IsTextOf bytes.now config) result }
     // But for `Memory`, each answer comes exactly where it is due.
-    ensures accepted { result ≢ Err ConfigFault.Memory → (IsOk result ↔ (config_fault bytes.now ≡ None)) }
+    ensures accepted { result ≢ Err ConfigFault.Memory
+        → (IsOk result ↔ (config_fault bytes.now ≡ None)) }
     ensures refused { (fault : Fault) → result ≢ Err ConfigFault.Memory
-        → ((result ≡ Err (ConfigFault.Bad fault.path fault.why)) ↔ (config_fault bytes.now ≡ Some fault)) }
+        → ((result ≡ Err (ConfigFault.Bad fault.path fault.why))
+        ↔ (config_fault bytes.now ≡ Some fault)) }
 {
     let value = value_of(alloc, bytes)?;
     read_value(alloc, &value)

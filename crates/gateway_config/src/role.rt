@@ -5,7 +5,7 @@ ghost use Rattle.std.specs.Str.{bytes_eq};
 ghost use Rattle.serde_json.specs.Find.{get_member};
 ghost use Rattle.serde_json.specs.View.{view, items_view};
 ghost use Rattle.sg_names.specs.Grammar.{is_name};
-ghost use Rattle.gateway_config.specs.Faults.{Gives, at_member, channels_fault, first_of, name_fault, needed_why, role_object_fault, roles_fault};
+ghost use Rattle.gateway_config.specs.Faults.{IsResultOf, at_member, channels_fault, first_of, name_fault, needed_why, role_object_fault, roles_fault};
 ghost use Rattle.gateway_config.specs.Members.{text_in};
 ghost use Rattle.gateway_config.specs.Objects.{holder_tests, members_of, role_fault, roles_test};
 ghost use Rattle.gateway_config.specs.Seen.{has};
@@ -24,7 +24,9 @@ use std::collections::BTreeMap;
 
 /// The text of an object's name.
 fn name_text<'a>(alloc: Global, object: &Object<'_, 'a>) -> Result<&'a str, ConfigFault>
-    ensures { Gives (at_member object.now.path.now (codes "name") (needed_why (text_in (λ t. is_name t)) (get_member (codes "name") (members_of object.now)))) (λ t. t.now ≡ name_of (members_of object.now)) result }
+    ensures { IsResultOf (at_member object.now.path.now (codes "name") (needed_why
+        (text_in (λ t. is_name t)) (get_member (codes "name") (members_of object.now))))
+        (λ t. t.now ≡ name_of (members_of object.now)) result }
 {
     let Some(value) = object.get("name") else {
         return Err(object.refuse(alloc, "name", ConfigWhy::Missing));
@@ -41,8 +43,12 @@ fn read_name<'a>(
     object: &Object<'_, 'a>,
     seen: &mut Seen<'a>,
 ) -> Result<Name, ConfigFault>
-    ensures read { Gives (name_fault object.now.path.now (has seen.old) (members_of object.now)) (λ name. name ≡ name_of (members_of object.now)) result }
-    ensures seen { OnOk result ((t : List ℕ) → has seen.new t ≡ (bytes_eq (name_of (members_of object.now)) t || has seen.old t)) }
+    ensures read { IsResultOf
+        (name_fault object.now.path.now (has seen.old) (members_of object.now))
+        (λ name. name ≡ name_of (members_of object.now)) result }
+    ensures seen { OnOk result ((t : List ℕ)
+        → has seen.new t
+        ≡ (bytes_eq (name_of (members_of object.now)) t || has seen.old t)) }
 {
     let text = name_text(alloc, object)?;
     if !note(seen, text)? {
@@ -55,7 +61,8 @@ fn read_name<'a>(
 }
 
 fn read_channels(alloc: Global, object: &Object<'_, '_>) -> Result<Channels, ConfigFault>
-    ensures { Gives (channels_fault object.now.path.now (members_of object.now)) (λ channels. channels ≡ channels_of (members_of object.now)) result }
+    ensures { IsResultOf (channels_fault object.now.path.now (members_of object.now))
+        (λ channels. channels ≡ channels_of (members_of object.now)) result }
 {
     let Some(value) = object.get("channels") else {
         return Ok(Channels::new(alloc));
@@ -72,8 +79,11 @@ pub(crate) fn read_holder<'a>(
     object: &Object<'_, 'a>,
     seen: &mut Seen<'a>,
 ) -> Result<ConfigRole, ConfigFault>
-    ensures read { Gives (first_of (holder_tests object.now.path.now (has seen.old) (members_of object.now))) (λ role. role ≡ role_of (members_of object.now)) result }
-    ensures seen { OnOk result ((t : List ℕ) → has seen.new t ≡ (bytes_eq (name_of (members_of object.now)) t || has seen.old t)) }
+    ensures read { IsResultOf (first_of (holder_tests object.now.path.now (has seen.old)
+        (members_of object.now))) (λ role. role ≡ role_of (members_of object.now)) result }
+    ensures seen { OnOk result ((t : List ℕ)
+        → has seen.new t
+        ≡ (bytes_eq (name_of (members_of object.now)) t || has seen.old t)) }
 {
     let name = read_name(alloc, object, seen)?;
     let channels = read_channels(alloc, object)?;
@@ -85,8 +95,12 @@ fn read_object<'a>(
     object: &Object<'_, 'a>,
     seen: &mut Seen<'a>,
 ) -> Result<ConfigRole, ConfigFault>
-    ensures read { Gives (role_object_fault object.now.path.now (has seen.old) (members_of object.now)) (λ role. role ≡ role_of (members_of object.now)) result }
-    ensures seen { OnOk result ((t : List ℕ) → has seen.new t ≡ (bytes_eq (name_of (members_of object.now)) t || has seen.old t)) }
+    ensures read { IsResultOf
+        (role_object_fault object.now.path.now (has seen.old) (members_of object.now))
+        (λ role. role ≡ role_of (members_of object.now)) result }
+    ensures seen { OnOk result ((t : List ℕ)
+        → has seen.new t
+        ≡ (bytes_eq (name_of (members_of object.now)) t || has seen.old t)) }
 {
     let role = read_holder(alloc, object, seen)?;
     object.only(alloc, &["name", "channels"])?;
@@ -100,8 +114,11 @@ fn read_role<'a>(
     value: &'a Value,
     seen: &mut Seen<'a>,
 ) -> Result<ConfigRole, ConfigFault>
-    ensures read { Gives (role_fault place (has seen.old) (view value.now)) (λ role. role ≡ role_in (view value.now)) result }
-    ensures seen { OnOk result ((t : List ℕ) → has seen.new t ≡ (bytes_eq (role_in (view value.now)).name t || has seen.old t)) }
+    ensures read { IsResultOf (role_fault place (has seen.old) (view value.now))
+        (λ role. role ≡ role_in (view value.now)) result }
+    ensures seen { OnOk result ((t : List ℕ)
+        → has seen.new t
+        ≡ (bytes_eq (role_in (view value.now)).name t || has seen.old t)) }
 {
     let path = format!(in alloc; "/roles/{place}")?;
     match value.as_object() {
@@ -111,7 +128,8 @@ fn read_role<'a>(
 }
 
 fn read_items(alloc: Global, items: &[Value]) -> Result<ConfigRoles, ConfigFault>
-    ensures { Gives (roles_fault [] (items_view items.now)) (λ roles. roles ≡ roles_of (items_view items.now)) result }
+    ensures { IsResultOf (roles_fault [] (items_view items.now))
+        (λ roles. roles ≡ roles_of (items_view items.now)) result }
 {
     let mut roles = ConfigRoles::new(alloc);
     let mut seen = BTreeMap::new(alloc);
@@ -124,7 +142,8 @@ fn read_items(alloc: Global, items: &[Value]) -> Result<ConfigRoles, ConfigFault
 
 /// Reads the roles of a configuration.
 pub(crate) fn read_roles(alloc: Global, object: &Object<'_, '_>) -> Result<ConfigRoles, ConfigFault>
-    ensures { Gives (roles_test object.now.path.now (members_of object.now)) (λ roles. roles ≡ roles_of (items_at (codes "roles") (members_of object.now))) result }
+    ensures { IsResultOf (roles_test object.now.path.now (members_of object.now))
+        (λ roles. roles ≡ roles_of (items_at (codes "roles") (members_of object.now))) result }
 {
     let Some(value) = object.get("roles") else {
         return Ok(ConfigRoles::new(alloc));

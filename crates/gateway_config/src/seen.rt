@@ -13,7 +13,8 @@ pub(crate) type Seen<'a> = BTreeMap<&'a str, ()>;
 /// Puts a text in, and tells whether it was new.
 pub(crate) fn note<'a>(seen: &mut Seen<'a>, text: &'a str) -> Result<bool, Memory>
     ensures new { IfOk result (λ is_new. is_new ≡ not (has seen.old text.now)) }
-    ensures there { OnOk result ((t : List ℕ) → has seen.new t ≡ (bytes_eq text.now t || has seen.old t)) }
+    ensures there { OnOk result ((t : List ℕ)
+        → has seen.new t ≡ (bytes_eq text.now t || has seen.old t)) }
 {
     Ok(seen.insert(text, ())?.is_none())
 }

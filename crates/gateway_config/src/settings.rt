@@ -2,7 +2,7 @@
 
 ghost use Rattle.std.specs.Prelude.{◌≡◌, []};
 ghost use Rattle.serde_json.specs.View.{view};
-ghost use Rattle.gateway_config.specs.Faults.{Gives, accepts_fault, bind_fault, conflicts_fault, database_fault, first_of};
+ghost use Rattle.gateway_config.specs.Faults.{IsResultOf, accepts_fault, bind_fault, conflicts_fault, database_fault, first_of};
 ghost use Rattle.gateway_config.specs.Members as members;
 ghost use Rattle.gateway_config.specs.Objects.{HasSettings, limit_tests, members_of, setting_tests, text_tests};
 ghost use Rattle.gateway_config.specs.Values.{accepts_of, bind_of, conflicts_of, database_of};
@@ -31,7 +31,8 @@ pub(crate) struct Settings {
 }
 
 fn read_database(alloc: Global, object: &Object<'_, '_>) -> Result<DocText, ConfigFault>
-    ensures { Gives (database_fault object.now.path.now (members_of object.now)) (λ database. database ≡ database_of (members_of object.now)) result }
+    ensures { IsResultOf (database_fault object.now.path.now (members_of object.now))
+        (λ database. database ≡ database_of (members_of object.now)) result }
 {
     let Some(value) = object.get("database") else {
         return Err(object.refuse(alloc, "database", ConfigWhy::Missing));
@@ -43,7 +44,8 @@ fn read_database(alloc: Global, object: &Object<'_, '_>) -> Result<DocText, Conf
 }
 
 fn read_bind(alloc: Global, object: &Object<'_, '_>) -> Result<DocText, ConfigFault>
-    ensures { Gives (bind_fault object.now.path.now (members_of object.now)) (λ bind. bind ≡ bind_of (members_of object.now)) result }
+    ensures { IsResultOf (bind_fault object.now.path.now (members_of object.now))
+        (λ bind. bind ≡ bind_of (members_of object.now)) result }
 {
     let Some(value) = object.get("bind") else {
         return Ok(DocText::from_str(alloc, DEFAULT_BIND)?);
@@ -67,7 +69,8 @@ fn count_in(value: &Value) -> Option<u64>
 }
 
 fn read_accepts(alloc: Global, object: &Object<'_, '_>) -> Result<u64, ConfigFault>
-    ensures { Gives (accepts_fault object.now.path.now (members_of object.now)) (λ accepts. accepts ≡ accepts_of (members_of object.now)) result }
+    ensures { IsResultOf (accepts_fault object.now.path.now (members_of object.now))
+        (λ accepts. accepts ≡ accepts_of (members_of object.now)) result }
 {
     let Some(value) = object.get("accepts") else {
         return Ok(MOST_ACCEPTS);
@@ -79,7 +82,8 @@ fn read_accepts(alloc: Global, object: &Object<'_, '_>) -> Result<u64, ConfigFau
 }
 
 fn read_conflicts(alloc: Global, object: &Object<'_, '_>) -> Result<bool, ConfigFault>
-    ensures { Gives (conflicts_fault object.now.path.now (members_of object.now)) (λ conflicts. conflicts ≡ conflicts_of (members_of object.now)) result }
+    ensures { IsResultOf (conflicts_fault object.now.path.now (members_of object.now))
+        (λ conflicts. conflicts ≡ conflicts_of (members_of object.now)) result }
 {
     let Some(value) = object.get("conflicts") else {
         return Ok(true);
@@ -91,7 +95,9 @@ fn read_conflicts(alloc: Global, object: &Object<'_, '_>) -> Result<bool, Config
 }
 
 fn read_texts(alloc: Global, object: &Object<'_, '_>) -> Result<(DocText, DocText), ConfigFault>
-    ensures { Gives (first_of (text_tests object.now.path.now (members_of object.now))) (λ p. (p.0 ≡ database_of (members_of object.now)) × (p.1 ≡ bind_of (members_of object.now))) result }
+    ensures { IsResultOf (first_of (text_tests object.now.path.now (members_of object.now)))
+        (λ p. (p.0 ≡ database_of (members_of object.now))
+        × (p.1 ≡ bind_of (members_of object.now))) result }
 {
     let database = read_database(alloc, object)?;
     let bind = read_bind(alloc, object)?;
@@ -99,7 +105,9 @@ fn read_texts(alloc: Global, object: &Object<'_, '_>) -> Result<(DocText, DocTex
 }
 
 fn read_limits(alloc: Global, object: &Object<'_, '_>) -> Result<(u64, bool), ConfigFault>
-    ensures { Gives (first_of (limit_tests object.now.path.now (members_of object.now))) (λ p. (p.0 ≡ accepts_of (members_of object.now)) × (p.1 ≡ conflicts_of (members_of object.now))) result }
+    ensures { IsResultOf (first_of (limit_tests object.now.path.now (members_of object.now)))
+        (λ p. (p.0 ≡ accepts_of (members_of object.now))
+        × (p.1 ≡ conflicts_of (members_of object.now))) result }
 {
     let accepts = read_accepts(alloc, object)?;
     let conflicts = read_conflicts(alloc, object)?;
@@ -108,7 +116,8 @@ fn read_limits(alloc: Global, object: &Object<'_, '_>) -> Result<(u64, bool), Co
 
 /// Reads the members from `database` to `conflicts`.
 pub(crate) fn read_settings(alloc: Global, object: &Object<'_, '_>) -> Result<Settings, ConfigFault>
-    ensures { Gives (first_of (setting_tests object.now.path.now (members_of object.now))) (λ settings. HasSettings (members_of object.now) settings) result }
+    ensures { IsResultOf (first_of (setting_tests object.now.path.now (members_of object.now)))
+        (λ settings. HasSettings (members_of object.now) settings) result }
 {
     let (database, bind) = read_texts(alloc, object)?;
     let (accepts, conflicts) = read_limits(alloc, object)?;

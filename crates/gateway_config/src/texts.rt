@@ -78,7 +78,8 @@ fn is_session(text: &str) -> bool
 
 /// The database's name that a value is.
 pub(crate) fn database_in(value: &Value) -> Option<&str>
-    ensures { option_map (λ t. t.now) result ≡ text_in (λ t. grammar.is_database t) (view value.now) }
+    ensures { option_map (λ t. t.now) result
+        ≡ text_in (λ t. grammar.is_database t) (view value.now) }
 {
     let text = value.as_str()?;
     if is_database(text) { Some(text) } else { None }
@@ -86,7 +87,8 @@ pub(crate) fn database_in(value: &Value) -> Option<&str>
 
 /// The session that a value is.
 pub(crate) fn session_in(value: &Value) -> Option<&str>
-    ensures { option_map (λ t. t.now) result ≡ text_in (λ t. grammar.is_session t) (view value.now) }
+    ensures { option_map (λ t. t.now) result
+        ≡ text_in (λ t. grammar.is_session t) (view value.now) }
 {
     let text = value.as_str()?;
     if is_session(text) { Some(text) } else { None }

@@ -3,7 +3,7 @@
 ghost use Rattle.std.specs.Prelude.{◌≡◌, ◌||◌, ℕ, List, [], codes, Some, IfOk, OnOk};
 ghost use Rattle.std.specs.Str.{bytes_eq};
 ghost use Rattle.serde_json.specs.View.{view, items_view};
-ghost use Rattle.gateway_config.specs.Faults.{Gives, at_member, first_of, has_session, is_session_text, names_fault, session_fault, session_why, user_object_fault, users_fault};
+ghost use Rattle.gateway_config.specs.Faults.{IsResultOf, at_member, first_of, has_session, is_session_text, names_fault, session_fault, session_why, user_object_fault, users_fault};
 ghost use Rattle.gateway_config.specs.Grammar.{is_session};
 ghost use Rattle.gateway_config.specs.Members.{text_in};
 ghost use Rattle.gateway_config.specs.Objects.{further_tests, members_of, user_fault, user_tests, users_test};
@@ -24,7 +24,8 @@ use std::alloc::Global;
 use std::collections::BTreeMap;
 
 fn read_names(alloc: Global, object: &Object<'_, '_>) -> Result<Names, ConfigFault>
-    ensures { Gives (names_fault object.now.path.now (members_of object.now)) (λ names. names ≡ names_of (members_of object.now)) result }
+    ensures { IsResultOf (names_fault object.now.path.now (members_of object.now))
+        (λ names. names ≡ names_of (members_of object.now)) result }
 {
     let Some(value) = object.get("roles") else {
         return Ok(Names::new(alloc));
@@ -42,8 +43,11 @@ fn read_own_session<'a>(
     value: &'a Value,
     seen: &mut Seen<'a>,
 ) -> Result<DocText, ConfigFault>
-    ensures read { Gives (at_member object.now.path.now (codes "session") (session_why (has seen.old) (Some (view value.now)))) (λ session. Some session ≡ text_in (λ t. is_session t) (view value.now)) result }
-    ensures seen { IfOk result (λ session. (t : List ℕ) → has seen.new t ≡ (bytes_eq session t || has seen.old t)) }
+    ensures read { IsResultOf (at_member object.now.path.now (codes "session")
+        (session_why (has seen.old) (Some (view value.now))))
+        (λ session. Some session ≡ text_in (λ t. is_session t) (view value.now)) result }
+    ensures seen { IfOk result (λ session. (t : List ℕ)
+        → has seen.new t ≡ (bytes_eq session t || has seen.old t)) }
 {
     let Some(text) = session_in(value) else {
         return Err(object.refuse(alloc, "session", ConfigWhy::Value));
@@ -59,8 +63,12 @@ fn read_session<'a>(
     object: &Object<'_, 'a>,
     seen: &mut Seen<'a>,
 ) -> Result<Option<DocText>, ConfigFault>
-    ensures read { Gives (session_fault object.now.path.now (has seen.old) (members_of object.now)) (λ session. session ≡ session_of (members_of object.now)) result }
-    ensures seen { OnOk result ((t : List ℕ) → has seen.new t ≡ (is_session_text (session_of (members_of object.now)) t || has seen.old t)) }
+    ensures read { IsResultOf
+        (session_fault object.now.path.now (has seen.old) (members_of object.now))
+        (λ session. session ≡ session_of (members_of object.now)) result }
+    ensures seen { OnOk result ((t : List ℕ)
+        → has seen.new t
+        ≡ (is_session_text (session_of (members_of object.now)) t || has seen.old t)) }
 {
     match object.get("session") {
         Some(value) => Ok(Some(read_own_session(alloc, object, value, seen)?)),
@@ -74,8 +82,13 @@ fn read_further<'a>(
     object: &Object<'_, 'a>,
     seen: &mut Seen<'a>,
 ) -> Result<(Names, Option<DocText>), ConfigFault>
-    ensures read { Gives (first_of (further_tests object.now.path.now (has seen.old) (members_of object.now))) (λ p. (p.0 ≡ names_of (members_of object.now)) × (p.1 ≡ session_of (members_of object.now))) result }
-    ensures seen { OnOk result ((t : List ℕ) → has seen.new t ≡ (is_session_text (session_of (members_of object.now)) t || has seen.old t)) }
+    ensures read { IsResultOf
+        (first_of (further_tests object.now.path.now (has seen.old) (members_of object.now)))
+        (λ p. (p.0 ≡ names_of (members_of object.now))
+        × (p.1 ≡ session_of (members_of object.now))) result }
+    ensures seen { OnOk result ((t : List ℕ)
+        → has seen.new t
+        ≡ (is_session_text (session_of (members_of object.now)) t || has seen.old t)) }
 {
     let roles = read_names(alloc, object)?;
     let session = read_session(alloc, object, seen)?;
@@ -88,9 +101,15 @@ fn read_members<'a>(
     names: &mut Seen<'a>,
     sessions: &mut Seen<'a>,
 ) -> Result<ConfigUser, ConfigFault>
-    ensures read { Gives (first_of (user_tests object.now.path.now (has names.old) (has sessions.old) (members_of object.now))) (λ user. user ≡ user_of (members_of object.now)) result }
-    ensures names { OnOk result ((t : List ℕ) → has names.new t ≡ (bytes_eq (name_of (members_of object.now)) t || has names.old t)) }
-    ensures sessions { OnOk result ((t : List ℕ) → has sessions.new t ≡ (is_session_text (session_of (members_of object.now)) t || has sessions.old t)) }
+    ensures read { IsResultOf (first_of (user_tests object.now.path.now
+        (has names.old) (has sessions.old) (members_of object.now)))
+        (λ user. user ≡ user_of (members_of object.now)) result }
+    ensures names { OnOk result ((t : List ℕ)
+        → has names.new t
+        ≡ (bytes_eq (name_of (members_of object.now)) t || has names.old t)) }
+    ensures sessions { OnOk result ((t : List ℕ)
+        → has sessions.new t
+        ≡ (is_session_text (session_of (members_of object.now)) t || has sessions.old t)) }
 {
     let ConfigRole { name, channels } = read_holder(alloc, object, names)?;
     let (roles, session) = read_further(alloc, object, sessions)?;
@@ -108,9 +127,15 @@ fn read_object<'a>(
     names: &mut Seen<'a>,
     sessions: &mut Seen<'a>,
 ) -> Result<ConfigUser, ConfigFault>
-    ensures read { Gives (user_object_fault object.now.path.now (has names.old) (has sessions.old) (members_of object.now)) (λ user. user ≡ user_of (members_of object.now)) result }
-    ensures names { OnOk result ((t : List ℕ) → has names.new t ≡ (bytes_eq (name_of (members_of object.now)) t || has names.old t)) }
-    ensures sessions { OnOk result ((t : List ℕ) → has sessions.new t ≡ (is_session_text (session_of (members_of object.now)) t || has sessions.old t)) }
+    ensures read { IsResultOf (user_object_fault object.now.path.now
+        (has names.old) (has sessions.old) (members_of object.now))
+        (λ user. user ≡ user_of (members_of object.now)) result }
+    ensures names { OnOk result ((t : List ℕ)
+        → has names.new t
+        ≡ (bytes_eq (name_of (members_of object.now)) t || has names.old t)) }
+    ensures sessions { OnOk result ((t : List ℕ)
+        → has sessions.new t
+        ≡ (is_session_text (session_of (members_of object.now)) t || has sessions.old t)) }
 {
     let user = read_members(alloc, object, names, sessions)?;
     object.only(alloc, &["name", "channels", "roles", "session"])?;
@@ -125,9 +150,15 @@ fn read_user<'a>(
     names: &mut Seen<'a>,
     sessions: &mut Seen<'a>,
 ) -> Result<ConfigUser, ConfigFault>
-    ensures read { Gives (user_fault place (has names.old) (has sessions.old) (view value.now)) (λ user. user ≡ user_in (view value.now)) result }
-    ensures names { OnOk result ((t : List ℕ) → has names.new t ≡ (bytes_eq (user_in (view value.now)).name t || has names.old t)) }
-    ensures sessions { OnOk result ((t : List ℕ) → has sessions.new t ≡ (has_session (user_in (view value.now)) t || has sessions.old t)) }
+    ensures read { IsResultOf
+        (user_fault place (has names.old) (has sessions.old) (view value.now))
+        (λ user. user ≡ user_in (view value.now)) result }
+    ensures names { OnOk result ((t : List ℕ)
+        → has names.new t
+        ≡ (bytes_eq (user_in (view value.now)).name t || has names.old t)) }
+    ensures sessions { OnOk result ((t : List ℕ)
+        → has sessions.new t
+        ≡ (has_session (user_in (view value.now)) t || has sessions.old t)) }
 {
     let path = format!(in alloc; "/users/{place}")?;
     match value.as_object() {
@@ -137,7 +168,8 @@ fn read_user<'a>(
 }
 
 fn read_items(alloc: Global, items: &[Value]) -> Result<ConfigUsers, ConfigFault>
-    ensures { Gives (users_fault [] (items_view items.now)) (λ users. users ≡ users_of (items_view items.now)) result }
+    ensures { IsResultOf (users_fault [] (items_view items.now))
+        (λ users. users ≡ users_of (items_view items.now)) result }
 {
     let mut users = ConfigUsers::new(alloc);
     let mut names = BTreeMap::new(alloc);
@@ -152,7 +184,8 @@ fn read_items(alloc: Global, items: &[Value]) -> Result<ConfigUsers, ConfigFault
 
 /// Reads the users of a configuration.
 pub(crate) fn read_users(alloc: Global, object: &Object<'_, '_>) -> Result<ConfigUsers, ConfigFault>
-    ensures { Gives (users_test object.now.path.now (members_of object.now)) (λ users. users ≡ users_of (items_at (codes "users") (members_of object.now))) result }
+    ensures { IsResultOf (users_test object.now.path.now (members_of object.now))
+        (λ users. users ≡ users_of (items_at (codes "users") (members_of object.now))) result }
 {
     let Some(value) = object.get("users") else {
         return Ok(ConfigUsers::new(alloc));

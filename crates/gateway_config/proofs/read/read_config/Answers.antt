@@ -1,18 +1,18 @@
 use Rattle.std.proofs.Common.{rules}
 use Rattle.serde_json.specs.View.{view}
-use Rattle.gateway_config.specs.Faults.{Gives, config_fault}
+use Rattle.gateway_config.specs.Faults.{IsResultOf, config_fault}
 use Rattle.gateway_config.specs.Values.{IsTextOf}
 use Rattle.gateway_config.proofs.Answered.{accepted_by, config_read, refused_by}
 use Rattle.gateway_config.proofs.read.read_config.Goals as goal
 
 pub returns-in_err-value-clause-accepted : goal.returns-in_err-value-clause-accepted
 returns-in_err-value-clause-accepted c =
-    let given : Gives (config_fault c.args.bytes.now) (λ config. IsTextOf c.args.bytes.now config) c.from_residual.result = search (rules, c.in_err-value.ensures.fault) in
+    let given : IsResultOf (config_fault c.args.bytes.now) (λ config. IsTextOf c.args.bytes.now config) c.from_residual.result = search (rules, c.in_err-value.ensures.fault) in
     accepted_by (config_fault c.args.bytes.now) (λ config. IsTextOf c.args.bytes.now config) c.from_residual.result given
 
 pub returns-in_err-value-clause-refused : goal.returns-in_err-value-clause-refused
 returns-in_err-value-clause-refused c =
-    let given : Gives (config_fault c.args.bytes.now) (λ config. IsTextOf c.args.bytes.now config) c.from_residual.result = search (rules, c.in_err-value.ensures.fault) in
+    let given : IsResultOf (config_fault c.args.bytes.now) (λ config. IsTextOf c.args.bytes.now config) c.from_residual.result = search (rules, c.in_err-value.ensures.fault) in
     refused_by (config_fault c.args.bytes.now) (λ config. IsTextOf c.args.bytes.now config) c.from_residual.result given
 
 pub returns-clause-exact : goal.returns-clause-exact

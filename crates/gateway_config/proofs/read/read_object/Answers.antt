@@ -22,5 +22,5 @@ pub returns : goal.returns
 returns c =
     let ms = members_of c.args.object.now in
     let path = c.args.object.now.path.now in
-    let none = both_parts (known_tests path ms) (unknown path config_members ms ∷ []) c.in_ok-config.ensures.0 (one_none (unknown path config_members ms) c.in_ok-only.ensures) in
+    let none = both_parts (known_tests path ms) (unknown path config_members ms ∷ []) c.in_ok-config.ensures.0 (one_none (unknown path config_members ms) c.in_ok-only.ensures.0) in
     search (rules, none)

@@ -26,5 +26,5 @@ returns-clause-read c =
     let ms = members_of c.args.object.now in
     let path = c.args.object.now.path.now in
     let had = has c.args.seen.now in
-    let none = both_parts (holder_tests path had ms) (unknown path role_members ms ∷ []) c.in_ok-role.ensures.read.0 (one_none (unknown path role_members ms) c.in_ok-only.ensures) in
+    let none = both_parts (holder_tests path had ms) (unknown path role_members ms ∷ []) c.in_ok-role.ensures.read.0 (one_none (unknown path role_members ms) c.in_ok-only.ensures.0) in
     search (rules, none)

@@ -29,5 +29,5 @@ returns-clause-read c =
     let path = c.args.object.now.path.now in
     let had = has c.args.names.now in
     let held = has c.args.sessions.now in
-    let none = both_parts (user_tests path had held ms) (unknown path user_members ms ∷ []) c.in_ok-user.ensures.read.0 (one_none (unknown path user_members ms) c.in_ok-only.ensures) in
+    let none = both_parts (user_tests path had held ms) (unknown path user_members ms ∷ []) c.in_ok-user.ensures.read.0 (one_none (unknown path user_members ms) c.in_ok-only.ensures.0) in
     search (rules, none)
