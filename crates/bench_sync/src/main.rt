@@ -1,7 +1,7 @@
-//! Reads or prints a program of the sync language as often as it is told, so that a clock outside can time it: the
+//! Reads or prints a program of the sync language as often as its words say, so that a clock outside can time it: the
 //! default function, or one of so many statements. Or reads one of the bad texts, and prints its fault. Or reads one
-//! of the longest texts as often as it is told, and prints what it is read as. Or judges a document by one of the
-//! functions as often as it is told, or does the same work in plain code.
+//! of the longest texts as often as its words say, and prints what it is read as. Or judges a document by one of the
+//! functions as often as its words say, or does the same work in plain code.
 #![tactic(auto)]
 
 mod judging;

@@ -1,4 +1,4 @@
-//! Makes the body of a `changes` of a device with rows of the shortest names, and reads the message where it is told to, so
+//! Makes the body of a `changes` of a device with rows of the shortest names, and reads the message where its words say so, so
 //! that what the reading takes can be measured from outside.
 #![tactic(auto)]
 

@@ -144,47 +144,47 @@ on_by zero x = x
 on_by (suc n) x = on_by n (steps 8 x)
 
 -- what a table has
-abbrev Tells : ℕ → List ℕ → Type 0
-Tells n table = (i : ℕ) → i < 256 → get_or table i 0 ≡ on_by n i
+abbrev IsTable : ℕ → List ℕ → Type 0
+IsTable n table = (i : ℕ) → i < 256 → get_or table i 0 ≡ on_by n i
 
-tells : (n : ℕ) (table : List ℕ) → table ≡ map (on_by n) (range_with_len 0 256) → Tells n table
-tells n table is i h = ap (λ (t : List ℕ). get_or t i 0) is ∙ get_or-map-range_with_len (on_by n) 0 256 i i 0 h (omega arith)
+is_table : (n : ℕ) (table : List ℕ) → table ≡ map (on_by n) (range_with_len 0 256) → IsTable n table
+is_table n table is i h = ap (λ (t : List ℕ). get_or t i 0) is ∙ get_or-map-range_with_len (on_by n) 0 256 i i 0 h (omega arith)
 
-tells_1 : Tells 1 TABLE_1
+is_table_1 : IsTable 1 TABLE_1
 unfolding on_by steps
-tells_1 = tells 1 TABLE_1 refl
+is_table_1 = is_table 1 TABLE_1 refl
 
-tells_2 : Tells 2 TABLE_2
+is_table_2 : IsTable 2 TABLE_2
 unfolding on_by steps
-tells_2 = tells 2 TABLE_2 refl
+is_table_2 = is_table 2 TABLE_2 refl
 
-tells_3 : Tells 3 TABLE_3
+is_table_3 : IsTable 3 TABLE_3
 unfolding on_by steps
-tells_3 = tells 3 TABLE_3 refl
+is_table_3 = is_table 3 TABLE_3 refl
 
-tells_4 : Tells 4 TABLE_4
+is_table_4 : IsTable 4 TABLE_4
 unfolding on_by steps
-tells_4 = tells 4 TABLE_4 refl
+is_table_4 = is_table 4 TABLE_4 refl
 
-tells_5 : Tells 5 TABLE_5
+is_table_5 : IsTable 5 TABLE_5
 unfolding on_by steps
-tells_5 = tells 5 TABLE_5 refl
+is_table_5 = is_table 5 TABLE_5 refl
 
-tells_6 : Tells 6 TABLE_6
+is_table_6 : IsTable 6 TABLE_6
 unfolding on_by steps
-tells_6 = tells 6 TABLE_6 refl
+is_table_6 = is_table 6 TABLE_6 refl
 
-tells_7 : Tells 7 TABLE_7
+is_table_7 : IsTable 7 TABLE_7
 unfolding on_by steps
-tells_7 = tells 7 TABLE_7 refl
+is_table_7 = is_table 7 TABLE_7 refl
 
-tells_8 : Tells 8 TABLE_8
+is_table_8 : IsTable 8 TABLE_8
 unfolding on_by steps
-tells_8 = tells 8 TABLE_8 refl
+is_table_8 = is_table 8 TABLE_8 refl
 
 table_at : (i : ℕ) → i < 256 → get_or TABLE_1 i 0 ≡ steps 8 i
 unfolding on_by
-table_at i h = tells_1 i h
+table_at i h = is_table_1 i h
 
 -- one look into the table takes a byte in
 pub by_table : (r b : ℕ) → b < 256 → bit_xor (get_or TABLE_1 (bit_and (bit_xor r b) 255) 0) (bit_xor r b / 256) ≡ after_bits r (bits_of b)
@@ -204,7 +204,7 @@ unfolding after_bits
 after_bits-append r [] ys = refl
 after_bits-append r (x ∷ xs) ys = after_bits-append (after_bit r x) xs ys
 
--- what follows other bytes goes on from their checksum
+-- what follows other bytes continues their checksum
 pub checksum_after-append : (value : ℕ) (xs ys : List ℕ) → checksum_after (checksum_after value xs) ys ≡ checksum_after value (xs ++ ys)
 unfolding checksum_after
 checksum_after-append value xs ys =
@@ -311,14 +311,14 @@ pub eight_in : (r : ℕ) (bs : List ℕ) (x : ℕ) → r < 2 ^ 64 → length bs 
 eight_in r bs x fits e small is =
     let eight = eight_of bs e small in
     let below : x < 2 ^ 64 = rw is (rw eight.number (xor_lt 64 r (lowest_first bs) fits eight.below)) in
-    let t1 = tells_1 (x / 256 ^ 7 % 256) (omega arith) in
-    let t2 = tells_2 (x / 256 ^ 6 % 256) (omega arith) in
-    let t3 = tells_3 (x / 256 ^ 5 % 256) (omega arith) in
-    let t4 = tells_4 (x / 256 ^ 4 % 256) (omega arith) in
-    let t5 = tells_5 (x / 256 ^ 3 % 256) (omega arith) in
-    let t6 = tells_6 (x / 256 ^ 2 % 256) (omega arith) in
-    let t7 = tells_7 (x / 256 ^ 1 % 256) (omega arith) in
-    let t8 = tells_8 (x % 256) (omega arith) in
+    let t1 = is_table_1 (x / 256 ^ 7 % 256) (omega arith) in
+    let t2 = is_table_2 (x / 256 ^ 6 % 256) (omega arith) in
+    let t3 = is_table_3 (x / 256 ^ 5 % 256) (omega arith) in
+    let t4 = is_table_4 (x / 256 ^ 4 % 256) (omega arith) in
+    let t5 = is_table_5 (x / 256 ^ 3 % 256) (omega arith) in
+    let t6 = is_table_6 (x / 256 ^ 2 % 256) (omega arith) in
+    let t7 = is_table_7 (x / 256 ^ 1 % 256) (omega arith) in
+    let t8 = is_table_8 (x % 256) (omega arith) in
     rw (t1, t2, t3, t4, t5, t6, t7, t8)
     (eight_looks x below ∙ ap (on_by 8) (is ∙ ap (bit_xor r) eight.number) ∙ ap (λ (n : ℕ). on_by n (bit_xor r (lowest_first bs))) (sym e) ∙ sym (bytes_in r bs eight.small))
 

@@ -85,12 +85,15 @@ const LARGEST_READ: usize = 1_048_576;
 pub fn read_frame<'a>(crc: &mut Crc, bytes: &'a [u8]) -> Result<Frame<'a>, FrameFault>
     // The frames of the grammar are read, and nothing else.
     ensures found { IfOk result (λ f. IsFrameFrom crc.old.value bytes.now (parts_of f)) }
-    ensures only { (f : FrameParts) → IsFrameFrom crc.old.value bytes.now f → IsOkAnd result (λ g. parts_of g ≡ f) }
+    ensures only { (f : FrameParts) → IsFrameFrom crc.old.value bytes.now f
+        → IsOkAnd result (λ g. parts_of g ≡ f) }
 
     // The same in a direction in which these bytes were sent.
     ensures sent { (sent : List ℕ) → crc.old.value ≡ checksum sent → IfOk result
-        (λ f. IsFrameAfter sent bytes.now (parts_of f) × (crc.new.value ≡ checksum (sent_after sent (parts_of f)))) }
-    ensures sent_only { (sent : List ℕ) (f : FrameParts) → crc.old.value ≡ checksum sent → IsFrameAfter sent bytes.now f
+        (λ f. IsFrameAfter sent bytes.now (parts_of f)
+        × (crc.new.value ≡ checksum (sent_after sent (parts_of f)))) }
+    ensures sent_only { (sent : List ℕ) (f : FrameParts) → crc.old.value ≡ checksum sent
+        → IsFrameAfter sent bytes.now f
         → IsOkAnd result (λ g. parts_of g ≡ f) }
 
     // A fault is the first one.
@@ -230,11 +233,15 @@ fn checked(crc: Crc, payload: &[u8], kept: Option<u32>) -> Result<Crc, FrameFaul
 pub fn write_frame(crc: &mut Crc, frame: &Frame<'_>, out: &mut Bytes) -> Result<(), Memory>
     requires size { length frame.now.payload.now ≤ largest_written }
     requires marked { IsMarkedAsKind (parts_of frame.now) }
-    ensures ok { OnOk result (out.new ≡ out.old ++ spelling (value_after crc.old.value (parts_of frame.now)) (parts_of frame.now)) }
+    ensures ok { OnOk result
+        (out.new
+        ≡ out.old
+        ++ spelling (value_after crc.old.value (parts_of frame.now)) (parts_of frame.now)) }
     ensures value { OnOk result (crc.new.value ≡ value_after crc.old.value (parts_of frame.now)) }
 
     // In a direction in which these bytes were sent.
-    ensures sent { (sent : List ℕ) → crc.old.value ≡ checksum sent → OnOk result (WritesAfter sent out.old out.new (parts_of frame.now)
+    ensures sent { (sent : List ℕ) → crc.old.value ≡ checksum sent
+        → OnOk result (WritesAfter sent out.old out.new (parts_of frame.now)
         × (crc.new.value ≡ checksum (sent_after sent (parts_of frame.now)))) }
     ensures err { OnErr result ((out.new ≡ out.old) × (crc.new ≡ crc.old)) }
 {

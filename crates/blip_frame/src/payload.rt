@@ -83,11 +83,13 @@ pub fn read_payload(alloc: Global, bytes: &[u8]) -> Result<Payload, PayloadFault
     // The payloads of the grammar are read, unless memory runs out, and nothing else.
     ensures found { IfOk result (λ p. IsPayload bytes.now p.props p.body) }
     ensures only { (props : List Pair) (body : List ℕ) → IsPayload bytes.now props body
-        → MatchResult result (λ p. (p.props ≡ props) × (p.body ≡ body)) (λ fault. fault ≡ PayloadFault.Memory) }
+        → MatchResult result (λ p. (p.props ≡ props) × (p.body ≡ body))
+        (λ fault. fault ≡ PayloadFault.Memory) }
 
     // A fault is the first one.
     ensures ok { IfOk result (λ p. payload_at bytes.now ≡ Ok (p.props, p.body)) }
-    ensures err { IfErr result (λ fault. fault ≢ PayloadFault.Memory → payload_at bytes.now ≡ Err fault) }
+    ensures err { IfErr result
+        (λ fault. fault ≢ PayloadFault.Memory → payload_at bytes.now ≡ Err fault) }
 {
     payload_of(alloc, bytes)
 }
@@ -104,7 +106,8 @@ fn payload_of(alloc: Global, bytes: &[u8]) -> Result<Payload, PayloadFault>
 /// The same of a buffer, which then is the body's, and which stays as it was at a fault.
 pub fn take_payload(alloc: Global, bytes: &mut Bytes) -> Result<Payload, PayloadFault>
     ensures ok { IfOk result (λ p. payload_at bytes.old ≡ Ok (p.props, p.body)) }
-    ensures err { IfErr result (λ fault. fault ≢ PayloadFault.Memory → payload_at bytes.old ≡ Err fault) }
+    ensures err { IfErr result
+        (λ fault. fault ≢ PayloadFault.Memory → payload_at bytes.old ≡ Err fault) }
     ensures unchanged { OnErr result (bytes.new ≡ bytes.old) }
 {
     let (props, body) = props_and_body(alloc, bytes.as_slice())?;
@@ -268,9 +271,13 @@ fn text_len(block: &[u8]) -> usize
 /// Puts a payload at the end of `out`: the length of the property block, the block, and the body. At
 /// lack of memory `out` stays as it was.
 pub fn write_payload(payload: &Payload, out: &mut Bytes) -> Result<(), Memory>
-    ensures ok { OnOk result (out.new ≡ out.old ++ payload_text payload.now.props payload.now.body) }
-    ensures again { All HasNoNul payload.now.props → stands_twice (keys_of payload.now.props) ≡ false
-        → OnOk result (payload_at (payload_text payload.now.props payload.now.body) ≡ Ok (payload.now.props, payload.now.body)) }
+    ensures ok { OnOk result
+        (out.new ≡ out.old ++ payload_text payload.now.props payload.now.body) }
+    ensures again { All HasNoNul payload.now.props
+        → stands_twice (keys_of payload.now.props) ≡ false
+        → OnOk result
+        (payload_at (payload_text payload.now.props payload.now.body)
+        ≡ Ok (payload.now.props, payload.now.body)) }
     ensures err { OnErr result (out.new ≡ out.old) }
 {
     let start = out.len();

@@ -19,12 +19,14 @@ pub enum VarintFault {
 /// gives the bytes after it.
 pub fn read_varint(bytes: &[u8]) -> Result<(u64, &[u8]), VarintFault>
     // What is read is a varint of the number.
-    ensures found { IfOk result (λ x. (front : List ℕ) × IsRead front x.0 × (bytes.now ≡ front ++ x.1.now)) }
+    ensures found { IfOk result
+        (λ x. (front : List ℕ) × IsRead front x.0 × (bytes.now ≡ front ++ x.1.now)) }
     // Each varint is read, whatever follows it.
     ensures only { (front rest : List ℕ) (n : ℕ) → IsRead front n → bytes.now ≡ front ++ rest
         → IsOkAnd result (λ x. (x.0 ≡ n) × (x.1.now ≡ rest)) }
     ensures short { (result ≡ Err VarintFault.Short) ↔ EndsInside bytes.now }
-    ensures exact { MatchResult result (λ x. number_at bytes.now ≡ Ok (x.0, x.1.now)) (λ fault. number_at bytes.now ≡ Err fault) }
+    ensures exact { MatchResult result (λ x. number_at bytes.now ≡ Ok (x.0, x.1.now))
+        (λ fault. number_at bytes.now ≡ Err fault) }
 {
     number_of(bytes)
 }

@@ -12,7 +12,7 @@ use Rattle.blip_mux.specs.declared.inbox.TakeFault.TheVariants as faults
 use Rattle.blip_mux.specs.Begun.{Begun}
 use Rattle.blip_mux.specs.Joining.{begun_or, may_come, given_by, part_by, message_by, whole, answer_to, acknowledged, acknowledges, acknowledge_after, count_in}
 
--- the kind of the acknowledgement that was told of or is owed, where one was
+-- the kind of the acknowledgement that has come or is owed, where one was
 abbrev ack_kind_of : Result Taken TakeFault → Option Kind
 ack_kind_of (Ok takens.Nothing) = None
 ack_kind_of (Ok (takens.Ack kind number bytes)) = Some kind
@@ -44,19 +44,19 @@ given_kind b f =
       | false ↦ whole_kind (message_by b f)
     ]
 
-told_kind : (f : FrameParts) (o : Option ℕ) → has_checksum f.kind ≡ false → IsAckKind (ack_kind_of (acknowledged f o))
-told_kind f None e = tt
-told_kind f (Some bytes) e = e
+ack_kind : (f : FrameParts) (o : Option ℕ) → has_checksum f.kind ≡ false → IsAckKind (ack_kind_of (acknowledged f o))
+ack_kind f None e = tt
+ack_kind f (Some bytes) e = e
 
 answer_kind : (requests : ℕ) (awaited : Bool) (o : Option Begun) (f : FrameParts) → IsAckKind (ack_kind_of (answer_to requests awaited o f))
 answer_kind requests awaited o f =
     (elim (has_checksum f.kind) as (λ b. has_checksum f.kind ≡ b → IsAckKind (ack_kind_of (if b then (if may_come requests awaited o f then given_by (begun_or o f) f else Err (faults.OutOfOrder f.number)) else acknowledged f (count_in (number_at f.payload))))) [
       | true ↦ λ is. elim (may_come requests awaited o f) as (λ b. IsAckKind (ack_kind_of (if b then given_by (begun_or o f) f else Err (faults.OutOfOrder f.number)))) [ true ↦ given_kind (begun_or o f) f | false ↦ tt ]
-      | false ↦ λ is. told_kind f (count_in (number_at f.payload)) is
+      | false ↦ λ is. ack_kind f (count_in (number_at f.payload)) is
     ]) refl
 
-pub heard_kind : (requests : ℕ) (awaited : Bool) (o : Option Begun) (f : FrameParts) (kind : Kind) (number bytes : ℕ) → answer_to requests awaited o f ≡ Ok (takens.Ack kind number bytes) → has_checksum kind ≡ false
-heard_kind requests awaited o f kind number bytes e = subst (λ r. IsAckKind (ack_kind_of r)) e (answer_kind requests awaited o f)
+pub acked_kind : (requests : ℕ) (awaited : Bool) (o : Option Begun) (f : FrameParts) (kind : Kind) (number bytes : ℕ) → answer_to requests awaited o f ≡ Ok (takens.Ack kind number bytes) → has_checksum kind ≡ false
+acked_kind requests awaited o f kind number bytes e = subst (λ r. IsAckKind (ack_kind_of r)) e (answer_kind requests awaited o f)
 
 pub owed_kind : (requests : ℕ) (awaited : Bool) (o : Option Begun) (f : FrameParts) (kind : Kind) (number bytes : ℕ) → answer_to requests awaited o f ≡ Ok (takens.Owed kind number bytes) → has_checksum kind ≡ false
 owed_kind requests awaited o f kind number bytes e = subst (λ r. IsAckKind (ack_kind_of r)) e (answer_kind requests awaited o f)

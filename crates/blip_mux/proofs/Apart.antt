@@ -21,10 +21,10 @@ use Rattle.blip_mux.specs.Apart.{HasCome, AreApart}
 use Rattle.blip_mux.specs.Begun.{Begun}
 use Rattle.blip_mux.specs.Cutting.{with_message}
 use Rattle.blip_mux.specs.Joining.{is_request, is_reply, begun_or, with_frame, may_come, given_by, part_by, message_by, whole, read_as, with_fault, acknowledged, acknowledges, acknowledge_after, count_in}
-use Rattle.blip_mux.specs.Remembered.{Standing, Unfinished}
-use Rattle.blip_mux.specs.Sending.{Waiting, Sending, is_reply_to, is_of, heard, heard_in, taken_out, may_send, chosen, back, has_more, without_piece, picked_from, after_picked}
-use Rattle.blip_mux.specs.Standing.{begun_after, so_far_at, answer_at, taken_after}
-use Rattle.blip_mux.specs.Told.{Acknowledgement}
+use Rattle.blip_mux.specs.Remembered.{InboxState, Unfinished}
+use Rattle.blip_mux.specs.Sending.{Waiting, Sending, is_reply_to, is_of, acked, acked_in, taken_out, may_send, chosen, back, has_more, without_piece, picked_from, after_picked}
+use Rattle.blip_mux.specs.InboxStates.{begun_after, so_far_at, answer_at, taken_after}
+use Rattle.blip_mux.specs.Acknowledgements.{Acknowledgement}
 use Rattle.blip_mux.proofs.Joins.{got}
 
 -- ---- what waits
@@ -78,25 +78,25 @@ any_after n ws None h e = e
 any_after n ws (Some found) h e =
     sym h ∙ any_of_two (is_reply_to n found.0) (list_any (is_reply_to n) found.1) (list_any (is_reply_to n) (back found.0)) (sym (any_behind n found.1 (back found.0)) ∙ e) (any_back n found.0 (has_more found.0))
 
-heard_any : (n : ℕ) (kind : Kind) (number bytes : ℕ) (ws : List Waiting) → list_any (is_reply_to n) (heard_in kind number bytes ws) ≡ list_any (is_reply_to n) ws
-heard_any n kind number bytes [] = refl
-heard_any n kind number bytes (w ∷ ws) =
-    elim (is_of kind number w) as (λ b. list_any (is_reply_to n) (if b then heard bytes w ∷ ws else w ∷ heard_in kind number bytes ws) ≡ list_any (is_reply_to n) (w ∷ ws))
-    [ true ↦ refl | false ↦ ap (λ (b : Bool). is_reply_to n w || b) (heard_any n kind number bytes ws) ]
+acked_any : (n : ℕ) (kind : Kind) (number bytes : ℕ) (ws : List Waiting) → list_any (is_reply_to n) (acked_in kind number bytes ws) ≡ list_any (is_reply_to n) ws
+acked_any n kind number bytes [] = refl
+acked_any n kind number bytes (w ∷ ws) =
+    elim (is_of kind number w) as (λ b. list_any (is_reply_to n) (if b then acked bytes w ∷ ws else w ∷ acked_in kind number bytes ws) ≡ list_any (is_reply_to n) (w ∷ ws))
+    [ true ↦ refl | false ↦ ap (λ (b : Bool). is_reply_to n w || b) (acked_any n kind number bytes ws) ]
 
 -- ---- the outbox
 
-picked_apart : (s : Standing) (acknowledgements : List Acknowledgement) (out : Sending) → AreApart s out → AreApart s (picked_from acknowledgements out)
+picked_apart : (s : InboxState) (acknowledgements : List Acknowledgement) (out : Sending) → AreApart s out → AreApart s (picked_from acknowledgements out)
 picked_apart s [] out apart n e =
     apart n (any_after n out.waiting (chosen out.waiting) (out_or n out.waiting (taken_out (λ w. w.urgent && may_send w) out.waiting) (taken_out may_send out.waiting)
     (out_any (λ w. w.urgent && may_send w) n out.waiting) (out_any may_send n out.waiting)) e)
 picked_apart s (a ∷ acknowledgements) out apart n e = apart n e
 
-pub pick_apart : (s : Standing) (out : Sending) → AreApart s out → AreApart s (after_picked out)
+pub pick_apart : (s : InboxState) (out : Sending) → AreApart s out → AreApart s (after_picked out)
 pick_apart s out apart = picked_apart s out.acknowledgements out apart
 
-pub hear_apart : (s : Standing) (out : Sending) (kind : Kind) (number bytes : ℕ) → AreApart s out → AreApart s (record out { waiting = heard_in kind number bytes out.waiting })
-hear_apart s out kind number bytes apart n e = apart n (sym (heard_any n kind number bytes out.waiting) ∙ e)
+pub ack_apart : (s : InboxState) (out : Sending) (kind : Kind) (number bytes : ℕ) → AreApart s out → AreApart s (record out { waiting = acked_in kind number bytes out.waiting })
+ack_apart s out kind number bytes apart n e = apart n (sym (acked_any n kind number bytes out.waiting) ∙ e)
 
 of_two : (a b : Bool) → (a || b) ≡ true → (a ≡ true → ⊥) → b ≡ true
 of_two true b e f = absurd (f refl)
@@ -110,14 +110,14 @@ both_true : (a b : Bool) → (a && b) ≡ true → (a ≡ true) × (b ≡ true)
 both_true true b e = (refl, e)
 both_true false b e = absurd (false≢true e)
 
-put_cases : (s : Standing) (out : Sending) (w : Waiting) (n : ℕ) → AreApart s out → (is_reply w.kind ≡ true → HasCome s w.number) → (b : Bool) → list_any (is_reply_to n) out.waiting ≡ b
+put_cases : (s : InboxState) (out : Sending) (w : Waiting) (n : ℕ) → AreApart s out → (is_reply w.kind ≡ true → HasCome s w.number) → (b : Bool) → list_any (is_reply_to n) out.waiting ≡ b
     → (list_any (is_reply_to n) out.waiting || (is_reply_to n w || false)) ≡ true → HasCome s n
 put_cases s out w n apart may true is e = apart n is
 put_cases s out w n apart may false is e =
     let both : (is_reply w.kind ≡ true) × (eqb w.number n ≡ true) = both_true (is_reply w.kind) (eqb w.number n) (one_any (is_reply_to n w) (ap (λ (b : Bool). b || (is_reply_to n w || false)) (sym is) ∙ e)) in
     subst (HasCome s) (eqb-true w.number n both.1) (may both.0)
 
-pub put_apart : (s : Standing) (out : Sending) (w : Waiting) → AreApart s out → (is_reply w.kind ≡ true → HasCome s w.number) → AreApart s (with_message out w)
+pub put_apart : (s : InboxState) (out : Sending) (w : Waiting) → AreApart s out → (is_reply w.kind ≡ true → HasCome s w.number) → AreApart s (with_message out w)
 put_apart s out w apart may n e =
     put_cases s out w n apart may (list_any (is_reply_to n) out.waiting) refl (sym (any_behind n out.waiting (w ∷ [])) ∙ e)
 
@@ -138,7 +138,7 @@ next_number requests awaited kinds.AckMsg number is e = absurd (false≢true (ap
 next_number requests awaited kinds.AckRpy number is e = absurd (false≢true (ap is_request is))
 
 -- a frame that may come, where nothing of its request is on its way, begins the next request
-begins_next : (s : Standing) (f : FrameParts) (awaited : Bool) (o : Option Begun) → f.kind ≡ kinds.Msg → o ≡ None → may_come s.requests awaited o f ≡ true → f.number ≡ s.requests + 1
+begins_next : (s : InboxState) (f : FrameParts) (awaited : Bool) (o : Option Begun) → f.kind ≡ kinds.Msg → o ≡ None → may_come s.requests awaited o f ≡ true → f.number ≡ s.requests + 1
 begins_next s f awaited None kind none e = next_number s.requests awaited f.kind f.number kind e
 begins_next s f awaited (Some b) kind none e = absurd (some_none b none)
 
@@ -161,14 +161,14 @@ request_kind kinds.AckMsg e = absurd (false≢true e)
 request_kind kinds.AckRpy e = absurd (false≢true e)
 
 -- of a frame with a checksum, what may come and gives this
-came_by : (s : Standing) (f : FrameParts) (taken : Taken) → has_checksum f.kind ≡ true → answer_at s f ≡ Ok taken
+came_by : (s : InboxState) (f : FrameParts) (taken : Taken) → has_checksum f.kind ≡ true → answer_at s f ≡ Ok taken
     → (may_come s.requests (set.contains s.expected f.number) (so_far_at s f) f ≡ true) × (given_by (begun_or (so_far_at s f) f) f ≡ Ok taken)
 came_by s f taken checked e =
     ok_only (may_come s.requests (set.contains s.expected f.number) (so_far_at s f) f) (given_by (begun_or (so_far_at s f) f) f) f.number taken
     (sym (ap (λ b. if b then (if may_come s.requests (set.contains s.expected f.number) (so_far_at s f) f then given_by (begun_or (so_far_at s f) f) f else Err (faults.OutOfOrder f.number)) else acknowledged f (count_in (number_at f.payload))) checked) ∙ e)
 
 -- the request that a frame is of has no reply that waits
-no_reply_waits : (s : Standing) (out : Sending) (f : FrameParts) (taken : Taken) → f.kind ≡ kinds.Msg → answer_at s f ≡ Ok taken → AreApart s out → list_any (is_reply_to f.number) out.waiting ≡ true → ⊥
+no_reply_waits : (s : InboxState) (out : Sending) (f : FrameParts) (taken : Taken) → f.kind ≡ kinds.Msg → answer_at s f ≡ Ok taken → AreApart s out → list_any (is_reply_to f.number) out.waiting ≡ true → ⊥
 no_reply_waits s out f taken kind e apart waits =
     let come : HasCome s f.number = apart f.number waits in
     let none : so_far_at s f ≡ None = ap (λ b. if b then map.get s.requests_begun f.number else map.get s.replies_begun f.number) (ap is_request kind) ∙ come.1 in
@@ -184,7 +184,7 @@ begun_none false false b o e f = e
 le_max_right : (a b n : ℕ) → n ≤ b → n ≤ max a b
 le_max_right a b n h = omega (arith, h)
 
-request_taken : (s : Standing) (out : Sending) (f : FrameParts) (taken : Taken) (n : ℕ) → f.kind ≡ kinds.Msg → answer_at s f ≡ Ok taken → AreApart s out → list_any (is_reply_to n) out.waiting ≡ true
+request_taken : (s : InboxState) (out : Sending) (f : FrameParts) (taken : Taken) (n : ℕ) → f.kind ≡ kinds.Msg → answer_at s f ≡ Ok taken → AreApart s out → list_any (is_reply_to n) out.waiting ≡ true
     → HasCome (record s { requests = max f.number s.requests; requests_begun = begun_after s.requests_begun f }) n
 request_taken s out f taken n kind e apart waits = (
   le_max_right f.number s.requests n (apart n waits).0,
@@ -193,7 +193,7 @@ request_taken s out f taken n kind e apart waits = (
       (λ same. no_reply_waits s out f taken kind e apart (subst (λ k. list_any (is_reply_to k) out.waiting ≡ true) (eqb-true n f.number same) waits)),
 )
 
-pub take_apart : (s : Standing) (out : Sending) (f : FrameParts) (taken : Taken) → answer_at s f ≡ Ok taken → AreApart s out → AreApart (taken_after s f) out
+pub take_apart : (s : InboxState) (out : Sending) (f : FrameParts) (taken : Taken) → answer_at s f ≡ Ok taken → AreApart s out → AreApart (taken_after s f) out
 take_apart s out f taken e apart n waits =
     (elim (is_request f.kind) as (λ b. is_request f.kind ≡ b → HasCome (if b then record s { requests = max f.number s.requests; requests_begun = begun_after s.requests_begun f }
     else if is_reply f.kind then record s { expected = (if f.more then s.expected else set.remove s.expected f.number); replies_begun = begun_after s.replies_begun f } else s) n) [
@@ -250,7 +250,7 @@ of_request : (requests : ℕ) (awaited : Bool) (o : Option Begun) (f : FramePart
 of_request requests awaited None f may is = is
 of_request requests awaited (Some b) f may is = kind_zero f.kind (sym (eqb-true (kind_number b.kind) (kind_number f.kind) may) ∙ ap kind_number is)
 
-checked_by : (b : Bool) (s : Standing) (f : FrameParts) (message : Message) → has_checksum f.kind ≡ b → answer_at s f ≡ Ok (takens.Whole message) → has_checksum f.kind ≡ true
+checked_by : (b : Bool) (s : InboxState) (f : FrameParts) (message : Message) → has_checksum f.kind ≡ b → answer_at s f ≡ Ok (takens.Whole message) → has_checksum f.kind ≡ true
 checked_by true s f message is e = is
 checked_by false s f message is e =
     absurd (false≢true (sym (acknowledged_not_whole f (count_in (number_at f.payload))) ∙ ap is_whole (sym (ap (λ b. if b then (if may_come s.requests (set.contains s.expected f.number) (so_far_at s f) f then given_by (begun_or (so_far_at s f) f) f else Err (faults.OutOfOrder f.number)) else acknowledged f (count_in (number_at f.payload))) is) ∙ e)))
@@ -258,20 +258,20 @@ checked_by false s f message is e =
 remove_same : (m : Unfinished) (k : ℕ) (more : Bool) (b : Begun) → more ≡ false → map.get (if more then map.insert m k b else map.remove m k) k ≡ None
 remove_same m k more b is = got more m k k b ∙ ap (λ (t : Bool). cond t (cond (eqb k k) (Some b) (map.get m k)) (cond (eqb k k) None (map.get m k))) is ∙ ap (λ (t : Bool). cond t None (map.get m k)) (eq-eqb k k refl)
 
-whole_frame : (s : Standing) (f : FrameParts) (message : Message) → answer_at s f ≡ Ok (takens.Whole message) → is_request message.kind ≡ true → (f.kind ≡ kinds.Msg) × (message.number ≡ f.number) × (f.more ≡ false)
+whole_frame : (s : InboxState) (f : FrameParts) (message : Message) → answer_at s f ≡ Ok (takens.Whole message) → is_request message.kind ≡ true → (f.kind ≡ kinds.Msg) × (message.number ≡ f.number) × (f.more ≡ false)
 whole_frame s f message e request =
     let by : (may_come s.requests (set.contains s.expected f.number) (so_far_at s f) f ≡ true) × (given_by (begun_or (so_far_at s f) f) f ≡ Ok (takens.Whole message)) = came_by s f (takens.Whole message) (checked_by (has_checksum f.kind) s f message refl e) e in
     let is : (f.more ≡ false) × (message.number ≡ f.number) × (message.kind ≡ (begun_or (so_far_at s f) f).kind) = given_is f.more (begun_or (so_far_at s f) f) f message by.1 in
     (of_request s.requests (set.contains s.expected f.number) (so_far_at s f) f by.0 (sym is.2 ∙ request_kind message.kind request), is.1, is.0)
 
-whole_come : (s : Standing) (f : FrameParts) → f.kind ≡ kinds.Msg → f.more ≡ false → HasCome (taken_after s f) f.number
+whole_come : (s : InboxState) (f : FrameParts) → f.kind ≡ kinds.Msg → f.more ≡ false → HasCome (taken_after s f) f.number
 whole_come s f kind last =
     subst (λ b. HasCome (if b then record s { requests = max f.number s.requests; requests_begun = begun_after s.requests_begun f }
     else if is_reply f.kind then record s { expected = (if f.more then s.expected else set.remove s.expected f.number); replies_begun = begun_after s.replies_begun f } else s) f.number) (sym (ap is_request kind))
     (omega arith, remove_same s.requests_begun f.number f.more (with_frame (begun_or (map.get s.requests_begun f.number) f) f) last)
 
 -- no reply to a request waits that comes whole, and it has come then
-pub whole_apart : (s : Standing) (out : Sending) (f : FrameParts) (message : Message) → answer_at s f ≡ Ok (takens.Whole message) → is_request message.kind ≡ true → AreApart s out
+pub whole_apart : (s : InboxState) (out : Sending) (f : FrameParts) (message : Message) → answer_at s f ≡ Ok (takens.Whole message) → is_request message.kind ≡ true → AreApart s out
     → (list_any (is_reply_to message.number) out.waiting ≡ false) × HasCome (taken_after s f) message.number
 whole_apart s out f message e request apart =
     let is : (f.kind ≡ kinds.Msg) × (message.number ≡ f.number) × (f.more ≡ false) = whole_frame s f message e request in (

@@ -5,9 +5,9 @@ use Rattle.std.specs.Option.{option_or, option_map_or, option_to_list}
 use Rattle.std.proofs.lemmas.Bool.{ltb-true, ltb-false, cases_Bool, both_ways}
 use Rattle.std.proofs.lemmas.List.{take_all, length-drop, length-take-le}
 use Rattle.blip_frame.specs.Frame.{FrameParts, largest_written}
-use Rattle.blip_mux.specs.Told.{Acknowledgement, told_by}
+use Rattle.blip_mux.specs.Acknowledgements.{Acknowledgement, ack_frame}
 use Rattle.blip_mux.specs.Sending.{Waiting, Sending, may_send, has_more, first_piece, without_piece, back, taken_out, chosen, next_piece, after_piece, picked, picked_of, after_picked, picked_from}
-use Rattle.blip_mux.specs.Cutting.{Deed, after_deeds, ArePicked, AreAllPicked, AreCut, AreFull, frames_after}
+use Rattle.blip_mux.specs.Cutting.{OutboxStep, after_outbox_steps, ArePicked, AreAllPicked, AreCut, AreFull, frames_after}
 use Rattle.blip_mux.proofs.Payloads.{varint_fits}
 
 abbrev pub Found : Type 0
@@ -89,7 +89,7 @@ picked_lighter s = go s.acknowledgements refl where
       inr (first_piece w, ap (option_map (λ found. first_piece found.0)) e, subst (λ (o : Found). weight (option_map_or (λ found. found.1 ++ back found.0) o s.waiting) < weight s.waiting) (sym e) (lighter s.waiting w others (split_chosen s.waiting w others e)))
 
   go : (acks : List Acknowledgement) → s.acknowledgements ≡ acks → (picked_of acks s.waiting ≡ None) ⊎ ((f : FrameParts) × (picked_of acks s.waiting ≡ Some f) × (total (picked_from acks s) < length acks + weight s.waiting))
-  go (a ∷ acks) e = inr (told_by a, refl, omega arith)
+  go (a ∷ acks) e = inr (ack_frame a, refl, omega arith)
   go [] e = elim (by_choice (chosen s.waiting) refl) [
     | inl none ↦ inl none
     | inr some ↦ inr (some.0, some.1, omega (arith, some.2, ap length e))
@@ -110,10 +110,10 @@ picks (suc k) s less = elim (picked_lighter s) [
       record { frames = some.0 ∷ rest.frames; left = rest.left; all = ((some.1, rest.all.0), rest.all.1) }
 ]
 
-pub can_cut : (s : Sending) (turns : List (List Deed)) → (frames : List FrameParts) × AreCut s turns frames
+pub can_cut : (s : Sending) (turns : List (List OutboxStep)) → (frames : List FrameParts) × AreCut s turns frames
 can_cut s [] = ([], refl)
-can_cut s (deeds ∷ turns) =
-    let first = picks (suc (total (after_deeds s deeds))) (after_deeds s deeds) (omega arith) in
+can_cut s (steps ∷ turns) =
+    let first = picks (suc (total (after_outbox_steps s steps))) (after_outbox_steps s steps) (omega arith) in
     let rest = can_cut first.left turns in
     (first.frames ++ rest.0, (first.frames, rest.0, first.left, refl, first.all, rest.1))
 
@@ -129,10 +129,10 @@ picked_once s (f ∷ fs) (g ∷ gs) left also a b =
     let rest = picked_once (after_picked s) fs gs left also (a.0.1, a.1) (b.0.1, b.1) in
     (ap (λ (h : FrameParts). h ∷ fs) same ∙ ap (λ (hs : List FrameParts). g ∷ hs) rest.0, rest.1)
 
-pub cut_once : (s : Sending) (turns : List (List Deed)) (frames others : List FrameParts) → AreCut s turns frames → AreCut s turns others → frames ≡ others
+pub cut_once : (s : Sending) (turns : List (List OutboxStep)) (frames others : List FrameParts) → AreCut s turns frames → AreCut s turns others → frames ≡ others
 cut_once s [] frames others a b = a ∙ sym b
-cut_once s (deeds ∷ turns) frames others a b =
-    let first = picked_once (after_deeds s deeds) a.0 b.0 a.2 b.2 a.4 b.4 in
+cut_once s (steps ∷ turns) frames others a b =
+    let first = picked_once (after_outbox_steps s steps) a.0 b.0 a.2 b.2 a.4 b.4 in
     let rest = cut_once b.2 turns a.1 b.1 (subst (λ (t : Sending). AreCut t turns a.1) first.1 a.5) b.5 in
     a.3 ∙ ap (λ (xs : List FrameParts). xs ++ a.1) first.0 ∙ ap (λ (xs : List FrameParts). b.0 ++ xs) rest ∙ sym b.3
 
@@ -180,7 +180,7 @@ full_frame s f is = go s.acknowledgements is where
 
   go : (acks : List Acknowledgement) → picked_of acks s.waiting ≡ Some f → (length f.payload ≤ largest_written) × (f.more ≡ true → length f.payload ≡ largest_written)
   go (a ∷ acks) e =
-      subst (λ (g : FrameParts). (length g.payload ≤ largest_written) × (g.more ≡ true → length g.payload ≡ largest_written)) (some_same (told_by a) f e) (varint_fits a.bytes, λ more. absurd cc)
+      subst (λ (g : FrameParts). (length g.payload ≤ largest_written) × (g.more ≡ true → length g.payload ≡ largest_written)) (some_same (ack_frame a) f e) (varint_fits a.bytes, λ more. absurd cc)
   go [] e = by_choice (chosen s.waiting) e
 
 pub all_full : (s : Sending) (frames : List FrameParts) (left : Sending) → ArePicked s frames left → AreFull frames

@@ -1,4 +1,4 @@
--- Standings and what came before them.
+-- States of an inbox, and what came before them.
 use Rattle.std.proofs.Common.{◌≡◌, ℕ, Bool, true, false, ◌&&◌, ◌||◌, cond, eqb, List, [], ◌∷◌, Some, None, refl, sym, ap, ◌∙◌}
 use Rattle.std.specs.Prelude.{not, max, Option}
 use Rattle.std.specs.Ordering.{nat_cmp}
@@ -10,13 +10,13 @@ use Rattle.blip_frame.specs.Frame.{FrameParts}
 use Rattle.blip_frame.specs.declared.frame.Kind.{Kind}
 use Rattle.blip_frame.specs.declared.frame.Kind.TheVariants as kinds
 use Rattle.blip_mux.specs.Begun.{Begun}
-use Rattle.blip_mux.specs.Remembered.{Standing, Unfinished}
-use Rattle.blip_mux.specs.Standing.{new_standing, expecting, begun_after, so_far_at, answer_at, taken_after, taken_from, StandsFor}
+use Rattle.blip_mux.specs.Remembered.{InboxState, Unfinished}
+use Rattle.blip_mux.specs.InboxStates.{new_inbox, expecting, begun_after, so_far_at, answer_at, taken_after, taken_from, StandsFor}
 use Rattle.blip_mux.specs.Joining.{Event, came, expected, is_request, is_reply, begun_or, with_frame, brought_by, answer_to, answer_in, frames_of, requests_in, is_awaited, Joined, followed_by, joined_after, joined}
 
--- ---- the standing says what the events before it gave
+-- ---- the state says what the events before it gave
 
-pub stands_new : StandsFor new_standing []
+pub stands_new : StandsFor new_inbox []
 stands_new = record {
   requests = refl;
   awaited = set.contains-empty nat_cmp;
@@ -59,7 +59,7 @@ begun_of_class m class before f q each =
 
 -- ---- frame by frame
 
-requests_taken : (s : Standing) (f : FrameParts) (k : Kind) (begun replied : Unfinished) (e : set.FinSet nat_cmp) (r : ℕ) → s.requests ≡ r
+requests_taken : (s : InboxState) (f : FrameParts) (k : Kind) (begun replied : Unfinished) (e : set.FinSet nat_cmp) (r : ℕ) → s.requests ≡ r
     → (cond (is_request k) (record s { requests = max f.number s.requests; requests_begun = begun }) (cond (is_reply k) (record s { expected = e; replies_begun = replied }) s)).requests ≡ cond (is_request k) (max f.number r) r
 requests_taken s f kinds.Msg begun replied e r is = ap (max f.number) is
 requests_taken s f kinds.Rpy begun replied e r is = is
@@ -67,7 +67,7 @@ requests_taken s f kinds.Err begun replied e r is = is
 requests_taken s f kinds.AckMsg begun replied e r is = is
 requests_taken s f kinds.AckRpy begun replied e r is = is
 
-awaited_taken : (s : Standing) (n : ℕ) (more : Bool) (k : Kind) (begun replied : Unfinished) (q : ℕ) (a : Bool) → set.contains s.expected q ≡ a
+awaited_taken : (s : InboxState) (n : ℕ) (more : Bool) (k : Kind) (begun replied : Unfinished) (q : ℕ) (a : Bool) → set.contains s.expected q ≡ a
     → set.contains (cond (is_request k) (record s { requests = max n s.requests; requests_begun = begun }) (cond (is_reply k) (record s { expected = cond more s.expected (set.remove s.expected n); replies_begun = replied }) s)).expected q ≡ (not (is_reply k && not more && eqb q n) && a)
 awaited_taken s n more kinds.Msg begun replied q a is = is
 awaited_taken s n true kinds.Rpy begun replied q a is = is
@@ -77,7 +77,7 @@ awaited_taken s n false kinds.Err begun replied q a is = contains_removed s.expe
 awaited_taken s n more kinds.AckMsg begun replied q a is = is
 awaited_taken s n more kinds.AckRpy begun replied q a is = is
 
-requests_begun_taken : (s : Standing) (n r : ℕ) (k : Kind) (begun replied : Unfinished) (e : set.FinSet nat_cmp) (q : ℕ) (t : Bool) (after before : List FrameParts)
+requests_begun_taken : (s : InboxState) (n r : ℕ) (k : Kind) (begun replied : Unfinished) (e : set.FinSet nat_cmp) (q : ℕ) (t : Bool) (after before : List FrameParts)
     → map.get begun q ≡ brought_by (cond t after before) → map.get s.requests_begun q ≡ brought_by before
     → map.get (cond (is_request k) (record s { requests = r; requests_begun = begun }) (cond (is_reply k) (record s { expected = e; replies_begun = replied }) s)).requests_begun q ≡ brought_by (cond (is_request k && t) after before)
 requests_begun_taken s n r kinds.Msg begun replied e q t after before now was = now
@@ -86,7 +86,7 @@ requests_begun_taken s n r kinds.Err begun replied e q t after before now was = 
 requests_begun_taken s n r kinds.AckMsg begun replied e q t after before now was = was
 requests_begun_taken s n r kinds.AckRpy begun replied e q t after before now was = was
 
-replies_begun_taken : (s : Standing) (n r : ℕ) (k : Kind) (begun replied : Unfinished) (e : set.FinSet nat_cmp) (q : ℕ) (t : Bool) (after before : List FrameParts)
+replies_begun_taken : (s : InboxState) (n r : ℕ) (k : Kind) (begun replied : Unfinished) (e : set.FinSet nat_cmp) (q : ℕ) (t : Bool) (after before : List FrameParts)
     → map.get replied q ≡ brought_by (cond t after before) → map.get s.replies_begun q ≡ brought_by before
     → map.get (cond (is_request k) (record s { requests = r; requests_begun = begun }) (cond (is_reply k) (record s { expected = e; replies_begun = replied }) s)).replies_begun q ≡ brought_by (cond (is_reply k && t) after before)
 replies_begun_taken s n r kinds.Msg begun replied e q t after before now was = was
@@ -95,7 +95,7 @@ replies_begun_taken s n r kinds.Err begun replied e q t after before now was = n
 replies_begun_taken s n r kinds.AckMsg begun replied e q t after before now was = was
 replies_begun_taken s n r kinds.AckRpy begun replied e q t after before now was = was
 
-pub stands_after : (s : Standing) (before : List Event) (f : FrameParts) → StandsFor s before → StandsFor (taken_after s f) (came f ∷ before)
+pub stands_after : (s : InboxState) (before : List Event) (f : FrameParts) → StandsFor s before → StandsFor (taken_after s f) (came f ∷ before)
 stands_after s before f stands = record {
   requests = requests_taken s f f.kind (begun_after s.requests_begun f) (begun_after s.replies_begun f) (cond f.more s.expected (set.remove s.expected f.number)) (requests_in before) stands.requests;
   awaited = λ q. awaited_taken s f.number f.more f.kind (begun_after s.requests_begun f) (begun_after s.replies_begun f) q (is_awaited before q) (stands.awaited q);
@@ -105,7 +105,7 @@ stands_after s before f stands = record {
       (cond f.more (f ∷ frames_of is_reply q before) []) (frames_of is_reply q before) (begun_of_class s.replies_begun is_reply before f q stands.replies_begun) (stands.replies_begun q);
 }
 
-pub stands_expecting : (s : Standing) (before : List Event) (n : ℕ) → StandsFor s before → StandsFor (expecting s n) (expected n ∷ before)
+pub stands_expecting : (s : InboxState) (before : List Event) (n : ℕ) → StandsFor s before → StandsFor (expecting s n) (expected n ∷ before)
 stands_expecting s before n stands = record {
   requests = stands.requests;
   awaited = λ q. contains_inserted s.expected n q ∙ ap (λ (b : Bool). eqb q n || b) (stands.awaited q);
@@ -117,19 +117,19 @@ so_far_by : (b : Bool) (m n : Unfinished) (q : ℕ) (xs ys : List FrameParts) �
 so_far_by true m n q xs ys d e = d
 so_far_by false m n q xs ys d e = e
 
-pub same_answer : (s : Standing) (before : List Event) (f : FrameParts) → StandsFor s before → answer_at s f ≡ answer_in before f
+pub same_answer : (s : InboxState) (before : List Event) (f : FrameParts) → StandsFor s before → answer_at s f ≡ answer_in before f
 same_answer s before f stands =
     ap (λ (r : ℕ). answer_to r (set.contains s.expected f.number) (so_far_at s f) f) stands.requests
     ∙ ap (λ (b : Bool). answer_to (requests_in before) b (so_far_at s f) f) (stands.awaited f.number)
     ∙ ap (λ (o : Option Begun). answer_to (requests_in before) (is_awaited before f.number) o f)
     (so_far_by (is_request f.kind) s.requests_begun s.replies_begun f.number (frames_of is_request f.number before) (frames_of is_reply f.number before) (stands.requests_begun f.number) (stands.replies_begun f.number))
 
-taken_joined : (s : Standing) (before : List Event) → StandsFor s before → (events : List Event) → taken_from s events ≡ joined_after before events
+taken_joined : (s : InboxState) (before : List Event) → StandsFor s before → (events : List Event) → taken_from s events ≡ joined_after before events
 taken_joined s before stands [] = refl
 taken_joined s before stands (came f ∷ events) =
     ap (λ x. followed_by x (taken_from (taken_after s f) events)) (same_answer s before f stands)
     ∙ ap (λ (j : Joined). followed_by (answer_in before f) j) (taken_joined (taken_after s f) (came f ∷ before) (stands_after s before f stands) events)
 taken_joined s before stands (expected n ∷ events) = taken_joined (expecting s n) (expected n ∷ before) (stands_expecting s before n stands) events
 
-pub new_joined : (events : List Event) → taken_from new_standing events ≡ joined events
-new_joined events = taken_joined new_standing [] stands_new events
+pub new_joined : (events : List Event) → taken_from new_inbox events ≡ joined events
+new_joined events = taken_joined new_inbox [] stands_new events

@@ -5,9 +5,9 @@ use Rattle.std.specs.Option.{option_or, option_map_or}
 use Rattle.std.specs.List.{AllByRecursion}
 use Rattle.std.proofs.lemmas.Bool.{leb-true, and_parts}
 use Rattle.blip_frame.specs.declared.frame.Kind.{Kind}
-use Rattle.blip_mux.specs.Told.{Acknowledgement}
-use Rattle.blip_mux.specs.Sending.{Waiting, Sending, IsWithinLimit, may_send, pause_above, has_more, without_piece, back, taken_out, chosen, after_piece, picked_from, after_picked, is_of, heard, heard_in}
-use Rattle.blip_mux.specs.Between.{Step, put, owe, hear, send, expect, sending_after, sending_in}
+use Rattle.blip_mux.specs.Acknowledgements.{Acknowledgement}
+use Rattle.blip_mux.specs.Sending.{Waiting, Sending, IsWithinLimit, may_send, pause_above, has_more, without_piece, back, taken_out, chosen, after_piece, picked_from, after_picked, is_of, acked, acked_in}
+use Rattle.blip_mux.specs.Between.{Step, put, owe, take_ack, send, expect, sending_after, sending_in}
 use Rattle.blip_mux.proofs.Cuts.{Found}
 
 abbrev AreWithin : List Waiting → Type 0
@@ -49,10 +49,10 @@ piece_within ws all = go (chosen ws) (chosen_within ws all) where
   go None none = all
   go (Some found) some = within-append found.1 (back found.0) some.2 (back_within found.0 some.0)
 
-heard_within : (kind : Kind) (number bytes : ℕ) (ws : List Waiting) → AreWithin ws → AreWithin (heard_in kind number bytes ws)
-heard_within kind number bytes [] all = tt
-heard_within kind number bytes (w ∷ ws) all = go (is_of kind number w) (heard_within kind number bytes ws all.1) where
-  go : (b : Bool) → AreWithin (heard_in kind number bytes ws) → AreWithin (cond b (heard bytes w ∷ ws) (w ∷ heard_in kind number bytes ws))
+acked_within : (kind : Kind) (number bytes : ℕ) (ws : List Waiting) → AreWithin ws → AreWithin (acked_in kind number bytes ws)
+acked_within kind number bytes [] all = tt
+acked_within kind number bytes (w ∷ ws) all = go (is_of kind number w) (acked_within kind number bytes ws all.1) where
+  go : (b : Bool) → AreWithin (acked_in kind number bytes ws) → AreWithin (cond b (acked bytes w ∷ ws) (w ∷ acked_in kind number bytes ws))
   go true rest = let w_within = all.0 in (omega arith, all.1)
   go false rest = (all.0, rest)
 
@@ -65,7 +65,7 @@ picked_within s all = go s.acknowledgements where
 step_within : (s : Sending) (step : Step) → AreWithin s.waiting → AreWithin (sending_after s step).waiting
 step_within s (put m) all = within-append s.waiting _ all (omega arith, tt)
 step_within s (owe a) all = all
-step_within s (hear kind number bytes) all = heard_within kind number bytes s.waiting all
+step_within s (take_ack kind number bytes) all = acked_within kind number bytes s.waiting all
 step_within s send all = picked_within s all
 step_within s (expect number) all = all
 

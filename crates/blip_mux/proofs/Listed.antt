@@ -13,7 +13,7 @@ use Rattle.std.proofs.lemmas.Bool.{eqb-true, eq-eqb, ne_eqb, cases_lt}
 use Rattle.std.proofs.lemmas.Map.Keys.{sorted_head, sorted_tail}
 use Rattle.std.specs.List.{AllByRecursion}
 use Rattle.blip_frame.specs.declared.frame.Kind.{Kind}
-use Rattle.blip_mux.specs.Sending.{Waiting, taken_out, is_of, heard, heard_in}
+use Rattle.blip_mux.specs.Sending.{Waiting, taken_out, is_of, acked, acked_in}
 use Rattle.blip_mux.specs.Entries.{Entries, look, with_message, without}
 use Rattle.blip_mux.proofs.Cuts.{Found, behind}
 
@@ -142,19 +142,19 @@ none_of_any : (p : Waiting → Bool) (es : Entries) → AllFail p es → list_an
 none_of_any p [] fail = refl
 none_of_any p (e ∷ es) fail = ap (λ (b : Bool). b || list_any p (values_of es)) fail.0 ∙ none_of_any p es fail.1
 
-heard_behind : (kind : Kind) (number bytes : ℕ) (s : ℕ) (w : Waiting) (front rear : Entries) → AllFail (is_of kind number) front → is_of kind number w ≡ true
-    → heard_in kind number bytes (values_of (front ++ (s, w) ∷ rear)) ≡ values_of (front ++ (s, heard bytes w) ∷ rear)
-heard_behind kind number bytes s w [] rear fail pass =
-    ap (λ (b : Bool). cond b (heard bytes w ∷ values_of rear) (w ∷ heard_in kind number bytes (values_of rear))) pass
-heard_behind kind number bytes s w (e ∷ front) rear fail pass =
-    ap (λ (b : Bool). cond b (heard bytes e.1 ∷ values_of (front ++ (s, w) ∷ rear)) (e.1 ∷ heard_in kind number bytes (values_of (front ++ (s, w) ∷ rear)))) fail.0
-    ∙ ap (λ (ws : List Waiting). e.1 ∷ ws) (heard_behind kind number bytes s w front rear fail.1 pass)
+acked_behind : (kind : Kind) (number bytes : ℕ) (s : ℕ) (w : Waiting) (front rear : Entries) → AllFail (is_of kind number) front → is_of kind number w ≡ true
+    → acked_in kind number bytes (values_of (front ++ (s, w) ∷ rear)) ≡ values_of (front ++ (s, acked bytes w) ∷ rear)
+acked_behind kind number bytes s w [] rear fail pass =
+    ap (λ (b : Bool). cond b (acked bytes w ∷ values_of rear) (w ∷ acked_in kind number bytes (values_of rear))) pass
+acked_behind kind number bytes s w (e ∷ front) rear fail pass =
+    ap (λ (b : Bool). cond b (acked bytes e.1 ∷ values_of (front ++ (s, w) ∷ rear)) (e.1 ∷ acked_in kind number bytes (values_of (front ++ (s, w) ∷ rear)))) fail.0
+    ∙ ap (λ (ws : List Waiting). e.1 ∷ ws) (acked_behind kind number bytes s w front rear fail.1 pass)
 
-none_heard : (kind : Kind) (number bytes : ℕ) (es : Entries) → AllFail (is_of kind number) es → heard_in kind number bytes (values_of es) ≡ values_of es
-none_heard kind number bytes [] fail = refl
-none_heard kind number bytes (e ∷ es) fail =
-    ap (λ (b : Bool). cond b (heard bytes e.1 ∷ values_of es) (e.1 ∷ heard_in kind number bytes (values_of es))) fail.0
-    ∙ ap (λ (ws : List Waiting). e.1 ∷ ws) (none_heard kind number bytes es fail.1)
+none_acked : (kind : Kind) (number bytes : ℕ) (es : Entries) → AllFail (is_of kind number) es → acked_in kind number bytes (values_of es) ≡ values_of es
+none_acked kind number bytes [] fail = refl
+none_acked kind number bytes (e ∷ es) fail =
+    ap (λ (b : Bool). cond b (acked bytes e.1 ∷ values_of es) (e.1 ∷ acked_in kind number bytes (values_of es))) fail.0
+    ∙ ap (λ (ws : List Waiting). e.1 ∷ ws) (none_acked kind number bytes es fail.1)
 
 -- ---- the same of messages that are found by their stamps
 
@@ -184,16 +184,16 @@ module _ (es : Entries) (sorted : IsStrictlySortedBy nat_cmp (keys_of es)) where
   pub any_none : (p : Waiting → Bool) → ((q : ℕ) (v : Waiting) → look es q ≡ Some v → p v ≡ false) → list_any p (values_of es) ≡ false
   any_none p fails = none_of_any p es (all_fail p es sorted fails)
 
-  pub heard_of_all : (kind : Kind) (number bytes : ℕ) (s : ℕ) (w : Waiting) → look es s ≡ Some w → is_of kind number w ≡ true → ((q : ℕ) (v : Waiting) → q < s → look es q ≡ Some v → is_of kind number v ≡ false)
-      → heard_in kind number bytes (values_of es) ≡ values_of (with_message s es (heard bytes w))
-  heard_of_all kind number bytes s w at pass fails =
+  pub acked_of_all : (kind : Kind) (number bytes : ℕ) (s : ℕ) (w : Waiting) → look es s ≡ Some w → is_of kind number w ≡ true → ((q : ℕ) (v : Waiting) → q < s → look es q ≡ Some v → is_of kind number v ≡ false)
+      → acked_in kind number bytes (values_of es) ≡ values_of (with_message s es (acked bytes w))
+  acked_of_all kind number bytes s w at pass fails =
       let cut = parted s w es sorted at in
-      ap (λ (xs : Entries). heard_in kind number bytes (values_of xs)) cut.whole
-      ∙ heard_behind kind number bytes s w cut.front cut.rear (before_fail (is_of kind number) s es cut.front cut.before fails) pass
-      ∙ ap values_of (sym (cut.changed (heard bytes w)))
+      ap (λ (xs : Entries). acked_in kind number bytes (values_of xs)) cut.whole
+      ∙ acked_behind kind number bytes s w cut.front cut.rear (before_fail (is_of kind number) s es cut.front cut.before fails) pass
+      ∙ ap values_of (sym (cut.changed (acked bytes w)))
 
-  pub heard_by_none : (kind : Kind) (number bytes : ℕ) → ((q : ℕ) (v : Waiting) → look es q ≡ Some v → is_of kind number v ≡ false) → heard_in kind number bytes (values_of es) ≡ values_of es
-  heard_by_none kind number bytes fails = none_heard kind number bytes es (all_fail (is_of kind number) es sorted fails)
+  pub acked_by_none : (kind : Kind) (number bytes : ℕ) → ((q : ℕ) (v : Waiting) → look es q ≡ Some v → is_of kind number v ≡ false) → acked_in kind number bytes (values_of es) ≡ values_of es
+  acked_by_none kind number bytes fails = none_acked kind number bytes es (all_fail (is_of kind number) es sorted fails)
 
 -- ---- a stamp above all
 
@@ -216,8 +216,8 @@ are_below k (e ∷ es) sorted none =
 passed_by : {A : Type 0} (k x : ℕ) (l e g : A) → x < k → match_ordering (nat_cmp k x) l e g ≡ g
 passed_by k x l e g below = ap (λ o. match_ordering o l e g) (sym (nat_cmp_is k x Greater below))
 
-met_by : {A : Type 0} (k : ℕ) (l e g : A) → match_ordering (nat_cmp k k) l e g ≡ e
-met_by k l e g = ap (λ o. match_ordering o l e g) (sym (nat_cmp_is k k Equal refl))
+equal_by : {A : Type 0} (k : ℕ) (l e g : A) → match_ordering (nat_cmp k k) l e g ≡ e
+equal_by k l e g = ap (λ o. match_ordering o l e g) (sym (nat_cmp_is k k Equal refl))
 
 pub put_last : (k : ℕ) (v : Waiting) (es : Entries) → AreBelow k es → insert_entry nat_cmp es k v ≡ es ++ (k, v) ∷ []
 put_last k v [] below = refl
@@ -225,7 +225,7 @@ put_last k v (e ∷ es) below =
     passed_by k e.0 ((k, v) ∷ e ∷ es) ((e.0, v) ∷ es) (e ∷ insert_entry nat_cmp es k v) below.0 ∙ ap (λ (xs : Entries). e ∷ xs) (put_last k v es below.1)
 
 pub put_over : (k : ℕ) (u v : Waiting) (es : Entries) → AreBelow k es → insert_entry nat_cmp (es ++ (k, u) ∷ []) k v ≡ es ++ (k, v) ∷ []
-put_over k u v [] below = met_by k ((k, v) ∷ (k, u) ∷ []) ((k, v) ∷ []) ((k, u) ∷ (k, v) ∷ [])
+put_over k u v [] below = equal_by k ((k, v) ∷ (k, u) ∷ []) ((k, v) ∷ []) ((k, u) ∷ (k, v) ∷ [])
 put_over k u v (e ∷ es) below =
     passed_by k e.0 ((k, v) ∷ e ∷ es ++ (k, u) ∷ []) ((e.0, v) ∷ es ++ (k, u) ∷ []) (e ∷ insert_entry nat_cmp (es ++ (k, u) ∷ []) k v) below.0
     ∙ ap (λ (xs : Entries). e ∷ xs) (put_over k u v es below.1)

@@ -14,7 +14,7 @@ use Rattle.blip_frame.specs.Frame.{has_checksum}
 use Rattle.blip_mux.specs.declared.class.Class.{Class}
 use Rattle.blip_mux.specs.declared.ready.Ready.{Ready}
 use Rattle.blip_mux.specs.declared.ready.ReadyMessage.{ReadyMessage}
-use Rattle.blip_mux.specs.Sending.{Waiting, may_send, pause_above, heard, without_piece}
+use Rattle.blip_mux.specs.Sending.{Waiting, may_send, pause_above, acked, without_piece}
 use Rattle.blip_mux.specs.Class.{class_of, is_same}
 use Rattle.blip_mux.specs.Stamps.{times, same_flag}
 use Rattle.blip_mux.specs.Ready.{stamps_in, count_in, room_in}
@@ -204,7 +204,7 @@ module _ (es placed : Entries) (last : ℕ) (empty : Waiting) (sorted : IsStrict
 -- ---- an acknowledgement has come
 
 -- what an acknowledgement adds to the turns of a message: one where the message paused
-released : (bytes : ℕ) (w : Waiting) → may_send w ≡ true → may_send (heard bytes w) ≡ true
+released : (bytes : ℕ) (w : Waiting) → may_send w ≡ true → may_send (acked bytes w) ≡ true
 released bytes w may = le-leb (w.sent - max bytes w.acknowledged) pause_above (let h = leb-true (w.sent - w.acknowledged) pause_above may in omega arith)
 
 turns_more : (u m n : Bool) → (m ≡ true → n ≡ true) → cond {A = ℕ} (u && n) 1 0 ≡ cond (u && (not m && n)) 1 0 + cond (u && m) 1 0
@@ -214,27 +214,27 @@ turns_more true false true on = refl
 turns_more true false false on = refl
 turns_more false m n on = refl
 
-pub more_turns : (bytes : ℕ) (w : Waiting) (u : Bool) → turns u (heard bytes w) ≡ cond (same_flag w.urgent u && (not (may_send w) && may_send (heard bytes w))) 1 0 + turns u w
-more_turns bytes w u = turns_more (same_flag w.urgent u) (may_send w) (may_send (heard bytes w)) (released bytes w)
+pub more_turns : (bytes : ℕ) (w : Waiting) (u : Bool) → turns u (acked bytes w) ≡ cond (same_flag w.urgent u && (not (may_send w) && may_send (acked bytes w))) 1 0 + turns u w
+more_turns bytes w u = turns_more (same_flag w.urgent u) (may_send w) (may_send (acked bytes w)) (released bytes w)
 
-module _ (es es' : Entries) (s next : ℕ) (w : Waiting) (bytes : ℕ) (at : Class → ℕ → Option ℕ) (r r' : Ready) (kept : IsKept es next at r) (there : look es s ≡ Some w) (e : es' ≡ with_message s es (heard bytes w)) where
+module _ (es es' : Entries) (s next : ℕ) (w : Waiting) (bytes : ℕ) (at : Class → ℕ → Option ℕ) (r r' : Ready) (kept : IsKept es next at r) (there : look es s ≡ Some w) (e : es' ≡ with_message s es (acked bytes w)) where
   as_long : length es' ≡ length es
   as_long =
       let cut = parted s w es kept.sorted there in
-      let a = ap (λ (xs : Entries). length xs) (e ∙ cut.changed (heard bytes w)) in
+      let a = ap (λ (xs : Entries). length xs) (e ∙ cut.changed (acked bytes w)) in
       let b = ap (λ (xs : Entries). length xs) cut.whole in
       let c = length-append cut.front ((s, w) ∷ cut.rear) in
-      let d = length-append cut.front ((s, heard bytes w) ∷ cut.rear) in
+      let d = length-append cut.front ((s, acked bytes w) ∷ cut.rear) in
       omega arith
 
-  looks_heard : (q : ℕ) → look es' q ≡ cond (is_at (nat_cmp s) q) (Some (heard bytes w)) (look es q)
-  looks_heard q = ap (λ (xs : Entries). look xs q) e ∙ look_with s w (heard bytes w) es there q
+  looks_acked : (q : ℕ) → look es' q ≡ cond (is_at (nat_cmp s) q) (Some (acked bytes w)) (look es q)
+  looks_acked q = ap (λ (xs : Entries). look xs q) e ∙ look_with s w (acked bytes w) es there q
 
-  summed : (u : Bool) → sum_by (turns u) (values_of es') + turns u w ≡ sum_by (turns u) (values_of es) + turns u (heard bytes w)
-  summed u = ap (λ (xs : Entries). sum_by (turns u) (values_of xs) + turns u w) e ∙ sum_by-set_value (turns u) (is_at (nat_cmp s)) es w (heard bytes w) there
+  summed : (u : Bool) → sum_by (turns u) (values_of es') + turns u w ≡ sum_by (turns u) (values_of es) + turns u (acked bytes w)
+  summed u = ap (λ (xs : Entries). sum_by (turns u) (values_of xs) + turns u w) e ∙ sum_by-set_value (turns u) (is_at (nat_cmp s)) es w (acked bytes w) there
 
   -- there is room for the turn of a message that paused
-  pub room_for : (not (may_send w) && may_send (heard bytes w)) ≡ true → count_in w.urgent r < room_in w.urgent r
+  pub room_for : (not (may_send w) && may_send (acked bytes w)) ≡ true → count_in w.urgent r < room_in w.urgent r
   room_for off =
       let a = summed w.urgent in
       let b = more_turns bytes w w.urgent in
@@ -242,17 +242,17 @@ module _ (es es' : Entries) (s next : ℕ) (w : Waiting) (bytes : ℕ) (at : Cla
       let d = kept.counted w.urgent in
       let f = kept.room w.urgent in
       let g = as_long in
-      let h = ap (λ (b : Bool). cond {A = ℕ} b 1 0) (own_flag w.urgent (not (may_send w) && may_send (heard bytes w)) ∙ off) in
+      let h = ap (λ (b : Bool). cond {A = ℕ} b 1 0) (own_flag w.urgent (not (may_send w) && may_send (acked bytes w)) ∙ off) in
       omega arith where
         own_flag : (u m : Bool) → (same_flag u u && m) ≡ m
         own_flag true m = refl
         own_flag false m = refl
 
-  pub heard_kept : IsStrictlySortedBy nat_cmp (keys_of es')
-      → ((u : Bool) (q : ℕ) → times q (stamps_in u r') ≡ cond ((same_flag w.urgent u && (not (may_send w) && may_send (heard bytes w))) && eqb s q) 1 0 + times q (stamps_in u r))
-      → ((u : Bool) → count_in u r' ≡ cond (same_flag w.urgent u && (not (may_send w) && may_send (heard bytes w))) 1 0 + count_in u r)
+  pub acked_kept : IsStrictlySortedBy nat_cmp (keys_of es')
+      → ((u : Bool) (q : ℕ) → times q (stamps_in u r') ≡ cond ((same_flag w.urgent u && (not (may_send w) && may_send (acked bytes w))) && eqb s q) 1 0 + times q (stamps_in u r))
+      → ((u : Bool) → count_in u r' ≡ cond (same_flag w.urgent u && (not (may_send w) && may_send (acked bytes w))) 1 0 + count_in u r)
       → ((u : Bool) → room_in u r ≤ room_in u r') → IsKept es' next at r'
-  heard_kept sorted more counts room = record {
+  acked_kept sorted more counts room = record {
     sorted = sorted;
     below = below;
     found = found;
@@ -262,29 +262,29 @@ module _ (es es' : Entries) (s next : ℕ) (w : Waiting) (bytes : ℕ) (at : Cla
     room = λ u. let a = kept.room u in let b = room u in let c = as_long in omega arith;
   } where
     below : (q : ℕ) → next ≤ q → look es' q ≡ None
-    below q past = looks_heard q ∙ go (is_at (nat_cmp s) q) (λ t. eqb-true s q (sym (at_is s q) ∙ t)) where
-      go : (b : Bool) → (b ≡ true → s ≡ q) → cond b (Some (heard bytes w)) (look es q) ≡ None
+    below q past = looks_acked q ∙ go (is_at (nat_cmp s) q) (λ t. eqb-true s q (sym (at_is s q) ∙ t)) where
+      go : (b : Bool) → (b ≡ true → s ≡ q) → cond b (Some (acked bytes w)) (look es q) ≡ None
       go true it = some_none (sym there ∙ ap (look es) (it refl) ∙ kept.below q past)
       go false it = kept.below q past
 
     found : (c : Class) (n q : ℕ) → at c n ≡ Some q → (x : Waiting) × (look es' q ≡ Some x) × (is_message c n x ≡ true)
-    found c n q has = go (is_at (nat_cmp s) q) (λ t. eqb-true s q (sym (at_is s q) ∙ t)) (looks_heard q) where
-      go : (b : Bool) → (b ≡ true → s ≡ q) → look es' q ≡ cond b (Some (heard bytes w)) (look es q) → (x : Waiting) × (look es' q ≡ Some x) × (is_message c n x ≡ true)
+    found c n q has = go (is_at (nat_cmp s) q) (λ t. eqb-true s q (sym (at_is s q) ∙ t)) (looks_acked q) where
+      go : (b : Bool) → (b ≡ true → s ≡ q) → look es' q ≡ cond b (Some (acked bytes w)) (look es q) → (x : Waiting) × (look es' q ≡ Some x) × (is_message c n x ≡ true)
       go true it at_q =
           let old = kept.found c n q has in
           let same : Some w ≡ Some old.0 = sym there ∙ ap (look es) (it refl) ∙ old.1 in
-          (heard bytes w, at_q, ap (is_message c n) (some_same w old.0 same) ∙ old.2)
+          (acked bytes w, at_q, ap (is_message c n) (some_same w old.0 same) ∙ old.2)
       go false it at_q = let old = kept.found c n q has in (old.0, at_q ∙ old.1, old.2)
 
     known : (c : Class) (n q : ℕ) (x : Waiting) → look es' q ≡ Some x → is_message c n x ≡ true → at c n ≡ Some q
-    known c n q x at_q is = go (is_at (nat_cmp s) q) (λ t. eqb-true s q (sym (at_is s q) ∙ t)) (sym (looks_heard q) ∙ at_q) where
-      go : (b : Bool) → (b ≡ true → s ≡ q) → cond b (Some (heard bytes w)) (look es q) ≡ Some x → at c n ≡ Some q
-      go true it got = kept.known c n q w (ap (look es) (sym (it refl)) ∙ there) (ap (is_message c n) (some_same (heard bytes w) x got) ∙ is)
+    known c n q x at_q is = go (is_at (nat_cmp s) q) (λ t. eqb-true s q (sym (at_is s q) ∙ t)) (sym (looks_acked q) ∙ at_q) where
+      go : (b : Bool) → (b ≡ true → s ≡ q) → cond b (Some (acked bytes w)) (look es q) ≡ Some x → at c n ≡ Some q
+      go true it got = kept.known c n q w (ap (look es) (sym (it refl)) ∙ there) (ap (is_message c n) (some_same (acked bytes w) x got) ∙ is)
       go false it got = kept.known c n q x got is
 
     ready : (u : Bool) (q : ℕ) → times q (stamps_in u r') ≡ option_map_or (turns u) (look es' q) 0
-    ready u q = more u q ∙ ap (λ n. cond ((same_flag w.urgent u && (not (may_send w) && may_send (heard bytes w))) && eqb s q) 1 0 + n) (kept.ready u q)
-        ∙ go (eqb s q) (λ t. eqb-true s q t) ∙ ap (λ (o : Option Waiting). option_map_or (turns u) o 0) (sym (looks_heard q ∙ ap (λ (b : Bool). cond b (Some (heard bytes w)) (look es q)) (at_is s q))) where
+    ready u q = more u q ∙ ap (λ n. cond ((same_flag w.urgent u && (not (may_send w) && may_send (acked bytes w))) && eqb s q) 1 0 + n) (kept.ready u q)
+        ∙ go (eqb s q) (λ t. eqb-true s q t) ∙ ap (λ (o : Option Waiting). option_map_or (turns u) o 0) (sym (looks_acked q ∙ ap (λ (b : Bool). cond b (Some (acked bytes w)) (look es q)) (at_is s q))) where
           on : (m : Bool) → cond {A = ℕ} (m && true) 1 0 ≡ cond m 1 0
           on true = refl
           on false = refl
@@ -293,25 +293,25 @@ module _ (es es' : Entries) (s next : ℕ) (w : Waiting) (bytes : ℕ) (at : Cla
           off true n = omega arith
           off false n = omega arith
 
-          go : (b : Bool) → (b ≡ true → s ≡ q) → cond ((same_flag w.urgent u && (not (may_send w) && may_send (heard bytes w))) && b) 1 0 + option_map_or (turns u) (look es q) 0
-              ≡ option_map_or (turns u) (cond b (Some (heard bytes w)) (look es q)) 0
+          go : (b : Bool) → (b ≡ true → s ≡ q) → cond ((same_flag w.urgent u && (not (may_send w) && may_send (acked bytes w))) && b) 1 0 + option_map_or (turns u) (look es q) 0
+              ≡ option_map_or (turns u) (cond b (Some (acked bytes w)) (look es q)) 0
           go true it =
-              ap (λ n. n + option_map_or (turns u) (look es q) 0) (on (same_flag w.urgent u && (not (may_send w) && may_send (heard bytes w))))
-              ∙ ap (λ (o : Option Waiting). cond (same_flag w.urgent u && (not (may_send w) && may_send (heard bytes w))) 1 0 + option_map_or (turns u) o 0) (ap (look es) (sym (it refl)) ∙ there)
+              ap (λ n. n + option_map_or (turns u) (look es q) 0) (on (same_flag w.urgent u && (not (may_send w) && may_send (acked bytes w))))
+              ∙ ap (λ (o : Option Waiting). cond (same_flag w.urgent u && (not (may_send w) && may_send (acked bytes w))) 1 0 + option_map_or (turns u) o 0) (ap (look es) (sym (it refl)) ∙ there)
               ∙ sym (more_turns bytes w u)
-          go false it = off (same_flag w.urgent u && (not (may_send w) && may_send (heard bytes w))) (option_map_or (turns u) (look es q) 0)
+          go false it = off (same_flag w.urgent u && (not (may_send w) && may_send (acked bytes w))) (option_map_or (turns u) (look es q) 0)
 
   -- the message paused, and has its turn again
-  pub heard_kept_on : (turn : ReadyMessage) → turn ≡ record { urgent = w.urgent; stamp = s } → (not (may_send w) && may_send (heard bytes w)) ≡ true → IsStrictlySortedBy nat_cmp (keys_of es')
+  pub acked_kept_on : (turn : ReadyMessage) → turn ≡ record { urgent = w.urgent; stamp = s } → (not (may_send w) && may_send (acked bytes w)) ≡ true → IsStrictlySortedBy nat_cmp (keys_of es')
       → ((u : Bool) (q : ℕ) → times q (stamps_in u r') ≡ cond (same_flag turn.urgent u && eqb turn.stamp q) 1 0 + times q (stamps_in u r))
       → ((u : Bool) → count_in u r' ≡ cond (same_flag turn.urgent u) 1 0 + count_in u r)
       → ((u : Bool) → room_in u r ≤ room_in u r') → IsKept es' next at r'
-  heard_kept_on turn its on sorted more counts room =
-      heard_kept sorted
+  acked_kept_on turn its on sorted more counts room =
+      acked_kept sorted
       (λ u q. more u q ∙ ap (λ (t : ReadyMessage). cond (same_flag t.urgent u && eqb t.stamp q) 1 0 + times q (stamps_in u r)) its
-      ∙ ap (λ b. cond (b && eqb s q) 1 0 + times q (stamps_in u r)) (sym (with_on (same_flag w.urgent u) (not (may_send w) && may_send (heard bytes w)) on)))
+      ∙ ap (λ b. cond (b && eqb s q) 1 0 + times q (stamps_in u r)) (sym (with_on (same_flag w.urgent u) (not (may_send w) && may_send (acked bytes w)) on)))
       (λ u. counts u ∙ ap (λ (t : ReadyMessage). cond (same_flag t.urgent u) 1 0 + count_in u r) its
-      ∙ ap (λ b. cond b 1 0 + count_in u r) (sym (with_on (same_flag w.urgent u) (not (may_send w) && may_send (heard bytes w)) on)))
+      ∙ ap (λ b. cond b 1 0 + count_in u r) (sym (with_on (same_flag w.urgent u) (not (may_send w) && may_send (acked bytes w)) on)))
       room where
         with_on : (u m : Bool) → m ≡ true → (u && m) ≡ u
         with_on true m e = e
@@ -321,12 +321,12 @@ zero_and : (n : ℕ) → 0 + n ≡ n
 zero_and n = omega arith
 
 -- it did not pause, or pauses still
-pub heard_kept_off : (es es' : Entries) (s next : ℕ) (w : Waiting) (bytes : ℕ) (at : Class → ℕ → Option ℕ) (r : Ready) → IsKept es next at r → look es s ≡ Some w → es' ≡ with_message s es (heard bytes w)
-    → (not (may_send w) && may_send (heard bytes w)) ≡ false → IsStrictlySortedBy nat_cmp (keys_of es') → IsKept es' next at r
-heard_kept_off es es' s next w bytes at r kept there e off sorted =
-    heard_kept es es' s next w bytes at r r kept there e sorted
-    (λ u q. sym (none (same_flag w.urgent u) (not (may_send w) && may_send (heard bytes w)) (eqb s q) (times q (stamps_in u r)) off))
-    (λ u. sym (nothing (same_flag w.urgent u) (not (may_send w) && may_send (heard bytes w)) (count_in u r) off))
+pub acked_kept_off : (es es' : Entries) (s next : ℕ) (w : Waiting) (bytes : ℕ) (at : Class → ℕ → Option ℕ) (r : Ready) → IsKept es next at r → look es s ≡ Some w → es' ≡ with_message s es (acked bytes w)
+    → (not (may_send w) && may_send (acked bytes w)) ≡ false → IsStrictlySortedBy nat_cmp (keys_of es') → IsKept es' next at r
+acked_kept_off es es' s next w bytes at r kept there e off sorted =
+    acked_kept es es' s next w bytes at r r kept there e sorted
+    (λ u q. sym (none (same_flag w.urgent u) (not (may_send w) && may_send (acked bytes w)) (eqb s q) (times q (stamps_in u r)) off))
+    (λ u. sym (nothing (same_flag w.urgent u) (not (may_send w) && may_send (acked bytes w)) (count_in u r) off))
     (λ u. omega arith) where
       none : (u m b : Bool) (n : ℕ) → m ≡ false → cond ((u && m) && b) 1 0 + n ≡ n
       none true m b n e = ap (λ (x : Bool). cond (x && b) 1 0 + n) e ∙ zero_and n

@@ -18,9 +18,9 @@ use Rattle.blip_mux.specs.Joining.{Event, came, expected, is_request, is_reply, 
 use Rattle.blip_mux.proofs.Classes.{same_kind, no_request, no_reply}
 use Rattle.blip_mux.specs.Order.{messages_in, times_in, times_expected, is_among, beginnings, CountsFrom}
 
--- ---- what an answer tells
+-- ---- what an answer says
 
--- the kind of a message that a frame may come of
+-- the kind of a message that a frame may be of
 kind_kept : (r : ℕ) (a : Bool) (o : Option Begun) (f : FrameParts) → may_come r a o f ≡ true → (begun_or o f).kind ≡ f.kind
 kind_kept r a None f e = refl
 kind_kept r a (Some b) f e = same_kind b.kind f.kind e

@@ -56,18 +56,18 @@ pub owed_next : (before between : List FrameParts) (last f : FrameParts) → owe
 owed_next before between last f was owed =
     owed_since (last ∷ before) between f (counted before last ∙ ap (λ (b : Bool). cond b 0 (unacknowledged (brought_by before) + length last.payload)) was) owed
 
--- ---- what is told
+-- ---- how many bytes an acknowledgement counts
 
 all_bytes : (before : List FrameParts) (f : FrameParts) → length (begun_or (brought_by before) f).bytes ≡ bytes_in before
 all_bytes [] f = refl
 all_bytes (g ∷ before) f = length-append (begun_or (brought_by before) g).bytes g.payload ∙ omega (arith, all_bytes before g)
 
-told_if : (b : Bool) (k kind : Kind) (m number n bytes : ℕ) → cond b (takens.Owed k m n) takens.Nothing ≡ takens.Owed kind number bytes → n ≡ bytes
-told_if true k kind m number n bytes e = cc
-told_if false k kind m number n bytes e = absurd cc
+count_if : (b : Bool) (k kind : Kind) (m number n bytes : ℕ) → cond b (takens.Owed k m n) takens.Nothing ≡ takens.Owed kind number bytes → n ≡ bytes
+count_if true k kind m number n bytes e = cc
+count_if false k kind m number n bytes e = absurd cc
 
 pub owed_all : (before : List FrameParts) (f : FrameParts) (kind : Kind) (number bytes : ℕ) → answer_after before f ≡ takens.Owed kind number bytes → bytes ≡ bytes_in (f ∷ before)
 owed_all before f kind number bytes e =
     let b = begun_or (brought_by before) f in
-    let told = told_if (leb acknowledge_after (b.unacknowledged + length f.payload)) (acknowledges f.kind) kind f.number number (length (b.bytes ++ f.payload)) bytes e in
-    omega (arith, told, length-append b.bytes f.payload, all_bytes before f)
+    let count_is = count_if (leb acknowledge_after (b.unacknowledged + length f.payload)) (acknowledges f.kind) kind f.number number (length (b.bytes ++ f.payload)) bytes e in
+    omega (arith, count_is, length-append b.bytes f.payload, all_bytes before f)

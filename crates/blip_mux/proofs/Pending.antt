@@ -28,11 +28,11 @@ text m = payload_text m.payload.props m.payload.body
 pub record Pending : Type 0 where
   pub message : Message
   pub sent : ℕ
-  pub told : ℕ
+  pub acked_bytes : ℕ
 
 -- what waits of it
 abbrev pub waits : Pending → Waiting
-waits p = record { number = p.message.number; kind = p.message.kind; urgent = p.message.urgent; no_reply = p.message.no_reply; sent = p.sent; acknowledged = p.told; rest = drop p.sent (text p.message) }
+waits p = record { number = p.message.number; kind = p.message.kind; urgent = p.message.urgent; no_reply = p.message.no_reply; sent = p.sent; acknowledged = p.acked_bytes; rest = drop p.sent (text p.message) }
 
 -- once its next frame has gone
 abbrev pub further : Pending → Pending

@@ -7,7 +7,7 @@ use Rattle.std.proofs.lemmas.List.{append-nil, take_all, take-append-drop}
 use Rattle.blip_frame.specs.Frame.{FrameParts, largest_written, has_checksum}
 use Rattle.blip_frame.specs.declared.frame.Kind.{Kind}
 use Rattle.blip_mux.specs.Joining.{is_request, is_reply}
-use Rattle.blip_mux.specs.Told.{Acknowledgement, told_by}
+use Rattle.blip_mux.specs.Acknowledgements.{Acknowledgement, ack_frame}
 use Rattle.blip_mux.specs.Sending.{Waiting, Sending, has_more, first_piece, without_piece, back, chosen, picked_of, after_picked, picked_from}
 use Rattle.blip_mux.specs.Cutting.{ArePicked, are_acknowledgements, bytes_sent, bytes_left, times_waiting}
 use Rattle.blip_mux.proofs.Classes.{no_request, no_reply}
@@ -104,7 +104,7 @@ module _ (class : Kind → Bool) (number : ℕ) where
       → are_acknowledgements s.acknowledgements ≡ true → times_waiting class number s.waiting ≤ 1
       → bytes_sent class number frames ++ bytes_left class number left.waiting ≡ bytes_left class number s.waiting
   all_shared apart s [] left all acks once = ap (λ (t : Sending). bytes_left class number t.waiting) all
-  all_shared apart s (f ∷ frames) left all acks once = go s.acknowledgements refl acks all.0 (λ told few. all_shared apart (after_picked s) frames left all.1 told few) where
+  all_shared apart s (f ∷ frames) left all acks once = go s.acknowledgements refl acks all.0 (λ waiting_acks few. all_shared apart (after_picked s) frames left all.1 waiting_acks few) where
     by_choice : (o : Found) → chosen s.waiting ≡ o → option_map (λ found. first_piece found.0) o ≡ Some f
         → (times_waiting class number (option_map_or (λ found. found.1 ++ back found.0) o s.waiting) ≤ 1
         → bytes_sent class number frames ++ bytes_left class number left.waiting ≡ bytes_left class number (option_map_or (λ found. found.1 ++ back found.0) o s.waiting))
@@ -118,15 +118,15 @@ module _ (class : Kind → Bool) (number : ℕ) where
         ∙ ap (λ (bs : List ℕ). cond (is_it w) (take largest_written w.rest) [] ++ bs) (rest (omega arith))
         ∙ shared s.waiting w others split once
 
-    go : (told : List Acknowledgement) → s.acknowledgements ≡ told → are_acknowledgements told ≡ true → picked_of told s.waiting ≡ Some f
-        → (are_acknowledgements (picked_from told s).acknowledgements ≡ true → times_waiting class number (picked_from told s).waiting ≤ 1
-        → bytes_sent class number frames ++ bytes_left class number left.waiting ≡ bytes_left class number (picked_from told s).waiting)
+    go : (waiting_acks : List Acknowledgement) → s.acknowledgements ≡ waiting_acks → are_acknowledgements waiting_acks ≡ true → picked_of waiting_acks s.waiting ≡ Some f
+        → (are_acknowledgements (picked_from waiting_acks s).acknowledgements ≡ true → times_waiting class number (picked_from waiting_acks s).waiting ≤ 1
+        → bytes_sent class number frames ++ bytes_left class number left.waiting ≡ bytes_left class number (picked_from waiting_acks s).waiting)
         → bytes_sent class number (f ∷ frames) ++ bytes_left class number left.waiting ≡ bytes_left class number s.waiting
-    go (a ∷ told) e acks is rest =
-        let parts = and_parts (not (has_checksum a.kind)) (are_acknowledgements told) acks in
+    go (a ∷ waiting_acks) e acks is rest =
+        let parts = and_parts (not (has_checksum a.kind)) (are_acknowledgements waiting_acks) acks in
         let other : class a.kind ≡ false = apart a.kind (not-true (has_checksum a.kind) parts.0) in
-        ap (λ (g : FrameParts). bytes_sent class number (g ∷ frames) ++ bytes_left class number left.waiting) (sym (some_same (told_by a) f is))
-        ∙ ap (λ (t : Bool). (cond (t && eqb number a.number) (told_by a).payload [] ++ bytes_sent class number frames) ++ bytes_left class number left.waiting) other
+        ap (λ (g : FrameParts). bytes_sent class number (g ∷ frames) ++ bytes_left class number left.waiting) (sym (some_same (ack_frame a) f is))
+        ∙ ap (λ (t : Bool). (cond (t && eqb number a.number) (ack_frame a).payload [] ++ bytes_sent class number frames) ++ bytes_left class number left.waiting) other
         ∙ rest parts.1 once
     go [] e acks is rest = by_choice (chosen s.waiting) refl is (λ few. rest (ap are_acknowledgements e) few)
 

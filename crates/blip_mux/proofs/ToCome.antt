@@ -5,7 +5,7 @@ use Rattle.std.specs.Option.{option_map_or}
 use Rattle.std.specs.List.{list_any}
 use Rattle.std.proofs.lemmas.List.Folds.{list_any-append}
 use Rattle.blip_frame.specs.declared.frame.Kind.{Kind}
-use Rattle.blip_mux.specs.Sending.{Waiting, is_of, heard, heard_in, chosen, after_piece, has_more, without_piece, back}
+use Rattle.blip_mux.specs.Sending.{Waiting, is_of, acked, acked_in, chosen, after_piece, has_more, without_piece, back}
 use Rattle.blip_mux.proofs.Cuts.{Found, split_chosen}
 use Rattle.blip_mux.proofs.Paused.{after_of}
 
@@ -38,13 +38,13 @@ module _ (kind : Kind) (number : ℕ) where
         (ap (list_any (is_of kind number)) cut.left ∙ list_any-append (is_of kind number) cut.front cut.rear ∙ both (list_any (is_of kind number) cut.front) (list_any (is_of kind number) cut.rear) parts.0 its.1)
         (any_back found.0 its.0)
 
-  pub none_heard : (told : Kind) (n bytes : ℕ) (ws : List Waiting) → list_any (is_of kind number) ws ≡ false → list_any (is_of kind number) (heard_in told n bytes ws) ≡ false
-  none_heard told n bytes [] none = none
-  none_heard told n bytes (w ∷ ws) none = go (is_of told n w) (neither (is_of kind number w) (list_any (is_of kind number) ws) none) (λ h. none_heard told n bytes ws h) where
-    go : (b : Bool) → (is_of kind number w ≡ false) × (list_any (is_of kind number) ws ≡ false) → (list_any (is_of kind number) ws ≡ false → list_any (is_of kind number) (heard_in told n bytes ws) ≡ false)
-        → list_any (is_of kind number) (cond b (heard bytes w ∷ ws) (w ∷ heard_in told n bytes ws)) ≡ false
+  pub none_acked : (acking : Kind) (n bytes : ℕ) (ws : List Waiting) → list_any (is_of kind number) ws ≡ false → list_any (is_of kind number) (acked_in acking n bytes ws) ≡ false
+  none_acked acking n bytes [] none = none
+  none_acked acking n bytes (w ∷ ws) none = go (is_of acking n w) (neither (is_of kind number w) (list_any (is_of kind number) ws) none) (λ h. none_acked acking n bytes ws h) where
+    go : (b : Bool) → (is_of kind number w ≡ false) × (list_any (is_of kind number) ws ≡ false) → (list_any (is_of kind number) ws ≡ false → list_any (is_of kind number) (acked_in acking n bytes ws) ≡ false)
+        → list_any (is_of kind number) (cond b (acked bytes w ∷ ws) (w ∷ acked_in acking n bytes ws)) ≡ false
     go true parts rest = both (is_of kind number w) (list_any (is_of kind number) ws) parts.0 parts.1
-    go false parts rest = both (is_of kind number w) (list_any (is_of kind number) (heard_in told n bytes ws)) parts.0 (rest parts.1)
+    go false parts rest = both (is_of kind number w) (list_any (is_of kind number) (acked_in acking n bytes ws)) parts.0 (rest parts.1)
 
   -- the next frame was written, or all stayed as it was
   pub still_none : {A E P : Type 0} (r : Result A E) (old new : List Waiting) → OnOk r (new ≡ after_piece old) → OnErr r P → (P → new ≡ old) → list_any (is_of kind number) old ≡ false → list_any (is_of kind number) new ≡ false

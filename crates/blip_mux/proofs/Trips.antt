@@ -17,10 +17,10 @@ use Rattle.blip_mux.specs.declared.inbox.TakeFault.TheVariants as faults
 use Rattle.blip_mux.specs.Begun.{Begun}
 use Rattle.blip_mux.specs.Joining.{Event, came, expected, is_request, is_reply, begun_or, brought_by, acknowledges, acknowledge_after, given_by, part_by, may_come, answer_in, acknowledged, count_in, frames_of, so_far_in, requests_in, is_awaited, Joined, followed_by, joined_after, joined}
 use Rattle.blip_mux.specs.Order.{messages_in, CountsFrom}
-use Rattle.blip_mux.specs.Told.{Acknowledgement, told_by}
-use Rattle.blip_mux.specs.Sending.{Waiting, Sending, new_sending, has_more, first_piece, without_piece, back, chosen, next_piece, after_piece, picked, after_picked, is_of, heard, heard_in}
+use Rattle.blip_mux.specs.Acknowledgements.{Acknowledgement, ack_frame}
+use Rattle.blip_mux.specs.Sending.{Waiting, Sending, new_sending, has_more, first_piece, without_piece, back, chosen, next_piece, after_piece, picked, after_picked, is_of, acked, acked_in}
 use Rattle.blip_mux.specs.Cutting.{times_waiting}
-use Rattle.blip_mux.specs.Between.{Step, put, owe, hear, send, expect, waiting_of, sending_in, sent_to, events_in, put_in, messages_of, CanBeRead, HasItsTurn, AreAllowed}
+use Rattle.blip_mux.specs.Between.{Step, put, owe, take_ack, send, expect, waiting_of, sending_in, sent_to, events_in, put_in, messages_of, CanBeRead, HasItsTurn, AreAllowed}
 use Rattle.blip_mux.proofs.Cuts.{Found}
 use Rattle.blip_mux.proofs.Orders.{IsSound, sound_start, sound_came, sound_acknowledged, sound_expected, has_some}
 use Rattle.blip_mux.proofs.Classes.{no_request}
@@ -92,13 +92,13 @@ none_of class q (p ∷ ps) h =
 
 -- ---- what holds at each step
 
-abbrev AreTold : List Acknowledgement → Type 0
-AreTold [] = Unit {0}
-AreTold (a ∷ told) = ((has_checksum a.kind ≡ false) × (a.bytes < 2 ^ 64)) × AreTold told
+abbrev AreAcks : List Acknowledgement → Type 0
+AreAcks [] = Unit {0}
+AreAcks (a ∷ waiting_acks) = ((has_checksum a.kind ≡ false) × (a.bytes < 2 ^ 64)) × AreAcks waiting_acks
 
-told-append : (told : List Acknowledgement) (a : Acknowledgement) → AreTold told → (has_checksum a.kind ≡ false) × (a.bytes < 2 ^ 64) → AreTold (told ++ a ∷ [])
-told-append [] a are is = (is, tt)
-told-append (b ∷ told) a are is = (are.0, told-append told a are.1 is)
+waiting_acks-append : (waiting_acks : List Acknowledgement) (a : Acknowledgement) → AreAcks waiting_acks → (has_checksum a.kind ≡ false) × (a.bytes < 2 ^ 64) → AreAcks (waiting_acks ++ a ∷ [])
+waiting_acks-append [] a are is = (is, tt)
+waiting_acks-append (b ∷ waiting_acks) a are is = (are.0, waiting_acks-append waiting_acks a are.1 is)
 
 record Holds (requests : ℕ) (ps : List Pending) (before : List Event) : Type 0 where
   each : Each before ps
@@ -110,12 +110,12 @@ record Holds (requests : ℕ) (ps : List Pending) (before : List Event) : Type 0
   replies_wait : (q : ℕ) → times_waiting is_reply q (map waits ps) ≡ 0 → has_some (frames_of is_reply q before) ≡ false
 
 abbrev sending_of : ℕ → ℕ → List Acknowledgement → List Pending → Sending
-sending_of requests replies told ps = record { requests = requests; replies = replies; acknowledgements = told; waiting = map waits ps }
+sending_of requests replies waiting_acks ps = record { requests = requests; replies = replies; acknowledgements = waiting_acks; waiting = map waits ps }
 
 -- ---- a message is put
 
 abbrev begun_with : Message → Pending
-begun_with m = record { message = m; sent = 0; told = 0 }
+begun_with m = record { message = m; sent = 0; acked_bytes = 0 }
 
 abbrev with_last : List Pending → Message → List Pending
 with_last ps m = ps ++ begun_with m ∷ []
@@ -137,14 +137,14 @@ record IsReply (ps : List Pending) (before : List Event) (m : Message) : Type 0 
   awaited : is_awaited before m.number ≡ true
   alone : times_waiting is_reply m.number (map waits ps) ≡ 0
 
-turn_of : (requests replies : ℕ) (told : List Acknowledgement) (ps : List Pending) (before : List Event) (m : Message) (k : Kind) → m.kind ≡ k → HasItsTurn (sending_of requests replies told ps) before m k → IsRequest requests m ⊎ IsReply ps before m
-turn_of requests replies told ps before m kinds.Msg is turn = inl (record { kind = is; number = turn.0; calm = turn.1 })
-turn_of requests replies told ps before m kinds.Rpy is turn =
+turn_of : (requests replies : ℕ) (waiting_acks : List Acknowledgement) (ps : List Pending) (before : List Event) (m : Message) (k : Kind) → m.kind ≡ k → HasItsTurn (sending_of requests replies waiting_acks ps) before m k → IsRequest requests m ⊎ IsReply ps before m
+turn_of requests replies waiting_acks ps before m kinds.Msg is turn = inl (record { kind = is; number = turn.0; calm = turn.1 })
+turn_of requests replies waiting_acks ps before m kinds.Rpy is turn =
     inr (record { request = ap is_request is; reply = ap is_reply is; carried = ap has_checksum is; awaited = turn.0; alone = turn.1 })
-turn_of requests replies told ps before m kinds.Err is turn =
+turn_of requests replies waiting_acks ps before m kinds.Err is turn =
     inr (record { request = ap is_request is; reply = ap is_reply is; carried = ap has_checksum is; awaited = turn.0; alone = turn.1 })
-turn_of requests replies told ps before m kinds.AckMsg is turn = absurd turn
-turn_of requests replies told ps before m kinds.AckRpy is turn = absurd turn
+turn_of requests replies waiting_acks ps before m kinds.AckMsg is turn = absurd turn
+turn_of requests replies waiting_acks ps before m kinds.AckRpy is turn = absurd turn
 
 false_true : (b : Bool) (P : Type 0) → b ≡ false → b ≡ true → P
 false_true b P e h = absurd cc
@@ -248,58 +248,58 @@ held_expected requests ps before n holds = record {
 
 -- ---- an acknowledgement has come
 
-abbrev pub told_of : Kind → ℕ → ℕ → List Pending → List Pending
-told_of kind number bytes [] = []
-told_of kind number bytes (p ∷ ps) = cond (is_of kind number (waits p)) (record p { told = max bytes p.told } ∷ ps) (p ∷ told_of kind number bytes ps)
+abbrev pub acked_pending : Kind → ℕ → ℕ → List Pending → List Pending
+acked_pending kind number bytes [] = []
+acked_pending kind number bytes (p ∷ ps) = cond (is_of kind number (waits p)) (record p { acked_bytes = max bytes p.acked_bytes } ∷ ps) (p ∷ acked_pending kind number bytes ps)
 
 module _ (kind : Kind) (number bytes : ℕ) where
-  told_heard : (ps : List Pending) → map waits (told_of kind number bytes ps) ≡ heard_in kind number bytes (map waits ps)
-  told_heard [] = refl
-  told_heard (p ∷ ps) = go (is_of kind number (waits p)) (told_heard ps) where
-    go : (b : Bool) → map waits (told_of kind number bytes ps) ≡ heard_in kind number bytes (map waits ps)
-        → map waits (cond b (record p { told = max bytes p.told } ∷ ps) (p ∷ told_of kind number bytes ps)) ≡ cond b (heard bytes (waits p) ∷ map waits ps) (waits p ∷ heard_in kind number bytes (map waits ps))
+  acked_waits : (ps : List Pending) → map waits (acked_pending kind number bytes ps) ≡ acked_in kind number bytes (map waits ps)
+  acked_waits [] = refl
+  acked_waits (p ∷ ps) = go (is_of kind number (waits p)) (acked_waits ps) where
+    go : (b : Bool) → map waits (acked_pending kind number bytes ps) ≡ acked_in kind number bytes (map waits ps)
+        → map waits (cond b (record p { acked_bytes = max bytes p.acked_bytes } ∷ ps) (p ∷ acked_pending kind number bytes ps)) ≡ cond b (acked bytes (waits p) ∷ map waits ps) (waits p ∷ acked_in kind number bytes (map waits ps))
     go true e = refl
     go false e = ap (λ (ws : List Waiting). waits p ∷ ws) e
 
-  told_each : (before : List Event) (ps : List Pending) → Each before ps → Each before (told_of kind number bytes ps)
-  told_each before [] all = tt
-  told_each before (p ∷ ps) all = go (is_of kind number (waits p)) (told_each before ps all.1) where
-    go : (b : Bool) → Each before (told_of kind number bytes ps) → Each before (cond b (record p { told = max bytes p.told } ∷ ps) (p ∷ told_of kind number bytes ps))
+  acked_each : (before : List Event) (ps : List Pending) → Each before ps → Each before (acked_pending kind number bytes ps)
+  acked_each before [] all = tt
+  acked_each before (p ∷ ps) all = go (is_of kind number (waits p)) (acked_each before ps all.1) where
+    go : (b : Bool) → Each before (acked_pending kind number bytes ps) → Each before (cond b (record p { acked_bytes = max bytes p.acked_bytes } ∷ ps) (p ∷ acked_pending kind number bytes ps))
     go true rest = (record { readable = all.0.readable; carried = all.0.carried; calm = all.0.calm; awaited = all.0.awaited; begun = all.0.begun }, all.1)
     go false rest = (all.0, rest)
 
-  told_times : (class : Kind → Bool) (q : ℕ) (ps : List Pending) → times_waiting class q (map waits (told_of kind number bytes ps)) ≡ times_waiting class q (map waits ps)
-  told_times class q [] = refl
-  told_times class q (p ∷ ps) = go (is_of kind number (waits p)) (told_times class q ps) where
-    go : (b : Bool) → times_waiting class q (map waits (told_of kind number bytes ps)) ≡ times_waiting class q (map waits ps)
-        → times_waiting class q (map waits (cond b (record p { told = max bytes p.told } ∷ ps) (p ∷ told_of kind number bytes ps))) ≡ times_waiting class q (map waits (p ∷ ps))
+  acked_times : (class : Kind → Bool) (q : ℕ) (ps : List Pending) → times_waiting class q (map waits (acked_pending kind number bytes ps)) ≡ times_waiting class q (map waits ps)
+  acked_times class q [] = refl
+  acked_times class q (p ∷ ps) = go (is_of kind number (waits p)) (acked_times class q ps) where
+    go : (b : Bool) → times_waiting class q (map waits (acked_pending kind number bytes ps)) ≡ times_waiting class q (map waits ps)
+        → times_waiting class q (map waits (cond b (record p { acked_bytes = max bytes p.acked_bytes } ∷ ps) (p ∷ acked_pending kind number bytes ps))) ≡ times_waiting class q (map waits (p ∷ ps))
     go true e = refl
     go false e = ap (λ (n : ℕ). cond (class p.message.kind && eqb q p.message.number) 1 0 + n) e
 
-  told_fresh : (ps : List Pending) → fresh (map waits (told_of kind number bytes ps)) ≡ fresh (map waits ps)
-  told_fresh [] = refl
-  told_fresh (p ∷ ps) = go (is_of kind number (waits p)) (told_fresh ps) where
-    go : (b : Bool) → fresh (map waits (told_of kind number bytes ps)) ≡ fresh (map waits ps)
-        → fresh (map waits (cond b (record p { told = max bytes p.told } ∷ ps) (p ∷ told_of kind number bytes ps))) ≡ fresh (map waits (p ∷ ps))
+  acked_fresh : (ps : List Pending) → fresh (map waits (acked_pending kind number bytes ps)) ≡ fresh (map waits ps)
+  acked_fresh [] = refl
+  acked_fresh (p ∷ ps) = go (is_of kind number (waits p)) (acked_fresh ps) where
+    go : (b : Bool) → fresh (map waits (acked_pending kind number bytes ps)) ≡ fresh (map waits ps)
+        → fresh (map waits (cond b (record p { acked_bytes = max bytes p.acked_bytes } ∷ ps) (p ∷ acked_pending kind number bytes ps))) ≡ fresh (map waits (p ∷ ps))
     go true e = refl
     go false e = ap (λ (ns : List ℕ). cond (is_fresh (waits p)) (p.message.number ∷ ns) ns) e
 
-  told_messages : (ps : List Pending) → messages (told_of kind number bytes ps) ≡ messages ps
-  told_messages [] = refl
-  told_messages (p ∷ ps) = go (is_of kind number (waits p)) (told_messages ps) where
-    go : (b : Bool) → messages (told_of kind number bytes ps) ≡ messages ps → messages (cond b (record p { told = max bytes p.told } ∷ ps) (p ∷ told_of kind number bytes ps)) ≡ messages (p ∷ ps)
+  acked_messages : (ps : List Pending) → messages (acked_pending kind number bytes ps) ≡ messages ps
+  acked_messages [] = refl
+  acked_messages (p ∷ ps) = go (is_of kind number (waits p)) (acked_messages ps) where
+    go : (b : Bool) → messages (acked_pending kind number bytes ps) ≡ messages ps → messages (cond b (record p { acked_bytes = max bytes p.acked_bytes } ∷ ps) (p ∷ acked_pending kind number bytes ps)) ≡ messages (p ∷ ps)
     go true e = refl
     go false e = ap (λ (ms : List Message). p.message ∷ ms) e
 
-  held_told : (requests : ℕ) (ps : List Pending) (before : List Event) → Holds requests ps before → Holds requests (told_of kind number bytes ps) before
-  held_told requests ps before holds = record {
-    each = told_each before ps holds.each;
+  held_acked : (requests : ℕ) (ps : List Pending) (before : List Event) → Holds requests ps before → Holds requests (acked_pending kind number bytes ps) before
+  held_acked requests ps before holds = record {
+    each = acked_each before ps holds.each;
     sound = holds.sound;
-    once = λ c q. subst (λ (n : ℕ). n ≤ 1) (sym (told_times (class_of c) q ps)) (holds.once c q);
-    order = subst (CountsFrom (requests_in before + 1)) (sym (told_fresh ps)) holds.order;
-    last = holds.last ∙ ap (λ (ns : List ℕ). requests_in before + length ns) (sym (told_fresh ps));
-    none_above = λ q above. told_times is_request q ps ∙ holds.none_above q above;
-    replies_wait = λ q none. holds.replies_wait q (sym (told_times is_reply q ps) ∙ none);
+    once = λ c q. subst (λ (n : ℕ). n ≤ 1) (sym (acked_times (class_of c) q ps)) (holds.once c q);
+    order = subst (CountsFrom (requests_in before + 1)) (sym (acked_fresh ps)) holds.order;
+    last = holds.last ∙ ap (λ (ns : List ℕ). requests_in before + length ns) (sym (acked_fresh ps));
+    none_above = λ q above. acked_times is_request q ps ∙ holds.none_above q above;
+    replies_wait = λ q none. holds.replies_wait q (sym (acked_times is_reply q ps) ∙ none);
   }
 
 -- ---- an acknowledgement is sent
@@ -308,19 +308,19 @@ module _ (kind : Kind) (number bytes : ℕ) where
 abbrev pub VarintsAgain : Type 0
 VarintsAgain = (n : ℕ) (rest : List ℕ) → n < 2 ^ 64 → number_at (varint n ++ rest) ≡ Ok (n, rest)
 
-answer_told : VarintsAgain → (before : List Event) (a : Acknowledgement) → has_checksum a.kind ≡ false → a.bytes < 2 ^ 64
-    → answer_in before (told_by a) ≡ Ok (takens.Ack a.kind a.number a.bytes)
-answer_told again before a none small =
-    let f = told_by a in
+answer_acked : VarintsAgain → (before : List Event) (a : Acknowledgement) → has_checksum a.kind ≡ false → a.bytes < 2 ^ 64
+    → answer_in before (ack_frame a) ≡ Ok (takens.Ack a.kind a.number a.bytes)
+answer_acked again before a none small =
+    let f = ack_frame a in
     ap (λ (b : Bool). cond b (cond (may_come (requests_in before) (is_awaited before a.number) (so_far_in before f) f) (given_by (begun_or (so_far_in before f) f) f) (Err (faults.OutOfOrder a.number))) (acknowledged f (count_in (number_at (varint a.bytes))))) none
     ∙ ap (λ (x : Result (ℕ × List ℕ) VarintFault). acknowledged f (count_in x)) (ap number_at (sym (append-nil (varint a.bytes))) ∙ again a.bytes [] small)
 
-held_sent_told : (requests : ℕ) (ps : List Pending) (before : List Event) (a : Acknowledgement) → has_checksum a.kind ≡ false → Holds requests ps before → Holds requests ps (came (told_by a) ∷ before)
-held_sent_told requests ps before a none holds =
+held_sent_ack : (requests : ℕ) (ps : List Pending) (before : List Event) (a : Acknowledgement) → has_checksum a.kind ≡ false → Holds requests ps before → Holds requests ps (came (ack_frame a) ∷ before)
+held_sent_ack requests ps before a none holds =
     let same : requests_in before ≡ cond (is_request a.kind) (max a.number (requests_in before)) (requests_in before) = ap (λ (b : Bool). cond b (max a.number (requests_in before)) (requests_in before)) (sym (no_request a.kind none)) in
     record {
-      each = each_acked before (told_by a) ps none holds.each;
-      sound = sound_acknowledged before (told_by a) holds.sound none;
+      each = each_acked before (ack_frame a) ps none holds.each;
+      sound = sound_acknowledged before (ack_frame a) holds.sound none;
       once = holds.once;
       order = subst (λ (r : ℕ). CountsFrom (r + 1) (fresh (map waits ps))) same holds.order;
       last = holds.last ∙ ap (λ (r : ℕ). r + length (fresh (map waits ps))) same;
@@ -568,10 +568,10 @@ carried_message again requests replies ps before c holds steps rest =
     ]
 
 -- an acknowledgement is sent
-carried_told : VarintsAgain → (requests replies : ℕ) (a : Acknowledgement) (told : List Acknowledgement) (ps : List Pending) (before : List Event) (steps : List Step) → has_checksum a.kind ≡ false → a.bytes < 2 ^ 64
-    → Carries (sending_of requests replies told ps) (came (told_by a) ∷ before) ps steps → Carries (sending_of requests replies (a ∷ told) ps) before ps (send ∷ steps)
-carried_told again requests replies a told ps before steps none small rest =
-    carried_by (sending_of requests replies (a ∷ told) ps) before ps ps steps (told_by a) (takens.Ack a.kind a.number a.bytes) refl (answer_told again before a none small) (λ b q. refl) rest
+carried_ack : VarintsAgain → (requests replies : ℕ) (a : Acknowledgement) (waiting_acks : List Acknowledgement) (ps : List Pending) (before : List Event) (steps : List Step) → has_checksum a.kind ≡ false → a.bytes < 2 ^ 64
+    → Carries (sending_of requests replies waiting_acks ps) (came (ack_frame a) ∷ before) ps steps → Carries (sending_of requests replies (a ∷ waiting_acks) ps) before ps (send ∷ steps)
+carried_ack again requests replies a waiting_acks ps before steps none small rest =
+    carried_by (sending_of requests replies (a ∷ waiting_acks) ps) before ps ps steps (ack_frame a) (takens.Ack a.kind a.number a.bytes) refl (answer_acked again before a none small) (λ b q. refl) rest
 
 -- nothing is sent
 carried_none : (requests replies : ℕ) (ps : List Pending) (before : List Event) (steps : List Step) → chosen (map waits ps) ≡ None
@@ -614,44 +614,44 @@ messages_put b q ps m steps =
     ∙ append_assoc (messages_of (class_of b) q (messages ps)) (messages_of (class_of b) q (m ∷ [])) (messages_of (class_of b) q (put_in steps))
     ∙ ap (λ (ms : List Message). messages_of (class_of b) q (messages ps) ++ ms) (sym (of-append (class_of b) q (m ∷ []) (put_in steps)))
 
-held_put : (requests replies : ℕ) (told : List Acknowledgement) (ps : List Pending) (before : List Event) (m : Message) → CanBeRead m → HasItsTurn (sending_of requests replies told ps) before m m.kind → Holds requests ps before
+held_put : (requests replies : ℕ) (waiting_acks : List Acknowledgement) (ps : List Pending) (before : List Event) (m : Message) → CanBeRead m → HasItsTurn (sending_of requests replies waiting_acks ps) before m m.kind → Holds requests ps before
     → Holds (cond (is_request m.kind) m.number requests) (with_last ps m) before
-held_put requests replies told ps before m readable turn holds = elim (turn_of requests replies told ps before m m.kind refl turn) [
+held_put requests replies waiting_acks ps before m readable turn holds = elim (turn_of requests replies waiting_acks ps before m m.kind refl turn) [
   | inl request ↦ subst (λ (b : Bool). Holds (cond b m.number requests) (with_last ps m) before) (sym (ap is_request request.kind)) (put_request requests ps before m readable request holds)
   | inr reply ↦ subst (λ (b : Bool). Holds (cond b m.number requests) (with_last ps m) before) (sym reply.request) (put_reply requests ps before m readable reply holds)
 ]
 
-carried : ReadsAgain → VarintsAgain → (requests replies : ℕ) (told : List Acknowledgement) (ps : List Pending) (before : List Event) → AreTold told → Holds requests ps before
-    → (steps : List Step) → AreAllowed (sending_of requests replies told ps) before steps → Carries (sending_of requests replies told ps) before ps steps
-carried again varints requests replies told ps before are holds [] allowed =
+carried : ReadsAgain → VarintsAgain → (requests replies : ℕ) (waiting_acks : List Acknowledgement) (ps : List Pending) (before : List Event) → AreAcks waiting_acks → Holds requests ps before
+    → (steps : List Step) → AreAllowed (sending_of requests replies waiting_acks ps) before steps → Carries (sending_of requests replies waiting_acks ps) before ps steps
+carried again varints requests replies waiting_acks ps before are holds [] allowed =
     (refl, λ b q alone. sym (append-nil (messages_of (class_of b) q (messages ps)) ∙ none_of (class_of b) q ps (omega arith)))
-carried again varints requests replies told ps before are holds (put m ∷ steps) allowed =
+carried again varints requests replies waiting_acks ps before are holds (put m ∷ steps) allowed =
     let requests' = cond (is_request m.kind) m.number requests in
     let replies' = cond (is_request m.kind) replies (max m.number replies) in
-    let S : List Waiting → Sending = λ ws. record { requests = requests'; replies = replies'; acknowledgements = told; waiting = ws } in
-    let rest = carried again varints requests' replies' told (with_last ps m) before are (held_put requests replies told ps before m allowed.0.0 allowed.0.1 holds) steps
+    let S : List Waiting → Sending = λ ws. record { requests = requests'; replies = replies'; acknowledgements = waiting_acks; waiting = ws } in
+    let rest = carried again varints requests' replies' waiting_acks (with_last ps m) before are (held_put requests replies waiting_acks ps before m allowed.0.0 allowed.0.1 holds) steps
     (subst (λ (ws : List Waiting). AreAllowed (S ws) before steps) (sym (put_waits ps m)) allowed.1) in
     let on = subst (λ (ws : List Waiting). Carries (S ws) before (with_last ps m) steps) (put_waits ps m) rest in
     (on.0, λ b q alone. on.1 b q alone ∙ messages_put b q ps m steps)
-carried again varints requests replies told ps before are holds (owe a ∷ steps) allowed =
-    carried again varints requests replies (told ++ a ∷ []) ps before (told-append told a are allowed.0) holds steps allowed.1
-carried again varints requests replies told ps before are holds (hear kind number bytes ∷ steps) allowed =
-    let S : List Waiting → Sending = λ ws. record { requests = requests; replies = replies; acknowledgements = told; waiting = ws } in
-    let rest = carried again varints requests replies told (told_of kind number bytes ps) before are (held_told kind number bytes requests ps before holds) steps
-    (subst (λ (ws : List Waiting). AreAllowed (S ws) before steps) (sym (told_heard kind number bytes ps)) allowed.1) in
-    let on = subst (λ (ws : List Waiting). Carries (S ws) before (told_of kind number bytes ps) steps) (told_heard kind number bytes ps) rest in
-    (on.0, λ b q alone. on.1 b q alone ∙ ap (λ (ms : List Message). messages_of (class_of b) q ms ++ messages_of (class_of b) q (put_in steps)) (told_messages kind number bytes ps))
-carried again varints requests replies (a ∷ told) ps before are holds (send ∷ steps) allowed =
-    carried_told varints requests replies a told ps before steps are.0.0 are.0.1
-    (carried again varints requests replies told ps (came (told_by a) ∷ before) are.1 (held_sent_told requests ps before a are.0.0 holds) steps allowed.1)
+carried again varints requests replies waiting_acks ps before are holds (owe a ∷ steps) allowed =
+    carried again varints requests replies (waiting_acks ++ a ∷ []) ps before (waiting_acks-append waiting_acks a are allowed.0) holds steps allowed.1
+carried again varints requests replies waiting_acks ps before are holds (take_ack kind number bytes ∷ steps) allowed =
+    let S : List Waiting → Sending = λ ws. record { requests = requests; replies = replies; acknowledgements = waiting_acks; waiting = ws } in
+    let rest = carried again varints requests replies waiting_acks (acked_pending kind number bytes ps) before are (held_acked kind number bytes requests ps before holds) steps
+    (subst (λ (ws : List Waiting). AreAllowed (S ws) before steps) (sym (acked_waits kind number bytes ps)) allowed.1) in
+    let on = subst (λ (ws : List Waiting). Carries (S ws) before (acked_pending kind number bytes ps) steps) (acked_waits kind number bytes ps) rest in
+    (on.0, λ b q alone. on.1 b q alone ∙ ap (λ (ms : List Message). messages_of (class_of b) q ms ++ messages_of (class_of b) q (put_in steps)) (acked_messages kind number bytes ps))
+carried again varints requests replies (a ∷ waiting_acks) ps before are holds (send ∷ steps) allowed =
+    carried_ack varints requests replies a waiting_acks ps before steps are.0.0 are.0.1
+    (carried again varints requests replies waiting_acks ps (came (ack_frame a) ∷ before) are.1 (held_sent_ack requests ps before a are.0.0 holds) steps allowed.1)
 carried again varints requests replies [] ps before are holds (send ∷ steps) allowed = elim (choice ps) [
   | inl none ↦ carried_none requests replies ps before steps none (carried again varints requests replies [] ps before tt holds steps (allowed_none requests replies ps before steps none allowed.1))
   | inr c ↦
       carried_message again requests replies ps before c holds steps
       (carried again varints requests replies [] (then requests ps before c holds) (came (first_piece (waits c.it)) ∷ before) tt (held_sent requests ps before c holds) steps (allowed_message requests replies ps before c holds steps allowed.1))
 ]
-carried again varints requests replies told ps before are holds (expect n ∷ steps) allowed =
-    carried again varints requests replies told ps (expected n ∷ before) are (held_expected requests ps before n holds) steps allowed.1
+carried again varints requests replies waiting_acks ps before are holds (expect n ∷ steps) allowed =
+    carried again varints requests replies waiting_acks ps (expected n ∷ before) are (held_expected requests ps before n holds) steps allowed.1
 
 held_start : Holds 0 [] []
 held_start = record {

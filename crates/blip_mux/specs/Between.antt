@@ -6,15 +6,15 @@ use Rattle.blip_frame.specs.declared.frame.Kind.{Kind}
 use Rattle.blip_frame.specs.declared.frame.Kind.TheVariants as kinds
 use Rattle.blip_mux.specs.declared.message.Message.{Message}
 use Rattle.blip_mux.specs.Joining.{Event, came, expected, is_awaited, is_reply}
-use Rattle.blip_mux.specs.Told.{Acknowledgement}
-use Rattle.blip_mux.specs.Sending.{Waiting, Sending, unsent, picked, after_picked, heard_in}
+use Rattle.blip_mux.specs.Acknowledgements.{Acknowledgement}
+use Rattle.blip_mux.specs.Sending.{Waiting, Sending, unsent, picked, after_picked, acked_in}
 use Rattle.blip_mux.specs.Cutting.{with_message, with_acknowledgement, times_waiting}
 
 -- A message is put, an acknowledgement is put, an acknowledgement has come, the next frame is sent and comes, or a reply is expected.
 pub data Step : Type 0 where
   put : Message → Step
   owe : Acknowledgement → Step
-  hear : Kind → ℕ → ℕ → Step
+  take_ack : Kind → ℕ → ℕ → Step
   send : Step
   expect : ℕ → Step
 
@@ -26,7 +26,7 @@ waiting_of m = unsent m.number m.kind m.urgent m.no_reply (payload_text m.payloa
 abbrev pub sending_after : Sending → Step → Sending
 sending_after s (put m) = with_message s (waiting_of m)
 sending_after s (owe a) = with_acknowledgement s a
-sending_after s (hear kind number bytes) = record s { waiting = heard_in kind number bytes s.waiting }
+sending_after s (take_ack kind number bytes) = record s { waiting = acked_in kind number bytes s.waiting }
 sending_after s send = after_picked s
 sending_after s (expect number) = s
 
@@ -42,7 +42,7 @@ sent_to (Some f) before = came f ∷ before
 abbrev pub before_next : Sending → List Event → Step → List Event
 before_next s before (put m) = before
 before_next s before (owe a) = before
-before_next s before (hear kind number bytes) = before
+before_next s before (take_ack kind number bytes) = before
 before_next s before send = sent_to (picked s) before
 before_next s before (expect number) = expected number ∷ before
 
@@ -51,7 +51,7 @@ abbrev pub events_in : Sending → List Step → List Event
 events_in s [] = []
 events_in s (put m ∷ steps) = events_in (sending_after s (put m)) steps
 events_in s (owe a ∷ steps) = events_in (sending_after s (owe a)) steps
-events_in s (hear kind number bytes ∷ steps) = events_in (sending_after s (hear kind number bytes)) steps
+events_in s (take_ack kind number bytes ∷ steps) = events_in (sending_after s (take_ack kind number bytes)) steps
 events_in s (send ∷ steps) = sent_to (picked s) (events_in (sending_after s send) steps)
 events_in s (expect number ∷ steps) = expected number ∷ events_in s steps
 
@@ -60,7 +60,7 @@ abbrev pub put_in : List Step → List Message
 put_in [] = []
 put_in (put m ∷ steps) = m ∷ put_in steps
 put_in (owe a ∷ steps) = put_in steps
-put_in (hear kind number bytes ∷ steps) = put_in steps
+put_in (take_ack kind number bytes ∷ steps) = put_in steps
 put_in (send ∷ steps) = put_in steps
 put_in (expect number ∷ steps) = put_in steps
 
@@ -85,7 +85,7 @@ HasItsTurn s before m kinds.AckRpy = ⊥
 abbrev pub IsAllowed : Sending → List Event → Step → Type 0
 IsAllowed s before (put m) = CanBeRead m × HasItsTurn s before m m.kind
 IsAllowed s before (owe a) = (has_checksum a.kind ≡ false) × (a.bytes < 2 ^ 64)
-IsAllowed s before (hear kind number bytes) = Unit {0}
+IsAllowed s before (take_ack kind number bytes) = Unit {0}
 IsAllowed s before send = Unit {0}
 IsAllowed s before (expect number) = Unit {0}
 

@@ -4,14 +4,14 @@ use Rattle.std.specs.Option.{option_to_list}
 use Rattle.blip_frame.specs.Frame.{FrameParts, has_checksum, largest_written}
 use Rattle.blip_frame.specs.declared.frame.Kind.{Kind}
 use Rattle.blip_mux.specs.Joining.{is_request}
-use Rattle.blip_mux.specs.Told.{Acknowledgement}
-use Rattle.blip_mux.specs.Sending.{Waiting, Sending, picked, after_picked, heard_in}
+use Rattle.blip_mux.specs.Acknowledgements.{Acknowledgement}
+use Rattle.blip_mux.specs.Sending.{Waiting, Sending, picked, after_picked, acked_in}
 
--- what is done to an outbox: a message or an acknowledgement is put, or an acknowledgement has come, which tells so many bytes of the message of a kind and a number
-pub data Deed : Type 0 where
-  puts : Waiting → Deed
-  owes : Acknowledgement → Deed
-  hears : Kind → ℕ → ℕ → Deed
+-- what is done to an outbox: a message or an acknowledgement is put, or an acknowledgement has come, which counts so many bytes of the message of a kind and a number
+pub data OutboxStep : Type 0 where
+  puts : Waiting → OutboxStep
+  owes : Acknowledgement → OutboxStep
+  takes_ack : Kind → ℕ → ℕ → OutboxStep
 
 -- with a message put last
 abbrev pub with_message : Sending → Waiting → Sending
@@ -26,14 +26,14 @@ abbrev pub with_acknowledgement : Sending → Acknowledgement → Sending
 with_acknowledgement s a = record s { acknowledgements = s.acknowledgements ++ a ∷ [] }
 
 -- once it was done
-abbrev pub after_deed : Sending → Deed → Sending
-after_deed s (puts w) = with_message s w
-after_deed s (owes a) = with_acknowledgement s a
-after_deed s (hears kind number bytes) = record s { waiting = heard_in kind number bytes s.waiting }
+abbrev pub after_outbox_step : Sending → OutboxStep → Sending
+after_outbox_step s (puts w) = with_message s w
+after_outbox_step s (owes a) = with_acknowledgement s a
+after_outbox_step s (takes_ack kind number bytes) = record s { waiting = acked_in kind number bytes s.waiting }
 
-abbrev pub after_deeds : Sending → List Deed → Sending
-after_deeds s [] = s
-after_deeds s (deed ∷ deeds) = after_deeds (after_deed s deed) deeds
+abbrev pub after_outbox_steps : Sending → List OutboxStep → Sending
+after_outbox_steps s [] = s
+after_outbox_steps s (step ∷ steps) = after_outbox_steps (after_outbox_step s step) steps
 
 -- these frames are picked one after another, and this is left
 abbrev pub ArePicked : Sending → List FrameParts → Sending → Type 0
@@ -44,11 +44,11 @@ ArePicked s (f ∷ frames) left = (picked s ≡ Some f) × ArePicked (after_pick
 abbrev pub AreAllPicked : Sending → List FrameParts → Sending → Type 0
 AreAllPicked s frames left = ArePicked s frames left × (picked left ≡ None)
 
--- The frames that are sent, where frames are picked until there is none once all deeds of a turn are done, turn by turn.
-abbrev pub AreCut : Sending → List (List Deed) → List FrameParts → Type 0
+-- The frames that are sent, where frames are picked until there is none once all steps of a turn are made, turn by turn.
+abbrev pub AreCut : Sending → List (List OutboxStep) → List FrameParts → Type 0
 AreCut s [] frames = frames ≡ []
-AreCut s (deeds ∷ turns) frames =
-    (first : List FrameParts) × (rest : List FrameParts) × (left : Sending) × (frames ≡ first ++ rest) × AreAllPicked (after_deeds s deeds) first left × AreCut left turns rest
+AreCut s (steps ∷ turns) frames =
+    (first : List FrameParts) × (rest : List FrameParts) × (left : Sending) × (frames ≡ first ++ rest) × AreAllPicked (after_outbox_steps s steps) first left × AreCut left turns rest
 
 -- the frames of so many calls for the next frame
 abbrev pub frames_after : ℕ → Sending → List FrameParts

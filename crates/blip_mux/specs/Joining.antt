@@ -68,7 +68,7 @@ brought_by (f ∷ before) = Some (with_frame (begun_or (brought_by before) f) f)
 
 -- ---- what one frame gives
 
--- how many bytes an acknowledgement tells, whose payload is exactly one varint
+-- how many bytes an acknowledgement counts, whose payload is exactly one varint
 abbrev pub alone : ℕ → List ℕ → Option ℕ
 alone n [] = Some n
 alone n (b ∷ bytes) = None

@@ -1,10 +1,10 @@
 pub mod Begun
 pub mod Remembered
 pub mod Joining
-pub mod Standing
+pub mod InboxStates
 pub mod Owing
 pub mod Order
-pub mod Told
+pub mod Acknowledgements
 pub mod Sending
 pub mod Cutting
 pub mod Between

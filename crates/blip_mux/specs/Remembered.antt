@@ -13,7 +13,7 @@ abbrev pub Unfinished : Type 0
 Unfinished = map.FinMap nat_cmp Begun
 
 -- the greatest number of the requests that have begun, the numbers of the sent requests whose reply is expected and has not come whole, and what has come of requests and of replies
-pub record Standing : Type 0 where
+pub record InboxState : Type 0 where
   pub requests : ℕ
   pub expected : set.FinSet nat_cmp
   pub requests_begun : Unfinished
@@ -27,7 +27,7 @@ begun_code =
 abbrev pub unfinished_code : Coded Unfinished
 unfinished_code = map.code coded_ℕ begun_code
 
--- and so is a standing
-abbrev pub standing_code : Coded Standing
-standing_code =
+-- and so is the state of an inbox
+abbrev pub inbox_code : Coded InboxState
+inbox_code =
     code_by (ℕ × (set.FinSet nat_cmp × (Unfinished × Unfinished))) (coded× coded_ℕ (coded× (set.code coded_ℕ) (coded× unfinished_code unfinished_code))) (λ s. (s.requests, (s.expected, (s.requests_begun, s.replies_begun)))) (λ p. record { requests = p.0; expected = p.1.0; requests_begun = p.1.1.0; replies_begun = p.1.1.1 }) (λ _. refl)

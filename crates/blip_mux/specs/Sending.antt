@@ -6,11 +6,11 @@ use Rattle.blip_frame.specs.Frame.{FrameParts, largest_written, sent_after, spel
 use Rattle.blip_frame.specs.declared.frame.Kind.{Kind}
 use Rattle.blip_frame.specs.declared.frame.Kind.TheVariants as kinds
 use Rattle.blip_mux.specs.Joining.{is_request, is_reply}
-use Rattle.blip_mux.specs.Told.{Acknowledgement, told_by}
+use Rattle.blip_mux.specs.Acknowledgements.{Acknowledgement, ack_frame}
 use Rattle.blip_mux.specs.declared.outbox.Next.{Next}
 use Rattle.blip_mux.specs.declared.outbox.Next.TheVariants as nexts
 
--- a message that waits: how many of its bytes were sent, how many of those the other side has told to have, and the bytes that are still to be sent
+-- a message that waits: how many of its bytes were sent, how many of those the other side has acknowledged, and the bytes that are still to be sent
 pub record Waiting : Type 0 where
   pub number : ℕ
   pub kind : Kind
@@ -93,7 +93,7 @@ after_piece ws = option_map_or (λ found. found.1 ++ back found.0) (chosen ws) w
 -- The one next frame that is sent, or none: acknowledgements go first, in their order.
 abbrev pub picked_of : List Acknowledgement → List Waiting → Option FrameParts
 picked_of [] ws = next_piece ws
-picked_of (a ∷ acknowledgements) ws = Some (told_by a)
+picked_of (a ∷ acknowledgements) ws = Some (ack_frame a)
 
 abbrev pub picked : Sending → Option FrameParts
 picked s = picked_of s.acknowledgements s.waiting
@@ -113,42 +113,42 @@ abbrev pub is_reply_to : ℕ → Waiting → Bool
 is_reply_to number w = is_reply w.kind && w.number == number
 
 -- the messages that acknowledgements of a kind are of: requests or replies
-abbrev pub is_told_by : Kind → Kind → Bool
-is_told_by kinds.Msg kind = is_request kind
-is_told_by kinds.Rpy kind = is_reply kind
-is_told_by kinds.Err kind = is_reply kind
-is_told_by kinds.AckMsg kind = is_request kind
-is_told_by kinds.AckRpy kind = is_reply kind
+abbrev pub is_acked_by : Kind → Kind → Bool
+is_acked_by kinds.Msg kind = is_request kind
+is_acked_by kinds.Rpy kind = is_reply kind
+is_acked_by kinds.Err kind = is_reply kind
+is_acked_by kinds.AckMsg kind = is_request kind
+is_acked_by kinds.AckRpy kind = is_reply kind
 
 -- whether an acknowledgement of this kind and this number is of a message
 abbrev pub is_of : Kind → ℕ → Waiting → Bool
-is_of kind number w = is_told_by kind w.kind && w.number == number
+is_of kind number w = is_acked_by kind w.kind && w.number == number
 
 -- the waiting message that an acknowledgement is of
-abbrev pub heard_of : Kind → ℕ → List Waiting → Option Waiting
-heard_of kind number ws = find (is_of kind number) ws
+abbrev pub acked_of : Kind → ℕ → List Waiting → Option Waiting
+acked_of kind number ws = find (is_of kind number) ws
 
 -- how many bytes of it were sent: none where it does not wait
 abbrev pub sent_of : Kind → ℕ → List Waiting → ℕ
-sent_of kind number ws = option_map_or (λ w. w.sent) (heard_of kind number ws) 0
+sent_of kind number ws = option_map_or (λ w. w.sent) (acked_of kind number ws) 0
 
 -- the greatest number of the messages that were put
 abbrev pub last_put : Kind → Sending → ℕ
-last_put kind s = if is_told_by kind kinds.Msg then s.requests else s.replies
+last_put kind s = if is_acked_by kind kinds.Msg then s.requests else s.replies
 
 -- Whether an acknowledgement can't be true: of the number 0, of a message that was never put, or of more bytes than were sent of one that waits.
 abbrev pub is_bad_ack : Kind → ℕ → ℕ → Sending → Bool
 is_bad_ack kind number bytes s =
-    number == 0 || nat_lt (last_put kind s) number || option_map_or (λ w. nat_lt w.sent bytes) (heard_of kind number s.waiting) false
+    number == 0 || nat_lt (last_put kind s) number || option_map_or (λ w. nat_lt w.sent bytes) (acked_of kind number s.waiting) false
 
 -- the greatest count is kept
-abbrev pub heard : ℕ → Waiting → Waiting
-heard bytes w = record w { acknowledged = max bytes w.acknowledged }
+abbrev pub acked : ℕ → Waiting → Waiting
+acked bytes w = record w { acknowledged = max bytes w.acknowledged }
 
 -- the messages once an acknowledgement of one of them has come
-abbrev pub heard_in : Kind → ℕ → ℕ → List Waiting → List Waiting
-heard_in kind number bytes [] = []
-heard_in kind number bytes (w ∷ ws) = if is_of kind number w then heard bytes w ∷ ws else w ∷ heard_in kind number bytes ws
+abbrev pub acked_in : Kind → ℕ → ℕ → List Waiting → List Waiting
+acked_in kind number bytes [] = []
+acked_in kind number bytes (w ∷ ws) = if is_of kind number w then acked bytes w ∷ ws else w ∷ acked_in kind number bytes ws
 
 -- ---- what is written
 

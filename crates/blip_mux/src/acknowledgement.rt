@@ -3,7 +3,7 @@
 ghost use Rattle.std.specs.Prelude.{◌≡◌, ◌++◌, ◌≤◌, false, length, List, ℕ, OnOk, OnErr};
 ghost use Rattle.blip_frame.specs.Checksum.{checksum};
 ghost use Rattle.blip_frame.specs.Frame.{has_checksum, value_after, spelling, sent_after, WritesAfter};
-ghost use Rattle.blip_mux.specs.Told.{told_by};
+ghost use Rattle.blip_mux.specs.Acknowledgements.{ack_frame};
 
 use blip_frame::{Crc, Frame, Kind, Varint, write_frame};
 use sg_outside::{Bytes, Memory};
@@ -20,9 +20,9 @@ pub(crate) struct Acknowledgement {
 impl Model for Acknowledgement {
     ghost use Rattle.std.specs.Prelude.{◌≡◌, false};
     ghost use Rattle.blip_frame.specs.Frame.{has_checksum};
-    ghost use Rattle.blip_mux.specs.Told as told;
+    ghost use Rattle.blip_mux.specs.Acknowledgements as acks;
 
-    ghost Value = { told.Acknowledgement };
+    ghost Value = { acks.Acknowledgement };
 
     ghost view = { λ a. record { kind = a.kind; number = a.number; bytes = a.bytes } };
 
@@ -43,10 +43,10 @@ impl Acknowledgement {
 
     /// Writes its frame. Out of memory checksum and `out` stay as they were.
     pub(crate) fn write(&self, crc: &mut Crc, out: &mut Bytes) -> Result<(), Memory>
-        ensures ok { OnOk result (out.new ≡ out.old ++ spelling (value_after crc.old.value (told_by self.now)) (told_by self.now)) }
-        ensures value { OnOk result (crc.new.value ≡ value_after crc.old.value (told_by self.now)) }
+        ensures ok { OnOk result (out.new ≡ out.old ++ spelling (value_after crc.old.value (ack_frame self.now)) (ack_frame self.now)) }
+        ensures value { OnOk result (crc.new.value ≡ value_after crc.old.value (ack_frame self.now)) }
         ensures sent { (sent : List ℕ) → crc.old.value ≡ checksum sent
-            → OnOk result (WritesAfter sent out.old out.new (told_by self.now) × (crc.new.value ≡ checksum (sent_after sent (told_by self.now)))) }
+            → OnOk result (WritesAfter sent out.old out.new (ack_frame self.now) × (crc.new.value ≡ checksum (sent_after sent (ack_frame self.now)))) }
         ensures err { OnErr result ((out.new ≡ out.old) × (crc.new ≡ crc.old)) }
     {
         let payload = Varint::new(self.bytes);

@@ -6,7 +6,7 @@ ghost use Rattle.std.specs.FinMap as map;
 ghost use Rattle.blip_frame.specs.Frame.{parts_of, has_checksum};
 ghost use Rattle.blip_frame.specs.Varint.{number_at};
 ghost use Rattle.blip_mux.specs.Joining.{begun_or, given_by, may_begin, may_come, acknowledged, count_in};
-ghost use Rattle.blip_mux.specs.Standing.{new_standing, expecting, so_far_at, answer_at, taken_after};
+ghost use Rattle.blip_mux.specs.InboxStates.{new_inbox, expecting, so_far_at, answer_at, taken_after};
 
 use crate::class::{Class, class_of};
 use crate::message::Message;
@@ -54,11 +54,11 @@ pub struct Inbox {
 }
 
 impl Model for Inbox {
-    ghost use Rattle.blip_mux.specs.Remembered.{Standing, standing_code};
+    ghost use Rattle.blip_mux.specs.Remembered.{InboxState, inbox_code};
 
-    ghost Value = { Standing };
+    ghost Value = { InboxState };
 
-    ghost coded = { standing_code };
+    ghost coded = { inbox_code };
 
     ghost view = { λ i. record { requests = i.requests; expected = i.expected; requests_begun = i.requests_begun; replies_begun = i.replies_begun } };
 }
@@ -66,7 +66,7 @@ impl Model for Inbox {
 impl Inbox {
     /// An inbox to which nothing has come. Allocates nothing.
     pub fn new(alloc: Global) -> Inbox
-        ensures { result ≡ new_standing }
+        ensures { result ≡ new_inbox }
     {
         Inbox {
             requests: 0,
@@ -90,15 +90,19 @@ impl Inbox {
     pub fn take(&mut self, frame: &Frame<'_>) -> Result<Taken, TakeFault>
         // The answer is that of the frame, and a fault is the first one, unless memory runs out.
         ensures taken { IfOk result (λ taken. answer_at self.old (parts_of frame.now) ≡ Ok taken) }
-        ensures fault { IfErr result (λ fault. fault ≢ TakeFault.Memory → answer_at self.old (parts_of frame.now) ≡ Err fault) }
+        ensures fault { IfErr result
+            (λ fault. fault ≢ TakeFault.Memory
+            → answer_at self.old (parts_of frame.now) ≡ Err fault) }
         ensures memory { IfErr result (λ fault. fault ≢ TakeFault.Payload PayloadFault.Memory) }
         ensures after { OnOk result (self.new ≡ taken_after self.old (parts_of frame.now)) }
         ensures unchanged { OnErr result (self.new ≡ self.old) }
 
         // What allocates nothing.
-        ensures acknowledgement { has_checksum frame.now.kind ≡ false → result ≡ answer_at self.old (parts_of frame.now) }
+        ensures acknowledgement { has_checksum frame.now.kind ≡ false
+            → result ≡ answer_at self.old (parts_of frame.now) }
         ensures order { has_checksum frame.now.kind ≡ true
-            → may_come self.old.requests (set.contains self.old.expected frame.now.number) (so_far_at self.old (parts_of frame.now)) (parts_of frame.now) ≡ false
+            → may_come self.old.requests (set.contains self.old.expected frame.now.number)
+            (so_far_at self.old (parts_of frame.now)) (parts_of frame.now) ≡ false
             → result ≡ Err (TakeFault.OutOfOrder frame.now.number) }
     {
         if !frame.kind.has_checksum() {
@@ -168,7 +172,7 @@ impl Inbox {
     }
 }
 
-/// What an acknowledgement tells.
+/// What an acknowledgement says.
 fn acknowledgement_of(frame: &Frame<'_>) -> Result<Taken, TakeFault>
     ensures { result ≡ acknowledged (parts_of frame.now) (count_in (number_at frame.now.payload.now)) }
 {

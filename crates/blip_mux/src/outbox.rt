@@ -6,7 +6,7 @@ ghost use Rattle.blip_frame.specs.Checksum.{checksum};
 ghost use Rattle.blip_frame.specs.Frame.{has_checksum};
 ghost use Rattle.blip_frame.specs.Payload.{payload_text};
 ghost use Rattle.blip_mux.specs.Joining.{is_reply};
-ghost use Rattle.blip_mux.specs.Sending.{new_sending, unsent, picked, after_picked, is_reply_to, is_paused, last_put, sent_of, is_bad_ack, heard_in, Sends, SendsAfter};
+ghost use Rattle.blip_mux.specs.Sending.{new_sending, unsent, picked, after_picked, is_reply_to, is_paused, last_put, sent_of, is_bad_ack, acked_in, Sends, SendsAfter};
 
 use crate::acknowledgement::Acknowledgement;
 use crate::class::{Class, class_of};
@@ -94,7 +94,9 @@ impl Outbox {
         ensures number { IfOk result (λ number. number ≡ self.old.requests + 1) }
         ensures ok { IfOk result (λ number. self.new ≡ record self.old {
           requests = number;
-          waiting = self.old.waiting ++ unsent number Kind.Msg false no_reply (payload_text payload.props payload.body) ∷ [];
+          waiting = self.old.waiting
+              ++ unsent number Kind.Msg false no_reply
+              (payload_text payload.props payload.body) ∷ [];
         }) }
         ensures err { OnErr result (self.new ≡ self.old) }
     {
@@ -118,7 +120,8 @@ impl Outbox {
         requires alone { list_any (is_reply_to number) self.old.waiting ≡ false }
         ensures ok { OnOk result (self.new ≡ record self.old {
           replies = max number self.old.replies;
-          waiting = self.old.waiting ++ unsent number kind urgent false (payload_text payload.props payload.body) ∷ [];
+          waiting = self.old.waiting
+              ++ unsent number kind urgent false (payload_text payload.props payload.body) ∷ [];
         }) }
         ensures err { OnErr result (self.new ≡ self.old) }
     {
@@ -141,7 +144,8 @@ impl Outbox {
     pub fn put_ack(&mut self, kind: Kind, number: u64, bytes: u64) -> Result<(), Memory>
         requires { has_checksum kind ≡ false }
         ensures ok { OnOk result (self.new ≡ record self.old {
-          acknowledgements = self.old.acknowledgements ++ record { kind = kind; number = number; bytes = bytes } ∷ [];
+          acknowledgements = self.old.acknowledgements
+              ++ record { kind = kind; number = number; bytes = bytes } ∷ [];
         }) }
         ensures err { OnErr result (self.new ≡ self.old) }
     {
@@ -155,17 +159,22 @@ impl Outbox {
     /// that may send. A message with more to come goes to the back of the list. Out of memory
     /// outbox, checksum and `out` stay as they were.
     pub fn next_frame(&mut self, crc: &mut Crc, out: &mut Bytes) -> Result<Next, Memory>
-        ensures frame { IfOk result (λ next. Sends (picked self.old) next crc.old.value crc.new.value out.old out.new) }
+        ensures frame { IfOk result
+            (λ next. Sends (picked self.old) next crc.old.value crc.new.value out.old out.new) }
         ensures after { OnOk result (self.new ≡ after_picked self.old) }
 
-        // No memory is taken where no acknowledgement waits and each message is over its limit.
-        ensures idle { self.old.acknowledgements ≡ [] → list_all is_paused self.old.waiting ≡ true → result ≡ Ok Next.Idle }
-        ensures only { result ≡ Ok Next.Idle → (self.old.acknowledgements ≡ []) × (list_all is_paused self.old.waiting ≡ true) }
+        // Nothing is allocated where no acknowledgement waits and each message is over its limit.
+        ensures idle { self.old.acknowledgements ≡ [] → list_all is_paused self.old.waiting ≡ true
+            → result ≡ Ok Next.Idle }
+        ensures only { result ≡ Ok Next.Idle
+            → (self.old.acknowledgements ≡ []) × (list_all is_paused self.old.waiting ≡ true) }
 
         // In a direction in which these bytes were sent.
         ensures sent { (sent : List ℕ) → crc.old.value ≡ checksum sent
-            → IfOk result (λ next. SendsAfter sent (picked self.old) next crc.new.value out.old out.new) }
-        ensures err { OnErr result ((self.new ≡ self.old) × (crc.new ≡ crc.old) × (out.new ≡ out.old)) }
+            → IfOk result
+            (λ next. SendsAfter sent (picked self.old) next crc.new.value out.old out.new) }
+        ensures err { OnErr result
+            ((self.new ≡ self.old) × (crc.new ≡ crc.old) × (out.new ≡ out.old)) }
     {
         if let Some(first) = self.acknowledgements.front() {
             first.write(crc, out)?;
@@ -179,9 +188,18 @@ impl Outbox {
     /// count is kept; one for a message that does not wait is passed over. Allocates nothing.
     pub fn acked(&mut self, kind: Kind, number: u64, bytes: u64) -> Result<(), BadAck>
         requires { has_checksum kind ≡ false }
-        ensures answer { MatchResult result (λ _. is_bad_ack kind number bytes self.old ≡ false) (λ _. is_bad_ack kind number bytes self.old ≡ true) }
-        ensures bad { IfErr result (λ bad. bad ≡ record { number = number; bytes = bytes; sent = sent_of kind number self.old.waiting }) }
-        ensures ok { OnOk result (self.new ≡ record self.old { waiting = heard_in kind number bytes self.old.waiting }) }
+        ensures answer { MatchResult result (λ _. is_bad_ack kind number bytes self.old ≡ false)
+            (λ _. is_bad_ack kind number bytes self.old ≡ true) }
+        ensures bad { IfErr result
+            (λ bad. bad
+            ≡ record {
+              number = number;
+              bytes = bytes;
+              sent = sent_of kind number
+                  self.old.waiting;
+            }) }
+        ensures ok { OnOk result
+            (self.new ≡ record self.old { waiting = acked_in kind number bytes self.old.waiting }) }
         ensures unchanged { OnErr result (self.new ≡ self.old) }
     {
         let last = match class_of(kind) {
@@ -197,7 +215,7 @@ impl Outbox {
                 sent: sent.unwrap_or(0),
             });
         }
-        self.waiting.heard(kind, number, bytes);
+        self.waiting.acked(kind, number, bytes);
         Ok(())
     }
 }

@@ -5,7 +5,7 @@ ghost use Rattle.std.specs.Option.{option_map_or};
 ghost use Rattle.std.specs.FinMap as map;
 ghost use Rattle.blip_frame.specs.Frame.{parts_of};
 ghost use Rattle.blip_mux.specs.Joining.{begun_by, begun_or, with_frame, part_by, message_by, given_by};
-ghost use Rattle.blip_mux.specs.Standing.{begun_after};
+ghost use Rattle.blip_mux.specs.InboxStates.{begun_after};
 
 use crate::inbox::{TakeFault, Taken};
 use crate::message::Message;

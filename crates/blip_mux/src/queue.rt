@@ -3,7 +3,7 @@
 ghost use Rattle.std.specs.Prelude.{◌≡◌, ◌∷◌, ◌++◌, ◌≤◌, [], false, Some, None, List, ℕ, IfOk, IfSome, OnOk, OnErr, option_map};
 ghost use Rattle.std.specs.List.{list_any};
 ghost use Rattle.blip_frame.specs.Checksum.{checksum};
-ghost use Rattle.blip_mux.specs.Sending.{Waiting, is_reply_to, is_of, next_piece, after_piece, heard_of, heard_in, Sends, SendsAfter};
+ghost use Rattle.blip_mux.specs.Sending.{Waiting, is_reply_to, is_of, next_piece, after_piece, acked_of, acked_in, Sends, SendsAfter};
 
 use crate::class::{Class, class_of};
 use crate::outbox::Next;
@@ -80,16 +80,16 @@ impl Queue {
 
     /// How many bytes were sent of the message that an acknowledgement is of, where it waits.
     pub(crate) fn sent_of(&self, kind: Kind, number: u64) -> Option<u64>
-        ensures { result ≡ option_map (λ w. w.sent) (heard_of kind number self.now) }
+        ensures { result ≡ option_map (λ w. w.sent) (acked_of kind number self.now) }
     {
         self.messages.sent_of(class_of(kind), number)
     }
 
     /// Notes that so many bytes of a message have come, of those that were sent.
-    pub(crate) fn heard(&mut self, kind: Kind, number: u64, bytes: u64)
-        requires { IfSome (heard_of kind number self.old) (λ w. bytes ≤ w.sent) }
-        ensures { self.new ≡ heard_in kind number bytes self.old }
+    pub(crate) fn acked(&mut self, kind: Kind, number: u64, bytes: u64)
+        requires { IfSome (acked_of kind number self.old) (λ w. bytes ≤ w.sent) }
+        ensures { self.new ≡ acked_in kind number bytes self.old }
     {
-        self.messages.heard(class_of(kind), number, bytes);
+        self.messages.acked(class_of(kind), number, bytes);
     }
 }

@@ -4,7 +4,7 @@ ghost use Rattle.std.specs.Prelude.{◌≡◌, ◌∷◌, ◌++◌, ◌≤◌, �
 ghost use Rattle.std.specs.BTreeMap.{IsOrdered};
 ghost use Rattle.std.specs.Ordering.{nat_cmp};
 ghost use Rattle.blip_mux.specs.Entries.{look, with_message};
-ghost use Rattle.blip_mux.specs.Sending.{chosen, without_piece, has_more, may_send, heard};
+ghost use Rattle.blip_mux.specs.Sending.{chosen, without_piece, has_more, may_send, acked};
 
 use crate::class::Class;
 use crate::index::Index;
@@ -199,7 +199,7 @@ impl Stamped {
     }
 
     /// Notes that so many bytes of a message have come, of those that were sent.
-    pub(crate) fn heard(&mut self, class: Class, number: u64, bytes: u64)
+    pub(crate) fn acked(&mut self, class: Class, number: u64, bytes: u64)
         requires keeps { Keeps self.old }
         requires sent { (q : ℕ) → stands class number self.old ≡ Some q
             → IfSome (message_at self.old q) (λ w. bytes ≤ w.sent) }
@@ -207,12 +207,12 @@ impl Stamped {
         ensures none { stands class number self.old ≡ None
             → self.new.messages.entries ≡ self.old.messages.entries }
         ensures some { (q : ℕ) → stands class number self.old ≡ Some q
-            → IfSome (message_at self.old q) (λ w. self.new.messages.entries ≡ with_message q self.old.messages.entries (heard bytes w)) }
+            → IfSome (message_at self.old q) (λ w. self.new.messages.entries ≡ with_message q self.old.messages.entries (acked bytes w)) }
     {
         let Some(stamp) = self.index.get(class, number) else {
             return;
         };
-        if let Some(turn) = hear(&mut self.messages, stamp, bytes) {
+        if let Some(turn) = take_ack(&mut self.messages, stamp, bytes) {
             self.ready.put(turn);
         }
     }
@@ -220,21 +220,21 @@ impl Stamped {
 
 /// Notes that so many bytes of the message of a stamp have come. Answers the turn that the message has
 /// again, if it paused.
-fn hear(
+fn take_ack(
     messages: &mut BTreeMap<u64, WaitingMessage>,
     stamp: u64,
     bytes: u64,
 ) -> Option<ReadyMessage>
     requires { IfSome (look messages.old.entries stamp) (λ w. bytes ≤ w.sent) }
     ensures set { IfSome (look messages.old.entries stamp)
-        (λ w. messages.new.entries ≡ with_message stamp messages.old.entries (heard bytes w)) }
+        (λ w. messages.new.entries ≡ with_message stamp messages.old.entries (acked bytes w)) }
     ensures turn { IfSome (look messages.old.entries stamp)
-        (λ w. result ≡ (if not (may_send w) && may_send (heard bytes w)
+        (λ w. result ≡ (if not (may_send w) && may_send (acked bytes w)
         then Some (record { urgent = w.urgent; stamp = stamp }) else None)) }
     ensures ordered { IsOrdered nat_cmp messages.new }
 {
     let message = messages.get_mut(&stamp)?;
-    if message.heard(bytes) {
+    if message.acked(bytes) {
         return Some(ReadyMessage {
             urgent: message.is_urgent(),
             stamp,

@@ -2,7 +2,7 @@
 
 ghost use Rattle.std.specs.Prelude.{◌≡◌, ◌≤◌, ◌&&◌, not, length, take, true};
 ghost use Rattle.blip_frame.specs.Frame.{parts_of, has_checksum, largest_written};
-ghost use Rattle.blip_mux.specs.Sending.{has_more, first_piece, without_piece, may_send, unsent, heard};
+ghost use Rattle.blip_mux.specs.Sending.{has_more, first_piece, without_piece, may_send, unsent, acked};
 ghost use Rattle.blip_mux.specs.Class.{class_of};
 
 use crate::class::{Class, class_of};
@@ -16,7 +16,7 @@ const LARGEST_PIECE: usize = 16_384;
 /// Above so many bytes that were sent and not acknowledged a message pauses.
 const PAUSE_ABOVE: u64 = 128_000;
 
-/// A message, its bytes, how many of them were sent, and how many the other side has told to have.
+/// A message, its bytes, how many of them were sent, and how many the other side has acknowledged.
 #[derive(Drop)]
 pub(crate) struct WaitingMessage {
     number: u64,
@@ -98,9 +98,9 @@ impl WaitingMessage {
 
     /// Notes that so many of its bytes have come, of those that were sent. Answers whether it paused
     /// and now may send.
-    pub(crate) fn heard(&mut self, bytes: u64) -> bool
+    pub(crate) fn acked(&mut self, bytes: u64) -> bool
         requires { bytes ≤ self.old.sent }
-        ensures after { self.new ≡ heard bytes self.old }
+        ensures after { self.new ≡ acked bytes self.old }
         ensures released { result ≡ (not (may_send self.old) && may_send self.new) }
     {
         let paused = !self.may_send();

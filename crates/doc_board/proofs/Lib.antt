@@ -2,6 +2,6 @@ pub mod BoardTrees
 pub mod Documents
 pub mod LaterBoards
 pub mod Lawful
-pub mod OutRooms
+pub mod OutstandingRooms
 pub mod Stored
 pub mod OnBoards

@@ -18,10 +18,10 @@ use Rattle.doc_board.specs.Candidates.{ExtendsTree}
 use Rattle.doc_board.specs.Kept.{AreKept, IsKept, has_place, placed}
 use Rattle.doc_board.specs.Lawful.{AreLawful}
 use Rattle.doc_board.proofs.Lawful.{SameRevisions, SameLeaves, follows}
-use Rattle.doc_board.specs.Rooms.{is_out, without}
+use Rattle.doc_board.specs.Rooms.{is_outstanding, without}
 use Rattle.rev_tree.specs.Documents.{writes_of, tree_at}
 use Rattle.doc_board.proofs.Documents.{Documents, kept_with, accepted_with, kept_past, accepted_past, place_made}
-use Rattle.doc_board.proofs.OutRooms.{all_without, one_less, places_stay, all_placed, all_with}
+use Rattle.doc_board.proofs.OutstandingRooms.{all_without, one_less, places_stay, all_placed, all_with}
 
 newest : (log new : entries.EntryList) (e : Entry) → new.list ≡ log.list ++ e ∷ [] → reverse new.list ≡ e ∷ reverse log.list
 newest log new e h = ap (λ (es : List Entry). reverse es) h ∙ reverse-append log.list (e ∷ [])
@@ -34,7 +34,7 @@ no_rule : (e : Entry) (es : List Entry) → is_write e ≡ false → may_follow 
 no_rule e es h = none_may_follow (as_write e) es h
 
 -- a write
-pub kept_write : SameRevisions → SameLeaves → (w : Write) (log new : entries.EntryList) (before after : Documents) (rooms : List RoomFor) (room : RoomFor) (sequence : ℕ) (tree : List Node) → IsKept log before rooms → is_out rooms room ≡ true → IsEntry (entry.Write w) → w.at < sequence → sequence ≡ length log.list + 1 → ExtendsTree (tree_at (reverse log.list) w.doc) w tree → ((name : List ℕ) → get_by_text after name ≡ (if bytes_eq w.doc name then Some (record { last = sequence; tree = tree }) else get_by_text before name)) → new.list ≡ log.list ++ entry.Write w ∷ [] → new.spare + 1 ≡ log.spare → IsKept new after (without room rooms)
+pub kept_write : SameRevisions → SameLeaves → (w : Write) (log new : entries.EntryList) (before after : Documents) (rooms : List RoomFor) (room : RoomFor) (sequence : ℕ) (tree : List Node) → IsKept log before rooms → is_outstanding rooms room ≡ true → IsEntry (entry.Write w) → w.at < sequence → sequence ≡ length log.list + 1 → ExtendsTree (tree_at (reverse log.list) w.doc) w tree → ((name : List ℕ) → get_by_text after name ≡ (if bytes_eq w.doc name then Some (record { last = sequence; tree = tree }) else get_by_text before name)) → new.list ≡ log.list ++ entry.Write w ∷ [] → new.spare + 1 ≡ log.spare → IsKept new after (without room rooms)
 kept_write same_revisions same_leaves w log new before after rooms room sequence tree kept out named judged next extends put list spare =
     let es : List Entry = reverse log.list in
     let at : sequence ≡ length es + 1 = next ∙ ap (λ (n : ℕ). n + 1) (sym (length-reverse log.list)) in
@@ -50,7 +50,7 @@ kept_write same_revisions same_leaves w log new before after rooms room sequence
     }
 
 -- an entry that is no write
-pub kept_plain : (e : Entry) (log new : entries.EntryList) (places : Documents) (rooms : List RoomFor) (room : RoomFor) → IsKept log places rooms → is_out rooms room ≡ true → IsEntry e → is_write e ≡ false → new.list ≡ log.list ++ e ∷ [] → new.spare + 1 ≡ log.spare → IsKept new places (without room rooms)
+pub kept_plain : (e : Entry) (log new : entries.EntryList) (places : Documents) (rooms : List RoomFor) (room : RoomFor) → IsKept log places rooms → is_outstanding rooms room ≡ true → IsEntry e → is_write e ≡ false → new.list ≡ log.list ++ e ∷ [] → new.spare + 1 ≡ log.spare → IsKept new places (without room rooms)
 kept_plain e log new places rooms room kept out named plain list spare =
     let es : List Entry = reverse log.list in
     let less = one_less room rooms out in

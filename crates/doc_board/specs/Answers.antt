@@ -21,7 +21,7 @@ pub record IsNewTree (before : List Node) (r : Revision) (after : List Node) (ke
   pub accepted : IsTrue (is_accepted before (recorded_with r kept))
   pub tree : after ≡ with_write before (recorded_with r kept)
 
--- what comes of the revision in this tree
+-- the outcome of the revision in this tree
 abbrev pub IsStep : List Node → Revision → Bool → Extended → Type 0
 IsStep before r strict (NewTree tree kept) = (verdict_of before r.rev r.ancestors strict ≡ extends_tree) × IsNewTree before r tree kept
 IsStep before r strict Known = verdict_of before r.rev r.ancestors strict ≡ is_known

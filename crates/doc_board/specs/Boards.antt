@@ -27,7 +27,7 @@ abbrev pub bytes_asked : List RoomFor → ℕ
 bytes_asked [] = 0
 bytes_asked (room ∷ rooms) = room.bytes + bytes_asked rooms
 
--- the board of a log beside which nothing waits, with the rooms that are outstanding; no side map is kept and no fault is met
+-- the board of a log beside which nothing waits, with the rooms that are outstanding; no side map is kept and no fault is counted
 abbrev pub board_of : State → BoardState
 board_of s =
     record { log = s.log; pending = []; rooms = s.rooms; bytes = bytes_stored s.log + bytes_asked s.rooms; side = []; faults = 0 }

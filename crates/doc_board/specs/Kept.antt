@@ -55,7 +55,7 @@ abbrev pub kept_nodes : Option Document → List Node
 kept_nodes None = []
 kept_nodes (Some kept) = kept.tree
 
--- a board keeps each document that was written; each room that is out has the place of its document, and two places of the log; each write of a document was an accepted extension of the tree of those before it; and each entry is in its grammar and follows the rules of a journal
+-- a board keeps each document that was written; each room that is outstanding has the place of its document, and two places of the log; each write of a document was an accepted extension of the tree of those before it; and each entry is in its grammar and follows the rules of a journal
 pub record IsKept (log : entries.EntryList) (places : BTreeMap (String Global) Document) (rooms : List RoomFor) : Type 0 where
   pub documents : AreKept (reverse log.list) places
   pub out : list_all (λ r. has_place places r.doc) rooms ≡ true

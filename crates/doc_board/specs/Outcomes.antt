@@ -1,4 +1,4 @@
--- What comes of a revision that is proposed, by a board: the first of the answers that is due.
+-- The outcome of a revision that is proposed, by a board: the first of the answers that is due.
 use Rattle.std.specs.Prelude.{◌≡◌, ◌≤◌, ◌<◌, ℕ, Bool, true, false, List, [], ◌∷◌, length, reverse, take, option_map, Option, Some, IsTrue}
 use Rattle.sg_names.specs.Grammar.{is_doc_id}
 use Rattle.sg_names.specs.RevId.{is_rev}
@@ -71,7 +71,7 @@ pub record IsJudged (strict : Bool) (by : Option (List ℕ)) (r : Revision) (boa
 abbrev pub IsWinner : BoardState → List ℕ → RevId → Type 0
 IsWinner board doc leaf = option_map (λ w. w.rev) (winner_of (board_tree board doc)) ≡ Some leaf
 
--- what comes of a revision that is proposed, under strictness or not, by a user or by the administrator; out of memory may come at any
+-- the outcome of a revision that is proposed, under strictness or not, by a user or by the administrator; out of memory may come at any
 abbrev pub IsOutcome : Bool → Option (List ℕ) → Revision → BoardState → Outcome → Type 0
 IsOutcome strict by r board (outcome.Bad400 bad) = IsBadField r bad
 IsOutcome strict by r board (outcome.TooLarge413 bytes) = IsTooLarge r bytes

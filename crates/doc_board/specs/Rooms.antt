@@ -1,4 +1,4 @@
--- the rooms that are out
+-- the rooms that are outstanding
 use Rattle.std.specs.Prelude.{ℕ, Bool, true, false, ◌&&◌, nat_eq, List, [], ◌∷◌, Option, Some, None, if◌then◌else◌}
 use Rattle.std.specs.List.{list_any}
 use Rattle.std.specs.Str.{bytes_eq}
@@ -15,8 +15,8 @@ abbrev pub same_room : RoomFor → RoomFor → Bool
 same_room a b = same_doc a.doc b.doc && nat_eq a.bytes b.bytes
 
 -- whether a room is among these
-abbrev pub is_out : List RoomFor → RoomFor → Bool
-is_out rooms room = list_any (λ r. same_room r room) rooms
+abbrev pub is_outstanding : List RoomFor → RoomFor → Bool
+is_outstanding rooms room = list_any (λ r. same_room r room) rooms
 
 -- these rooms without one that is so
 abbrev pub without : RoomFor → List RoomFor → List RoomFor

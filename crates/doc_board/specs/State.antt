@@ -1,4 +1,4 @@
--- What a board is: the history that it keeps, and the rooms that are out; and what its book says of a document.
+-- What a board is: the history that it keeps, and the rooms that are outstanding; and what its book says of a document.
 use Rattle.std.specs.Prelude.{ℕ, List, length, reverse, Option}
 use Rattle.sg_names.specs.declared.rev_id.RevId.{RevId}
 use Rattle.sg_history.specs.declared.entries.Entry.{Entry}

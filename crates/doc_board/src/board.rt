@@ -1,4 +1,4 @@
-//! The board: the log, each document's tree, and the rooms that are out.
+//! The board: the log, each document's tree, and the rooms that are outstanding.
 
 ghost use Rattle.std.specs.Prelude.{◌≡◌, ◌≢◌, ◌≤◌, ◌<◌, ◌+◌, ◌++◌, ◌∷◌, [], ℕ, List, true, false, length, reverse, is_some, Some, option_map, OnOk, OnErr, IfOk, IfSome, IsTrue, Err};
 ghost use Rattle.std.specs.Option.{option_copied};
@@ -13,7 +13,7 @@ ghost use Rattle.sg_history.specs.Journal.{IsEntry};
 ghost use Rattle.sg_history.specs.Line.{is_write};
 ghost use Rattle.doc_board.specs.Lawful.{AreLawful};
 ghost use Rattle.doc_board.specs.Recorded.{AreFollowing, IsFirstBad};
-ghost use Rattle.doc_board.specs.Rooms.{is_out, room_for, without};
+ghost use Rattle.doc_board.specs.Rooms.{is_outstanding, room_for, without};
 ghost use Rattle.doc_board.specs.State.{newest_first, writes_on, tree_on, last_on, base_on};
 ghost use Rattle.rev_tree.specs.Documents.{tree_at, tree_when, last_at, base_write, deletes};
 
@@ -33,7 +33,7 @@ use std::alloc::{AllocError, Global};
 use std::collections::BTreeMap;
 use std::marker::Model;
 
-/// The log, with each document's tree of revisions, the rooms that are out, and the history of its grants, which has
+/// The log, with each document's tree of revisions, the rooms that are outstanding, and the history of its grants, which has
 /// an index of the log. What is stored allocates nothing then: a room has it beforehand. The grants are brought up to
 /// the log by the calls that may take memory.
 #[derive(Drop)]
@@ -192,7 +192,7 @@ impl Board {
             (option_copied doc.entry) bytes ∷ []) }
         ensures err { OnErr result (self.new.rooms ≡ self.old.rooms) }
         ensures room { IfOk result (λ room. room ≡ room_for (option_copied doc.entry) bytes) }
-        ensures out { IfOk result (λ room. IsTrue (is_out self.new.rooms room)) }
+        ensures out { IfOk result (λ room. IsTrue (is_outstanding self.new.rooms room)) }
     {
         let alloc = *self.rooms.allocator();
         let made_for = room::room_for(alloc, doc, bytes)?;
@@ -212,7 +212,7 @@ impl Board {
         ensures err { OnErr result (self.new.rooms ≡ self.old.rooms) }
         ensures room { IfOk result (λ room. room.made_for ≡ room_for
             (option_copied doc.entry) body_bytes) }
-        ensures out { IfOk result (λ room. IsTrue (is_out self.new.rooms room.made_for)) }
+        ensures out { IfOk result (λ room. IsTrue (is_outstanding self.new.rooms room.made_for)) }
     {
         match self.make_room(doc, body_bytes) {
             Ok(made_for) => Ok(Room::new(made_for)),
@@ -221,7 +221,7 @@ impl Board {
     }
 
     fn store_plain(&mut self, room: Room, entry: Entry)
-        requires out { IsTrue (is_out self.old.rooms room.made_for) }
+        requires out { IsTrue (is_outstanding self.old.rooms room.made_for) }
         requires entry { IsEntry entry }
         requires plain { is_write entry ≡ false }
         ensures log { self.new.log ≡ self.old.log ++ entry ∷ [] }
@@ -234,7 +234,7 @@ impl Board {
 
     fn store_write(&mut self, room: Room, sequence: u64, entry: Write, tree: Tree)
         requires sequence { sequence ≡ length self.old.log + 1 }
-        requires out { IsTrue (is_out self.old.rooms room.made_for) }
+        requires out { IsTrue (is_outstanding self.old.rooms room.made_for) }
         requires doc { room.made_for.doc ≡ Some entry.doc }
         requires entry { IsEntry (kinds.Write entry) }
         requires at { entry.at < sequence }
@@ -257,7 +257,7 @@ impl Board {
     /// Stores a candidate at a sequence in a room, or hands all back where its document was written since. Allocates nothing.
     pub fn commit(&mut self, room: Room, number: Number, candidate: Candidate) -> Commit
         requires number { number.value ≡ length self.old.log + 1 }
-        requires out { IsTrue (is_out self.old.rooms room.made_for) }
+        requires out { IsTrue (is_outstanding self.old.rooms room.made_for) }
         requires fits { Fits room.made_for candidate }
         requires candidate { MayBeStored self.old number.value candidate }
         ensures stale { IfStale result (λ r n c last. is_stale self.old candidate ≡ true) }
@@ -302,7 +302,7 @@ impl Board {
     /// Gives up a sequence and the room for its entry: it stays unused. Allocates nothing.
     pub fn void(&mut self, room: Room, number: Number)
         requires number { number.value ≡ length self.old.log + 1 }
-        requires out { IsTrue (is_out self.old.rooms room.made_for) }
+        requires out { IsTrue (is_outstanding self.old.rooms room.made_for) }
         ensures log { self.new.log ≡ self.old.log ++ kinds.Unused ∷ [] }
         ensures rooms { self.new.rooms ≡ without room.made_for self.old.rooms }
     {

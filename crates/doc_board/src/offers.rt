@@ -12,10 +12,10 @@ use sg_history::{RevId, Revs};
 use sg_outside::Memory;
 use std::alloc::{AllocError, Global};
 
-/// The most leaves that are told for an offer.
+/// The most leaves that are answered for an offer.
 const MOST_LEAVES: usize = 20;
 
-/// The leaves of a lesser generation, at most so many as are told.
+/// The leaves of a lesser generation, at most so many as are answered.
 fn first_below(mut leaves: Vec<Leaf>, generation: u32) -> Vec<Leaf>
     ensures { result.items ≡ take 20 (offers.leaves_below generation leaves.items) }
 {

@@ -1,4 +1,4 @@
-//! What comes of a revision that is proposed.
+//! The outcome of a revision that is proposed.
 
 use repl_messages::Field;
 use sg_history::RevId;

@@ -33,7 +33,7 @@ fn place_of(list: &[RoomFor], room: &RoomFor) -> Option<usize>
     ensures some { IfSome result (λ i. i < length list.now) }
     ensures place { IfSome result (λ i. take i list.now ++ drop (i + 1) list.now
         ≡ rooms.without room.now list.now) }
-    ensures none { IfNone result (rooms.is_out list.now room.now ≡ false) }
+    ensures none { IfNone result (rooms.is_outstanding list.now room.now ≡ false) }
 {
     for (i, r) in list.iter().enumerate() {
         if same_room(r, room) {
@@ -51,9 +51,9 @@ impl Room {
         Room { made_for }
     }
 
-    /// Ends the room: takes what it was made for out of the rooms that are out.
+    /// Ends the room: takes what it was made for out of the outstanding rooms.
     pub(crate) fn close(self, list: &mut Vec<RoomFor>)
-        requires { IsTrue (rooms.is_out list.old.items self.made_for) }
+        requires { IsTrue (rooms.is_outstanding list.old.items self.made_for) }
         ensures { list.new.items ≡ rooms.without self.made_for list.old.items }
     {
         let Room { made_for } = self;

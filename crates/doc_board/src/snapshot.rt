@@ -1,4 +1,4 @@
-//! What a board tells of a revision that is proposed.
+//! What a board says of a revision that is proposed.
 
 ghost use Rattle.std.specs.Prelude.{◌≡◌, length, reverse, option_map, IfOk};
 ghost use Rattle.std.specs.Option.{option_copied};
@@ -26,7 +26,7 @@ pub struct Snapshot {
     pub at: u64,
     /// The sequence of the document's last write, 0 where there is none.
     pub last: u64,
-    /// What comes of the revision in the document's tree; never lack of memory.
+    /// The outcome of the revision in the document's tree; never lack of memory.
     pub step: Extended,
     /// The body of the write on which the revision is based; none where its first ancestor was never written.
     pub old: Option<Bytes>,
@@ -38,7 +38,7 @@ pub struct Snapshot {
     pub context: Context,
 }
 
-/// What comes of a revision in a document's tree, or in the tree without revisions where there is no document.
+/// The outcome of a revision in a document's tree, or in the tree without revisions where there is no document.
 fn step_in(
     alloc: Global,
     document: Option<&Document>,
@@ -112,7 +112,7 @@ fn proposer_exists(index: &LogIndex, entries: &[Entry], by: Option<&Name>) -> bo
     }
 }
 
-/// What a board with this log, these documents and this index of the log tells of a revision that is proposed in a context.
+/// What a board with this log, these documents and this index of the log says of a revision that is proposed in a context.
 pub(crate) fn snapshot_of(
     alloc: Global,
     log: &Log,

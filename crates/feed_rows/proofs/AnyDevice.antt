@@ -107,15 +107,15 @@ module _ (rowed : List Entry → List ℕ → Option Row) (shown : List Entry �
   pub took : (options : Options) (es : List Entry) (copy : List ℕ → Option Held) (since : Key) → options.revocations ≡ true → Good options es copy since → (rows : List Row) → ((r : Row) → HasRow rows r → HasRow (feed_of (rowed es) (documents es) since options) r) → (doc : List ℕ) → ((r : Row) → rowed es doc ≡ Some r → IsBelow since r.key → HasRow (feed_of (rowed es) (documents es) since options) r → HasRow rows r) → live options (apply_all copy rows doc) ≡ live options (shown es doc)
   took options es copy since asked good rows sub doc has = go (applied copy rows doc)
     where
-      told : (r : Row) → HasRow rows r → r.doc ≡ doc → rowed es doc ≡ Some r
-      told r h d =
+      row_is : (r : Row) → HasRow rows r → r.doc ≡ doc → rowed es doc ≡ Some r
+      row_is r h d =
           let x = feed_had rowed shown facts es since options r (sub r h) in
           let e : x.0 ≡ doc = sym (facts.own es x.0 r x.1) ∙ d in
           ap (rowed es) (sym e) ∙ x.1
 
-      untold : ((r : Row) → HasRow rows r → r.doc ≡ doc → ⊥) → (o : Option Row) → rowed es doc ≡ o → live options (copy doc) ≡ live options (shown es doc)
-      untold none None e = good.agrees doc (λ r h b. absurd (none-some _ (sym e ∙ h)))
-      untold none (Some r) e = ⊎_elim (λ b. above b (cases_Bool (keeps options since r))) (λ n. good.agrees doc (λ s h b. n (same s h b))) (below_or_not since r.key)
+      no_row : ((r : Row) → HasRow rows r → r.doc ≡ doc → ⊥) → (o : Option Row) → rowed es doc ≡ o → live options (copy doc) ≡ live options (shown es doc)
+      no_row none None e = good.agrees doc (λ r h b. absurd (none-some _ (sym e ∙ h)))
+      no_row none (Some r) e = ⊎_elim (λ b. above b (cases_Bool (keeps options since r))) (λ n. good.agrees doc (λ s h b. n (same s h b))) (below_or_not since r.key)
         where
           same : (s : Row) → rowed es doc ≡ Some s → IsBelow since s.key → IsBelow since r.key
           same s h b = let P : Row → Type 0 = λ y. IsBelow since y.key in subst P (same_Some s r (sym h ∙ e)) b
@@ -127,8 +127,8 @@ module _ (rowed : List Entry → List ℕ → Option Row) (shown : List Entry �
               ap (live options) (good.empty x.0 doc) ∙ sym (ap (live options) (facts.shows es doc r e) ∙ x.1)
 
       go : ((apply_all copy rows doc ≡ copy doc) × ((r : Row) → HasRow rows r → r.doc ≡ doc → ⊥)) ⊎ ((r : Row) × HasRow rows r × (r.doc ≡ doc) × (apply_all copy rows doc ≡ held_after r)) → live options (apply_all copy rows doc) ≡ live options (shown es doc)
-      go (inl h) = ap (live options) h.0 ∙ untold h.1 (rowed es doc) refl
-      go (inr h) = ap (live options) (h.3 ∙ sym (facts.shows es doc h.0 (told h.0 h.1 h.2)))
+      go (inl h) = ap (live options) h.0 ∙ no_row h.1 (rowed es doc) refl
+      go (inr h) = ap (live options) (h.3 ∙ sym (facts.shows es doc h.0 (row_is h.0 h.1 h.2)))
 
   -- who takes the whole feed has all that is shown
   pub took_all : (options : Options) (es : List Entry) (copy : List ℕ → Option Held) (since : Key) (n : ℕ) → options.revocations ≡ true → Good options es copy since → length (feed_of (rowed es) (documents es) since options) ≤ n → (doc : List ℕ) → live options (apply_all copy (take n (feed_of (rowed es) (documents es) since options)) doc) ≡ live options (shown es doc)

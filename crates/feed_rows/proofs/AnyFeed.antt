@@ -28,7 +28,7 @@ pub record RowFacts (rowed : List Entry → List ℕ → Option Row) (shown : Li
   pub by_bound : (es : List Entry) (doc : List ℕ) (r : Row) → rowed es doc ≡ Some r → r.key.by ≤ length es
   -- rows of two documents have two keys
   pub apart : (es : List Entry) (a b : List ℕ) (r s : Row) → rowed es a ≡ Some r → rowed es b ≡ Some s → r.key ≡ s.key → a ≡ b
-  -- a row tells what is shown, and without one nothing is
+  -- a row says what is shown, and without one nothing is
   pub shows : (es : List Entry) (doc : List ℕ) (r : Row) → rowed es doc ≡ Some r → shown es doc ≡ held_after r
   pub hidden : (es : List Entry) (doc : List ℕ) → rowed es doc ≡ None → shown es doc ≡ None
   -- a document with a row was written

@@ -70,7 +70,7 @@ row_of_state by wrote shown doc (Some c) r h = (c, refl, cc)
 abbrev shown_of : Current → Shown
 shown_of c = record { seq = c.seq; rev = c.rev; deleted = c.deleted }
 
--- a row tells what is shown where it was made
+-- a row says what is shown where it was made
 held_of_bits : (o : Option Shown) (seq : ℕ) (rev : RevId) (deleted wrote : Bool) (key : Key) (doc : List ℕ) → ((s : Shown) → o ≡ Some s → s ≡ record { seq = seq; rev = rev; deleted = deleted }) → held_of o ≡ held_after (record { key = key; doc = doc; rev = rev; bits = bits_of o wrote deleted })
 held_of_bits None seq rev true true key doc h = refl
 held_of_bits None seq rev false true key doc h = refl

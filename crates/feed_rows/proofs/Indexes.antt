@@ -93,9 +93,9 @@ chosen : (w : Write) (a b c : Bool) (old : Option Write) → cond ((a && b) && c
 chosen w true b c old = refl
 chosen w false b c old = refl
 
-told : (w : Write) (rev : RevId) (a : Bool) (old : Option Write) → (if a then (if same_rev w.rev rev then Some w else old) else old) ≡ rev_or (if a then Some w else None) rev old
-told w rev true old = refl
-told w rev false old = refl
+chosen_by_rev : (w : Write) (rev : RevId) (a : Bool) (old : Option Write) → (if a then (if same_rev w.rev rev then Some w else old) else old) ≡ rev_or (if a then Some w else None) rev old
+chosen_by_rev w rev true old = refl
+chosen_by_rev w rev false old = refl
 
 -- what the index of writes has after a write was put in
 pub write_added : (old new : BTreeMap RevKey (Bor Write)) (doc : Bor (List ℕ)) (digest : Bor (List ℕ)) (w : Bor Write) → doc.now ≡ w.now.doc → digest.now ≡ w.now.rev.digest → UpdatesBy rev_cmp (rev_cmp (doc, w.now.rev.generation, digest)) old new (Some w) → (name : List ℕ) (rev : RevId) → write_in new name rev ≡ rev_or (if bytes_eq w.now.doc name then Some w.now else None) rev (write_in old name rev)
@@ -107,7 +107,7 @@ write_added old new doc digest w is same h name rev =
     ∙ ap (λ (d : List ℕ). cond ((bytes_eq d name && nat_eq w.now.rev.generation rev.generation) && bytes_eq digest.now rev.digest) (Some w.now) (write_in old name rev)) is
     ∙ ap (λ (d : List ℕ). cond ((bytes_eq w.now.doc name && nat_eq w.now.rev.generation rev.generation) && bytes_eq d rev.digest) (Some w.now) (write_in old name rev)) same
     ∙ chosen w.now (bytes_eq w.now.doc name) (nat_eq w.now.rev.generation rev.generation) (bytes_eq w.now.rev.digest rev.digest) (write_in old name rev)
-    ∙ told w.now rev (bytes_eq w.now.doc name) (write_in old name rev)
+    ∙ chosen_by_rev w.now rev (bytes_eq w.now.doc name) (write_in old name rev)
   where
     copied : (b : Bool) (o : Option (Bor Write)) → option_copied (cond b (Some w) o) ≡ cond b (Some w.now) (option_copied o)
     copied true o = refl

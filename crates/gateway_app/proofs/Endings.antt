@@ -20,7 +20,7 @@ printed status.ReadFault h journal user since faults faults' before after spelle
 printed status.WriteFault h journal user since faults faults' before after spelled p = (h, spelled, p.1, p.0)
 printed status.Memory h journal user since faults faults' before after spelled p = p
 
--- what was found of the journal that was loaded is so of the bytes that the files tell
+-- what was found of the journal that was loaded is so of the bytes that the files record
 pub with_bytes : (s : Status) (f : FeedWords) (bytes journal : List ℕ) (faults faults' : ℕ) (before after : Option (List ℕ)) → (length bytes ≤ largest_file) × (journal ≡ bytes) → EndsFeed s journal f.user f.since faults faults' before after → Ends s f bytes before after
 with_bytes status.Ok f bytes journal faults faults' before after loaded e =
     let P : List ℕ → Type 0 = λ b. Spells b e.0 in

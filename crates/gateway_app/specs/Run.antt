@@ -12,13 +12,13 @@ use Rattle.gateway_app.specs.declared.status.Status.TheVariants as status
 use Rattle.gateway_app.specs.FeedText.{feed_text}
 use Rattle.gateway_app.specs.Words.{FeedWords}
 
--- files that tell what they hold have these bytes under the name
+-- files that record what they hold have these bytes under the name
 abbrev pub HasFile : Option (List ℕ → Option (List ℕ)) → List ℕ → List ℕ → Type 0
-HasFile told name bytes = (files : List ℕ → Option (List ℕ)) × (told ≡ Some files) × (files name ≡ Some bytes)
+HasFile recorded name bytes = (files : List ℕ → Option (List ℕ)) × (recorded ≡ Some files) × (files name ≡ Some bytes)
 
--- files that tell what they hold have none under the name
+-- files that record what they hold have none under the name
 abbrev pub HasNoFile : Option (List ℕ → Option (List ℕ)) → List ℕ → Type 0
-HasNoFile told name = (files : List ℕ → Option (List ℕ)) × (told ≡ Some files) × (files name ≡ None)
+HasNoFile recorded name = (files : List ℕ → Option (List ℕ)) × (recorded ≡ Some files) × (files name ≡ None)
 
 -- the bytes are no more than a file may have, and are the journal of this history
 abbrev pub IsInput : List ℕ → History → Type 0
@@ -30,11 +30,11 @@ IsBadInput bytes place why =
     ((largest_file < length bytes) × (place ≡ 0) × (why ≡ Long))
     ⊎ ((length bytes ≤ largest_file) × IsBadJournal bytes (record { place = place; why = why }))
 
--- a sink that tells what it took has taken this text besides
+-- a sink that records what it took has taken this text besides
 abbrev pub Took : Option (List ℕ) → Option (List ℕ) → List ℕ → Type 0
 Took before after text = (taken : List ℕ) → before ≡ Some taken → after ≡ Some (taken ++ text)
 
--- a sink that tells what it took has taken a beginning of this text besides
+-- a sink that records what it took has taken a beginning of this text besides
 abbrev pub TookPart : Option (List ℕ) → Option (List ℕ) → List ℕ → Type 0
 TookPart before after text =
     (taken : List ℕ) → before ≡ Some taken → (part : List ℕ) × (rest : List ℕ) × (text ≡ part ++ rest) × (after ≡ Some (taken ++ part))
@@ -48,7 +48,7 @@ EndsAbsent status.BadWords = ⊥
 EndsAbsent (status.BadInput file place why) = ⊥
 EndsAbsent status.WriteFault = ⊥
 
--- each status with what it tells of the journal's bytes and of the sink
+-- each status with what it says of the journal's bytes and of the sink
 abbrev pub Ends : Status → FeedWords → List ℕ → Option (List ℕ) → Option (List ℕ) → Type 0
 Ends status.Ok f bytes before after = (h : History) × IsInput bytes h × Took before after (feed_text h f.user f.since)
 Ends status.BadWords f bytes before after = ⊥
@@ -58,7 +58,7 @@ Ends status.ReadFault f bytes before after = Unit {0}
 Ends status.WriteFault f bytes before after = (h : History) × IsInput bytes h × TookPart before after (feed_text h f.user f.since)
 Ends status.Memory f bytes before after = Unit {0}
 
--- a fault that is told was counted
+-- a fault that is answered was counted
 abbrev pub Counted : Status → ℕ → ℕ → ℕ → ℕ → Type 0
 Counted status.ReadFault read read' wrote wrote' = read < read'
 Counted status.WriteFault read read' wrote wrote' = wrote < wrote'
@@ -76,7 +76,7 @@ Silent (status.BadInput file place why) before after = after ≡ before
 Silent status.ReadFault before after = after ≡ before
 Silent status.Memory before after = after ≡ before
 
--- a journal that was loaded whole, or how the run ends without it, where its bytes are told
+-- a journal that was loaded whole, or how the run ends without it, where its bytes are recorded
 abbrev pub IsLoaded : List ℕ → Result (List ℕ) Status → Type 0
 IsLoaded bytes (Ok loaded) = (length bytes ≤ largest_file) × (loaded ≡ bytes)
 IsLoaded bytes (Err status.Ok) = ⊥

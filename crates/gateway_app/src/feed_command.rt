@@ -33,11 +33,11 @@ fn feed_of(alloc: Global, log: &Log, user: &Name, since: &Key) -> Result<Bytes, 
 
 /// The bytes of the journal, or how the run ends without them.
 fn load<F: Files>(alloc: Global, files: &mut F, path: &str) -> Result<Bytes, Status>
-    ensures told { (bytes : List ℕ) → HasFile (F.told files.old) path.now bytes
+    ensures recorded { (bytes : List ℕ) → HasFile (F.recorded files.old) path.now bytes
         → IsLoaded bytes result }
-    ensures absent { HasNoFile (F.told files.old) path.now → IsErrAnd result EndsAbsent }
+    ensures absent { HasNoFile (F.recorded files.old) path.now → IsErrAnd result EndsAbsent }
     ensures loaded { EndsLoaded result (F.faults files.old) (F.faults files.new) }
-    ensures kept { F.told files.new ≡ F.told files.old }
+    ensures kept { F.recorded files.new ≡ F.recorded files.old }
 {
     let mut bytes = Bytes::new(alloc);
     match files.load(path, &mut bytes) {
@@ -102,14 +102,14 @@ fn run_feed<F: Files, O: Sink>(
     files: &mut F,
     out: &mut O,
 ) -> Status
-    ensures ends { (bytes : List ℕ) → HasFile (F.told files.old) request.now.journal.now bytes
+    ensures ends { (bytes : List ℕ) → HasFile (F.recorded files.old) request.now.journal.now bytes
         → Ends result (words_of request.now) bytes (O.taken out.old) (O.taken out.new) }
-    ensures absent { HasNoFile (F.told files.old) request.now.journal.now → EndsAbsent result }
+    ensures absent { HasNoFile (F.recorded files.old) request.now.journal.now → EndsAbsent result }
     ensures words { result ≢ Status.BadWords }
     ensures counted { Counted result (F.faults files.old) (F.faults files.new)
         (O.faults out.old) (O.faults out.new) }
     ensures silent { Silent result (O.taken out.old) (O.taken out.new) }
-    ensures kept { F.told files.new ≡ F.told files.old }
+    ensures kept { F.recorded files.new ≡ F.recorded files.old }
 {
     match load(alloc, files, request.journal) {
         Ok(journal) => print_feed(alloc, journal, &request.user, &request.since, out),
@@ -123,14 +123,14 @@ pub fn run<F: Files, O: Sink>(alloc: Global, words: &[String], files: &mut F, ou
         ↔ ((f : FeedWords) → ¬ IsFeed (map (λ w. string_bytes w) words.now) f) }
     ensures untouched { result ≡ Status.BadWords → (files.new ≡ files.old) × (out.new ≡ out.old) }
     ensures ends { (f : FeedWords) (bytes : List ℕ) → IsFeed (map (λ w. string_bytes w) words.now) f
-        → HasFile (F.told files.old) f.journal bytes
+        → HasFile (F.recorded files.old) f.journal bytes
         → Ends result f bytes (O.taken out.old) (O.taken out.new) }
     ensures absent { (f : FeedWords) → IsFeed (map (λ w. string_bytes w) words.now) f
-        → HasNoFile (F.told files.old) f.journal → EndsAbsent result }
+        → HasNoFile (F.recorded files.old) f.journal → EndsAbsent result }
     ensures counted { Counted result (F.faults files.old) (F.faults files.new)
         (O.faults out.old) (O.faults out.new) }
     ensures silent { Silent result (O.taken out.old) (O.taken out.new) }
-    ensures kept { F.told files.new ≡ F.told files.old }
+    ensures kept { F.recorded files.new ≡ F.recorded files.old }
 {
     match read_words(alloc, words) {
         Ok(request) => run_feed(alloc, &request, files, out),

@@ -10,7 +10,7 @@ use std::collections::BTreeMap;
 /// Texts that were seen.
 pub(crate) type Seen<'a> = BTreeMap<&'a str, ()>;
 
-/// Puts a text in, and tells whether it was new.
+/// Puts a text in, and says whether it was new.
 pub(crate) fn note<'a>(seen: &mut Seen<'a>, text: &'a str) -> Result<bool, Memory>
     ensures new { IfOk result (λ is_new. is_new ≡ not (has seen.old text.now)) }
     ensures there { OnOk result ((t : List ℕ)

@@ -1,5 +1,5 @@
 //! The program `sgate`: passes its words to the gateway's commands, with the real files and standard output,
-//! and tells how they ended: one line on standard error for each status but Ok, and the exit number.
+//! and says how they ended: one line on standard error for each status but Ok, and the exit number.
 #![tactic(auto)]
 
 ghost use Rattle.std.specs.Prelude.{◌≡◌};
@@ -44,7 +44,7 @@ fn number_of(status: &Status) -> u8
 }
 
 /// Prints the line of a status on standard error; Ok has none.
-fn tell(rt: &impl Eprint, status: &Status) -> io::Result<()> {
+fn print_status(rt: &impl Eprint, status: &Status) -> io::Result<()> {
     match status {
         Status::Ok => Ok(()),
         Status::BadWords => eprintln!(rt; "sgate: bad words"),
@@ -59,7 +59,7 @@ fn tell(rt: &impl Eprint, status: &Status) -> io::Result<()> {
 fn end(rt: &impl Eprint, status: &Status) -> u8
     ensures { result ≡ exit_number status.now }
 {
-    let _ = tell(rt, status);
+    let _ = print_status(rt, status);
     number_of(status)
 }
 

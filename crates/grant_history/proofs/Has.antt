@@ -12,11 +12,11 @@ use Rattle.sg_history.specs.declared.entries.Entry.{Entry}
 use Rattle.sg_history.specs.declared.entries.Write.{Write}
 use Rattle.sg_history.specs.History.{among, as_write, document_of, documents}
 use Rattle.sg_history.specs.Current.{Current, current}
-use Rattle.sg_history.specs.Principals.{Standing, same_grantee, exists, names_role, names_channel, grants_channel, is_granted, gives_role, is_given, user_at}
+use Rattle.sg_history.specs.Principals.{PrincipalState, same_grantee, exists, names_role, names_channel, grants_channel, is_granted, gives_role, is_given, user_at}
 use Rattle.grant_history.specs.declared.facts.What.TheVariants as what
 use Rattle.grant_history.specs.declared.facts.Fact.{Fact}
 use Rattle.grant_history.specs.Facts.{same_fact, times, fact, channel_facts, role_facts, put_facts, grant_facts, gift_facts, document_facts}
-use Rattle.grant_history.specs.Sources.{standing_of, with_document, documents_once, given_by, is_held}
+use Rattle.grant_history.specs.Sources.{principal_of, with_document, documents_once, given_by, is_held}
 use Rattle.grant_history.proofs.Same.{grantee_itself}
 
 positive_sum : (a b : ℕ) → nat_lt 0 (a + b) ≡ (nat_lt 0 a || nat_lt 0 b)
@@ -98,17 +98,17 @@ any_once p (e ∷ es) = by (as_write e) (any_once p es)
     by (Some w) before = of w (among (documents_once es) w.doc) refl before
 
 -- the sources, put and documents apart
-parts : (es : List Entry) (f : Fact) → is_held es f ≡ (list_any (λ g. same_fact g f) (put_facts f.of (standing_of es f.of)) || list_any (λ d. list_any (λ g. same_fact g f) (document_facts (current es d))) (documents es))
+parts : (es : List Entry) (f : Fact) → is_held es f ≡ (list_any (λ g. same_fact g f) (put_facts f.of (principal_of es f.of)) || list_any (λ d. list_any (λ g. same_fact g f) (document_facts (current es d))) (documents es))
 parts es f =
-    positive_sum (times (put_facts f.of (standing_of es f.of)) f) (given_by es (documents_once es) f)
-    ∙ ap (λ (b : Bool). b || nat_lt 0 (given_by es (documents_once es) f)) (times_any (put_facts f.of (standing_of es f.of)) f)
-    ∙ ap (λ (b : Bool). list_any (λ g. same_fact g f) (put_facts f.of (standing_of es f.of)) || b)
+    positive_sum (times (put_facts f.of (principal_of es f.of)) f) (given_by es (documents_once es) f)
+    ∙ ap (λ (b : Bool). b || nat_lt 0 (given_by es (documents_once es) f)) (times_any (put_facts f.of (principal_of es f.of)) f)
+    ∙ ap (λ (b : Bool). list_any (λ g. same_fact g f) (put_facts f.of (principal_of es f.of)) || b)
     (given_any es (documents_once es) f
     ∙ any_once (λ d. nat_lt 0 (times (document_facts (current es d)) f)) es
     ∙ any_same (λ d. nat_lt 0 (times (document_facts (current es d)) f)) (λ d. list_any (λ g. same_fact g f) (document_facts (current es d))) (λ d. times_any (document_facts (current es d)) f) (documents es))
 
 -- channels
-put_channel : (of : Grantee) (s : Option Standing) (c : List ℕ) → list_any (λ g. same_fact g (fact of (what.Channel c))) (put_facts of s) ≡ names_channel s c
+put_channel : (of : Grantee) (s : Option PrincipalState) (c : List ℕ) → list_any (λ g. same_fact g (fact of (what.Channel c))) (put_facts of s) ≡ names_channel s c
 put_channel of None c = refl
 put_channel of (Some s) c =
     ap (λ (b : Bool). b || list_any (λ g. same_fact g (fact of (what.Channel c))) (channel_facts of s.channels ++ role_facts of s.roles)) (and_false (same_grantee of of))
@@ -127,15 +127,15 @@ document_channel of (Some d) c =
     ∙ or_false (list_any (λ g. same_fact g (fact of (what.Channel c))) (grant_facts d.effects.grants))
     ∙ any_map (λ g. same_fact g (fact of (what.Channel c))) (λ (g : Grant). fact g.to (what.Channel g.channel)) (λ (g : Grant). same_grantee g.to of && bytes_eq g.channel c) (λ g. refl) d.effects.grants
 
-pub channel_held : (es : List Entry) (of : Grantee) (c : List ℕ) → is_held es (fact of (what.Channel c)) ≡ (names_channel (standing_of es of) c || is_granted es of c)
+pub channel_held : (es : List Entry) (of : Grantee) (c : List ℕ) → is_held es (fact of (what.Channel c)) ≡ (names_channel (principal_of es of) c || is_granted es of c)
 channel_held es of c =
     parts es (fact of (what.Channel c))
-    ∙ ap (λ (b : Bool). b || list_any (λ d. list_any (λ g. same_fact g (fact of (what.Channel c))) (document_facts (current es d))) (documents es)) (put_channel of (standing_of es of) c)
-    ∙ ap (λ (b : Bool). names_channel (standing_of es of) c || b)
+    ∙ ap (λ (b : Bool). b || list_any (λ d. list_any (λ g. same_fact g (fact of (what.Channel c))) (document_facts (current es d))) (documents es)) (put_channel of (principal_of es of) c)
+    ∙ ap (λ (b : Bool). names_channel (principal_of es of) c || b)
     (any_same (λ d. list_any (λ g. same_fact g (fact of (what.Channel c))) (document_facts (current es d))) (λ d. grants_channel (current es d) of c) (λ d. document_channel of (current es d) c) (documents es))
 
 -- roles
-put_role : (of : Grantee) (s : Option Standing) (r : List ℕ) → list_any (λ g. same_fact g (fact of (what.Role r))) (put_facts of s) ≡ names_role s r
+put_role : (of : Grantee) (s : Option PrincipalState) (r : List ℕ) → list_any (λ g. same_fact g (fact of (what.Role r))) (put_facts of s) ≡ names_role s r
 put_role of None r = refl
 put_role of (Some s) r =
     ap (λ (b : Bool). b || list_any (λ g. same_fact g (fact of (what.Role r))) (channel_facts of s.channels ++ role_facts of s.roles)) (and_false (same_grantee of of))
@@ -160,7 +160,7 @@ role_held es user r =
     (any_same (λ d. list_any (λ g. same_fact g (fact (User user) (what.Role r))) (document_facts (current es d))) (λ d. gives_role (current es d) user r) (λ d. document_role user (current es d) r) (documents es))
 
 -- that it exists
-put_exists : (of : Grantee) (s : Option Standing) → list_any (λ g. same_fact g (fact of what.Exists)) (put_facts of s) ≡ exists s
+put_exists : (of : Grantee) (s : Option PrincipalState) → list_any (λ g. same_fact g (fact of what.Exists)) (put_facts of s) ≡ exists s
 put_exists of None = refl
 put_exists of (Some s) = ap (λ (b : Bool). (b && true) || list_any (λ g. same_fact g (fact of what.Exists)) (channel_facts of s.channels ++ role_facts of s.roles)) (grantee_itself of)
 
@@ -176,9 +176,9 @@ none_passes : {X : Type 0} (p : X → Bool) → ((x : X) → p x ≡ false) → 
 none_passes p never [] = refl
 none_passes p never (x ∷ xs) = ap (λ (b : Bool). b || list_any p xs) (never x) ∙ none_passes p never xs
 
-pub exists_held : (es : List Entry) (of : Grantee) → is_held es (fact of what.Exists) ≡ exists (standing_of es of)
+pub exists_held : (es : List Entry) (of : Grantee) → is_held es (fact of what.Exists) ≡ exists (principal_of es of)
 exists_held es of =
     parts es (fact of what.Exists)
-    ∙ ap (λ (b : Bool). b || list_any (λ d. list_any (λ g. same_fact g (fact of what.Exists)) (document_facts (current es d))) (documents es)) (put_exists of (standing_of es of))
-    ∙ ap (λ (b : Bool). exists (standing_of es of) || b) (none_passes (λ d. list_any (λ g. same_fact g (fact of what.Exists)) (document_facts (current es d))) (λ d. document_exists of (current es d)) (documents es))
-    ∙ or_false (exists (standing_of es of))
+    ∙ ap (λ (b : Bool). b || list_any (λ d. list_any (λ g. same_fact g (fact of what.Exists)) (document_facts (current es d))) (documents es)) (put_exists of (principal_of es of))
+    ∙ ap (λ (b : Bool). exists (principal_of es of) || b) (none_passes (λ d. list_any (λ g. same_fact g (fact of what.Exists)) (document_facts (current es d))) (λ d. document_exists of (current es d)) (documents es))
+    ∙ or_false (exists (principal_of es of))

@@ -13,7 +13,7 @@ use Rattle.sg_history.specs.declared.entries.Entry.{Entry}
 use Rattle.sg_history.specs.declared.entries.Write.{Write}
 use Rattle.sg_history.specs.History.{as_write}
 use Rattle.sg_history.specs.Current.{current}
-use Rattle.sg_history.specs.Principals.{Standing, Put, as_put, same_grantee}
+use Rattle.sg_history.specs.Principals.{PrincipalState, Put, as_put, same_grantee}
 use Rattle.grant_history.specs.declared.facts.What.{What}
 use Rattle.grant_history.specs.declared.facts.Fact.{Fact}
 use Rattle.grant_history.specs.declared.held.Held.{Held}
@@ -24,12 +24,12 @@ use Rattle.grant_history.specs.Dated.{Dated}
 use Rattle.grant_history.specs.Tracks.{IsTrack, held_at, is_open}
 use Rattle.grant_history.specs.Facts.{same_what, times, put_facts, document_facts}
 use Rattle.grant_history.specs.Holdings.{count_in, held_in, AreUpTo, Holders, count_by_list, held_by_list, count_of, held_of, AreAllUpTo, count_to, held_to, count_at, has_at, IsStore}
-use Rattle.grant_history.specs.Sources.{standing_of, sources}
+use Rattle.grant_history.specs.Sources.{principal_of, sources}
 use Rattle.grant_history.specs.Ledger.{Source, document, user, role, holder, same_source, given, Lists, facts_of_list, facts_in, facts_from, IsLedger, IsStep, Took}
 use Rattle.grant_history.proofs.Holding.{later_all}
 use Rattle.grant_history.proofs.Ordered.{none_left}
 use Rattle.grant_history.proofs.Same.{grantees, texts_swap}
-use Rattle.grant_history.proofs.Steps.{current_same, unwritten, standing_same, standing_put, idle_step, put_step, write_step, apart}
+use Rattle.grant_history.proofs.Steps.{current_same, unwritten, principal_same, principal_put, idle_step, put_step, write_step, apart}
 use Rattle.grant_history.specs.Things.{Things}
 
 -- a place made for a name changes nothing
@@ -165,7 +165,7 @@ asked_given kept at source facts e es step f =
 empty_list : (lists : Lists) (name : List ℕ) → lists.entries ≡ [] → facts_in lists name ≡ []
 empty_list lists name empty = ap (λ (es : List (String Global × Vec Fact Global)). facts_of_list (lookup (is_at (λ k. slice_cmp nat_cmp name (string_bytes k))) es)) empty
 
-nothing_given : (of : Grantee) → standing_of [] of ≡ None
+nothing_given : (of : Grantee) → principal_of [] of ≡ None
 nothing_given (User name) = refl
 nothing_given (Role name) = refl
 
@@ -173,7 +173,7 @@ pub kept_nothing : (kept : Ledger) → kept.documents.entries ≡ [] → kept.us
 kept_nothing kept documents users roles counts up_to = record {
   lists = by;
   counts = λ f.
-      let none : times (put_facts f.of (standing_of [] f.of)) f ≡ 0 = ap (λ (s : Option Standing). times (put_facts f.of s) f) (nothing_given f.of) in
+      let none : times (put_facts f.of (principal_of [] f.of)) f ≡ 0 = ap (λ (s : Option PrincipalState). times (put_facts f.of s) f) (nothing_given f.of) in
       omega (arith, counts f, none);
   up_to = up_to 1;
 }
@@ -184,7 +184,7 @@ kept_nothing kept documents users roles counts up_to = record {
     by (role n) = empty_list kept.roles n roles
 
 module _ (kept : Ledger) (e : Entry) (es : List Entry) (at : ℕ) (place : at ≡ length es + 1) (is_kept : IsLedger kept es) where
-  pub put_is_step : (p : Put) → as_write e ≡ None → as_put e ≡ Some p → IsStep kept at (holder p.of) (put_facts p.of p.standing) e es
+  pub put_is_step : (p : Put) → as_write e ≡ None → as_put e ≡ Some p → IsStep kept at (holder p.of) (put_facts p.of p.state) e es
   put_is_step p written put = record {
     place = place;
     is_kept = is_kept;
@@ -192,37 +192,37 @@ module _ (kept : Ledger) (e : Entry) (es : List Entry) (at : ℕ) (place : at �
     sums = λ f. sums f p.of refl ∙ put_step e es p written put f;
   }
     where
-      stands : (of : Grantee) → standing_of (e ∷ es) of ≡ (if same_grantee p.of of then p.standing else standing_of es of)
-      stands of = standing_put e es of p put
+      stands : (of : Grantee) → principal_of (e ∷ es) of ≡ (if same_grantee p.of of then p.state else principal_of es of)
+      stands of = principal_put e es of p put
 
       documents : (d : List ℕ) → document_facts (current (e ∷ es) d) ≡ document_facts (current es d)
       documents d = ap document_facts (current_same e es d (unwritten e es d written))
 
-      chosen : (b : Bool) (of : Grantee) (s : Option Standing) → put_facts of (if b then p.standing else s) ≡ (if b then put_facts of p.standing else put_facts of s)
+      chosen : (b : Bool) (of : Grantee) (s : Option PrincipalState) → put_facts of (if b then p.state else s) ≡ (if b then put_facts of p.state else put_facts of s)
       chosen true of s = refl
       chosen false of s = refl
 
-      here : (of other : Grantee) (b : Bool) → same_grantee of other ≡ b → (if b then put_facts other p.standing else put_facts other (standing_of es other)) ≡ (if b then put_facts of p.standing else put_facts other (standing_of es other))
-      here of other true same = ap (λ (g : Grantee). put_facts g p.standing) (sym (grantees of other same))
+      here : (of other : Grantee) (b : Bool) → same_grantee of other ≡ b → (if b then put_facts other p.state else put_facts other (principal_of es other)) ≡ (if b then put_facts of p.state else put_facts other (principal_of es other))
+      here of other true same = ap (λ (g : Grantee). put_facts g p.state) (sym (grantees of other same))
       here of other false same = refl
 
-      holders : (of other : Grantee) → p.of ≡ of → put_facts other (standing_of (e ∷ es) other) ≡ (if same_grantee of other then put_facts of p.standing else put_facts other (standing_of es other))
+      holders : (of other : Grantee) → p.of ≡ of → put_facts other (principal_of (e ∷ es) other) ≡ (if same_grantee of other then put_facts of p.state else put_facts other (principal_of es other))
       holders of other is =
-          ap (λ (s : Option Standing). put_facts other s) (stands other ∙ ap (λ (g : Grantee). if same_grantee g other then p.standing else standing_of es other) is)
-          ∙ chosen (same_grantee of other) other (standing_of es other)
+          ap (λ (s : Option PrincipalState). put_facts other s) (stands other ∙ ap (λ (g : Grantee). if same_grantee g other then p.state else principal_of es other) is)
+          ∙ chosen (same_grantee of other) other (principal_of es other)
           ∙ here of other (same_grantee of other) refl
 
-      others : (of : Grantee) → p.of ≡ of → (s : Source) → given (e ∷ es) s ≡ (if same_source (holder p.of) s then put_facts p.of p.standing else given es s)
-      others (User n) is (document d) = documents d ∙ ap (λ (g : Grantee). if same_source (holder g) (document d) then put_facts g p.standing else given es (document d)) (sym is)
-      others (User n) is (user m) = holders (User n) (User m) is ∙ ap (λ (g : Grantee). if same_source (holder g) (user m) then put_facts g p.standing else given es (user m)) (sym is)
-      others (User n) is (role m) = holders (User n) (Role m) is ∙ ap (λ (g : Grantee). if same_source (holder g) (role m) then put_facts g p.standing else given es (role m)) (sym is)
-      others (Role n) is (document d) = documents d ∙ ap (λ (g : Grantee). if same_source (holder g) (document d) then put_facts g p.standing else given es (document d)) (sym is)
-      others (Role n) is (user m) = holders (Role n) (User m) is ∙ ap (λ (g : Grantee). if same_source (holder g) (user m) then put_facts g p.standing else given es (user m)) (sym is)
-      others (Role n) is (role m) = holders (Role n) (Role m) is ∙ ap (λ (g : Grantee). if same_source (holder g) (role m) then put_facts g p.standing else given es (role m)) (sym is)
+      others : (of : Grantee) → p.of ≡ of → (s : Source) → given (e ∷ es) s ≡ (if same_source (holder p.of) s then put_facts p.of p.state else given es s)
+      others (User n) is (document d) = documents d ∙ ap (λ (g : Grantee). if same_source (holder g) (document d) then put_facts g p.state else given es (document d)) (sym is)
+      others (User n) is (user m) = holders (User n) (User m) is ∙ ap (λ (g : Grantee). if same_source (holder g) (user m) then put_facts g p.state else given es (user m)) (sym is)
+      others (User n) is (role m) = holders (User n) (Role m) is ∙ ap (λ (g : Grantee). if same_source (holder g) (role m) then put_facts g p.state else given es (role m)) (sym is)
+      others (Role n) is (document d) = documents d ∙ ap (λ (g : Grantee). if same_source (holder g) (document d) then put_facts g p.state else given es (document d)) (sym is)
+      others (Role n) is (user m) = holders (Role n) (User m) is ∙ ap (λ (g : Grantee). if same_source (holder g) (user m) then put_facts g p.state else given es (user m)) (sym is)
+      others (Role n) is (role m) = holders (Role n) (Role m) is ∙ ap (λ (g : Grantee). if same_source (holder g) (role m) then put_facts g p.state else given es (role m)) (sym is)
 
-      sums : (f : Fact) (of : Grantee) → p.of ≡ of → sources (e ∷ es) f + times (given es (holder p.of)) f ≡ sources (e ∷ es) f + times (put_facts p.of (standing_of es p.of)) f
-      sums f (User n) is = ap (λ (g : Grantee). sources (e ∷ es) f + times (given es (holder g)) f) is ∙ ap (λ (g : Grantee). sources (e ∷ es) f + times (put_facts g (standing_of es g)) f) (sym is)
-      sums f (Role n) is = ap (λ (g : Grantee). sources (e ∷ es) f + times (given es (holder g)) f) is ∙ ap (λ (g : Grantee). sources (e ∷ es) f + times (put_facts g (standing_of es g)) f) (sym is)
+      sums : (f : Fact) (of : Grantee) → p.of ≡ of → sources (e ∷ es) f + times (given es (holder p.of)) f ≡ sources (e ∷ es) f + times (put_facts p.of (principal_of es p.of)) f
+      sums f (User n) is = ap (λ (g : Grantee). sources (e ∷ es) f + times (given es (holder g)) f) is ∙ ap (λ (g : Grantee). sources (e ∷ es) f + times (put_facts g (principal_of es g)) f) (sym is)
+      sums f (Role n) is = ap (λ (g : Grantee). sources (e ∷ es) f + times (given es (holder g)) f) is ∙ ap (λ (g : Grantee). sources (e ∷ es) f + times (put_facts g (principal_of es g)) f) (sym is)
 
   pub write_is_step : (w : Write) → as_write e ≡ Some w → as_put e ≡ None → IsStep kept at (document w.doc) (document_facts (current (e ∷ es) w.doc)) e es
   write_is_step w is put = record {
@@ -238,8 +238,8 @@ module _ (kept : Ledger) (e : Entry) (es : List Entry) (at : ℕ) (place : at �
 
       others : (s : Source) → given (e ∷ es) s ≡ (if same_source (document w.doc) s then document_facts (current (e ∷ es) w.doc) else given es s)
       others (document d) = documents d (bytes_eq w.doc d) refl
-      others (user n) = ap (λ (s : Option Standing). put_facts (User n) s) (standing_same e es (User n) put)
-      others (role n) = ap (λ (s : Option Standing). put_facts (Role n) s) (standing_same e es (Role n) put)
+      others (user n) = ap (λ (s : Option PrincipalState). put_facts (User n) s) (principal_same e es (User n) put)
+      others (role n) = ap (λ (s : Option PrincipalState). put_facts (Role n) s) (principal_same e es (Role n) put)
 
   -- an entry that changes nothing
   pub idle_took : as_write e ≡ None → as_put e ≡ None → Took kept at e es
@@ -257,5 +257,5 @@ module _ (kept : Ledger) (e : Entry) (es : List Entry) (at : ℕ) (place : at �
     where
       same : (s : Source) → given (e ∷ es) s ≡ given es s
       same (document d) = ap document_facts (current_same e es d (unwritten e es d written))
-      same (user n) = ap (λ (s : Option Standing). put_facts (User n) s) (standing_same e es (User n) put)
-      same (role n) = ap (λ (s : Option Standing). put_facts (Role n) s) (standing_same e es (Role n) put)
+      same (user n) = ap (λ (s : Option PrincipalState). put_facts (User n) s) (principal_same e es (User n) put)
+      same (role n) = ap (λ (s : Option PrincipalState). put_facts (Role n) s) (principal_same e es (Role n) put)

@@ -15,7 +15,7 @@ use Rattle.grant_history.specs.Places.{found, ArePlaces, StandOnce}
 use Rattle.grant_history.specs.Reads.{is_channel, channel_among}
 use Rattle.grant_history.proofs.Same.{whats, what_itself}
 use Rattle.grant_history.proofs.Has.{any_same}
-use Rattle.grant_history.proofs.Tracked.{whats_swap, set_place, standing, apart_from, place_append}
+use Rattle.grant_history.proofs.Tracked.{whats_swap, set_place, state, apart_from, place_append}
 
 and_swap : (a b : Bool) → (a && b) ≡ (b && a)
 and_swap true true = refl
@@ -134,7 +134,7 @@ places_set places list w i new h is are v = are v ∙ sym (set_place w new is li
 
 -- where something stands is a place of the list
 pub place_within : (list : List Held) (w : What) (i : ℕ) → place_of list w ≡ Some i → i < length list
-place_within list w i h = (standing list w i h).within
+place_within list w i h = (state list w i h).within
 
 pub length_added : (list : List Held) (x : Held) → length (list ++ x ∷ []) ≡ length list + 1
 length_added [] x = refl
@@ -149,5 +149,5 @@ length_set (y ∷ ys) (suc i) x = ap suc (length_set ys i x)
 -- what stands at the place of a thing is that thing
 pub what_here : (list : List Held) (w : What) (i : ℕ) (old : Held) → place_of list w ≡ Some i → old ≡ get_or list i old → old.what ≡ w
 what_here list w i old place is =
-    let stands = standing list w i place in
+    let stands = state list w i place in
     ap (λ (h : Held). h.what) (is ∙ get_or_from_slice_get list i stands.held old stands.got) ∙ stands.what_is

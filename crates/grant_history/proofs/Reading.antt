@@ -11,7 +11,7 @@ use Rattle.std.proofs.lemmas.Option.{none-some}
 use Rattle.sg_names.specs.declared.grants.Grantee.{Grantee}
 use Rattle.sg_names.specs.declared.grants.Grantee.TheVariants.{User, Role}
 use Rattle.sg_history.specs.declared.entries.Entry.{Entry}
-use Rattle.sg_history.specs.Principals.{Standing, Put, as_put, same_grantee, standing_after, role_named, role_put, roles_put, exists, names_role, names_channel, everyone, user_at, role_at, is_granted, is_given, has_role, role_has_channel, has_channel}
+use Rattle.sg_history.specs.Principals.{PrincipalState, Put, as_put, same_grantee, principal_after, role_named, role_put, roles_put, exists, names_role, names_channel, everyone, user_at, role_at, is_granted, is_given, has_role, role_has_channel, has_channel}
 use Rattle.log_views.proofs.Members.{IsIn, both_ways, passing, passes_in, in_left, in_right}
 use Rattle.grant_history.specs.declared.facts.What.{What}
 use Rattle.grant_history.specs.declared.facts.What.TheVariants as what
@@ -57,23 +57,23 @@ second_of : (a b : Bool) → (a && b) ≡ true → b ≡ true
 second_of true b h = h
 second_of false b h = absurd (false≢true h)
 
-role_is : (role : List ℕ) (g : Grantee) (standing : Option Standing) → same_grantee g (Role role) ≡ true → exists standing ≡ true → IsIn (role_named g standing) role
-role_is role (User name) standing same h = absurd (false≢true same)
+role_is : (role : List ℕ) (g : Grantee) (state : Option PrincipalState) → same_grantee g (Role role) ≡ true → exists state ≡ true → IsIn (role_named g state) role
+role_is role (User name) state same h = absurd (false≢true same)
 role_is role (Role name) None same h = absurd (false≢true h)
-role_is role (Role name) (Some standing) same h = inl ((bytes_decides name role).0 same)
+role_is role (Role name) (Some state) same h = inl ((bytes_decides name role).0 same)
 
 -- a role that exists was put
 was_put : (es : List Entry) (role : List ℕ) → exists (role_at es role) ≡ true → IsIn (roles_put es) role
 was_put [] role h = absurd (false≢true h)
 was_put (e ∷ older) role h = by (as_put e) h (λ k. was_put older role k)
   where
-    by : (o : Option Put) → exists (standing_after o (Role role) (role_at older role)) ≡ true → (exists (role_at older role) ≡ true → IsIn (roles_put older) role) → IsIn (role_put o ++ roles_put older) role
+    by : (o : Option Put) → exists (principal_after o (Role role) (role_at older role)) ≡ true → (exists (role_at older role) ≡ true → IsIn (roles_put older) role) → IsIn (role_put o ++ roles_put older) role
     by None h rest = rest h
     by (Some put) h rest = of (same_grantee put.of (Role role)) refl h
       where
-        of : (b : Bool) → same_grantee put.of (Role role) ≡ b → exists (if b then put.standing else role_at older role) ≡ true → IsIn (role_named put.of put.standing ++ roles_put older) role
-        of true same h = in_left (role_named put.of put.standing) (roles_put older) role (role_is role put.of put.standing same h)
-        of false same h = in_right (role_named put.of put.standing) (roles_put older) role (rest h)
+        of : (b : Bool) → same_grantee put.of (Role role) ≡ b → exists (if b then put.state else role_at older role) ≡ true → IsIn (role_named put.of put.state ++ roles_put older) role
+        of true same h = in_left (role_named put.of put.state) (roles_put older) role (role_is role put.of put.state same h)
+        of false same h = in_right (role_named put.of put.state) (roles_put older) role (rest h)
 
 module _ (store : Store) (n k : ℕ) (es : List Entry) (up : IsStore store n) (is : (f : Fact) → has_at store f k ≡ is_held es f) where
   -- roles

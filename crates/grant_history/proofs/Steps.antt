@@ -10,13 +10,13 @@ use Rattle.sg_history.specs.declared.entries.Entry.{Entry}
 use Rattle.sg_history.specs.declared.entries.Write.{Write}
 use Rattle.sg_history.specs.History.{among, as_write, of_document, write_to}
 use Rattle.sg_history.specs.Current.{Sequenced, Current, sequenced_or, with_rev_or, last_write, write_of_rev, write_or, current, current_after, current_by}
-use Rattle.sg_history.specs.Principals.{Standing, Put, as_put, same_grantee, standing_after, user_at, role_at}
+use Rattle.sg_history.specs.Principals.{PrincipalState, Put, as_put, same_grantee, principal_after, user_at, role_at}
 use Rattle.grant_history.specs.declared.facts.What.{What}
 use Rattle.grant_history.specs.declared.facts.What.TheVariants as what
 use Rattle.grant_history.specs.declared.facts.Fact.{Fact}
 use Rattle.grant_history.specs.Facts.{same_what, same_fact, times, fact, channel_facts, role_facts, put_facts, document_facts}
 use Rattle.grant_history.specs.Ledger.{Lists, facts_in, facts_of_list}
-use Rattle.grant_history.specs.Sources.{standing_of, with_document, documents_once, given_by, sources}
+use Rattle.grant_history.specs.Sources.{principal_of, with_document, documents_once, given_by, sources}
 use Rattle.grant_history.proofs.Same.{texts_swap, grantees}
 
 pub times_append : (xs ys : List Fact) (f : Fact) → times (xs ++ ys) f ≡ times xs f + times ys f
@@ -30,7 +30,7 @@ foreign_map of make (x ∷ xs) f h =
     let here : ◌≡◌ {A = ℕ} (if same_fact (fact of (make x)) f then 1 else 0) 0 = ap (λ (b : Bool). if b && same_what (make x) f.what then 1 else 0) h in
     omega (arith, here, foreign_map of make xs f h)
 
-foreign : (of : Grantee) (s : Option Standing) (f : Fact) → same_grantee of f.of ≡ false → times (put_facts of s) f ≡ 0
+foreign : (of : Grantee) (s : Option PrincipalState) (f : Fact) → same_grantee of f.of ≡ false → times (put_facts of s) f ≡ 0
 foreign of None f h = refl
 foreign of (Some s) f h =
     let here : ◌≡◌ {A = ℕ} (if same_fact (fact of what.Exists) f then 1 else 0) 0 = ap (λ (b : Bool). if b && same_what what.Exists f.what then 1 else 0) h in
@@ -68,45 +68,45 @@ module _ (e : Entry) (es : List Entry) where
       ap (λ (c : Option Current). times (document_facts c) f + given_by (e ∷ es) ds f) (current_same d (unwritten d h))
       ∙ ap (λ (n : ℕ). times (document_facts (current es d)) f + n) (given_idle ds f h)
 
-  pub standing_same : (of : Grantee) → as_put e ≡ None → standing_of (e ∷ es) of ≡ standing_of es of
-  standing_same (User user) h = ap (λ (o : Option Put). standing_after o (User user) (user_at es user)) h
-  standing_same (Role role) h = ap (λ (o : Option Put). standing_after o (Role role) (role_at es role)) h
+  pub principal_same : (of : Grantee) → as_put e ≡ None → principal_of (e ∷ es) of ≡ principal_of es of
+  principal_same (User user) h = ap (λ (o : Option Put). principal_after o (User user) (user_at es user)) h
+  principal_same (Role role) h = ap (λ (o : Option Put). principal_after o (Role role) (role_at es role)) h
 
-  pub standing_put : (of : Grantee) (p : Put) → as_put e ≡ Some p → standing_of (e ∷ es) of ≡ (if same_grantee p.of of then p.standing else standing_of es of)
-  standing_put (User user) p h = ap (λ (o : Option Put). standing_after o (User user) (user_at es user)) h
-  standing_put (Role role) p h = ap (λ (o : Option Put). standing_after o (Role role) (role_at es role)) h
+  pub principal_put : (of : Grantee) (p : Put) → as_put e ≡ Some p → principal_of (e ∷ es) of ≡ (if same_grantee p.of of then p.state else principal_of es of)
+  principal_put (User user) p h = ap (λ (o : Option Put). principal_after o (User user) (user_at es user)) h
+  principal_put (Role role) p h = ap (λ (o : Option Put). principal_after o (Role role) (role_at es role)) h
 
   once_idle : as_write e ≡ None → documents_once (e ∷ es) ≡ documents_once es
   once_idle h = ap (λ (o : Option Write). with_document o (documents_once es)) h
 
   pub idle_step : as_write e ≡ None → as_put e ≡ None → (f : Fact) → sources (e ∷ es) f ≡ sources es f
   idle_step w p f =
-      ap (λ (s : Option Standing). times (put_facts f.of s) f + given_by (e ∷ es) (documents_once (e ∷ es)) f) (standing_same f.of p)
-      ∙ ap (λ (docs : List (List ℕ)). times (put_facts f.of (standing_of es f.of)) f + given_by (e ∷ es) docs f) (once_idle w)
-      ∙ ap (λ (n : ℕ). times (put_facts f.of (standing_of es f.of)) f + n) (given_idle (documents_once es) f w)
+      ap (λ (s : Option PrincipalState). times (put_facts f.of s) f + given_by (e ∷ es) (documents_once (e ∷ es)) f) (principal_same f.of p)
+      ∙ ap (λ (docs : List (List ℕ)). times (put_facts f.of (principal_of es f.of)) f + given_by (e ∷ es) docs f) (once_idle w)
+      ∙ ap (λ (n : ℕ). times (put_facts f.of (principal_of es f.of)) f + n) (given_idle (documents_once es) f w)
 
   -- a put or a drop changes what is given by it
   pub put_step : (p : Put) → as_write e ≡ None → as_put e ≡ Some p → (f : Fact)
-      → sources (e ∷ es) f + times (put_facts p.of (standing_of es p.of)) f ≡ sources es f + times (put_facts p.of p.standing) f
+      → sources (e ∷ es) f + times (put_facts p.of (principal_of es p.of)) f ≡ sources es f + times (put_facts p.of p.state) f
   put_step p w is f = by (same_grantee p.of f.of) refl
     where
       others : given_by (e ∷ es) (documents_once (e ∷ es)) f ≡ given_by es (documents_once es) f
       others = ap (λ (docs : List (List ℕ)). given_by (e ∷ es) docs f) (once_idle w) ∙ given_idle (documents_once es) f w
 
-      by : (b : Bool) → same_grantee p.of f.of ≡ b → sources (e ∷ es) f + times (put_facts p.of (standing_of es p.of)) f ≡ sources es f + times (put_facts p.of p.standing) f
+      by : (b : Bool) → same_grantee p.of f.of ≡ b → sources (e ∷ es) f + times (put_facts p.of (principal_of es p.of)) f ≡ sources es f + times (put_facts p.of p.state) f
       by true same =
           let one : p.of ≡ f.of = grantees p.of f.of same in
-          let now : standing_of (e ∷ es) f.of ≡ p.standing = standing_put f.of p is ∙ ap (λ (b : Bool). if b then p.standing else standing_of es f.of) same in
-          let here : times (put_facts f.of (standing_of (e ∷ es) f.of)) f ≡ times (put_facts p.of p.standing) f =
-          ap (λ (s : Option Standing). times (put_facts f.of s) f) now ∙ ap (λ (g : Grantee). times (put_facts g p.standing) f) (sym one) in
-          let there : times (put_facts p.of (standing_of es p.of)) f ≡ times (put_facts f.of (standing_of es f.of)) f =
-          ap (λ (g : Grantee). times (put_facts g (standing_of es g)) f) one in
+          let now : principal_of (e ∷ es) f.of ≡ p.state = principal_put f.of p is ∙ ap (λ (b : Bool). if b then p.state else principal_of es f.of) same in
+          let here : times (put_facts f.of (principal_of (e ∷ es) f.of)) f ≡ times (put_facts p.of p.state) f =
+          ap (λ (s : Option PrincipalState). times (put_facts f.of s) f) now ∙ ap (λ (g : Grantee). times (put_facts g p.state) f) (sym one) in
+          let there : times (put_facts p.of (principal_of es p.of)) f ≡ times (put_facts f.of (principal_of es f.of)) f =
+          ap (λ (g : Grantee). times (put_facts g (principal_of es g)) f) one in
           omega (arith, here, there, others)
       by false same =
-          let now : standing_of (e ∷ es) f.of ≡ standing_of es f.of = standing_put f.of p is ∙ ap (λ (b : Bool). if b then p.standing else standing_of es f.of) same in
-          let here : times (put_facts f.of (standing_of (e ∷ es) f.of)) f ≡ times (put_facts f.of (standing_of es f.of)) f =
-          ap (λ (s : Option Standing). times (put_facts f.of s) f) now in
-          omega (arith, here, others, foreign p.of (standing_of es p.of) f same, foreign p.of p.standing f same)
+          let now : principal_of (e ∷ es) f.of ≡ principal_of es f.of = principal_put f.of p is ∙ ap (λ (b : Bool). if b then p.state else principal_of es f.of) same in
+          let here : times (put_facts f.of (principal_of (e ∷ es) f.of)) f ≡ times (put_facts f.of (principal_of es f.of)) f =
+          ap (λ (s : Option PrincipalState). times (put_facts f.of s) f) now in
+          omega (arith, here, others, foreign p.of (principal_of es p.of) f same, foreign p.of p.state f same)
 
   module _ (w : Write) (is : as_write e ≡ Some w) where
     pub apart : (doc : List ℕ) → bytes_eq doc w.doc ≡ false → write_to e doc ≡ None
@@ -190,8 +190,8 @@ pub write_step : (e : Entry) (es : List Entry) (w : Write) → as_write e ≡ So
     → sources (e ∷ es) f + times (document_facts (current es w.doc)) f ≡ sources es f + times (document_facts (current (e ∷ es) w.doc)) f
 write_step e es w is put f = by (among (documents_once es) w.doc) refl
   where
-    puts : times (put_facts f.of (standing_of (e ∷ es) f.of)) f ≡ times (put_facts f.of (standing_of es f.of)) f
-    puts = ap (λ (s : Option Standing). times (put_facts f.of s) f) (standing_same e es f.of put)
+    puts : times (put_facts f.of (principal_of (e ∷ es) f.of)) f ≡ times (put_facts f.of (principal_of es f.of)) f
+    puts = ap (λ (s : Option PrincipalState). times (put_facts f.of s) f) (principal_same e es f.of put)
 
     by : (b : Bool) → among (documents_once es) w.doc ≡ b → sources (e ∷ es) f + times (document_facts (current es w.doc)) f ≡ sources es f + times (document_facts (current (e ∷ es) w.doc)) f
     by b old =

@@ -39,7 +39,7 @@ place_none None h = refl
 place_none (Some n) h = absurd (none-some (n + 1) (sym h))
 
 -- where something stands, there is a track of it
-pub record Standing (list : List Held) (w : What) (i : ℕ) : Type 0 where
+pub record PrincipalState (list : List Held) (w : What) (i : ℕ) : Type 0 where
   pub held : Held
   pub within : i < length list
   pub got : slice_get list i ≡ Some held
@@ -47,11 +47,11 @@ pub record Standing (list : List Held) (w : What) (i : ℕ) : Type 0 where
   pub count : count_in list w ≡ held.track.count
   pub holds : (k : ℕ) → held_in list w k ≡ held_at held.track k
 
-pub standing : (list : List Held) (w : What) (i : ℕ) → place_of list w ≡ Some i → Standing list w i
-standing [] w i h = absurd (none-some i h)
-standing (x ∷ xs) w i h = by (same_what x.what w) refl i h (λ j k. standing xs w j k)
+pub state : (list : List Held) (w : What) (i : ℕ) → place_of list w ≡ Some i → PrincipalState list w i
+state [] w i h = absurd (none-some i h)
+state (x ∷ xs) w i h = by (same_what x.what w) refl i h (λ j k. state xs w j k)
   where
-    by : (b : Bool) → same_what x.what w ≡ b → (i : ℕ) → (if b then Some 0 else option_map (λ (n : ℕ). n + 1) (place_of xs w)) ≡ Some i → ((j : ℕ) → place_of xs w ≡ Some j → Standing xs w j) → Standing (x ∷ xs) w i
+    by : (b : Bool) → same_what x.what w ≡ b → (i : ℕ) → (if b then Some 0 else option_map (λ (n : ℕ). n + 1) (place_of xs w)) ≡ Some i → ((j : ℕ) → place_of xs w ≡ Some j → PrincipalState xs w j) → PrincipalState (x ∷ xs) w i
     by true same zero h rest = record {
       held = x;
       within = omega arith;
@@ -161,7 +161,7 @@ module _ (w : What) (new : Held) (is : new.what ≡ w) where
 pub set_dated : (list : List Held) (w : What) (i at sources : ℕ) (old new : Held) → place_of list w ≡ Some i → slice_get list i ≡ Some old → new.what ≡ old.what → Moves old.track new.track at sources
     → Dated count_in held_in AreUpTo list (slice_set list i new) at (λ x. if same_what w x then sources else count_in list x)
 set_dated list w i at sources old new place got kept moves =
-    let stands = standing list w i place in
+    let stands = state list w i place in
     let one : stands.held ≡ old = same_Some stands.held old (sym stands.got ∙ got) in
     let is : new.what ≡ w = kept ∙ ap (λ (h : Held). h.what) (sym one) ∙ stands.what_is in
     record {
@@ -274,17 +274,17 @@ track_up_to (y ∷ ys) (suc i) n h got up = track_up_to ys i n h got up.2
 module _ (list : List Held) (w : What) (i : ℕ) (old : Held) (place : place_of list w ≡ Some i) (is : old ≡ get_or list i old) where
   pub got_old : slice_get list i ≡ Some old
   got_old =
-      let stands = standing list w i place in
+      let stands = state list w i place in
       stands.got ∙ ap (λ (h : Held). Some h) (sym (is ∙ get_or_from_slice_get list i stands.held old stands.got))
 
   pub count_here : count_in list w ≡ old.track.count
   count_here =
-      let stands = standing list w i place in
+      let stands = state list w i place in
       stands.count ∙ ap (λ (h : Held). h.track.count) (same_Some stands.held old (sym stands.got ∙ got_old))
 
   pub held_here : (k : ℕ) → held_at old.track k ≡ held_in list w k
   held_here k =
-      let stands = standing list w i place in
+      let stands = state list w i place in
       ap (λ (h : Held). held_at h.track k) (same_Some old stands.held (sym got_old ∙ stands.got)) ∙ sym (stands.holds k)
 
   pub up_here : (n : ℕ) → AreUpTo list n → IsTrack old.track n

@@ -6,7 +6,7 @@ use Rattle.sg_names.specs.declared.grants.Grantee.TheVariants.{User}
 use Rattle.sg_names.specs.declared.grants.Grant.{Grant}
 use Rattle.sg_names.specs.declared.role_grants.RoleGrant.{RoleGrant}
 use Rattle.sg_history.specs.Current.{Current}
-use Rattle.sg_history.specs.Principals.{Standing, same_grantee}
+use Rattle.sg_history.specs.Principals.{PrincipalState, same_grantee}
 use Rattle.grant_history.specs.declared.facts.What.{What}
 use Rattle.grant_history.specs.declared.facts.What.TheVariants as what
 use Rattle.grant_history.specs.declared.facts.Fact.{Fact}
@@ -43,7 +43,7 @@ abbrev pub role_facts : Grantee → List (List ℕ) → List Fact
 role_facts of roles = map (λ r. fact of (what.Role r)) roles
 
 -- what a put gives: that the user or role exists, its channels, and its roles
-abbrev pub put_facts : Grantee → Option Standing → List Fact
+abbrev pub put_facts : Grantee → Option PrincipalState → List Fact
 put_facts of None = []
 put_facts of (Some s) = fact of what.Exists ∷ channel_facts of s.channels ++ role_facts of s.roles
 

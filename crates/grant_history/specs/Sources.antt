@@ -6,14 +6,14 @@ use Rattle.sg_history.specs.declared.entries.Entry.{Entry}
 use Rattle.sg_history.specs.declared.entries.Write.{Write}
 use Rattle.sg_history.specs.History.{among, as_write}
 use Rattle.sg_history.specs.Current.{current}
-use Rattle.sg_history.specs.Principals.{Standing, user_at, role_at}
+use Rattle.sg_history.specs.Principals.{PrincipalState, user_at, role_at}
 use Rattle.grant_history.specs.declared.facts.Fact.{Fact}
 use Rattle.grant_history.specs.Facts.{times, put_facts, document_facts}
 
 -- what a user or a role was given, none where it does not exist
-abbrev pub standing_of : List Entry → Grantee → Option Standing
-standing_of es (User user) = user_at es user
-standing_of es (Role role) = role_at es role
+abbrev pub principal_of : List Entry → Grantee → Option PrincipalState
+principal_of es (User user) = user_at es user
+principal_of es (Role role) = role_at es role
 
 -- documents with that of a write, unless it is there
 abbrev pub with_document : Option Write → List (List ℕ) → List (List ℕ)
@@ -32,7 +32,7 @@ given_by es (doc ∷ docs) f = times (document_facts (current es doc)) f + given
 
 -- how many sources give something
 abbrev pub sources : List Entry → Fact → ℕ
-sources es f = times (put_facts f.of (standing_of es f.of)) f + given_by es (documents_once es) f
+sources es f = times (put_facts f.of (principal_of es f.of)) f + given_by es (documents_once es) f
 
 -- whether any source gives it
 abbrev pub is_held : List Entry → Fact → Bool

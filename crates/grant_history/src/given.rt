@@ -67,7 +67,7 @@ fn add_roles(
 /// What a put gives: none where it is a drop.
 pub fn of_put(alloc: Global, put: Put<'_>) -> Result<Vec<Fact>, Memory>
     ensures { IfOk result (λ list. list.items
-        ≡ put_facts (puts.grantee_in put.entry.of) (puts.standing_in put.entry.given)) }
+        ≡ put_facts (puts.grantee_in put.entry.of) (puts.principal_in put.entry.given)) }
 {
     let mut list = Vec::new(alloc);
     if let Some(given) = put.given {

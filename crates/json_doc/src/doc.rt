@@ -94,7 +94,8 @@ impl Doc {
 
     /// The value of the top member with this name.
     pub fn get(&self, name: &str) -> Option<&Node>
-        ensures { option_map (λ n. node_tree n.now) result ≡ get_member name.now (node_tree self.now) }
+        ensures { option_map (λ n. node_tree n.now) result
+            ≡ get_member name.now (node_tree self.now) }
     {
         self.object.get(name)
     }

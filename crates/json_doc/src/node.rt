@@ -73,7 +73,8 @@ impl Node {
 
     /// The value of an object's member with this name; none where the node is no object.
     pub fn get(&self, name: &str) -> Option<&Node>
-        ensures { option_map (λ n. node_tree n.now) result ≡ get_member name.now (node_tree self.now) }
+        ensures { option_map (λ n. node_tree n.now) result
+            ≡ get_member name.now (node_tree self.now) }
     {
         match self {
             Node::Object(members) => members.get(name),
@@ -129,7 +130,8 @@ impl Nodes {
 
     /// Adds the node at the end; out of memory the list is as before.
     pub fn push(&mut self, node: Node) -> Result<(), Memory>
-        ensures ok { OnOk result (nodes_trees self.new ≡ add_tree (nodes_trees self.old) (node_tree node)) }
+        ensures ok { OnOk result
+            (nodes_trees self.new ≡ add_tree (nodes_trees self.old) (node_tree node)) }
         ensures err { OnErr result (nodes_trees self.new ≡ nodes_trees self.old) }
     {
         self.items.push(node)?;
@@ -173,7 +175,8 @@ impl Members {
 
     /// The value of the member with this name.
     pub fn get(&self, name: &str) -> Option<&Node>
-        ensures { option_map (λ n. node_tree n.now) result ≡ get_field name.now (members_fields self.now) }
+        ensures { option_map (λ n. node_tree n.now) result
+            ≡ get_field name.now (members_fields self.now) }
     {
         self.map.get(name)
     }

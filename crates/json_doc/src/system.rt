@@ -12,7 +12,8 @@ use std::alloc::Global;
 /// The document with its identifier as the member `_id` and, where the revision is deleted, with a
 /// true `_deleted`. A member that had such a name is replaced. No text is copied but `id`.
 pub fn with_system(alloc: Global, doc: Doc, id: &str, deleted: bool) -> Result<Doc, Memory>
-    ensures { IfOk result (λ made. node_tree made ≡ system.with_system id.now deleted (node_tree doc)) }
+    ensures { IfOk result
+        (λ made. node_tree made ≡ system.with_system id.now deleted (node_tree doc)) }
 {
     let mut members = doc.into_members();
     put_system(alloc, &mut members, id, deleted)?;

@@ -25,7 +25,7 @@ key_cmp x y = ordering_then (ordering_then (nat_cmp x.0 y.0) (nat_cmp x.1 y.1)) 
 abbrev to_key : ℕ → RevId → Key → Ordering
 to_key first rev k = ordering_then (ordering_then (nat_cmp first k.0) (nat_cmp rev.generation k.1)) (slice_cmp nat_cmp rev.digest (string_bytes k.2))
 
--- whether it is at the key, told by its parts
+-- whether it is at the key, by its parts
 at_key : (first : ℕ) (rev : RevId) (k : Key) → is_eq (to_key first rev k) ≡ ((nat_eq first k.0 && nat_eq rev.generation k.1) && bytes_eq rev.digest (string_bytes k.2))
 at_key first rev k =
     sym (tied_then (ordering_then (nat_cmp first k.0) (nat_cmp rev.generation k.1)) (slice_cmp nat_cmp rev.digest (string_bytes k.2)))
@@ -56,8 +56,8 @@ key_test first rev x y h =
     ∙ ap (λ (d : List ℕ). is_eq (ordering_then (ordering_then (nat_cmp x.0 y.0) (nat_cmp x.1 y.1)) (slice_cmp nat_cmp d (string_bytes y.2)))) at.digest
 
 -- two revisions at one key are the same
-met : (first other : ℕ) (rev r : RevId) (k : Key) → IsAt first rev k → IsAt other r k → (nat_eq first other && same_rev rev r) ≡ true
-met first other rev r k a b =
+both_at : (first other : ℕ) (rev r : RevId) (k : Key) → IsAt first rev k → IsAt other r k → (nat_eq first other && same_rev rev r) ≡ true
+both_at first other rev r k a b =
     let firsts : first ≡ other = a.place ∙ sym b.place in
     let generations : rev.generation ≡ r.generation = a.generation ∙ sym b.generation in
     let digests : bytes_eq rev.digest r.digest ≡ true = (bytes_decides rev.digest r.digest).1 (a.digest ∙ sym b.digest) in
@@ -81,12 +81,12 @@ revision_added old new first rev digest seq is h other r = go (nat_eq first othe
 
     there : (k : Key) → is_eq (key_cmp (first, rev.generation, digest) k) ≡ true → IsAt first rev k
     there k at =
-        let told : IsAt first (record { generation = rev.generation; digest = string_bytes digest }) k = is_there first (record { generation = rev.generation; digest = string_bytes digest }) k at in
-        record { place = told.place; generation = told.generation; digest = sym is ∙ told.digest }
+        let at_parts : IsAt first (record { generation = rev.generation; digest = string_bytes digest }) k = is_there first (record { generation = rev.generation; digest = string_bytes digest }) k at in
+        record { place = at_parts.place; generation = at_parts.generation; digest = sym is ∙ at_parts.digest }
 
     unless : (k : Key) (b : Bool) → is_eq (to_key other r k) ≡ b → (nat_eq first other && same_rev rev r) ≡ false → IsAt first rev k → b ≡ false
     unless k false at e own = refl
-    unless k true at e own = absurd (true≢false (sym (met first other rev r k own (is_there other r k at)) ∙ e))
+    unless k true at e own = absurd (true≢false (sym (both_at first other rev r k own (is_there other r k at)) ∙ e))
 
     apart : (nat_eq first other && same_rev rev r) ≡ false → AreApart (is_at (key_cmp (first, rev.generation, digest))) (is_at (to_key other r))
     apart e k at = unless k (is_eq (to_key other r k)) refl e (there k at)

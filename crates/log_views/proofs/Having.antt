@@ -11,7 +11,7 @@ use Rattle.sg_names.specs.declared.role_grants.RoleGrant.{RoleGrant}
 use Rattle.sg_history.specs.declared.entries.Entry.{Entry}
 use Rattle.sg_history.specs.History.{among, documents}
 use Rattle.sg_history.specs.Current.{Current, current}
-use Rattle.sg_history.specs.Principals.{Standing, Put, as_put, same_grantee, standing_after, grants_channel, is_granted, gives_role, is_given, role_named, role_put, roles_put, exists, names_role, names_channel, everyone, user_at, role_at, has_role, role_has_channel, has_channel}
+use Rattle.sg_history.specs.Principals.{PrincipalState, Put, as_put, same_grantee, principal_after, grants_channel, is_granted, gives_role, is_given, role_named, role_put, roles_put, exists, names_role, names_channel, everyone, user_at, role_at, has_role, role_has_channel, has_channel}
 use Rattle.log_views.specs.Has.{granted, has_by_role, given, user_has}
 use Rattle.log_views.proofs.Members.{IsIn, both_ways, passing, passes_in, in_left, in_right}
 use Rattle.log_views.proofs.Granting.{Seeks}
@@ -68,23 +68,23 @@ swap false false false true false = refl
 swap false false false false true = refl
 swap false false false false false = refl
 
-role_is : (role : List ℕ) (g : Grantee) (standing : Option Standing) → same_grantee g (Role role) ≡ true → exists standing ≡ true → IsIn (role_named g standing) role
-role_is role (User name) standing same h = absurd (false≢true same)
+role_is : (role : List ℕ) (g : Grantee) (state : Option PrincipalState) → same_grantee g (Role role) ≡ true → exists state ≡ true → IsIn (role_named g state) role
+role_is role (User name) state same h = absurd (false≢true same)
 role_is role (Role name) None same h = absurd (false≢true h)
-role_is role (Role name) (Some standing) same h = inl ((bytes_decides name role).0 same)
+role_is role (Role name) (Some state) same h = inl ((bytes_decides name role).0 same)
 
 -- a role that exists was put
 was_put : (es : List Entry) (role : List ℕ) → exists (role_at es role) ≡ true → IsIn (roles_put es) role
 was_put [] role h = absurd (false≢true h)
 was_put (e ∷ older) role h = by (as_put e) h (λ k. was_put older role k)
   where
-    by : (o : Option Put) → exists (standing_after o (Role role) (role_at older role)) ≡ true → (exists (role_at older role) ≡ true → IsIn (roles_put older) role) → IsIn (role_put o ++ roles_put older) role
+    by : (o : Option Put) → exists (principal_after o (Role role) (role_at older role)) ≡ true → (exists (role_at older role) ≡ true → IsIn (roles_put older) role) → IsIn (role_put o ++ roles_put older) role
     by None h rest = rest h
     by (Some put) h rest = of (same_grantee put.of (Role role)) refl h
       where
-        of : (b : Bool) → same_grantee put.of (Role role) ≡ b → exists (if b then put.standing else role_at older role) ≡ true → IsIn (role_named put.of put.standing ++ roles_put older) role
-        of true same h = in_left (role_named put.of put.standing) (roles_put older) role (role_is role put.of put.standing same h)
-        of false same h = in_right (role_named put.of put.standing) (roles_put older) role (rest h)
+        of : (b : Bool) → same_grantee put.of (Role role) ≡ b → exists (if b then put.state else role_at older role) ≡ true → IsIn (role_named put.of put.state ++ roles_put older) role
+        of true same h = in_left (role_named put.of put.state) (roles_put older) role (role_is role put.of put.state same h)
+        of false same h = in_right (role_named put.of put.state) (roles_put older) role (rest h)
 
 module _ (es : List Entry) (user : List ℕ) (now : List Current) (searched : (test : Option Current → Bool) → Seeks test → list_any (λ c. test (Some c)) now ≡ list_any (λ doc. test (current es doc)) (documents es)) where
   granted_is : (to : Grantee) (c : List ℕ) → granted now to c ≡ is_granted es to c
@@ -106,7 +106,7 @@ module _ (es : List Entry) (user : List ℕ) (now : List Current) (searched : (t
     idle = λ d grants roles. ap (λ (gs : List RoleGrant). list_any (λ g. bytes_eq g.user user && has_by_role es now c g.role) gs) roles;
   })
 
-  module _ (put : Standing) (is : user_at es user ≡ Some put) (c : List ℕ) where
+  module _ (put : PrincipalState) (is : user_at es user ≡ Some put) (c : List ℕ) where
     abbrev by_roles : Bool
     by_roles = list_any (λ role. has_role es user role && role_has_channel es role c) (roles_put es)
 
@@ -142,7 +142,7 @@ module _ (es : List Entry) (user : List ℕ) (now : List Current) (searched : (t
             let p = passing (has_by_role es now c) put.roles n in
             had p.one
             (or_left (names_role (user_at es user) p.one) (is_given es user p.one)
-            (ap (λ (o : Option Standing). names_role o p.one) is ∙ passes_in (λ t. bytes_eq t p.one) put.roles p.one p.there (same_text p.one)))
+            (ap (λ (o : Option PrincipalState). names_role o p.one) is ∙ passes_in (λ t. bytes_eq t p.one) put.roles p.one p.there (same_text p.one)))
             p.is
 
     gift_in : (role : List ℕ) (doc : List ℕ) → has_by_role es now c role ≡ true → (o : Option Current) → gives_role o user role ≡ true → gives c o ≡ true
@@ -165,7 +165,7 @@ module _ (es : List Entry) (user : List ℕ) (now : List Current) (searched : (t
       where
         by : (role : List ℕ) → has_by_role es now c role ≡ true → (names_role (user_at es user) role ≡ true) ⊎ (is_given es user role ≡ true) → (given es now user c || list_any (has_by_role es now c) put.roles) ≡ true
         by role has (inl n) =
-            let p = passing (λ t. bytes_eq t role) put.roles (sym (ap (λ (o : Option Standing). names_role o role) is) ∙ n) in
+            let p = passing (λ t. bytes_eq t role) put.roles (sym (ap (λ (o : Option PrincipalState). names_role o role) is) ∙ n) in
             let same : p.one ≡ role = (bytes_decides p.one role).0 p.is in
             or_right (given es now user c) (list_any (has_by_role es now c) put.roles) (passes_in (has_by_role es now c) put.roles p.one p.there (ap (has_by_role es now c) same ∙ has))
         by role has (inr g) =
@@ -182,4 +182,4 @@ module _ (es : List Entry) (user : List ℕ) (now : List Current) (searched : (t
         ∙ ap (λ b. b || among put.channels c || granted now (User user) c || (given es now user c || list_any (has_by_role es now c) put.roles)) (texts_swap everyone c)
         ∙ ap (λ b. bytes_eq c everyone || among put.channels c || b || (given es now user c || list_any (has_by_role es now c) put.roles)) (granted_is (User user) c)
         ∙ ap (λ b. bytes_eq c everyone || among put.channels c || is_granted es (User user) c || b) roles_are
-        ∙ ap (λ (o : Option Standing). exists o && (bytes_eq c everyone || names_channel o c || is_granted es (User user) c || by_roles)) (sym is)
+        ∙ ap (λ (o : Option PrincipalState). exists o && (bytes_eq c everyone || names_channel o c || is_granted es (User user) c || by_roles)) (sym is)

@@ -12,7 +12,7 @@ use Rattle.sg_names.specs.declared.grants.Grantee.TheVariants.{User, Role}
 use Rattle.sg_history.specs.declared.entries.Entry.{Entry}
 use Rattle.sg_history.specs.Current.{Current}
 use Rattle.sg_history.specs.History.{among}
-use Rattle.sg_history.specs.Principals.{Standing, Put, as_put, grants_channel, everyone, exists, names_channel, role_at, has_channel}
+use Rattle.sg_history.specs.Principals.{PrincipalState, Put, as_put, grants_channel, everyone, exists, names_channel, role_at, has_channel}
 use Rattle.log_views.specs.declared.access.UserChannels.{UserChannels}
 
 -- whether a name is there
@@ -24,18 +24,18 @@ abbrev pub channels_have : UserChannels → List ℕ → Bool
 channels_have channels c = is_there channels.names c
 
 -- what a put or a drop leaves
-abbrev pub put_standing : Option Put → Option Standing
-put_standing None = None
-put_standing (Some put) = put.standing
+abbrev pub put_principal : Option Put → Option PrincipalState
+put_principal None = None
+put_principal (Some put) = put.state
 
-abbrev pub standing_of : Option Entry → Option Standing
-standing_of None = None
-standing_of (Some e) = put_standing (as_put e)
+abbrev pub principal_of : Option Entry → Option PrincipalState
+principal_of None = None
+principal_of (Some e) = put_principal (as_put e)
 
 -- what the put or the drop of a sequence leaves
-abbrev pub standing_at : List Entry → Option ℕ → Option Standing
-standing_at entries None = None
-standing_at entries (Some seq) = standing_of (slice_get entries (seq - 1))
+abbrev pub principal_at : List Entry → Option ℕ → Option PrincipalState
+principal_at entries None = None
+principal_at entries (Some seq) = principal_of (slice_get entries (seq - 1))
 
 -- whether one of these documents grants the channel
 abbrev pub granted : List Current → Grantee → List ℕ → Bool
@@ -52,7 +52,7 @@ given es now user c =
     list_any (λ d. list_any (λ g. bytes_eq g.user user && has_by_role es now c g.role) d.effects.roles) now
 
 -- whether a user that exists has the channel
-abbrev pub user_has : List Entry → List Current → List ℕ → Standing → List ℕ → Bool
+abbrev pub user_has : List Entry → List Current → List ℕ → PrincipalState → List ℕ → Bool
 user_has es now user put c =
     given es now user c
     || (list_any (has_by_role es now c) put.roles

@@ -6,8 +6,8 @@ ghost use Rattle.std.specs.Str.{bytes_eq};
 ghost use Rattle.sg_history.specs.History.{among};
 ghost use Rattle.sg_history.specs.Principals as principals;
 ghost use Rattle.log_index.specs.Index.{Indexes};
-ghost use Rattle.log_views.specs.Has.{is_there, channels_have, granted, has_by_role, given, put_standing, user_has, standing_at, HasChannels};
-ghost use Rattle.sg_history.specs.Puts.{given_in, grantee_in, standing_in};
+ghost use Rattle.log_views.specs.Has.{is_there, channels_have, granted, has_by_role, given, put_principal, user_has, principal_at, HasChannels};
+ghost use Rattle.sg_history.specs.Puts.{given_in, grantee_in, principal_in};
 ghost use Rattle.log_views.specs.At.{granting_now};
 ghost use Rattle.log_views.specs.States.{state_of};
 
@@ -111,13 +111,13 @@ fn add_granted<'a>(
 
 /// What an entry gives a user or a role, if it is a put.
 fn given_by(entry: &Entry) -> Option<Given<'_>>
-    ensures { standing_in result ≡ put_standing (principals.as_put entry.now) }
+    ensures { principal_in result ≡ put_principal (principals.as_put entry.now) }
 {
     entry.as_put()?.given
 }
 
 fn put_at<'a>(entries: &'a [Entry], seq: Option<u64>) -> Option<Given<'a>>
-    ensures { standing_in result ≡ standing_at entries.now seq }
+    ensures { principal_in result ≡ principal_at entries.now seq }
 {
     given_by(entry_at(entries, seq?)?)
 }
@@ -125,7 +125,7 @@ fn put_at<'a>(entries: &'a [Entry], seq: Option<u64>) -> Option<Given<'a>>
 /// What a user was given by its last put, unless it was dropped since, or never put.
 fn user<'a>(index: &LogIndex, entries: &'a [Entry], name: &Name) -> Option<Given<'a>>
     requires { Indexes index.now (reverse entries.now) }
-    ensures { standing_in result ≡ principals.user_at (reverse entries.now) name.now }
+    ensures { principal_in result ≡ principals.user_at (reverse entries.now) name.now }
 {
     put_at(entries, index.user(name))
 }
@@ -141,7 +141,7 @@ pub fn user_exists(index: &LogIndex, entries: &[Entry], name: &Name) -> bool
 /// What a role was given by its last put, unless it was dropped since, or never put.
 fn role<'a>(index: &LogIndex, entries: &'a [Entry], name: &Name) -> Option<Given<'a>>
     requires { Indexes index.now (reverse entries.now) }
-    ensures { standing_in result ≡ principals.role_at (reverse entries.now) name.now }
+    ensures { principal_in result ≡ principals.role_at (reverse entries.now) name.now }
 {
     put_at(entries, index.role(name))
 }

@@ -33,7 +33,7 @@ pub fn world()
     later();
 }
 
-/// An entry that is put where it may be stored: none waited there, no waiting entry comes to stand at a place of the log, the
+/// An entry that is put where it may be stored: none waited there, no waiting entry then stands at a place of the log, the
 /// book has this entry besides, and it is later where the number is above the writes of the entry's document.
 pub fn storing()
     ensures free { (log : List Entry) (waiting : List Waiting) (number : ℕ)

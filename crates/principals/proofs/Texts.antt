@@ -101,7 +101,7 @@ line_whole l is = joined_lack 10 9 refl (fields_of l) (all_lack 10 (omega arith)
 pub line_is : (text : List ℕ) (l : AdminLine) → pieces 9 text ≡ fields_of l → text ≡ line_of l
 line_is text l e = sym (joined_pieces 9 text) ∙ ap (join_with_byte 9) e
 
--- a text as a number, by which short texts are told apart
+-- a text as a number, by which short texts are distinguished
 abbrev code : List ℕ → ℕ
 code [] = 0
 code (b ∷ bs) = b + 256 * code bs

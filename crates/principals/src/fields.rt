@@ -8,7 +8,7 @@ use sg_history::cut;
 /// The most fields that a line of a script has.
 pub const MOST: usize = 5;
 
-/// Puts the fields of a line at the front of `into`, and tells how many they are; none where they are more than fit.
+/// Puts the fields of a line at the front of `into`, and says how many they are; none where they are more than fit.
 pub fn fields_of<'a>(line: &'a [u8], into: &mut [&'a [u8]; MOST]) -> Option<usize>
     ensures within { IfSome result (λ n. n ≤ 5) }
     ensures room { length into.new ≡ 5 }

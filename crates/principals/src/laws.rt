@@ -9,10 +9,12 @@ ghost use Rattle.principals.specs.Faults.{IsBadScript};
 /// A text is that of one list of lines at most, it has one first bad line at most, and it never is a script that has one. No
 /// text is neither: not a script, and without a first bad line.
 pub fn scripts()
-    ensures one { (bytes : List ℕ) (a b : List AdminLine) → Spells bytes a → Spells bytes b → a ≡ b }
+    ensures one { (bytes : List ℕ) (a b : List AdminLine) → Spells bytes a → Spells bytes b
+        → a ≡ b }
     ensures one_bad { (bytes : List ℕ) (a b : BadLine) → IsBadScript bytes a → IsBadScript bytes b
         → a ≡ b }
-    ensures apart { (bytes : List ℕ) (bad : BadLine) (lines : List AdminLine) → IsBadScript bytes bad
+    ensures apart { (bytes : List ℕ) (bad : BadLine) (lines : List AdminLine)
+        → IsBadScript bytes bad
         → ¬ (Spells bytes lines) }
     ensures either { (bytes : List ℕ) → ((lines : List AdminLine) → ¬ (Spells bytes lines))
         → ¬ ((bad : BadLine) → ¬ (IsBadScript bytes bad)) }

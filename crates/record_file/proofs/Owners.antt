@@ -20,7 +20,7 @@ use Rattle.sg_history.proofs.PieceLemmas.{pieces-cut, pieces-lacking, pieces-som
 use Rattle.repl_messages.specs.declared.request.Version.{Version}
 use Rattle.repl_messages.specs.declared.request.Version.TheVariants as version
 use Rattle.record_file.specs.Record.{owner_text, version_text}
-use Rattle.record_file.specs.Faults.{TellsWhy, fields_fault, first_fault, frame_fault, name_fault, owner_fault, version_fault}
+use Rattle.record_file.specs.Faults.{NamesReason, fields_fault, first_fault, frame_fault, name_fault, owner_fault, version_fault}
 
 apart : true ≢ false
 apart e = cc (e)
@@ -104,22 +104,22 @@ pub name_read : (text : List ℕ) (r : Result (List ℕ) LineFault) → IfOk r (
 name_read text (Ok v) h = (h.0, h.1, subst IsUtf8 (sym h.0) h.2)
 name_read text (Err e) h = tt
 
--- what is told of a field that is to be a name
-pub name_told : (text : List ℕ) (r : Result (List ℕ) LineFault) → IfOk r (λ v. IsText faults.name text) → IfErr r (IsBadField 2 faults.name text)
-    → MatchResult r (λ v. name_fault text ≡ None) (TellsWhy (name_fault text))
-name_told text (Ok v) is bad = name_fine text is.1 is.0
-name_told text (Err (line.Bad why)) is bad = name_bad text bad.1 ∙ ap Some (sym bad.0)
-name_told text (Err line.Memory) is bad = tt
+-- what is said of a field that is to be a name
+pub name_refusal : (text : List ℕ) (r : Result (List ℕ) LineFault) → IfOk r (λ v. IsText faults.name text) → IfErr r (IsBadField 2 faults.name text)
+    → MatchResult r (λ v. name_fault text ≡ None) (NamesReason (name_fault text))
+name_refusal text (Ok v) is bad = name_fine text is.1 is.0
+name_refusal text (Err (line.Bad why)) is bad = name_bad text bad.1 ∙ ap Some (sym bad.0)
+name_refusal text (Err line.Memory) is bad = tt
 
--- what is told of a line that is to be a frame
-pub frame_told : (text : List ℕ) (r : Result (List ℕ) LineFault) → IfOk r (λ v. IsText faults.body text) → IfErr r (IsBadField 1 faults.body text)
-    → MatchResult r (λ v. frame_fault text ≡ None) (TellsWhy (frame_fault text))
-frame_told text (Ok v) is bad = ap (λ t. if t then None else Some (reason.Field 1)) is
-frame_told text (Err (line.Bad why)) is bad = elim (cases_Bool (is_hex text)) [
+-- what is said of a line that is to be a frame
+pub frame_refusal : (text : List ℕ) (r : Result (List ℕ) LineFault) → IfOk r (λ v. IsText faults.body text) → IfErr r (IsBadField 1 faults.body text)
+    → MatchResult r (λ v. frame_fault text ≡ None) (NamesReason (frame_fault text))
+frame_refusal text (Ok v) is bad = ap (λ t. if t then None else Some (reason.Field 1)) is
+frame_refusal text (Err (line.Bad why)) is bad = elim (cases_Bool (is_hex text)) [
   | inl hex ↦ absurd (bad.1 hex)
   | inr other ↦ ap (λ t. if t then None else Some (reason.Field 1)) other ∙ ap Some (sym bad.0)
 ]
-frame_told text (Err line.Memory) is bad = tt
+frame_refusal text (Err line.Memory) is bad = tt
 
 version_fine : (v : Version) → version_fault (version_text v) ≡ None
 version_fine version.Two = refl

@@ -11,7 +11,7 @@ use Rattle.sg_history.specs.Pieces.{pieces}
 use Rattle.sg_history.proofs.PieceLemmas.{pieces-cut, pieces-lacking, pieces-some}
 use Rattle.record_file.specs.declared.record.Recorded.{Recorded}
 use Rattle.record_file.specs.Record.{header, owner_text, items_text, Spells}
-use Rattle.record_file.specs.Faults.{at_place, bad_among, bad_item, bad_line, bad_owner, owner_fault, Tells}
+use Rattle.record_file.specs.Faults.{at_place, bad_among, bad_item, bad_line, bad_owner, owner_fault, NamesBadLine}
 use Rattle.record_file.proofs.Lines.{items_fine, items_same}
 use Rattle.record_file.proofs.Owners.{owner_fine, owner_lacks, owner_same}
 
@@ -54,12 +54,12 @@ bad_head bytes first lines title cut lacking is other =
 
 -- the first line is the header
 pub found_after : (bytes first lines title : List ℕ) (r : Result Recorded ReadLog) → bytes ≡ first ++ 10 ∷ lines → lacks 10 first ≡ true → title ≡ header
-    → false ≡ not (bytes_eq first title) → MatchResult r (λ _. bad_owner (pieces 10 lines) ≡ None) (Tells (bad_owner (pieces 10 lines)))
-    → MatchResult r (λ _. bad_line bytes ≡ None) (Tells (bad_line bytes))
+    → false ≡ not (bytes_eq first title) → MatchResult r (λ _. bad_owner (pieces 10 lines) ≡ None) (NamesBadLine (bad_owner (pieces 10 lines)))
+    → MatchResult r (λ _. bad_line bytes ≡ None) (NamesBadLine (bad_line bytes))
 found_after bytes first lines title r cut lacking is same h =
     let found : bad_line bytes ≡ bad_owner (pieces 10 lines) =
     bad_line_next bytes first lines cut lacking ∙ rw (equals (bytes_eq first header) (rw is at same)) refl in
-    subst (λ (found : Option BadLine). MatchResult r (λ _. found ≡ None) (Tells found)) (sym found) h
+    subst (λ (found : Option BadLine). MatchResult r (λ _. found ≡ None) (NamesBadLine found)) (sym found) h
 
 lines_fine : (r : Recorded) (bytes : List ℕ) → Spells bytes r → bad_owner (pieces 10 (owner_text r.user r.version ++ 10 ∷ items_text r.items)) ≡ None
 lines_fine r bytes h =

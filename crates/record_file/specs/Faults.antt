@@ -81,15 +81,15 @@ bad_among (line ∷ more) = at_place 1 (header_fault line) (bad_owner more)
 abbrev pub bad_line : List ℕ → Option BadLine
 bad_line bytes = bad_among (pieces 10 bytes)
 
--- a refusal other than that memory ran out tells this
-abbrev pub TellsWhy : Option Why → LineFault → Type 0
-TellsWhy fault (line.Bad why) = fault ≡ Some why
-TellsWhy fault line.Memory = Unit {0}
+-- a refusal other than that memory ran out names this
+abbrev pub NamesReason : Option Why → LineFault → Type 0
+NamesReason fault (line.Bad why) = fault ≡ Some why
+NamesReason fault line.Memory = Unit {0}
 
--- a refusal of a file other than that memory ran out tells this line
-abbrev pub Tells : Option BadLine → ReadLog → Type 0
-Tells found (file.Bad bad) = found ≡ Some bad
-Tells found file.Memory = Unit {0}
+-- a refusal of a file other than that memory ran out names this line
+abbrev pub NamesBadLine : Option BadLine → ReadLog → Type 0
+NamesBadLine found (file.Bad bad) = found ≡ Some bad
+NamesBadLine found file.Memory = Unit {0}
 
 -- a refusal of a line, in a file
 abbrev pub refusal_at : ℕ → LineFault → ReadLog

@@ -92,7 +92,7 @@ impl Items {
     /// the items are let go.
     pub fn into_wire(self, alloc: Global) -> Result<MemWire, Memory>
         ensures { IfOk result
-            (λ w. ⟦<MemWire as Wire>⟧.told w ≡ Some (traffic (texts.results_of self) 0 [] [])) }
+            (λ w. ⟦<MemWire as Wire>⟧.recorded w ≡ Some (traffic (texts.results_of self) 0 [] [])) }
     {
         let inputs = inputs_of(alloc, self.items)?;
         Ok(MemWire::new(alloc, inputs))

@@ -3,7 +3,7 @@
 ghost use Rattle.std.specs.Prelude.{◌≡◌, None, MatchResult, IsTrue, IfOk};
 ghost use Rattle.sg_names.specs.Hex.{hex_text, is_hex};
 ghost use Rattle.record_file.specs.Record.{item_text, is_item};
-ghost use Rattle.record_file.specs.Faults.{frame_fault, item_fault, TellsWhy};
+ghost use Rattle.record_file.specs.Faults.{frame_fault, item_fault, NamesReason};
 
 use crate::item::Item;
 use sg_history::fault::LineFault;
@@ -15,7 +15,7 @@ use std::alloc::Global;
 fn read_frame(alloc: Global, line: &[u8]) -> Result<Bytes, LineFault>
     ensures ok { IfOk result (λ frame. (line.now ≡ hex_text frame) × IsTrue (is_hex line.now)) }
     ensures fault { MatchResult result
-        (λ _. frame_fault line.now ≡ None) (TellsWhy (frame_fault line.now)) }
+        (λ _. frame_fault line.now ≡ None) (NamesReason (frame_fault line.now)) }
 {
     sg_history::field::read(alloc, line, 1)
 }
@@ -24,7 +24,7 @@ fn read_frame(alloc: Global, line: &[u8]) -> Result<Bytes, LineFault>
 pub fn read_item(alloc: Global, line: &[u8]) -> Result<Item, LineFault>
     ensures ok { IfOk result (λ item. (line.now ≡ item_text item) × IsTrue (is_item item)) }
     ensures fault { MatchResult result
-        (λ _. item_fault line.now ≡ None) (TellsWhy (item_fault line.now)) }
+        (λ _. item_fault line.now ≡ None) (NamesReason (item_fault line.now)) }
 {
     if cut(line, b'\t').is_some() {
         return Err(LineFault::Bad(Why::Fields));

@@ -4,7 +4,7 @@ ghost use Rattle.std.specs.Prelude.{◌≡◌, ◌++◌, ◌∷◌, [], None, So
 ghost use Rattle.sg_history.specs.Pieces.{pieces};
 ghost use Rattle.sg_names.specs.Grammar.{is_name};
 ghost use Rattle.record_file.specs.Record.{owner_text, version_text};
-ghost use Rattle.record_file.specs.Faults.{fields_fault, name_fault, owner_fault, version_fault, TellsWhy};
+ghost use Rattle.record_file.specs.Faults.{fields_fault, name_fault, owner_fault, version_fault, NamesReason};
 
 use repl_messages::Version;
 use sg_history::fault::LineFault;
@@ -22,7 +22,7 @@ pub struct Owner {
 fn read_name(alloc: Global, field: &[u8]) -> Result<Name, LineFault>
     ensures ok { IfOk result (λ name. (name ≡ field.now) × IsTrue (is_name name) × IsUtf8 name) }
     ensures fault { MatchResult result
-        (λ _. name_fault field.now ≡ None) (TellsWhy (name_fault field.now)) }
+        (λ _. name_fault field.now ≡ None) (NamesReason (name_fault field.now)) }
 {
     sg_history::field::read(alloc, field, 2)
 }
@@ -31,7 +31,7 @@ fn read_name(alloc: Global, field: &[u8]) -> Result<Name, LineFault>
 fn read_version(field: &[u8]) -> Result<Version, LineFault>
     ensures ok { IfOk result (λ version. field.now ≡ version_text version) }
     ensures fault { MatchResult result (λ _. version_fault field.now ≡ None)
-        (TellsWhy (version_fault field.now)) }
+        (NamesReason (version_fault field.now)) }
 {
     match field {
         b"2" => Ok(Version::Two),
@@ -45,7 +45,7 @@ fn read_fields(alloc: Global, fields: &[u8]) -> Result<Owner, LineFault>
     ensures ok { IfOk result (λ owner. fields.now ≡ owner.user ++ 9 ∷ version_text owner.version) }
     ensures name { IfOk result (λ owner. IsTrue (is_name owner.user) × IsUtf8 owner.user) }
     ensures fault { MatchResult result (λ _. fields_fault (pieces 9 fields.now) ≡ None)
-        (TellsWhy (fields_fault (pieces 9 fields.now))) }
+        (NamesReason (fields_fault (pieces 9 fields.now))) }
 {
     let Some((name, version)) = cut(fields, b'\t') else {
         return Err(LineFault::Bad(Why::Fields));
@@ -73,7 +73,7 @@ pub fn read_owner(alloc: Global, line: &[u8]) -> Result<Owner, LineFault>
     ensures ok { IfOk result (λ owner. line.now ≡ owner_text owner.user owner.version) }
     ensures name { IfOk result (λ owner. IsTrue (is_name owner.user) × IsUtf8 owner.user) }
     ensures fault { MatchResult result (λ _. owner_fault (pieces 9 line.now) ≡ None)
-        (TellsWhy (owner_fault (pieces 9 line.now))) }
+        (NamesReason (owner_fault (pieces 9 line.now))) }
 {
     let Some((kind, fields)) = cut(line, b'\t') else {
         return Err(LineFault::Bad(fault_of_one(line)));

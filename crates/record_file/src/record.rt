@@ -7,7 +7,7 @@ ghost use Rattle.sg_history.specs.Refusal.{RefusesLog};
 ghost use Rattle.sg_names.specs.Grammar.{is_name};
 ghost use Rattle.record_file.specs.declared.record.Recorded.{Recorded};
 ghost use Rattle.record_file.specs.Record.{Spells, items_text, owner_text, is_item};
-ghost use Rattle.record_file.specs.Faults.{bad_among, bad_item, bad_line, bad_owner, refusal_at, Tells};
+ghost use Rattle.record_file.specs.Faults.{bad_among, bad_item, bad_line, bad_owner, refusal_at, NamesBadLine};
 
 use crate::item::Items;
 use crate::line::read_item;
@@ -49,7 +49,7 @@ fn read_items(alloc: Global, lines: &[u8]) -> Result<Items, ReadLog>
     ensures ok { IfOk result (λ items. (lines.now ≡ items_text items)
         × IsTrue (list_all (λ i. is_item i) items)) }
     ensures line { MatchResult result (λ _. bad_item 3 (pieces 10 lines.now) ≡ None)
-        (Tells (bad_item 3 (pieces 10 lines.now))) }
+        (NamesBadLine (bad_item 3 (pieces 10 lines.now))) }
 {
     let mut items = Items::new(alloc);
     let mut place = 3;
@@ -75,7 +75,7 @@ fn read_lines(alloc: Global, lines: &[u8]) -> Result<Recorded, ReadLog>
     ensures user { IfOk result (λ r. IsTrue (is_name r.user) × IsUtf8 r.user) }
     ensures items { IfOk result (λ r. IsTrue (list_all (λ i. is_item i) r.items)) }
     ensures line { MatchResult result (λ _. bad_owner (pieces 10 lines.now) ≡ None)
-        (Tells (bad_owner (pieces 10 lines.now))) }
+        (NamesBadLine (bad_owner (pieces 10 lines.now))) }
 {
     let Some((line, further)) = cut(lines, b'\n') else {
         return Err(bad(2, Why::Ending));
@@ -104,15 +104,15 @@ fn fault_of_header(line: &[u8]) -> Why
     }
 }
 
-/// Reads a recorded session, or tells its first bad line.
+/// Reads a recorded session, or names its first bad line.
 ///
-/// A line's faults are told in this order: `Head` (the first line), `Ending`, then `Kind` (the second line), `Fields`
+/// A line's faults are named in this order: `Head` (the first line), `Ending`, then `Kind` (the second line), `Fields`
 /// and the first `Field`.
 pub fn read_record(alloc: Global, bytes: &[u8]) -> Result<Recorded, ReadLog>
     ensures ok { IfOk result (λ r. Spells bytes.now r) }
     ensures bad { IfErr result (λ e. RefusesLog e ((r : Recorded) → ¬ (Spells bytes.now r))) }
     ensures line { MatchResult result
-        (λ _. bad_line bytes.now ≡ None) (Tells (bad_line bytes.now)) }
+        (λ _. bad_line bytes.now ≡ None) (NamesBadLine (bad_line bytes.now)) }
 {
     let Some((first, lines)) = cut(bytes, b'\n') else {
         return Err(bad(1, fault_of_header(bytes)));

@@ -1,4 +1,4 @@
--- What a message of a device asks for: a request, or the refusal that is due. The messages of a device are told apart by
+-- What a message of a device asks for: a request, or the refusal that is due. The messages of a device are distinguished by
 -- their property `Profile`.
 use Rattle.std.specs.Prelude.{◌≡◌, ◌≤◌, ℕ, List, length, Option, Some, None, option_and_then, option_map, Result, Err, codes, if◌then◌else◌}
 use Rattle.std.specs.Str.{bytes_eq}

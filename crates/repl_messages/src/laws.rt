@@ -34,8 +34,10 @@ pub fn one_answer()
 /// What is written of rows in their grammar has no NUL in its properties and no key twice, so that it
 /// is read again as it was written.
 pub fn payloads_read_again()
-    ensures changes { (rows : List Row) (version : Version) → IsReadAgain (changes_payload rows version) }
-    ensures rev { (row : Row) (ancestors : List RevId) (body : List ℕ) → IsInGrammar row → IsTrue (is_revs ancestors)
+    ensures changes { (rows : List Row) (version : Version)
+        → IsReadAgain (changes_payload rows version) }
+    ensures rev { (row : Row) (ancestors : List RevId) (body : List ℕ) → IsInGrammar row
+        → IsTrue (is_revs ancestors)
         → IsReadAgain (rev_payload row ancestors body) }
     ensures norev { (row : Row) → IsInGrammar row → IsReadAgain (norev_payload row) }
     ensures ok { IsReadAgain ok_payload }

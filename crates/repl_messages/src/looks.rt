@@ -21,7 +21,7 @@ pub enum Fed {
 pub enum Body {
     /// What is shown still is the row's: the revision's ancestors, the nearest first, and its body.
     Rev { ancestors: Revs, bytes: Bytes },
-    /// The document still is gone by the write that the row tells of.
+    /// The document still is gone by the write that the row speaks of.
     Removed,
     /// Neither.
     NoRev,

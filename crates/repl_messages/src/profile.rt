@@ -1,4 +1,4 @@
-//! The messages of a device, told apart by their property `Profile`.
+//! The messages of a device, distinguished by their property `Profile`.
 
 ghost use Rattle.std.specs.Prelude.{◌≡◌};
 ghost use Rattle.std.specs.Option.{option_copied};

@@ -157,7 +157,8 @@ pub fn read_request(
     ensures bounded { IfOk result IsBounded }
 
     // But for `Memory`, a message has this one answer.
-    ensures only { (answer : Result Request RequestFault) → IsAnswer message.now.payload version answer
+    ensures only { (answer : Result Request RequestFault)
+        → IsAnswer message.now.payload version answer
         → result ≢ Err RequestFault.Memory → result ≡ answer }
 {
     one_answer();

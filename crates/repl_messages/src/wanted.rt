@@ -28,8 +28,12 @@ pub struct Wanted {
 /// Reads the reply to so many rows. A row is wanted where the item at its place is an array; an error, and
 /// a body that is no JSON array, wants none.
 pub fn read_wanted(alloc: Global, message: &Message, rows: u64) -> Result<Wanted, Memory>
-    ensures rows { IfOk result (λ w. w.rows ≡ wanted_rows rows (wanted.reply_items message.now.kind message.now.payload.body)) }
-    ensures max_history { IfOk result (λ w. w.max_history ≡ max_history_of (value_at message.now.payload.props (codes "maxHistory"))) }
+    ensures rows { IfOk result
+        (λ w. w.rows
+        ≡ wanted_rows rows (wanted.reply_items message.now.kind message.now.payload.body)) }
+    ensures max_history { IfOk result
+        (λ w. w.max_history
+        ≡ max_history_of (value_at message.now.payload.props (codes "maxHistory"))) }
 {
     let items = reply_items(alloc, message.kind, message.payload.body.as_slice())?;
     Ok(Wanted {

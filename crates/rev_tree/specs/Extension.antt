@@ -61,7 +61,7 @@ pub data Verdict : Type 0 where
   makes_conflict : Verdict
   extends_tree : Verdict
 
--- what comes of a revision with these ancestors in a tree, under strictness or not: the first of these that holds
+-- the outcome of a revision with these ancestors in a tree, under strictness or not: the first of these that holds
 abbrev pub verdict_of : List Node → RevId → List RevId → Bool → Verdict
 verdict_of tree rev ancestors strict =
     if knows tree rev then is_known

@@ -98,7 +98,9 @@ pub fn node_on(
     deleted: bool,
     ancestors: &[RevId],
 ) -> Result<Node, AllocError>
-    ensures { IfOk result (λ n. n ≡ record { rev = rev.now; parent = extension.first_of ancestors.now; deleted = deleted }) }
+    ensures { IfOk result
+        (λ n. n
+        ≡ record { rev = rev.now; parent = extension.first_of ancestors.now; deleted = deleted }) }
 {
     Ok(Node {
         rev: rev.copy(alloc)?,

@@ -210,7 +210,7 @@ impl Tree {
         }
     }
 
-    /// What comes of a further revision with its ancestors from the nearest. It is the first of these:
+    /// The outcome of a further revision with its ancestors from the nearest. It is the first of these:
     /// the tree knows the revision; its history is bad; it makes a conflict, under `strict`; it is on
     /// its first ancestor that the tree knows, with those before that one as revisions without bodies, or
     /// below all its ancestors where none is known. The tree stays as it is.

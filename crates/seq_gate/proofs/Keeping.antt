@@ -13,7 +13,7 @@ use Rattle.atomic_table.proofs.Lists.{at_set, set_here, one_turn}
 use Rattle.sg_history.specs.Board.{BoardState, board_book, After}
 use Rattle.sg_history.specs.World.{once_among}
 use Rattle.seq_gate.specs.Counts.{once, total}
-use Rattle.seq_gate.specs.Passes.{share, drawn, drawn_in_turn, with_floor, stored_at, IsNew, IsAboveBook, Finds, MayLeave}
+use Rattle.seq_gate.specs.Passes.{share, drawn, drawn_in_turn, with_lowest_front, stored_at, IsNew, IsAboveBook, Finds, MayLeave}
 use Rattle.seq_gate.specs.Rule.{is_ticket, one_if_some, idle, spent, Fits, IsSound}
 use Rattle.seq_gate.specs.Turns.{knowing, ticketed, in_turn, leaving, passing, passed, Draws, DrawsInTurn, TakesTicket, Looks, Raises, Passes, LoadsFront, LoadsShare}
 use Rattle.seq_gate.specs.declared.known.Known.{Known}
@@ -169,7 +169,7 @@ module _ {B : Type 0} (seen : B → BoardState) (o slots id : ℕ) where
         record {
           least = omega arith;
           small = omega (arith, most);
-          floor = omega (arith, front, logged);
+          lowest_front = omega (arith, front, logged);
           held = λ k some_held.
               let a = held_within o sound.n sound.given sound.served sound.last s.views sound.sums id v at k in
               let low = (once_some k sound.n (omega (arith, a, some_held))).1 in omega (arith, low);
@@ -205,7 +205,7 @@ module _ {B : Type 0} (seen : B → BoardState) (o slots id : ℕ) where
               (λ (p : v ≡ spent). absurd (no_share v p (omega (arith, left))))
               mine.part;
           seen = mine.seen;
-          floor = mine.floor;
+          lowest_front = mine.lowest_front;
           front = mine.front;
           read = mine.read;
           own = mine.own;
@@ -276,7 +276,7 @@ module _ {B : Type 0} (seen : B → BoardState) (o slots id : ℕ) where
               opened = mine.opened;
               part = inl part;
               seen = mine.seen;
-              floor = mine.floor;
+              lowest_front = mine.lowest_front;
               front = mine.front;
               read = mine.read;
               own = mine.own;
@@ -310,7 +310,7 @@ module _ {B : Type 0} (seen : B → BoardState) (o slots id : ℕ) where
       let v = idle p in
       let front = slice_index s.words 3 in
       let is : front ≡ length sound.last.log = word s.words 3 sound.n (sound.given % 2 ^ 64) (sound.served % 2 ^ 64) (length sound.last.log) sound.words in
-      let w = idle (with_floor p front) in
+      let w = idle (with_lowest_front p front) in
       let mine = sound.fits id v at in
       let before = mine.front in (
         w,
@@ -322,7 +322,7 @@ module _ {B : Type 0} (seen : B → BoardState) (o slots id : ℕ) where
               opened = mine.opened;
               part = inl part;
               seen = mine.seen;
-              floor = let a = extends_length p.seen sound.last.log mine.seen in omega (arith, a, is);
+              lowest_front = let a = extends_length p.seen sound.last.log mine.seen in omega (arith, a, is);
               front = omega (arith, is);
               read = mine.read;
               own = mine.own;
@@ -354,7 +354,7 @@ module _ {B : Type 0} (seen : B → BoardState) (o slots id : ℕ) where
                 opened = mine.opened;
                 part = inl part;
                 seen = mine.seen;
-                floor = mine.floor;
+                lowest_front = mine.lowest_front;
                 front = mine.front;
                 read = mine.read;
                 own = mine.own;
@@ -392,7 +392,7 @@ module _ {B : Type 0} (seen : B → BoardState) (o slots id : ℕ) where
       found_last mine =
           record {
             seen = mine.seen;
-            floor = mine.front;
+            lowest_front = mine.front;
             read = mine.read;
             own = mine.own;
             held = λ k some_held.
@@ -420,7 +420,7 @@ module _ {B : Type 0} (seen : B → BoardState) (o slots id : ℕ) where
           opened = mine.opened;
           part = inl part;
           seen = ([], sym (append-nil left.log));
-          floor = omega arith;
+          lowest_front = omega arith;
           front = omega arith;
           read = (itself left, (may_leave.after, after_all again p.read sound.last left mine.read may.after));
           own = has_both left (stored_at (board_book left) p.held) p.own (stored_has left p.held) (has_after p.own sound.last left mine.own may.after);
@@ -433,7 +433,7 @@ module _ {B : Type 0} (seen : B → BoardState) (o slots id : ℕ) where
           opened = u_fits.opened;
           part = u_fits.part;
           seen = extends_again u.knows.seen sound.last.log left.log u_fits.seen may.after.log;
-          floor = u_fits.floor;
+          lowest_front = u_fits.lowest_front;
           front = let f = u_fits.front in omega (arith, f, grew);
           read = after_all again u.knows.read sound.last left u_fits.read may.after;
           own = has_after u.knows.own sound.last left u_fits.own may.after;
@@ -498,7 +498,7 @@ module _ {B : Type 0} (seen : B → BoardState) (o slots id : ℕ) where
           opened = mine.opened;
           part = inl part;
           seen = mine.seen;
-          floor = mine.floor;
+          lowest_front = mine.lowest_front;
           front = mine.front;
           read = mine.read;
           own = mine.own;
@@ -512,7 +512,7 @@ module _ {B : Type 0} (seen : B → BoardState) (o slots id : ℕ) where
           opened = u_fits.opened;
           part = u_fits.part;
           seen = u_fits.seen;
-          floor = u_fits.floor;
+          lowest_front = u_fits.lowest_front;
           front = u_fits.front;
           read = u_fits.read;
           own = u_fits.own;

@@ -51,7 +51,7 @@ to_split seen o id p left s sound at =
             opened = λ least. mine.opened (omega (arith, left));
             part = inl (omega (arith, left));
             seen = mine.seen;
-            floor = mine.floor;
+            lowest_front = mine.lowest_front;
             front = mine.front;
             read = mine.read;
             own = mine.own;
@@ -64,7 +64,7 @@ to_split seen o id p left s sound at =
             opened = λ least. mine.opened (omega (arith, left));
             part = inl (omega arith);
             seen = mine.seen;
-            floor = mine.floor;
+            lowest_front = mine.lowest_front;
             front = mine.front;
             read = mine.read;
             own = tt;
@@ -112,7 +112,7 @@ spent_fits o served last =
       opened = λ least. absurd (omega (arith, least));
       part = inr refl;
       seen = (last.log, refl);
-      floor = omega arith;
+      lowest_front = omega arith;
       front = omega arith;
       read = tt;
       own = tt;
@@ -145,7 +145,7 @@ to_join seen o id other p q part s sound at apart there =
             opened = λ least. mine.opened (omega (arith, part));
             part = inl (omega (arith, part));
             seen = longer_extends p.seen q.seen sound.last.log mine.seen its.seen;
-            floor = longer_within p.seen q.seen p.floor q.floor mine.floor its.floor;
+            lowest_front = longer_within p.seen q.seen p.lowest_front q.lowest_front mine.lowest_front its.lowest_front;
             front = let f = mine.front in let g = its.front in omega (arith, f, g);
             read = after_both p.read q.read sound.last mine.read its.read;
             own = has_both sound.last p.own q.own mine.own its.own;
@@ -171,7 +171,7 @@ to_join seen o id other p q part s sound at apart there =
 
 pub to_open : ((b : BoardState) → After b b) → {B : Type 0} (seen : B → BoardState) (board : B) (b : BoardState) → seen board ≡ b → b.pending ≡ [] → b.rooms ≡ [] → length b.log ≤ 2 ^ 62
     → IsSound seen (length b.log) (opening (length b.log ∷ 0 ∷ 0 ∷ length b.log ∷ []) (Some board ∷ []) (first_view b))
-to_open itself seen board b is empty no_rooms_out least =
+to_open itself seen board b is empty no_rooms_outstanding least =
     record {
       n = length b.log;
       given = 0;
@@ -189,7 +189,7 @@ to_open itself seen board b is empty no_rooms_out least =
         queued = refl;
         world = λ k. let a = all_logged k in omega (arith, a);
         waiting = ap (λ (ws : List Waiting). rises_from (length b.log + 1) ws) empty;
-        rooms = λ room. sym (ap (λ (rs : List RoomFor). room_times room rs) no_rooms_out);
+        rooms = λ room. sym (ap (λ (rs : List RoomFor). room_times room rs) no_rooms_outstanding);
         owners = λ k. let a = none_owed k in omega (arith, a);
       };
       home = λ _. (board, refl, is);
@@ -222,7 +222,7 @@ to_open itself seen board b is empty no_rooms_out least =
           opened = λ _. refl;
           part = inl (omega arith);
           seen = ([], sym (append-nil b.log));
-          floor = omega arith;
+          lowest_front = omega arith;
           front = omega arith;
           read = (itself b, tt);
           own = tt;

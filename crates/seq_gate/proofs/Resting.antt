@@ -5,7 +5,7 @@ use Rattle.std.proofs.lemmas.Option.{same_Some}
 use Rattle.atomic_table.specs.Table.{Me, step, rest}
 use Rattle.sg_history.specs.declared.entries.Entry.{Entry}
 use Rattle.sg_history.specs.Board.{BoardState, board_book}
-use Rattle.seq_gate.specs.Passes.{share, drawn, drawn_in_turn, with_floor, after_turn, split_from, split_off, joined, IsNew, IsAboveBook, Finds, StoresHeld}
+use Rattle.seq_gate.specs.Passes.{share, drawn, drawn_in_turn, with_lowest_front, after_turn, split_from, split_off, joined, IsNew, IsAboveBook, Finds, StoresHeld}
 use Rattle.seq_gate.specs.Resting.{HasDraws, IsResting, IsServed, found_of}
 use Rattle.seq_gate.specs.Rule.{idle}
 use Rattle.seq_gate.specs.Turns.{knowing, ticketed, in_turn, leaving, passing, passed, Looks, Raises, Passes}
@@ -48,8 +48,8 @@ draws_joined p q count more has other most =
 pub draws_after : (p : Known) (count : ℕ) (found left : BoardState) → HasDraws p count → HasDraws (after_turn p found left) count
 draws_after p count found left has = record { least = has.least; most = has.most; left = has.left }
 
-pub draws_floor : (p : Known) (count front : ℕ) → HasDraws p count → HasDraws (with_floor p front) count
-draws_floor p count front has = record { least = has.least; most = has.most; left = has.left }
+pub draws_lowest_front : (p : Known) (count front : ℕ) → HasDraws p count → HasDraws (with_lowest_front p front) count
+draws_lowest_front p count front has = record { least = has.least; most = has.most; left = has.left }
 
 module _ {B : Type 0} where
   -- ---- out of turn
@@ -86,8 +86,8 @@ module _ {B : Type 0} (seen : B → BoardState) where
   -- what a pass finds whose turn has come
   pub found_turn : (p : Known) (slots ticket word : ℕ) (m n : Me (Option B) View) → m ≡ (ticketed (idle p) ticket, []) → word ≡ ticket % 2 ^ 64 → Looks seen (step slots 2 0 0 none) m word n
       → (board : B) × Finds p (seen board) × (n ≡ (in_turn (ticketed (idle p) ticket) (seen board), (0, Some board) ∷ []))
-  found_turn p slots ticket word m n is now told =
-      let t = (told ticket (ap (λ (x : Me (Option B) View). x.0.ticket) is)).0 now in (
+  found_turn p slots ticket word m n is now fits =
+      let t = (fits ticket (ap (λ (x : Me (Option B) View). x.0.ticket) is)).0 now in (
         t.0,
         subst (λ (x : Me (Option B) View). Finds x.0.knows (seen t.0)) is t.1,
         t.2 ∙ ap (λ (x : Me (Option B) View). (in_turn x.0 (seen t.0), (0, Some t.0) ∷ x.1)) is,
@@ -97,8 +97,8 @@ module _ {B : Type 0} (seen : B → BoardState) where
   pub entered : (p : Known) (slots ticket word : ℕ) (m n : Me (Option B) View) → m ≡ (ticketed (idle p) ticket, []) → word ≡ ticket % 2 ^ 64 → Looks seen (step slots 2 0 0 none) m word n
       → (board : B) (last : Me (Option B) View) → n.1 ≡ (0, Some board) ∷ rest n.1 → last ≡ (n.0, (0, None) ∷ rest n.1)
       → (last ≡ (in_turn (ticketed (idle p) ticket) (seen board), (0, None) ∷ [])) × Finds p (seen board)
-  entered p slots ticket word m n is now told board last out left =
-      let t = found_turn p slots ticket word m n is now told in
+  entered p slots ticket word m n is now fits board last out left =
+      let t = found_turn p slots ticket word m n is now fits in
       let held : n.1 ≡ (0, Some t.0) ∷ [] = ap (λ (x : Me (Option B) View). x.1) t.2 in
       let pair : ◌≡◌ {A = ℕ × Option B} (0, Some t.0) (0, Some board) = first_is (sym held ∙ out) in
       let same : t.0 ≡ board = same_Some t.0 board (ap (λ (x : ℕ × Option B). x.1) pair) in (
@@ -119,12 +119,12 @@ module _ {B : Type 0} (seen : B → BoardState) where
   -- the front is raised
   pub raised_seat : (p : Known) (ticket : ℕ) (found : BoardState) (board : B) (slots front word : ℕ) (m n : Me (Option B) View) → m ≡ (in_turn (ticketed (idle p) ticket) found, (0, Some board) ∷ [])
       → Raises seen (step slots 3 front 0 none) m word n → n ≡ (passing (after_turn p found (seen board)) ticket, [])
-  raised_seat p ticket found board slots front word m n is told =
-      told board found (ap (λ (x : Me (Option B) View). x.1) is) (ap (λ (x : Me (Option B) View). x.0.found) is) ∙ ap (λ (x : Me (Option B) View). (leaving x.0 found (seen board), [])) is
+  raised_seat p ticket found board slots front word m n is fits =
+      fits board found (ap (λ (x : Me (Option B) View). x.1) is) (ap (λ (x : Me (Option B) View). x.0.found) is) ∙ ap (λ (x : Me (Option B) View). (leaving x.0 found (seen board), [])) is
 
   -- the turn is passed on
   pub passed_seat : (q : Known) (ticket slots word : ℕ) (m n : Me (Option B) View) → m ≡ (passing q ticket, []) → Passes (step slots 2 1 0 none) m word n → n ≡ (idle q, [])
-  passed_seat q ticket slots word m n is told = told ∙ ap (λ (x : Me (Option B) View). (passed x.0, x.1)) is
+  passed_seat q ticket slots word m n is fits = fits ∙ ap (λ (x : Me (Option B) View). (passed x.0, x.1)) is
 
 -- a number that is drawn in a turn is above each of the board in hand
 pub above_hand : (p : Known) (found hand : BoardState) (n : ℕ) → IsNew p n → IsAboveBook n (board_book found) → StoresHeld p found hand → IsAboveBook n (board_book hand)

@@ -1,4 +1,4 @@
--- What the rule of a gate is kept by, and what it comes to.
+-- What the rule of a gate is kept by, and what follows from it.
 use Rattle.std.specs.Prelude.{◌≡◌, ◌<◌, ◌≤◌, ◌+◌, ◌^◌, ◌%◌, ℕ, max, List, [], ◌∷◌, ◌++◌, length, Option, Some}
 use mathlib.Core.Option.{none, some}
 use lib.ListN.{get_elem?}
@@ -11,8 +11,8 @@ use Rattle.seq_gate.specs.Turns.{ticketed, in_turn, passing, Draws, DrawsInTurn,
 use Rattle.seq_gate.specs.declared.known.Known.{Known}
 use Rattle.seq_gate.specs.declared.known.View.{View}
 
--- whatever a gate is that meets the rule when a step changes or reads a word, it meets it afterwards, and the step tells what it
--- is said to tell; a step that the slot takes part in takes the board or gives it back
+-- whatever a gate is that meets the rule when a step changes or reads a word, it meets it afterwards, and the step answers what it
+-- is said to answer; a step that the slot takes part in takes the board or gives it back
 pub record KeepsRule {B : Type 0} (seen : B → BoardState) (o slots id : ℕ) : Type 0 where
   -- one is added to the last number drawn, outside of a turn and in one
   pub draw : (v : View) (carried : List (ℕ × Option B)) → 0 < v.knows.left
@@ -35,7 +35,7 @@ pub record KeepsRule {B : Type 0} (seen : B → BoardState) (o slots id : ℕ) :
   -- the front is loaded
   pub load_front : (p : Known) → 2 ^ 32 ≤ share p
       → Allows (IsSound seen o) slots id (idle p, []) 3 (λ n. n) (LoadsFront (step slots 3 0 0 none) (idle p, []))
-  -- the last number drawn is loaded, for what it tells alone
+  -- the last number drawn is loaded, for what it answers alone
   pub load_share : (v : View) (carried : List (ℕ × Option B))
       → Allows (IsSound seen o) slots id (v, carried) 0 (λ n. n) (LoadsShare (step slots 0 0 0 none) (v, carried))
   -- a pass is split, and takes in another

@@ -25,7 +25,7 @@ first_known board =
       in_turns = 0;
       held = [];
       seen = board.log;
-      floor = length board.log;
+      lowest_front = length board.log;
       rooms = [];
       read = board ∷ [];
       own = [];
@@ -39,8 +39,8 @@ abbrev pub drawn_in_turn : Known → ℕ → Known
 drawn_in_turn p n = record p { left = p.left - 1; made = suc p.made; in_turns = suc p.in_turns; held = n ∷ p.held }
 
 -- after it loaded the front
-abbrev pub with_floor : Known → ℕ → Known
-with_floor p front = record p { floor = front }
+abbrev pub with_lowest_front : Known → ℕ → Known
+with_lowest_front p front = record p { lowest_front = front }
 
 -- a number before others, where nothing stands at it
 abbrev pub before_if_none : Option Entry → ℕ → List ℕ → List ℕ
@@ -73,7 +73,7 @@ after_turn p found left =
     record p {
       held = still_held (board_book left) p.held;
       seen = left.log;
-      floor = length left.log;
+      lowest_front = length left.log;
       rooms = rooms_after p.rooms found left;
       read = left ∷ found ∷ p.read;
       own = stored_at (board_book left) p.held ++ p.own;
@@ -101,7 +101,7 @@ joined p other =
       in_turns = p.in_turns + other.in_turns;
       held = p.held ++ other.held;
       seen = longer p.seen other.seen;
-      floor = max p.floor other.floor;
+      lowest_front = max p.lowest_front other.lowest_front;
       rooms = p.rooms ++ other.rooms;
       read = p.read ++ other.read;
       own = p.own ++ other.own;
@@ -121,21 +121,21 @@ abbrev pub IsAboveAll : ℕ → List BoardState → Type 0
 IsAboveAll n [] = Unit {0}
 IsAboveAll n (board ∷ others) = IsAboveBook n (board_book board) × IsAboveAll n others
 
--- the number is one that no one else has or had: it is above the pass's floor, above each number that the pass holds, and above
+-- the number is one that no one else has or had: it is above the pass's lowest front, above each number that the pass holds, and above
 -- each number of each book that it has read
 pub record IsNew (p : Known) (n : ℕ) : Type 0 where
   pub least : 0 < n
   pub small : n < 2 ^ 64
-  pub floor : p.floor < n
+  pub lowest_front : p.lowest_front < n
   pub held : (k : ℕ) → 0 < times k p.held → k < n
   pub read : IsAboveAll n p.read
 
--- what a pass finds when its turn comes: the log extends what it has seen, and is no shorter than its floor; the board comes
+-- what a pass finds when its turn comes: the log extends what it has seen, and is no shorter than its lowest front; the board comes
 -- after each that it has read, and has each of its own entries at its number, nothing at its held numbers, and its rooms at
 -- least as often as it has them; entries wait by rising numbers, and none of them comes next
 pub record Finds (p : Known) (board : BoardState) : Type 0 where
   pub seen : Extends p.seen board.log
-  pub floor : p.floor ≤ length board.log
+  pub lowest_front : p.lowest_front ≤ length board.log
   pub read : IsAfterAll p.read board
   pub own : HasAll board p.own
   pub held : (k : ℕ) → 0 < times k p.held → (0 < k) × (board_book board k ≡ None)

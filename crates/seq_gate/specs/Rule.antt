@@ -35,16 +35,16 @@ first_view board = idle (first_known board)
 abbrev pub spent : View
 spent =
     idle
-    record { opening = 0; left = 0; made = 0; in_turns = 0; held = []; seen = []; floor = 0; rooms = []; read = []; own = [] }
+    record { opening = 0; left = 0; made = 0; in_turns = 0; held = []; seen = []; lowest_front = 0; rooms = []; read = []; own = [] }
 
 -- what the rule says of one view, with the board in the slot or, while that is empty, as it was found
 pub record Fits (opening served : ℕ) (last : BoardState) (v : View) : Type 0 where
   pub opened : 0 < share v.knows → v.knows.opening ≡ opening
   pub part : (2 ^ 32 ≤ share v.knows) ⊎ (v ≡ spent)
-  -- what it has seen is a beginning of the log, no longer than its floor, which the log is no shorter than
+  -- what it has seen is a beginning of the log, no longer than its lowest front, which the log is no shorter than
   pub seen : Extends v.knows.seen last.log
-  pub floor : length v.knows.seen ≤ v.knows.floor
-  pub front : v.knows.floor ≤ length last.log
+  pub lowest_front : length v.knows.seen ≤ v.knows.lowest_front
+  pub front : v.knows.lowest_front ≤ length last.log
   pub read : IsAfterAll v.knows.read last
   pub own : HasAll last v.knows.own
   -- the one in turn has the ticket that is served, and found this board

@@ -1,8 +1,8 @@
--- What each step on a word does to a view, and what it tells.
+-- What each step on a word does to a view, and what it answers.
 use Rattle.std.specs.Prelude.{◌≡◌, ◌≢◌, ◌≤◌, ◌^◌, ◌%◌, ℕ, suc, true, false, [], ◌∷◌, Option, Some, None}
 use Rattle.atomic_table.specs.Table.{Step, Me}
 use Rattle.sg_history.specs.Board.{BoardState}
-use Rattle.seq_gate.specs.Passes.{share, drawn, drawn_in_turn, with_floor, after_turn, split_from, split_off, joined, HasEachOnce, IsNew, IsAboveBook, Finds}
+use Rattle.seq_gate.specs.Passes.{share, drawn, drawn_in_turn, with_lowest_front, after_turn, split_from, split_off, joined, HasEachOnce, IsNew, IsAboveBook, Finds}
 use Rattle.sg_history.specs.Board.{board_book}
 use Rattle.seq_gate.specs.declared.known.Known.{Known}
 use Rattle.seq_gate.specs.declared.known.View.{View}
@@ -59,7 +59,7 @@ module _ {B : Type 0} where
   -- the front is loaded
   abbrev pub LoadsFront : Step (Option B) → Me (Option B) View → ℕ → Me (Option B) View → Type 0
   LoadsFront step before found after =
-      (after ≡ (knowing before.0 (with_floor before.0.knows found), before.1)) × (before.0.knows.floor ≤ found)
+      (after ≡ (knowing before.0 (with_lowest_front before.0.knows found), before.1)) × (before.0.knows.lowest_front ≤ found)
 
   -- a view learns that it has no more draws than there are, and no number twice
   abbrev pub LoadsShare : Step (Option B) → Me (Option B) View → ℕ → Me (Option B) View → Type 0

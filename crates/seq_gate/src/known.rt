@@ -50,7 +50,7 @@ pub struct Known {
     /// The log as it was seen last.
     pub seen: LinkedList<Entry>,
     /// A front that no later front is below.
-    pub floor: u64,
+    pub lowest_front: u64,
     /// The rooms that are outstanding for this pass.
     pub rooms: LinkedList<RoomFor>,
     /// The boards that were read, the newest first.

@@ -1,7 +1,7 @@
 //! Passes out of turn.
 
 ghost use Rattle.std.specs.Prelude.{◌≡◌, ◌<◌, ◌≤◌, ◌^◌};
-ghost use Rattle.seq_gate.specs.Passes.{drawn, with_floor, split_from, split_off, joined, HasEachOnce, IsNew, Finds};
+ghost use Rattle.seq_gate.specs.Passes.{drawn, with_lowest_front, split_from, split_off, joined, HasEachOnce, IsNew, Finds};
 
 use crate::gate::Gate;
 use crate::kept::Kept;
@@ -57,8 +57,8 @@ impl<B: Kept> Pass<B> {
     pub fn front(&mut self, gate: &Gate<B>) -> u64
         requires here { self.old.gate ≡ gate.now }
         ensures gate { self.new.gate ≡ self.old.gate }
-        ensures knows { self.new.knows ≡ with_floor self.old.knows result }
-        ensures rises { self.old.knows.floor ≤ result }
+        ensures knows { self.new.knows ≡ with_lowest_front self.old.knows result }
+        ensures rises { self.old.knows.lowest_front ≤ result }
     {
         gate.table.shared.load::<LoadFront>(&mut self.seat, 3)
     }

@@ -1,4 +1,4 @@
-//! The rule of a gate, and what each step on a word tells.
+//! The rule of a gate, and what each step on a word answers.
 
 use crate::kept::Kept;
 use crate::known::View;

@@ -38,7 +38,7 @@ use Rattle.session_core.specs.declared.machine.Pending.{Pending}
 use Rattle.session_core.specs.declared.machine.Pending.TheVariants as pending
 use Rattle.session_core.specs.Acts.{chosen, reply_act, refusal_act, acceptance_act, outcome_act, error_of, body_act, body_acts, offer_act}
 use Rattle.session_core.specs.Conduct.{AreOnOffer, requests_among, are_requests, AreAnswers, due_with, due_at, IsStillDue, feed_front, WantsFor, most_answers, is_answer, AreWithin, IsKept}
-use Rattle.session_core.specs.Fronts.{front_told}
+use Rattle.session_core.specs.Fronts.{front_by}
 use Rattle.session_core.specs.Running.{Running, rest, is_none, is_silent, next_acts, next_requests, next_feed_with}
 use Rattle.session_core.specs.State.{Machine, AwaitsBy, Awaits}
 use Rattle.session_core.specs.Transitions.{Done, puts, asks, goes_on, looks_again, answered_by, asker_of, refused, on_sub_changes, on_changes, on_served, on_request, answers, wanted_of, most_ancestors, on_wanted, on_reply, first_of, on_first_look, on_next_look, on_fed, on_bodies_of, on_bodies, on_asked, on_judged, on_idle, Does, DoesByMessage}
@@ -112,7 +112,7 @@ bodies_counted (row ∷ rows) (b ∷ bodies) e = count_one row b (body_acts rows
 requests_are_answers : (due : Option ℕ) (acts : List Act) → are_requests acts ≡ true → AreAnswers due acts
 requests_are_answers due acts e = answers_on due [] acts tt e
 
--- ---- what an event comes to
+-- ---- what is done at an event
 
 -- all of it, given the reply that is due and the fronts that are seen
 pub record Conducted (m : Machine) (due : Option ℕ) (fronts : List ℕ) (done : Done) : Type 0 where
@@ -206,7 +206,7 @@ are_answered false m due fronts acts requests r are counted within = goes m due 
 
 -- ---- messages
 
--- what a request comes to, but for the number of answers that may come
+-- what is done at a request, but for the number of answers that may come
 feed_asked : (m : Machine) (asked : Subscription) (feed : Option Running) → Conducted m (Some asked.asker.number) [] (on_sub_changes m asked feed)
 feed_asked m asked None = asks_for m (Some asked.asker.number) [] (pending.Feed asked) (want.Feed asked.since asked.options) (inr refl) (refl, refl)
 feed_asked m asked (Some r) = refusal m asked.asker [] errors.FeedRuns409
@@ -314,13 +314,13 @@ asked_to m answer (pending.Ask asker proposed) =
     (reply_due asker kinds.Rpy (answers_payload answer.answers proposed) refl) (reply_count asker kinds.Rpy (answers_payload answer.answers proposed))
 asked_to m answer (pending.Push asker) = none_put m (Some asker.number) (answer.front ∷ [])
 
-judged_to : (m : Machine) (o : Outcome) (awaited : Pending) → Conducted m (due_with awaited) (front_told (event.Judged o)) (on_judged m o awaited)
-judged_to m o pending.Nothing = none_put m None (front_told (event.Judged o))
-judged_to m o (pending.Feed asked) = none_put m (Some asked.asker.number) (front_told (event.Judged o))
-judged_to m o pending.More = none_put m None (front_told (event.Judged o))
-judged_to m o (pending.Bodies rows) = none_put m None (front_told (event.Judged o))
-judged_to m o (pending.Ask asker proposed) = none_put m (Some asker.number) (front_told (event.Judged o))
-judged_to m o (pending.Push asker) = outcome_is m asker o (front_told (event.Judged o))
+judged_to : (m : Machine) (o : Outcome) (awaited : Pending) → Conducted m (due_with awaited) (front_by (event.Judged o)) (on_judged m o awaited)
+judged_to m o pending.Nothing = none_put m None (front_by (event.Judged o))
+judged_to m o (pending.Feed asked) = none_put m (Some asked.asker.number) (front_by (event.Judged o))
+judged_to m o pending.More = none_put m None (front_by (event.Judged o))
+judged_to m o (pending.Bodies rows) = none_put m None (front_by (event.Judged o))
+judged_to m o (pending.Ask asker proposed) = none_put m (Some asker.number) (front_by (event.Judged o))
+judged_to m o (pending.Push asker) = outcome_is m asker o (front_by (event.Judged o))
 
 -- ---- idle moments
 
@@ -394,16 +394,16 @@ fewer m (event.Judged o) done awaits does is = subst (λ (d : Done). most_answer
 
 -- ---- all of them
 
-pub conducted : (m : Machine) (e : Event) (done : Done) → Awaits m e → Does m e done → Conducted m (due_at m.pending e) (front_told e) done
+pub conducted : (m : Machine) (e : Event) (done : Done) → Awaits m e → Does m e done → Conducted m (due_at m.pending e) (front_by e) done
 conducted m (event.Whole message) done awaits does = by_message m message done (is_request message.kind) does
 conducted m (event.Idle front) done awaits does = subst (Conducted m None (front ∷ [])) (sym does) (idled m front m.feed refl)
 conducted m (event.Fed answer) done awaits does = subst (Conducted m (due_with m.pending) (front_of answer ∷ [])) (sym does) (fed_to m answer m.pending)
 conducted m (event.Bodies b) done awaits does =
     subst (Conducted m (due_with m.pending) (b.front ∷ [])) (sym does) (bodied m b m.pending awaits)
 conducted m (event.Asked answer) done awaits does = subst (Conducted m (due_with m.pending) (answer.front ∷ [])) (sym does) (asked_to m answer m.pending)
-conducted m (event.Judged o) done awaits does = subst (Conducted m (due_with m.pending) (front_told (event.Judged o))) (sym does) (judged_to m o m.pending)
+conducted m (event.Judged o) done awaits does = subst (Conducted m (due_with m.pending) (front_by (event.Judged o))) (sym does) (judged_to m o m.pending)
 
 pub kept : (m : Machine) (e : Event) (done : Done) → Awaits m e → Does m e done → IsKept m e done
 kept m e done awaits does =
-    let c : Conducted m (due_at m.pending e) (front_told e) done = conducted m e done awaits does in
+    let c : Conducted m (due_at m.pending e) (front_by e) done = conducted m e done awaits does in
     record { user = c.user; version = c.version; strict = c.strict; requests = c.requests; front = c.front }

@@ -13,7 +13,7 @@ use Rattle.session_core.specs.declared.event.Event.TheVariants as event
 use Rattle.session_core.specs.declared.machine.Pending.{Pending}
 use Rattle.session_core.specs.declared.machine.Pending.TheVariants as pending
 use Rattle.session_core.specs.Acts.{chosen}
-use Rattle.session_core.specs.Fronts.{front_told}
+use Rattle.session_core.specs.Fronts.{front_by}
 use Rattle.session_core.specs.Running.{Running, next_since}
 use Rattle.session_core.specs.State.{Machine}
 use Rattle.session_core.specs.Transitions.{Done}
@@ -115,4 +115,4 @@ pub record IsKept (m : Machine) (event : Event) (done : Done) : Type 0 where
   pub version : done.after.version ≡ m.version
   pub strict : done.after.strict ≡ m.strict
   pub requests : done.after.requests ≡ m.requests + requests_among done.acts
-  pub front : (most : ℕ) → feed_front m.feed ≤ most → AreWithin most (front_told event) → feed_front done.after.feed ≤ most
+  pub front : (most : ℕ) → feed_front m.feed ≤ most → AreWithin most (front_by event) → feed_front done.after.feed ≤ most

@@ -29,14 +29,14 @@ look_of (event.Bodies b) = record { front = b.front; purpose = purposes.Bodies }
 look_of (event.Asked answer) = record { front = answer.front; purpose = purposes.Ask } ∷ []
 look_of (event.Judged outcome) = map (λ front. record { front = front; purpose = purposes.Push }) (judged_at outcome)
 
--- the front that an event tells: that of its look, or the length of the history that was loaded at an idle moment
-abbrev pub front_told : Event → List ℕ
-front_told (event.Whole message) = []
-front_told (event.Idle front) = front ∷ []
-front_told (event.Fed answer) = front_of answer ∷ []
-front_told (event.Bodies b) = b.front ∷ []
-front_told (event.Asked answer) = answer.front ∷ []
-front_told (event.Judged outcome) = judged_at outcome
+-- the front that an event has: that of its look, or the length of the history that was loaded at an idle moment
+abbrev pub front_by : Event → List ℕ
+front_by (event.Whole message) = []
+front_by (event.Idle front) = front ∷ []
+front_by (event.Fed answer) = front_of answer ∷ []
+front_by (event.Bodies b) = b.front ∷ []
+front_by (event.Asked answer) = answer.front ∷ []
+front_by (event.Judged outcome) = judged_at outcome
 
 -- the sequence at which a revision was stored, if it was
 abbrev pub stored_as : Outcome → List ℕ
@@ -54,7 +54,7 @@ looks_of (s ∷ earlier) = looks_of earlier ++ look_of s.event
 
 abbrev pub fronts_of : List Step → List ℕ
 fronts_of [] = []
-fronts_of (s ∷ earlier) = fronts_of earlier ++ front_told s.event
+fronts_of (s ∷ earlier) = fronts_of earlier ++ front_by s.event
 
 abbrev pub stored_of : List Step → List ℕ
 stored_of [] = []

@@ -9,7 +9,7 @@ use Rattle.session_core.specs.declared.act.Act.{Act}
 use Rattle.session_core.specs.Acts.{offer_act}
 
 -- the rows of its last look that are not answered yet, of which the first ones, a batch of them or all, are on offer in the gateway's
--- request of this number; the front of that look; whether it goes on once all rows are answered; and whether the device was told, by
+-- request of this number; the front of that look; whether it goes on once all rows are answered; and whether the device was informed, by
 -- an empty offer, that it has all rows
 pub record Running : Type 0 where
   pub rows : List Row
@@ -38,7 +38,7 @@ waits (Some r) = is_none r.rows
 abbrev pub next_since : Running → Key
 next_since r = plain r.front
 
--- whether there is nothing to put: no row is left, and the device was told so
+-- whether there is nothing to put: no row is left, and the device was informed so
 abbrev pub is_silent : Running → Bool
 is_silent r = r.caught_up && (r.continuous && is_none r.rows)
 

@@ -32,7 +32,7 @@ use Rattle.session_core.specs.Running.{Running, rest, is_none, next_since, next_
 use Rattle.session_core.specs.Served.{IsRead}
 use Rattle.session_core.specs.State.{Machine}
 
--- what an event comes to: the state after it, what is put, and what is wanted of the history
+-- what is done at an event: the state after it, what is put, and what is wanted of the history
 pub record Done : Type 0 where
   pub after : Machine
   pub acts : List Act
@@ -199,7 +199,7 @@ Does m (event.Judged outcome) done = done ≡ on_judged m outcome m.pending
 
 -- ---- what the machine answers
 
--- the state and the acts are those that an event comes to
+-- the state and the acts are those of what is done at an event
 abbrev pub IsDone : Done → Machine → Acts → Type 0
 IsDone done after acts = (done.after ≡ after) × (done.acts ≡ acts.puts.items) × (done.want ≡ acts.want)
 

@@ -7,7 +7,7 @@ use sg_history::{Options, Row, Rows};
 use std::marker::Model;
 
 /// The rows of its last look that are not answered yet, of which the first ones, at most a batch of them, are on
-/// offer in the request of a number; the front of that look; and whether the device was told that it has all rows.
+/// offer in the request of a number; the front of that look; and whether the device was informed that it has all rows.
 #[derive(Drop)]
 pub(crate) struct Feed {
     rows: Vec<Row>,

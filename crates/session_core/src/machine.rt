@@ -53,7 +53,7 @@ pub enum Pending {
     Bodies(Rows),
     /// That of the look for revisions which a request offers, by proposeChanges or by changes.
     Ask { asker: Asker, proposed: bool },
-    /// What comes of the revision that a request proposes.
+    /// The outcome of the revision that a request proposes.
     Push(Asker),
 }
 

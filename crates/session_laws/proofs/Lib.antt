@@ -7,4 +7,4 @@ pub mod Replying
 pub mod Resuming
 pub mod Sessions
 pub mod Shapes
-pub mod Telling
+pub mod CaughtUp

@@ -81,7 +81,7 @@ bodies_requested [] bodies = refl
 bodies_requested (row ∷ rows) [] = refl
 bodies_requested (row ∷ rows) (b ∷ bodies) = one_body row b (body_acts rows bodies) ∙ bodies_requested rows bodies
 
--- ---- what an event comes to
+-- ---- what is done at an event
 
 -- the replies to these are put, or still owed
 abbrev Answers : List ℕ → Done → Type 0

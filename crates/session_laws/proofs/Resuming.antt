@@ -15,7 +15,7 @@ use Rattle.sg_history.specs.Feed.{feed, keeps, row_of, is_start, is_gone, is_del
 use Rattle.sg_history.specs.History.{past}
 use Rattle.feed_rows.specs.Laws.{HasRow, IsAskedFor, IsBelow, Rising, IsAhead, all_of}
 use Rattle.session_core.specs.Feeds.{rows_at, feed_look, feed_looks}
-use Rattle.session_core.specs.Fronts.{front_told, fronts_of, RiseBetween}
+use Rattle.session_core.specs.Fronts.{front_by, fronts_of, RiseBetween}
 use Rattle.session_core.specs.Steps.{Step}
 use Rattle.session_core.specs.declared.event.Event.{Event}
 use Rattle.session_core.specs.declared.event.Event.TheVariants as event
@@ -150,18 +150,18 @@ rise_split low (front ∷ first) second high (is, rise) =
     let rest : (middle : ℕ) × RiseBetween front first middle × RiseBetween middle second high = rise_split front first second high rise in
     (rest.0, (is, rest.1), rest.2)
 
-look_fronts : (low middle high : ℕ) (x : Event) (fronts : List ℕ) → AreFronts low fronts middle → RiseBetween middle (front_told x) high → AreFronts low (feed_look x ++ fronts) high
+look_fronts : (low middle high : ℕ) (x : Event) (fronts : List ℕ) → AreFronts low fronts middle → RiseBetween middle (front_by x) high → AreFronts low (feed_look x ++ fronts) high
 look_fronts low middle high (event.Fed answer) fronts are (first, last) = (last, widen low fronts middle _ first are)
 look_fronts low middle high (event.Whole message) fronts are rise = widen low fronts middle high rise are
 look_fronts low middle high (event.Idle front) fronts are rise = widen low fronts middle high (rise_le middle (front ∷ []) high rise) are
 look_fronts low middle high (event.Bodies b) fronts are rise = widen low fronts middle high (rise_le middle (b.front ∷ []) high rise) are
 look_fronts low middle high (event.Asked answer) fronts are rise = widen low fronts middle high (rise_le middle (answer.front ∷ []) high rise) are
-look_fronts low middle high (event.Judged outcome) fronts are rise = widen low fronts middle high (rise_le middle (front_told (event.Judged outcome)) high rise) are
+look_fronts low middle high (event.Judged outcome) fronts are rise = widen low fronts middle high (rise_le middle (front_by (event.Judged outcome)) high rise) are
 
 pub looks_rise : (steps : List Step) (low high : ℕ) → RiseBetween low (fronts_of steps) high → AreFronts low (feed_looks steps) high
 looks_rise [] low high rise = rise
 looks_rise (s ∷ earlier) low high rise =
-    let parts : (middle : ℕ) × RiseBetween low (fronts_of earlier) middle × RiseBetween middle (front_told s.event) high = rise_split low (fronts_of earlier) (front_told s.event) high rise in
+    let parts : (middle : ℕ) × RiseBetween low (fronts_of earlier) middle × RiseBetween middle (front_by s.event) high = rise_split low (fronts_of earlier) (front_by s.event) high rise in
     look_fronts low parts.0 high s.event (feed_looks earlier) (looks_rise earlier low parts.0 parts.1) parts.2
 
 -- ---- to resume

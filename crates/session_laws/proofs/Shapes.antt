@@ -1,4 +1,4 @@
--- What a step comes to, for the feed that runs: nothing new, its next look, or its next offer.
+-- What a step does, for the feed that runs: nothing new, its next look, or its next offer.
 use Rattle.std.proofs.Common.{◌≡◌, ◌≤◌, IfOk, ℕ, ◌+◌, Bool, true, false, ◌&&◌, not, nat_lt, List, [], ◌∷◌, length, Option, Some, None, Result, Ok, Err, refl, sym, ◌∙◌, ap, subst, if◌then◌else◌, arith, ◌==◌}
 use Rattle.std.specs.Prelude.{IsSome}
 use Rattle.std.proofs.lemmas.Bool.{false≢true}
@@ -146,13 +146,13 @@ pub data Shape (f : Option Running) (p : Pending) (m : Machine) (x : Event) (don
   has_more : (r : Running) (front : ℕ) (rows : List Row) → f ≡ Some r → p ≡ pending.More → is_none r.rows ≡ true → x ≡ event.Fed (fed.Rows front rows)
       → done ≡ goes_on m [] m.requests (record r { rows = rows; front = front }) → Shape f p m x done
 
-quiet_puts : (f : Option Running) (p : Pending) (m : Machine) (x : Event) (acts : List Act)
+no_feed_puts : (f : Option Running) (p : Pending) (m : Machine) (x : Event) (acts : List Act)
     → m.feed ≡ f → OffersNone acts → (IsSome f → feed_look x ≡ []) → closed_by x (open_of f p) ≡ open_of f pending.Nothing → Shape f p m x (puts m acts)
-quiet_puts f p m x acts e none look same = stays none e (fits_nothing f) tt look same
+no_feed_puts f p m x acts e none look same = stays none e (fits_nothing f) tt look same
 
-quiet_asks : (f : Option Running) (p : Pending) (m : Machine) (x : Event) (awaited : Pending) (wanted : Want)
+no_feed_asks : (f : Option Running) (p : Pending) (m : Machine) (x : Event) (awaited : Pending) (wanted : Want)
     → m.feed ≡ f → Fits f awaited → IsSized awaited → (IsSome f → feed_look x ≡ []) → closed_by x (open_of f p) ≡ open_of f awaited → Shape f p m x (asks m awaited wanted)
-quiet_asks f p m x awaited wanted e fits sized look same = stays nothing_offered e fits sized look same
+no_feed_asks f p m x awaited wanted e fits sized look same = stays nothing_offered e fits sized look same
 
 -- ---- requests
 
@@ -170,24 +170,24 @@ no_reply_kind kinds.AckRpy is = refl
 refused_shape : (f : Option Running) (m : Machine) (message : Message) (asker : Asker) (error : ErrorKind) → m.feed ≡ f → is_reply message.kind ≡ false
     → Shape f pending.Nothing m (event.Whole message) (refused m asker error)
 refused_shape f m message asker error e is =
-    quiet_puts f pending.Nothing m (event.Whole message) (refusal_act asker error) e (refusal_none asker error) (λ some. refl) (passed_over message (open_of f pending.Nothing) is)
+    no_feed_puts f pending.Nothing m (event.Whole message) (refusal_act asker error) e (refusal_none asker error) (λ some. refl) (passed_over message (open_of f pending.Nothing) is)
 
 sub_changes_shape : (f : Option Running) (m : Machine) (message : Message) (asked : Subscription) → m.feed ≡ f → is_reply message.kind ≡ false → IsSized (pending.Feed asked)
     → Shape f pending.Nothing m (event.Whole message) (on_sub_changes m asked f)
-sub_changes_shape None m message asked e is size = quiet_asks None pending.Nothing m (event.Whole message) (pending.Feed asked) _ e tt size (λ some. refl) refl
+sub_changes_shape None m message asked e is size = no_feed_asks None pending.Nothing m (event.Whole message) (pending.Feed asked) _ e tt size (λ some. refl) refl
 sub_changes_shape (Some r) m message asked e is size = refused_shape (Some r) m message asked.asker errors.FeedRuns409 e is
 
 ask_shape : (f : Option Running) (m : Machine) (message : Message) (asker : Asker) (proposed : Bool) (wanted : Want) → m.feed ≡ f → is_reply message.kind ≡ false
     → Shape f pending.Nothing m (event.Whole message) (asks m (pending.Ask asker proposed) wanted)
-ask_shape None m message asker proposed wanted e is = quiet_asks None pending.Nothing m (event.Whole message) (pending.Ask asker proposed) wanted e tt tt (λ some. refl) refl
+ask_shape None m message asker proposed wanted e is = no_feed_asks None pending.Nothing m (event.Whole message) (pending.Ask asker proposed) wanted e tt tt (λ some. refl) refl
 ask_shape (Some r) m message asker proposed wanted e is =
-    quiet_asks (Some r) pending.Nothing m (event.Whole message) (pending.Ask asker proposed) wanted e tt tt (λ some. refl) (passed_over message (open_of (Some r) pending.Nothing) is)
+    no_feed_asks (Some r) pending.Nothing m (event.Whole message) (pending.Ask asker proposed) wanted e tt tt (λ some. refl) (passed_over message (open_of (Some r) pending.Nothing) is)
 
 push_shape : (f : Option Running) (m : Machine) (message : Message) (asker : Asker) (wanted : Want) → m.feed ≡ f → is_reply message.kind ≡ false
     → Shape f pending.Nothing m (event.Whole message) (asks m (pending.Push asker) wanted)
-push_shape None m message asker wanted e is = quiet_asks None pending.Nothing m (event.Whole message) (pending.Push asker) wanted e tt tt (λ some. refl) refl
+push_shape None m message asker wanted e is = no_feed_asks None pending.Nothing m (event.Whole message) (pending.Push asker) wanted e tt tt (λ some. refl) refl
 push_shape (Some r) m message asker wanted e is =
-    quiet_asks (Some r) pending.Nothing m (event.Whole message) (pending.Push asker) wanted e tt tt (λ some. refl) (passed_over message (open_of (Some r) pending.Nothing) is)
+    no_feed_asks (Some r) pending.Nothing m (event.Whole message) (pending.Push asker) wanted e tt tt (λ some. refl) (passed_over message (open_of (Some r) pending.Nothing) is)
 
 changes_shape : (b : Bool) (f : Option Running) (m : Machine) (message : Message) (asker : Asker) (wanted : Want) → m.feed ≡ f → is_reply message.kind ≡ false
     → Shape f pending.Nothing m (event.Whole message) (on_changes b m asker wanted)
@@ -227,7 +227,7 @@ wanted_shape : (m : Machine) (message : Message) (r : Running) (rows : List Row)
 wanted_shape m message r [] e closed =
     answered_shape (r.continuous && is_none (rest r).rows) pending.Nothing m (event.Whole message) r [] m.requests refl nothing_offered (omega arith) refl closed
 wanted_shape m message r (row ∷ rows) e closed =
-    quiet_asks (Some r) pending.Nothing m (event.Whole message) (pending.Bodies (row ∷ rows)) (want.Bodies r.options (row ∷ rows) (most_ancestors message)) e tt tt (λ some. refl) closed
+    no_feed_asks (Some r) pending.Nothing m (event.Whole message) (pending.Bodies (row ∷ rows)) (want.Bodies r.options (row ∷ rows) (most_ancestors message)) e tt tt (λ some. refl) closed
 
 closes_with : (message : Message) (number : ℕ) (none answer : Bool) → (is_reply message.kind && message.number == number) ≡ answer → (not none && answer) ≡ true
     → closed_by (event.Whole message) (number_with none number) ≡ None
@@ -245,11 +245,11 @@ reply_with : (b : Bool) (m : Machine) (message : Message) (r : Running) → m.fe
     → Shape (Some r) pending.Nothing m (event.Whole message) (if b then on_wanted m message r (wanted_of r message) else puts m [])
 reply_with true m message r e is = wanted_shape m message r (wanted_of r message) e (closes_with message r.number (is_none r.rows) (is_reply message.kind && message.number == r.number) refl is)
 reply_with false m message r e is =
-    quiet_puts (Some r) pending.Nothing m (event.Whole message) [] e nothing_offered (λ some. refl)
+    no_feed_puts (Some r) pending.Nothing m (event.Whole message) [] e nothing_offered (λ some. refl)
     (stays_with message r.number (is_none r.rows) (is_reply message.kind && message.number == r.number) refl is)
 
 reply_shape : (f : Option Running) (m : Machine) (message : Message) → m.feed ≡ f → Shape f pending.Nothing m (event.Whole message) (on_reply m message f)
-reply_shape None m message e = quiet_puts None pending.Nothing m (event.Whole message) [] e nothing_offered (λ some. refl) refl
+reply_shape None m message e = no_feed_puts None pending.Nothing m (event.Whole message) [] e nothing_offered (λ some. refl) refl
 reply_shape (Some r) m message e = reply_with (answers r message) m message r e refl
 
 by_message : (b : Bool) (f : Option Running) (m : Machine) (message : Message) (done : Done) → m.feed ≡ f → is_request message.kind ≡ b → DoesByMessage b m message done
@@ -263,7 +263,7 @@ by_message false f m message done e is does =
 
 first_shape : (m : Machine) (asked : Subscription) (answer : Fed) → m.feed ≡ None → Shape None (pending.Feed asked) m (event.Fed answer) (on_first_look m asked answer)
 first_shape m asked (fed.Future front) e =
-    quiet_puts None (pending.Feed asked) m (event.Fed (fed.Future front)) (refusal_act asked.asker (errors.SincePast400 front)) e (refusal_none asked.asker (errors.SincePast400 front)) (λ some. absurd (false≢true some)) refl
+    no_feed_puts None (pending.Feed asked) m (event.Fed (fed.Future front)) (refusal_act asked.asker (errors.SincePast400 front)) e (refusal_none asked.asker (errors.SincePast400 front)) (λ some. absurd (false≢true some)) refl
 first_shape m asked (fed.Rows front rows) e = begins_first asked front rows refl refl refl refl
 
 fed_shape : (f : Option Running) (p : Pending) (m : Machine) (answer : Fed) → m.feed ≡ f → Fits f p → AwaitsBy f p (event.Fed answer) → Shape f p m (event.Fed answer) (on_fed m answer p)
@@ -273,7 +273,7 @@ fed_shape (Some r) (pending.Feed asked) m answer e fits a = absurd fits
 fed_shape f pending.More m (fed.Future front) e fits a = absurd a
 fed_shape None pending.More m (fed.Rows front rows) e fits a =
     subst (λ g. Shape None pending.More m (event.Fed (fed.Rows front rows)) (on_next_look m g (fed.Rows front rows))) (sym e)
-    (quiet_puts None pending.More m (event.Fed (fed.Rows front rows)) [] e nothing_offered (λ some. absurd (false≢true some)) refl)
+    (no_feed_puts None pending.More m (event.Fed (fed.Rows front rows)) [] e nothing_offered (λ some. absurd (false≢true some)) refl)
 fed_shape (Some r) pending.More m (fed.Rows front rows) e fits a =
     subst (λ g. Shape (Some r) pending.More m (event.Fed (fed.Rows front rows)) (on_next_look m g (fed.Rows front rows))) (sym e)
     (has_more r front rows refl refl fits refl refl)
@@ -283,7 +283,7 @@ fed_shape f (pending.Push asker) m answer e fits a = absurd a
 
 bodies_of_shape : (f : Option Running) (m : Machine) (b : Bodies) (rows : List Row) → m.feed ≡ f → length b.answers ≡ length rows
     → Shape f (pending.Bodies rows) m (event.Bodies b) (on_bodies_of m b rows f)
-bodies_of_shape None m b rows e same = quiet_puts None (pending.Bodies rows) m (event.Bodies b) [] e nothing_offered (λ some. refl) refl
+bodies_of_shape None m b rows e same = no_feed_puts None (pending.Bodies rows) m (event.Bodies b) [] e nothing_offered (λ some. refl) refl
 bodies_of_shape (Some r) m b rows e same =
     answered_shape (r.continuous && is_none (rest r).rows) (pending.Bodies rows) m (event.Bodies b) r (body_acts rows b.answers) (m.requests + length rows) refl
     (bodies_none rows b.answers) (ap (λ n. m.requests + n) (sym (bodies_counted rows b.answers same))) refl refl
@@ -311,7 +311,7 @@ asked_shape f (pending.Feed asked) m answer e a = absurd a
 asked_shape f pending.More m answer e a = absurd a
 asked_shape f (pending.Bodies rows) m answer e a = absurd a
 asked_shape f (pending.Ask asker proposed) m answer e a =
-    quiet_puts f (pending.Ask asker proposed) m (event.Asked answer) (reply_act asker kinds.Rpy (answers_payload answer.answers proposed)) e
+    no_feed_puts f (pending.Ask asker proposed) m (event.Asked answer) (reply_act asker kinds.Rpy (answers_payload answer.answers proposed)) e
     (reply_none asker kinds.Rpy (answers_payload answer.answers proposed) refl) (λ some. refl) (open_while_asked f asker proposed)
 asked_shape f (pending.Push asker) m answer e a = absurd a
 
@@ -322,7 +322,7 @@ judged_shape f pending.More m o e a = absurd a
 judged_shape f (pending.Bodies rows) m o e a = absurd a
 judged_shape f (pending.Ask asker proposed) m o e a = absurd a
 judged_shape f (pending.Push asker) m o e a =
-    quiet_puts f (pending.Push asker) m (event.Judged o) (outcome_act asker o) e (outcome_none asker o) (λ some. refl) (open_while_pushed f asker)
+    no_feed_puts f (pending.Push asker) m (event.Judged o) (outcome_act asker o) e (outcome_none asker o) (λ some. refl) (open_while_pushed f asker)
 
 -- ---- idle moments
 
@@ -333,7 +333,7 @@ none_open false number e = absurd (false≢true e)
 idle_with : (b : Bool) (m : Machine) (front : ℕ) (r : Running) → m.feed ≡ Some r → is_none r.rows ≡ true
     → Shape (Some r) pending.Nothing m (event.Idle front) (if b then looks_again m [] m.requests r else puts m [])
 idle_with true m front r e left = stays nothing_offered refl left tt (λ some. refl) (none_open (is_none r.rows) r.number left)
-idle_with false m front r e left = quiet_puts (Some r) pending.Nothing m (event.Idle front) [] e nothing_offered (λ some. refl) refl
+idle_with false m front r e left = no_feed_puts (Some r) pending.Nothing m (event.Idle front) [] e nothing_offered (λ some. refl) refl
 
 idle_of_shape : (f : Option Running) (m : Machine) (front : ℕ) → m.feed ≡ f → AwaitsBy f pending.Nothing (event.Idle front) → Shape f pending.Nothing m (event.Idle front) (on_idle m front f)
 idle_of_shape None m front e a = absurd (false≢true a)

@@ -80,10 +80,10 @@ abbrev pub empty_offers : List Message → ℕ
 empty_offers [] = 0
 empty_offers (m ∷ messages) = (if is_empty_offer m then 1 else 0) + empty_offers messages
 
--- whether the device was told that it had all rows: its feed has ended, or once caught up
-abbrev pub was_told : Option Running → Bool
-was_told None = true
-was_told (Some r) = r.caught_up
+-- whether the device was informed that it had all rows: its feed has ended, or once caught up
+abbrev pub has_caught_up : Option Running → Bool
+has_caught_up None = true
+has_caught_up (Some r) = r.caught_up
 
 -- after earlier steps of a session a feed that a device asked for begins at a step, and runs before each of more steps
 pub record RunsFeed (user : List ℕ) (version : Version) (strict : Bool) (earlier : List Step) (begin : Step) (more : List Step) (after : Machine) : Type 0 where

@@ -8,7 +8,7 @@ ghost use Rattle.session_core.specs.Feeds.{feed_looks};
 ghost use Rattle.session_core.specs.Running.{waits};
 ghost use Rattle.session_core.specs.State.{Machine, new_machine};
 ghost use Rattle.session_core.specs.Steps.{Step, Steps, Leads, put_by};
-ghost use Rattle.session_laws.specs.Exchanges.{asked_by, replied, owed, IsAboveLast, IsFromLast, empty_offers, was_told, RunsFeed};
+ghost use Rattle.session_laws.specs.Exchanges.{asked_by, replied, owed, IsAboveLast, IsFromLast, empty_offers, has_caught_up, RunsFeed};
 
 /// Each request that wants a reply has one reply of its number, in the order in which the requests became whole, and no other reply
 /// is put: the replies that were put, and the one that waits for an answer of the history, are those to the requests that came.
@@ -36,13 +36,13 @@ pub fn idle()
         → s.puts ≡ [] }
 {}
 
-/// While a feed runs one empty offer is put at most: one where the feed has ended, or the device was told that it caught up, and none
+/// While a feed runs one empty offer is put at most: one where the feed has ended, or the device was informed that it caught up, and none
 /// before. Where the feed waits, and no look for its next rows is awaited, it is one.
 pub fn empties()
     ensures once { (user : List ℕ) (version : Version) (strict : Bool)
         (earlier : List Step) (begin : Step) (more : List Step) (after : Machine)
         → RunsFeed user version strict earlier begin more after
-        → empty_offers (put_by (more ++ begin ∷ [])) ≡ (if was_told after.feed then 1 else 0) }
+        → empty_offers (put_by (more ++ begin ∷ [])) ≡ (if has_caught_up after.feed then 1 else 0) }
     ensures waiting { (user : List ℕ) (version : Version) (strict : Bool)
         (earlier : List Step) (begin : Step) (more : List Step) (after : Machine)
         → RunsFeed user version strict earlier begin more after

@@ -7,7 +7,7 @@ use Rattle.blip_frame.specs.Varint.{varint_within, varint}
 use Rattle.blip_frame.specs.Frame.{FrameParts, kind_number, flags_of, trailer, largest_written, spelling, value_after}
 use Rattle.blip_frame.specs.declared.frame.Kind.{Kind}
 use Rattle.blip_frame.specs.declared.frame.Kind.TheVariants as kinds
-use Rattle.blip_mux.specs.Told.{Acknowledgement}
+use Rattle.blip_mux.specs.Acknowledgements.{Acknowledgement}
 use Rattle.blip_mux.specs.Sending.{Waiting, Sending, first_piece, chosen, picked_of, picked, Sends}
 use Rattle.blip_mux.specs.declared.outbox.Next.{Next}
 use Rattle.blip_mux.specs.declared.outbox.Next.TheVariants as nexts

@@ -1,3 +1,3 @@
 pub mod Fitting
 pub mod Sending
-pub mod Telling
+pub mod Recording

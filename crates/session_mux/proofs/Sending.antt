@@ -12,14 +12,14 @@ use Rattle.sg_outside.specs.declared.sink.Gave.TheVariants as gave
 use Rattle.blip_frame.specs.Checksum.{checksum}
 use Rattle.blip_frame.specs.Frame as frame
 use Rattle.blip_frame.specs.Frame.{FrameParts, IsWrittenAfter, WritesAfter, AreWrittenAfter, all_sent, largest_written}
-use Rattle.blip_mux.specs.Told.{Acknowledgement, told_by}
+use Rattle.blip_mux.specs.Acknowledgements.{Acknowledgement, ack_frame}
 use Rattle.blip_mux.specs.Cutting.{ArePicked}
 use Rattle.blip_mux.specs.Sending.{Waiting, Sending, first_piece, after_piece, has_more, without_piece, back, may_send, taken_out, chosen, picked, picked_of, picked_from, after_picked, SendsAfter, Sends}
 use Rattle.blip_mux.specs.declared.outbox.Next.{Next}
 use Rattle.blip_mux.specs.declared.outbox.Next.TheVariants as nexts
-use Rattle.session_mux.specs.Sent.{AreWrittenFrom, Tells}
+use Rattle.session_mux.specs.Sent.{AreWrittenFrom, Records}
 use Rattle.session_mux.specs.Muxed.{left_of, all_left_of, IsLeft, failure_of, HaveGone}
-use Rattle.session_mux.proofs.Telling.{tells_none, tells_on}
+use Rattle.session_mux.proofs.Recording.{records_none, records_on}
 
 -- ---- what waits
 
@@ -109,43 +109,43 @@ none_written value sent e = (tt, e)
 
 -- frames went, from what was to be sent to what is to be sent now
 abbrev pub Going : Sending → ℕ → Option Traffic → Sending → ℕ → Option Traffic → Type 0
-Going before value told s value_now told_now =
-    (frames : List FrameParts) × (texts : List (List ℕ)) × ArePicked before frames s × AreWrittenFrom value frames texts value_now × Tells told [] texts [] told_now
+Going before value traffic s value_now traffic_now =
+    (frames : List FrameParts) × (texts : List (List ℕ)) × ArePicked before frames s × AreWrittenFrom value frames texts value_now × Records traffic [] texts [] traffic_now
 
-pub going_none : (s : Sending) (value : ℕ) (told : Option Traffic) → Going s value told s value told
-going_none s value told = ([], [], refl, none_written value, tells_none told)
+pub going_none : (s : Sending) (value : ℕ) (traffic : Option Traffic) → Going s value traffic s value traffic
+going_none s value traffic = ([], [], refl, none_written value, records_none traffic)
 
-one_goes : (before : Sending) (value : ℕ) (told : Option Traffic) (s : Sending) (value_now : ℕ) (told_now : Option Traffic) (f : FrameParts) (value_after : ℕ) (bytes : List ℕ) (told_after : Option Traffic)
+one_goes : (before : Sending) (value : ℕ) (traffic : Option Traffic) (s : Sending) (value_now : ℕ) (traffic_now : Option Traffic) (f : FrameParts) (value_after : ℕ) (bytes : List ℕ) (traffic_after : Option Traffic)
     → picked s ≡ Some f
     → ((sent : List ℕ) → value_now ≡ checksum sent → SendsAfter sent (Some f) nexts.Frame value_after [] bytes)
-    → Tells told_now [] (bytes ∷ []) [] told_after
-    → Going before value told s value_now told_now → Going before value told (after_picked s) value_after told_after
-one_goes before value told s value_now told_now f value_after bytes told_after next written tells (frames, texts, go, all_written, all_told) = (
+    → Records traffic_now [] (bytes ∷ []) [] traffic_after
+    → Going before value traffic s value_now traffic_now → Going before value traffic (after_picked s) value_after traffic_after
+one_goes before value traffic s value_now traffic_now f value_after bytes traffic_after next written records (frames, texts, go, all_written, all_records) = (
   frames ++ f ∷ [],
   texts ++ bytes ∷ [],
   go_on before frames s f go next,
   write_on value value_now value_after frames texts f bytes all_written written,
-  tells_on told told_now told_after [] [] texts (bytes ∷ []) [] all_told tells,
+  records_on traffic traffic_now traffic_after [] [] texts (bytes ∷ []) [] all_records records,
 )
 
-piece_goes : (before : Sending) (value : ℕ) (told : Option Traffic) (s : Sending) (value_now : ℕ) (told_now : Option Traffic) (p : Option FrameParts) (value_after : ℕ) (bytes : List ℕ) (told_after : Option Traffic)
+piece_goes : (before : Sending) (value : ℕ) (traffic : Option Traffic) (s : Sending) (value_now : ℕ) (traffic_now : Option Traffic) (p : Option FrameParts) (value_after : ℕ) (bytes : List ℕ) (traffic_after : Option Traffic)
     → picked s ≡ p
     → Sends p nexts.Frame value_now value_after [] bytes
     → ((sent : List ℕ) → value_now ≡ checksum sent → SendsAfter sent p nexts.Frame value_after [] bytes)
-    → Tells told_now [] (bytes ∷ []) [] told_after
-    → Going before value told s value_now told_now → Going before value told (after_picked s) value_after told_after
-piece_goes before value told s value_now told_now None value_after bytes told_after next sends written tells going = absurd sends
-piece_goes before value told s value_now told_now (Some f) value_after bytes told_after next sends written tells going =
-    one_goes before value told s value_now told_now f value_after bytes told_after next written tells going
+    → Records traffic_now [] (bytes ∷ []) [] traffic_after
+    → Going before value traffic s value_now traffic_now → Going before value traffic (after_picked s) value_after traffic_after
+piece_goes before value traffic s value_now traffic_now None value_after bytes traffic_after next sends written records going = absurd sends
+piece_goes before value traffic s value_now traffic_now (Some f) value_after bytes traffic_after next sends written records going =
+    one_goes before value traffic s value_now traffic_now f value_after bytes traffic_after next written records going
 
 -- one frame more
-pub going_on : (before : Sending) (value : ℕ) (told : Option Traffic) (s : Sending) (value_now : ℕ) (told_now : Option Traffic) (value_after : ℕ) (bytes : List ℕ) (told_after : Option Traffic)
+pub going_on : (before : Sending) (value : ℕ) (traffic : Option Traffic) (s : Sending) (value_now : ℕ) (traffic_now : Option Traffic) (value_after : ℕ) (bytes : List ℕ) (traffic_after : Option Traffic)
     → Sends (picked s) nexts.Frame value_now value_after [] bytes
     → ((sent : List ℕ) → value_now ≡ checksum sent → SendsAfter sent (picked s) nexts.Frame value_after [] bytes)
-    → Tells told_now [] (bytes ∷ []) [] told_after
-    → Going before value told s value_now told_now → Going before value told (after_picked s) value_after told_after
-going_on before value told s value_now told_now value_after bytes told_after sends written tells going =
-    piece_goes before value told s value_now told_now (picked s) value_after bytes told_after refl sends written tells going
+    → Records traffic_now [] (bytes ∷ []) [] traffic_after
+    → Going before value traffic s value_now traffic_now → Going before value traffic (after_picked s) value_after traffic_after
+going_on before value traffic s value_now traffic_now value_after bytes traffic_after sends written records going =
+    piece_goes before value traffic s value_now traffic_now (picked s) value_after bytes traffic_after refl sends written records going
 
 -- a frame that was written, and went or did not, was picked
 some_next : (p : Option FrameParts) (value value_after : ℕ) (bytes : List ℕ) → Sends p nexts.Frame value value_after [] bytes → p ≢ None
@@ -164,7 +164,7 @@ still_waiting ws None none = refl
 still_waiting ws (Some found) none = absurd (none-some (first_piece found.0) (sym none))
 
 still : (s : Sending) (acknowledgements : List Acknowledgement) → picked_of acknowledgements s.waiting ≡ None → picked_from acknowledgements s ≡ s
-still s (a ∷ acknowledgements) none = absurd (none-some (told_by a) (sym none))
+still s (a ∷ acknowledgements) none = absurd (none-some (ack_frame a) (sym none))
 still s [] none = ap (λ ws. record s { waiting = ws }) (still_waiting s.waiting (chosen s.waiting) none)
 
 pub none_picked : (s after : Sending) (value value_after : ℕ) (next : Next) (old new : List ℕ) → next ≡ nexts.Idle → Sends (picked s) next value value_after old new → after ≡ after_picked s
@@ -174,12 +174,12 @@ none_picked s after value value_after next old new is sends e =
     (found.0, sym (still s s.acknowledgements found.0) ∙ sym e, sym found.1)
 
 -- what went before the end
-pub gone : (before : Sending) (value : ℕ) (told : Option Traffic) (s : Sending) (value_now : ℕ) (told_now told_after : Option Traffic) (result : Gave) (now : Sending) (now_value : ℕ)
-    → Tells told_now [] [] (failure_of result) told_after → IsLeft result s value_now now now_value
-    → Going before value told s value_now told_now
-    → HaveGone before value told told_after result now now_value
-gone before value told s value_now told_now told_after result now now_value tells is_left (frames, texts, go, written, all_told) =
-    (frames, texts, s, value_now, go, written, subst (λ t. Tells told [] t (failure_of result) told_after) (append-nil texts) (tells_on told told_now told_after [] [] texts [] (failure_of result) all_told tells), is_left)
+pub gone : (before : Sending) (value : ℕ) (traffic : Option Traffic) (s : Sending) (value_now : ℕ) (traffic_now traffic_after : Option Traffic) (result : Gave) (now : Sending) (now_value : ℕ)
+    → Records traffic_now [] [] (failure_of result) traffic_after → IsLeft result s value_now now now_value
+    → Going before value traffic s value_now traffic_now
+    → HaveGone before value traffic traffic_after result now now_value
+gone before value traffic s value_now traffic_now traffic_after result now now_value records is_left (frames, texts, go, written, all_records) =
+    (frames, texts, s, value_now, go, written, subst (λ t. Records traffic [] t (failure_of result) traffic_after) (append-nil texts) (records_on traffic traffic_now traffic_after [] [] texts [] (failure_of result) all_records records), is_left)
 
 pub other_left : (result : Gave) (left : Sending) (value : ℕ) (now : Sending) (value_now : ℕ) → result ≢ gave.Done → IsLeft result left value now value_now
 other_left gave.Done left value now value_now other = absurd (other refl)

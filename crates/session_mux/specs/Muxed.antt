@@ -1,4 +1,4 @@
--- What comes of a frame that is received, and of messages that are put.
+-- What a frame that is received gives, and what messages do that are put.
 use Rattle.std.specs.Prelude.{◌≡◌, ℕ, ◌+◌, Bool, true, false, List, [], ◌∷◌, length, Option, None, Ok}
 use Rattle.sg_outside.specs.Wire.{Traffic}
 use Rattle.sg_outside.specs.declared.sink.Gave.{Gave}
@@ -13,29 +13,29 @@ use Rattle.blip_mux.specs.declared.inbox.Taken.TheVariants as takens
 use Rattle.blip_mux.specs.declared.inbox.TakeFault.{TakeFault}
 use Rattle.blip_mux.specs.declared.inbox.TakeFault.TheVariants as take_faults
 use Rattle.blip_mux.specs.Between.{waiting_of}
-use Rattle.blip_mux.specs.Cutting.{Deed, owes, hears, with_message, ArePicked, after_deeds}
-use Rattle.blip_mux.specs.Standing.{answer_at, taken_after}
-use Rattle.blip_mux.specs.Sending.{Waiting, Sending, picked, is_bad_ack, sent_of, heard_in}
+use Rattle.blip_mux.specs.Cutting.{OutboxStep, owes, takes_ack, with_message, ArePicked, after_outbox_steps}
+use Rattle.blip_mux.specs.InboxStates.{answer_at, taken_after}
+use Rattle.blip_mux.specs.Sending.{Waiting, Sending, picked, is_bad_ack, sent_of, acked_in}
 use Rattle.session_mux.specs.declared.frame_why.FrameWhy.TheVariants as whys
 use Rattle.session_mux.specs.declared.mux.Mux.{Mux}
 use Rattle.session_mux.specs.declared.mux.Took.{Took}
 use Rattle.session_mux.specs.declared.mux.Took.TheVariants as took
 use Rattle.session_mux.specs.Frames.{IsBadFrame, IsFault}
-use Rattle.session_mux.specs.Sent.{AreWrittenFrom, Tells, expecting_by}
+use Rattle.session_mux.specs.Sent.{AreWrittenFrom, Records, expecting_by}
 
 -- what a frame's acknowledgement does to what is to be sent: one that has come is taken, one that is owed waits
-abbrev pub acknowledged_by : Taken → List Deed
+abbrev pub acknowledged_by : Taken → List OutboxStep
 acknowledged_by takens.Nothing = []
-acknowledged_by (takens.Ack kind number bytes) = hears kind number bytes ∷ []
+acknowledged_by (takens.Ack kind number bytes) = takes_ack kind number bytes ∷ []
 acknowledged_by (takens.Owed kind number bytes) = owes (record { kind = kind; number = number; bytes = bytes }) ∷ []
 acknowledged_by (takens.Whole message) = []
 
 -- an acknowledgement that has come can be true of what was sent
-abbrev pub IsHeard : Taken → Sending → Type 0
-IsHeard takens.Nothing s = Unit {0}
-IsHeard (takens.Ack kind number bytes) s = is_bad_ack kind number bytes s ≡ false
-IsHeard (takens.Owed kind number bytes) s = Unit {0}
-IsHeard (takens.Whole message) s = Unit {0}
+abbrev pub IsNoBadAck : Taken → Sending → Type 0
+IsNoBadAck takens.Nothing s = Unit {0}
+IsNoBadAck (takens.Ack kind number bytes) s = is_bad_ack kind number bytes s ≡ false
+IsNoBadAck (takens.Owed kind number bytes) s = Unit {0}
+IsNoBadAck (takens.Whole message) s = Unit {0}
 
 -- the frame gave this, and its acknowledgement did what is due
 pub record Gives (m : Mux) (bytes : List ℕ) (given : Taken) (after : Mux) : Type 0 where
@@ -43,8 +43,8 @@ pub record Gives (m : Mux) (bytes : List ℕ) (given : Taken) (after : Mux) : Ty
   pub read : frame_at m.received.value bytes ≡ Ok (frame, after.received.value)
   pub answer : answer_at m.inbox frame ≡ Ok given
   pub inbox : after.inbox ≡ taken_after m.inbox frame
-  pub heard : IsHeard given m.outbox
-  pub outbox : after.outbox ≡ after_deeds m.outbox (acknowledged_by given)
+  pub no_bad_ack : IsNoBadAck given m.outbox
+  pub outbox : after.outbox ≡ after_outbox_steps m.outbox (acknowledged_by given)
 
 -- no message
 abbrev pub IsPart : Taken → Type 0
@@ -60,15 +60,15 @@ IsTaken m bytes took.Part after = (given : Taken) × IsPart given × Gives m byt
 IsTaken m bytes (took.Bad why) after = IsBadFrame (frame_at m.received.value bytes) (answer_at m.inbox) m.outbox why
 IsTaken m bytes took.Memory after = Unit {0}
 
--- an acknowledgement is heard, or can't be true
+-- an acknowledgement is taken, or can't be true
 abbrev pub IsAcked : Kind → ℕ → ℕ → Sending → Took → Sending → Type 0
 IsAcked kind number bytes out (took.Whole message) after = ⊥
-IsAcked kind number bytes out took.Part after = (is_bad_ack kind number bytes out ≡ false) × (after ≡ record out { waiting = heard_in kind number bytes out.waiting })
+IsAcked kind number bytes out took.Part after = (is_bad_ack kind number bytes out ≡ false) × (after ≡ record out { waiting = acked_in kind number bytes out.waiting })
 IsAcked kind number bytes out (took.Bad why) after =
     (is_bad_ack kind number bytes out ≡ true) × (why ≡ whys.BadAck (record { number = number; bytes = bytes; sent = sent_of kind number out.waiting }))
 IsAcked kind number bytes out took.Memory after = ⊥
 
--- what is told of the fault of a frame among those before it
+-- what is said of the fault of a frame among those before it
 abbrev pub IsTookFault : TakeFault → Took → Type 0
 IsTookFault fault (took.Whole message) = ⊥
 IsTookFault fault took.Part = ⊥
@@ -109,9 +109,9 @@ failure_of gave.Done = []
 failure_of gave.Failed = gave.Failed ∷ []
 failure_of gave.Memory = []
 
--- frames were picked until this was left, and the wire tells those that were sent, and that nothing was tried after a failure
+-- frames were picked until this was left, and the wire records those that were sent, and that nothing was tried after a failure
 abbrev pub HaveGone : Sending → ℕ → Option Traffic → Option Traffic → Gave → Sending → ℕ → Type 0
-HaveGone s before told told_after result now value_now =
+HaveGone s before traffic traffic_after result now value_now =
     (frames : List FrameParts) × (texts : List (List ℕ)) × (left : Sending) × (value : ℕ)
-    × ArePicked s frames left × AreWrittenFrom before frames texts value × Tells told [] texts (failure_of result) told_after
+    × ArePicked s frames left × AreWrittenFrom before frames texts value × Records traffic [] texts (failure_of result) traffic_after
     × IsLeft result left value now value_now

@@ -8,8 +8,8 @@ use Rattle.blip_frame.specs.Checksum.{checksum}
 use Rattle.blip_frame.specs.Frame.{FrameParts, AreWrittenAfter, all_sent}
 use Rattle.blip_mux.specs.declared.message.Message.{Message}
 use Rattle.blip_mux.specs.Joining.{is_request}
-use Rattle.blip_mux.specs.Remembered.{Standing}
-use Rattle.blip_mux.specs.Standing.{expecting}
+use Rattle.blip_mux.specs.Remembered.{InboxState}
+use Rattle.blip_mux.specs.InboxStates.{expecting}
 
 -- the texts are these frames, one after another, in a direction whose checksum goes from the one to the other
 abbrev pub AreWrittenFrom : ℕ → List FrameParts → List (List ℕ) → ℕ → Type 0
@@ -25,17 +25,17 @@ AreNext coming (g ∷ got) left = (g ≡ next_of coming) × AreNext (after_next 
 abbrev pub answered : List (List ℕ) → List Gave → List Gave
 answered sent failed = map (λ _. gave.Done) sent ++ failed
 
--- the wire, where it tells, tells these further results, which came next, these further frames, and that after them so many sendings failed
-abbrev pub Tells : Option Traffic → List Got → List (List ℕ) → List Gave → Option Traffic → Type 0
-Tells None got sent failed after = after ≡ None
-Tells (Some before) got sent failed after =
+-- the wire, where it records, records these further results, which came next, these further frames, and that after them so many sendings failed
+abbrev pub Records : Option Traffic → List Got → List (List ℕ) → List Gave → Option Traffic → Type 0
+Records None got sent failed after = after ≡ None
+Records (Some before) got sent failed after =
     (t : Traffic) × (after ≡ Some t) × (t.got ≡ before.got ++ got) × (t.sent ≡ before.sent ++ sent)
     × (t.gave ≡ before.gave ++ answered sent failed) × AreNext before.coming got t.coming
 
 -- an inbox once messages were put: the reply to each request that wants one is expected
-abbrev pub expecting_by : Message → Standing → Standing
+abbrev pub expecting_by : Message → InboxState → InboxState
 expecting_by m s = if is_request m.kind && not m.no_reply then expecting s m.number else s
 
-abbrev pub expecting_all : List Message → Standing → Standing
+abbrev pub expecting_all : List Message → InboxState → InboxState
 expecting_all [] s = s
 expecting_all (m ∷ messages) s = expecting_all messages (expecting_by m s)

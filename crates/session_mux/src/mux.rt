@@ -6,8 +6,8 @@ ghost use Rattle.sg_outside.specs.Sink.{Counts};
 ghost use Rattle.blip_frame.specs.Checksum.{checksum};
 ghost use Rattle.blip_frame.specs.Frame.{has_checksum};
 ghost use Rattle.blip_mux.specs.Joining.{is_reply};
-ghost use Rattle.blip_mux.specs.Sending.{new_sending, is_bad_ack, sent_of, heard_in, is_reply_to, picked, after_picked, Sends, SendsAfter};
-ghost use Rattle.blip_mux.specs.Standing.{new_standing};
+ghost use Rattle.blip_mux.specs.Sending.{new_sending, is_bad_ack, sent_of, acked_in, is_reply_to, picked, after_picked, Sends, SendsAfter};
+ghost use Rattle.blip_mux.specs.InboxStates.{new_inbox};
 ghost use Rattle.session_mux.specs.Frames.{why_of};
 ghost use Rattle.session_mux.specs.Muxed.{with_put, reply_message, request_message, IsTaken, IsTookFault, IsAcked, HaveGone};
 
@@ -70,7 +70,7 @@ fn took_fault(fault: TakeFault) -> Took
 impl Mux {
     /// Nothing has come, and nothing is to go. Allocates nothing: the buffer has no room yet.
     pub fn new(alloc: Global) -> Mux
-        ensures inbox { result.inbox ≡ new_standing }
+        ensures inbox { result.inbox ≡ new_inbox }
         ensures outbox { result.outbox ≡ new_sending }
         ensures received { result.received.value ≡ 0 }
         ensures sent { result.sent.value ≡ 0 }
@@ -91,7 +91,7 @@ impl Mux {
         self.frame.reserve(LONGEST_FRAME)
     }
 
-    /// Takes the bytes of a frame. An acknowledgement that it is, or that is owed for it, is noted.
+    /// Takes the bytes of a frame. An acknowledgement that it is, or that is owed for it, is taken.
     pub fn take(&mut self, bytes: &[u8]) -> Took
         ensures taken { IsTaken self.old bytes.now result self.new }
         ensures sent { self.new.sent ≡ self.old.sent }
@@ -196,8 +196,8 @@ impl Mux {
     /// Sends frame after frame, each from the one buffer, until there is none that may be sent, or
     /// one is not sent.
     pub fn send_all<W: Wire>(&mut self, wire: &mut W) -> Gave
-        ensures sent { HaveGone self.old.outbox self.old.sent.value (W.told wire.old)
-            (W.told wire.new) result self.new.outbox self.new.sent.value }
+        ensures sent { HaveGone self.old.outbox self.old.sent.value (W.recorded wire.old)
+            (W.recorded wire.new) result self.new.outbox self.new.sent.value }
         ensures counted { Counts (W.faults wire.old) result (W.faults wire.new) }
         ensures inbox { self.new.inbox ≡ self.old.inbox }
         ensures received { self.new.received ≡ self.old.received }

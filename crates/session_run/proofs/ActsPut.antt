@@ -10,9 +10,9 @@ use Rattle.blip_mux.specs.Apart.{AreApart, HasCome}
 use Rattle.blip_mux.specs.Between.{waiting_of}
 use Rattle.blip_mux.specs.Cutting.{with_message, ArePicked}
 use Rattle.blip_mux.specs.Joining.{is_reply}
-use Rattle.blip_mux.specs.Remembered.{Standing}
+use Rattle.blip_mux.specs.Remembered.{InboxState}
 use Rattle.blip_mux.specs.Sending.{Waiting, Sending, is_reply_to, picked_from, after_picked}
-use Rattle.blip_mux.specs.Told.{Acknowledgement}
+use Rattle.blip_mux.specs.Acknowledgements.{Acknowledgement}
 use Rattle.session_core.specs.declared.act.Act.{Act}
 use Rattle.session_core.specs.declared.act.Act.TheVariants as act
 use Rattle.session_core.specs.Acts.{messages_from, request_message, reply_message}
@@ -90,15 +90,15 @@ others_may waiting after a acts may = requests_may after acts may.1
 
 -- what the laws of the multiplexer say
 abbrev pub PutsApart : Type 0
-PutsApart = (s : Standing) (out : Sending) (w : Waiting) → AreApart s out → (is_reply w.kind ≡ true → HasCome s w.number) → AreApart s (with_message out w)
+PutsApart = (s : InboxState) (out : Sending) (w : Waiting) → AreApart s out → (is_reply w.kind ≡ true → HasCome s w.number) → AreApart s (with_message out w)
 
 abbrev pub PicksApart : Type 0
-PicksApart = (s : Standing) (out : Sending) → AreApart s out → AreApart s (after_picked out)
+PicksApart = (s : InboxState) (out : Sending) → AreApart s out → AreApart s (after_picked out)
 
-request_no_reply : (number : ℕ) (no_reply : Bool) (payload : Payload) (s : Standing) → is_reply (waiting_of (request_message number no_reply payload)).kind ≡ true → HasCome s number
+request_no_reply : (number : ℕ) (no_reply : Bool) (payload : Payload) (s : InboxState) → is_reply (waiting_of (request_message number no_reply payload)).kind ≡ true → HasCome s number
 request_no_reply number no_reply payload s e = absurd (false≢true e)
 
-expected_apart : (s : Standing) (number : ℕ) (no_reply : Bool) (payload : Payload) (out : Sending) → AreApart s out → AreApart (expecting_by (request_message number no_reply payload) s) out
+expected_apart : (s : InboxState) (number : ℕ) (no_reply : Bool) (payload : Payload) (out : Sending) → AreApart s out → AreApart (expecting_by (request_message number no_reply payload) s) out
 expected_apart s number true payload out apart = apart
 expected_apart s number false payload out apart = apart
 
@@ -112,7 +112,7 @@ requests_apart law (act.Request payload no_reply ∷ acts) m e apart =
 requests_apart law (act.Want want ∷ acts) m e apart = absurd (false≢true e)
 
 -- a reply expects none
-reply_expects : (to : ℕ) (kind : Kind) (urgent : Bool) (payload : Payload) (s : Standing) → is_reply kind ≡ true → s ≡ expecting_by (reply_message to kind urgent payload) s
+reply_expects : (to : ℕ) (kind : Kind) (urgent : Bool) (payload : Payload) (s : InboxState) → is_reply kind ≡ true → s ≡ expecting_by (reply_message to kind urgent payload) s
 reply_expects to kinds.Msg urgent payload s e = absurd (false≢true e)
 reply_expects to kinds.Rpy urgent payload s e = refl
 reply_expects to kinds.Err urgent payload s e = refl
@@ -131,7 +131,7 @@ answers_apart law due (act.Want want ∷ acts) m a may apart = absurd a
 
 -- ---- and stay so as frames are picked
 
-pub picked_apart : PicksApart → (s : Standing) (out : Sending) (frames : List FrameParts) (left : Sending) → ArePicked out frames left → AreApart s out → AreApart s left
+pub picked_apart : PicksApart → (s : InboxState) (out : Sending) (frames : List FrameParts) (left : Sending) → ArePicked out frames left → AreApart s out → AreApart s left
 picked_apart law s out [] left e apart = subst (AreApart s) (sym e) apart
 picked_apart law s out (f ∷ frames) left (next, rest) apart = picked_apart law s (after_picked out) frames left rest (law s out apart)
 

@@ -34,7 +34,7 @@ use Rattle.session_core.specs.Conduct.{AreWithin}
 use Rattle.session_core.specs.declared.look.Look.{Look}
 use Rattle.session_core.specs.declared.look.Purpose.{Purpose}
 use Rattle.session_core.specs.declared.look.Purpose.TheVariants as purposes
-use Rattle.session_core.specs.Fronts.{judged_at, look_of, stored_by, front_told, looks_of, fronts_of, stored_of, RiseBetween}
+use Rattle.session_core.specs.Fronts.{judged_at, look_of, stored_by, front_by, looks_of, fronts_of, stored_of, RiseBetween}
 use Rattle.session_core.specs.Right.{AreAsked, IsJudgedIn, IsProposedIn, IsRight, AreRight}
 use Rattle.session_core.specs.Steps.{Step, wanted_after}
 use Rattle.write_path.specs.Asks.{AskedAt}
@@ -148,12 +148,12 @@ proposed_later laws before after strict by r (outcome.Stored sequence at) h late
 proposed_later laws before after strict by r outcome.Memory507 h later was = tt
 
 -- one event: what it was answered by is a read, and what holds of it
-record Told (before : Moment) (user : List ℕ) (strict : Bool) (wanted : Option Want) (e : Event) (after : Moment) : Type 0 where
+record OneAnswer (before : Moment) (user : List ℕ) (strict : Bool) (wanted : Option Want) (e : Event) (after : Moment) : Type 0 where
   pub right : (h : List Entry) → IsLaterThanAll after.read h → IsRight h user strict wanted e
   pub reads : Reads before.read after.read before.lowest after.lowest
-  pub rise : RiseBetween before.lowest (front_told e) after.lowest
+  pub rise : RiseBetween before.lowest (front_by e) after.lowest
   pub recorded : after.recorded ≡ length_after before.recorded e
-  pub at_length : AreLength before.recorded (front_told e)
+  pub at_length : AreLength before.recorded (front_by e)
   pub own : (added : List Waiting) × (after.own ≡ added ++ before.own) × (map (λ (w : Waiting). w.number) added ≡ reverse (stored_by e))
   pub looks : AreLooksAt before.read (look_of e) after.read
 
@@ -175,17 +175,17 @@ no_front : (recorded : Option ℕ) → AreLength recorded []
 no_front None = tt
 no_front (Some n) = tt
 
-told_by_read : Laws → (before after : Moment) (user : List ℕ) (strict : Bool) (wanted : Want) (e : Event) (front : ℕ) (Holds : BoardState → Type 0) → HasRead before after → Saw before after Holds
-    → front_told e ≡ front ∷ [] → (purpose : Purpose) → look_of e ≡ record { front = front; purpose = purpose } ∷ [] → stored_by e ≡ [] → length_after before.recorded e ≡ before.recorded
+answer_by_read : Laws → (before after : Moment) (user : List ℕ) (strict : Bool) (wanted : Want) (e : Event) (front : ℕ) (Holds : BoardState → Type 0) → HasRead before after → Saw before after Holds
+    → front_by e ≡ front ∷ [] → (purpose : Purpose) → look_of e ≡ record { front = front; purpose = purpose } ∷ [] → stored_by e ≡ [] → length_after before.recorded e ≡ before.recorded
     → ((b : BoardState) → Holds b → front ≡ length b.log)
     → ((b : BoardState) (h : List Entry) → Holds b → Later (board_book b) (book_of h) → IsRight h user strict (Some wanted) e)
-    → Told before user strict (Some wanted) e after
-told_by_read laws before after user strict wanted e front Holds read (b, was, has, holds) told purpose look none same is right = record {
+    → OneAnswer before user strict (Some wanted) e after
+answer_by_read laws before after user strict wanted e front Holds read (b, was, has, holds) fronts_are purpose look none same is right = record {
   right = λ h later. right b h holds (laws.since before.read after.read b h was later);
   reads = read.reads;
-  rise = subst (λ fs. RiseBetween before.lowest fs after.lowest) (sym told) (one_front laws before after front b read.reads was (is b holds));
+  rise = subst (λ fs. RiseBetween before.lowest fs after.lowest) (sym fronts_are) (one_front laws before after front b read.reads was (is b holds));
   recorded = read.recorded ∙ sym same;
-  at_length = subst (AreLength before.recorded) (sym told) (one_length before.recorded front b has (is b holds));
+  at_length = subst (AreLength before.recorded) (sym fronts_are) (one_length before.recorded front b has (is b holds));
   own = ([], read.own, ap (λ ns. reverse ns) (sym none));
   looks = subst (λ ls. AreLooksAt before.read ls after.read) (sym look) (one_look before.read after.read (record { front = front; purpose = purpose }) b was (is b holds));
 }
@@ -198,8 +198,8 @@ loaded_length (Some n) front is = (is, tt)
 risen : (before after : Moment) → before.read ≡ after.read → before.lowest ≤ after.lowest → Reads before.read after.read before.lowest after.lowest
 risen before after same rises = record { added = []; read = sym same; later = tt; lengths = tt; rises = rises }
 
-loaded_told : Laws → (before after : Moment) (user : List ℕ) (strict : Bool) (front : ℕ) → IsLoaded before front after → Told before user strict None (event.Idle front) after
-loaded_told laws before after user strict front loaded = record {
+loaded_answer : Laws → (before after : Moment) (user : List ℕ) (strict : Bool) (front : ℕ) → IsLoaded before front after → OneAnswer before user strict None (event.Idle front) after
+loaded_answer laws before after user strict front loaded = record {
   right = λ h later. tt;
   reads = risen before after (sym loaded.read) (subst (λ n. before.lowest ≤ n) (sym loaded.lowest) loaded.rises);
   rise = (loaded.rises, subst (λ n. front ≤ n) (sym loaded.lowest) (le_refl front));
@@ -259,9 +259,9 @@ proposed_looks before after strict by r (outcome.Stored sequence at) reads was =
     one_look before.read after.read (record { front = at; purpose = purposes.Push }) was.judged was.was_judged was.outcome.0.front
 proposed_looks before after strict by r outcome.Memory507 reads was = (reads.added, reads.read)
 
-proposed_told : Laws → (before after : Moment) (user : List ℕ) (strict : Bool) (r : Revision) (answer : Outcome) → answered.IsProposed before user (strict || r.noconflicts) r answer after
-    → Told before user strict (Some (want.Propose r)) (event.Judged answer) after
-proposed_told laws before after user strict r answer was =
+proposed_answer : Laws → (before after : Moment) (user : List ℕ) (strict : Bool) (r : Revision) (answer : Outcome) → answered.IsProposed before user (strict || r.noconflicts) r answer after
+    → OneAnswer before user strict (Some (want.Propose r)) (event.Judged answer) after
+proposed_answer laws before after user strict r answer was =
     let both : RiseBetween before.lowest (judged_at answer) after.lowest × AreLength before.recorded (judged_at answer) =
     proposed_rise laws before after (strict || r.noconflicts) (Some user) r answer was.stores.reads was.stores.proposed in
     record {
@@ -276,29 +276,29 @@ proposed_told laws before after user strict r answer was =
 
 -- ---- each event
 
-fed_told : Laws → (before after : Moment) (user : List ℕ) (strict : Bool) (since : Key) (options : Options) (answer : Fed) → HasRead before after → Saw before after (λ b. FeedAt b.log user since options answer)
-    → Told before user strict (Some (want.Feed since options)) (event.Fed answer) after
-fed_told laws before after user strict since options answer read saw =
-    told_by_read laws before after user strict (want.Feed since options) (event.Fed answer) (front_of answer) (λ b. FeedAt b.log user since options answer) read saw refl purposes.Feed refl refl refl
+fed_answer : Laws → (before after : Moment) (user : List ℕ) (strict : Bool) (since : Key) (options : Options) (answer : Fed) → HasRead before after → Saw before after (λ b. FeedAt b.log user since options answer)
+    → OneAnswer before user strict (Some (want.Feed since options)) (event.Fed answer) after
+fed_answer laws before after user strict since options answer read saw =
+    answer_by_read laws before after user strict (want.Feed since options) (event.Fed answer) (front_of answer) (λ b. FeedAt b.log user since options answer) read saw refl purposes.Feed refl refl refl
     (λ b at. at.0)
     (λ b h at later. laws.fed b.log h user since options answer (laws.log b.log b.pending h later) at)
 
-bodies_told : Laws → (before after : Moment) (user : List ℕ) (strict : Bool) (options : Options) (rows : List Row) (most : ℕ) (answer : Bodies) → HasRead before after → Saw before after (λ b. BodiesAt b user options rows most answer)
-    → Told before user strict (Some (want.Bodies options rows most)) (event.Bodies answer) after
-bodies_told laws before after user strict options rows most answer read saw =
-    told_by_read laws before after user strict (want.Bodies options rows most) (event.Bodies answer) answer.front (λ b. BodiesAt b user options rows most answer) read saw refl purposes.Bodies refl refl refl
+bodies_answer : Laws → (before after : Moment) (user : List ℕ) (strict : Bool) (options : Options) (rows : List Row) (most : ℕ) (answer : Bodies) → HasRead before after → Saw before after (λ b. BodiesAt b user options rows most answer)
+    → OneAnswer before user strict (Some (want.Bodies options rows most)) (event.Bodies answer) after
+bodies_answer laws before after user strict options rows most answer read saw =
+    answer_by_read laws before after user strict (want.Bodies options rows most) (event.Bodies answer) answer.front (λ b. BodiesAt b user options rows most answer) read saw refl purposes.Bodies refl refl refl
     (λ b at. at.front)
     (λ b h at later. laws.bodies b h user options rows most answer later at)
 
-asked_told : Laws → (before after : Moment) (user : List ℕ) (strict : Bool) (offers : List Offer) (answer : Asked) → HasRead before after → Saw before after (λ b. AskedAt b offers answer)
-    → Told before user strict (Some (want.Ask offers)) (event.Asked answer) after
-asked_told laws before after user strict offers answer read saw =
-    told_by_read laws before after user strict (want.Ask offers) (event.Asked answer) answer.front (λ b. AskedAt b offers answer) read saw refl purposes.Ask refl refl refl
+asked_answer : Laws → (before after : Moment) (user : List ℕ) (strict : Bool) (offers : List Offer) (answer : Asked) → HasRead before after → Saw before after (λ b. AskedAt b offers answer)
+    → OneAnswer before user strict (Some (want.Ask offers)) (event.Asked answer) after
+asked_answer laws before after user strict offers answer read saw =
+    answer_by_read laws before after user strict (want.Ask offers) (event.Asked answer) answer.front (λ b. AskedAt b offers answer) read saw refl purposes.Ask refl refl refl
     (λ b at. at.front)
     (λ b h at later. asked_later laws b h offers answer later at)
 
-came_told : Laws → (before after : Moment) (user : List ℕ) (strict : Bool) (message : Message) → after ≡ before → Told before user strict None (event.Whole message) after
-came_told laws before after user strict message same = record {
+came_answer : Laws → (before after : Moment) (user : List ℕ) (strict : Bool) (message : Message) → after ≡ before → OneAnswer before user strict None (event.Whole message) after
+came_answer laws before after user strict message same = record {
   right = λ h later. tt;
   reads = subst (λ (m : Moment). Reads before.read m.read before.lowest m.lowest) (sym same) (laws.reflexive before.read before.lowest);
   rise = subst (λ (m : Moment). before.lowest ≤ m.lowest) (sym same) (le_refl before.lowest);
@@ -308,37 +308,37 @@ came_told laws before after user strict message same = record {
   looks = ([], ap (λ (m : Moment). m.read) same);
 }
 
-one_told : Laws → (before after : Moment) (user : List ℕ) (strict : Bool) (wanted : Option Want) (e : Event) → answered.IsAnswered before user strict wanted e after → Told before user strict wanted e after
-one_told laws before after user strict None (event.Whole message) a = came_told laws before after user strict message a
-one_told laws before after user strict None (event.Idle front) a = loaded_told laws before after user strict front a
-one_told laws before after user strict None (event.Fed answer) a = absurd a
-one_told laws before after user strict None (event.Bodies answer) a = absurd a
-one_told laws before after user strict None (event.Asked answer) a = absurd a
-one_told laws before after user strict None (event.Judged answer) a = absurd a
-one_told laws before after user strict (Some (want.Feed since options)) (event.Fed answer) a = fed_told laws before after user strict since options answer a.0 a.1
-one_told laws before after user strict (Some (want.Feed since options)) (event.Whole message) a = absurd a
-one_told laws before after user strict (Some (want.Feed since options)) (event.Idle front) a = absurd a
-one_told laws before after user strict (Some (want.Feed since options)) (event.Bodies answer) a = absurd a
-one_told laws before after user strict (Some (want.Feed since options)) (event.Asked answer) a = absurd a
-one_told laws before after user strict (Some (want.Feed since options)) (event.Judged answer) a = absurd a
-one_told laws before after user strict (Some (want.Bodies options rows most)) (event.Bodies answer) a = bodies_told laws before after user strict options rows most answer a.0 a.1
-one_told laws before after user strict (Some (want.Bodies options rows most)) (event.Whole message) a = absurd a
-one_told laws before after user strict (Some (want.Bodies options rows most)) (event.Idle front) a = absurd a
-one_told laws before after user strict (Some (want.Bodies options rows most)) (event.Fed answer) a = absurd a
-one_told laws before after user strict (Some (want.Bodies options rows most)) (event.Asked answer) a = absurd a
-one_told laws before after user strict (Some (want.Bodies options rows most)) (event.Judged answer) a = absurd a
-one_told laws before after user strict (Some (want.Ask offers)) (event.Asked answer) a = asked_told laws before after user strict offers answer a.0 a.1
-one_told laws before after user strict (Some (want.Ask offers)) (event.Whole message) a = absurd a
-one_told laws before after user strict (Some (want.Ask offers)) (event.Idle front) a = absurd a
-one_told laws before after user strict (Some (want.Ask offers)) (event.Fed answer) a = absurd a
-one_told laws before after user strict (Some (want.Ask offers)) (event.Bodies answer) a = absurd a
-one_told laws before after user strict (Some (want.Ask offers)) (event.Judged answer) a = absurd a
-one_told laws before after user strict (Some (want.Propose r)) (event.Judged answer) a = proposed_told laws before after user strict r answer a
-one_told laws before after user strict (Some (want.Propose r)) (event.Whole message) a = absurd a
-one_told laws before after user strict (Some (want.Propose r)) (event.Idle front) a = absurd a
-one_told laws before after user strict (Some (want.Propose r)) (event.Fed answer) a = absurd a
-one_told laws before after user strict (Some (want.Propose r)) (event.Bodies answer) a = absurd a
-one_told laws before after user strict (Some (want.Propose r)) (event.Asked answer) a = absurd a
+one_answer : Laws → (before after : Moment) (user : List ℕ) (strict : Bool) (wanted : Option Want) (e : Event) → answered.IsAnswered before user strict wanted e after → OneAnswer before user strict wanted e after
+one_answer laws before after user strict None (event.Whole message) a = came_answer laws before after user strict message a
+one_answer laws before after user strict None (event.Idle front) a = loaded_answer laws before after user strict front a
+one_answer laws before after user strict None (event.Fed answer) a = absurd a
+one_answer laws before after user strict None (event.Bodies answer) a = absurd a
+one_answer laws before after user strict None (event.Asked answer) a = absurd a
+one_answer laws before after user strict None (event.Judged answer) a = absurd a
+one_answer laws before after user strict (Some (want.Feed since options)) (event.Fed answer) a = fed_answer laws before after user strict since options answer a.0 a.1
+one_answer laws before after user strict (Some (want.Feed since options)) (event.Whole message) a = absurd a
+one_answer laws before after user strict (Some (want.Feed since options)) (event.Idle front) a = absurd a
+one_answer laws before after user strict (Some (want.Feed since options)) (event.Bodies answer) a = absurd a
+one_answer laws before after user strict (Some (want.Feed since options)) (event.Asked answer) a = absurd a
+one_answer laws before after user strict (Some (want.Feed since options)) (event.Judged answer) a = absurd a
+one_answer laws before after user strict (Some (want.Bodies options rows most)) (event.Bodies answer) a = bodies_answer laws before after user strict options rows most answer a.0 a.1
+one_answer laws before after user strict (Some (want.Bodies options rows most)) (event.Whole message) a = absurd a
+one_answer laws before after user strict (Some (want.Bodies options rows most)) (event.Idle front) a = absurd a
+one_answer laws before after user strict (Some (want.Bodies options rows most)) (event.Fed answer) a = absurd a
+one_answer laws before after user strict (Some (want.Bodies options rows most)) (event.Asked answer) a = absurd a
+one_answer laws before after user strict (Some (want.Bodies options rows most)) (event.Judged answer) a = absurd a
+one_answer laws before after user strict (Some (want.Ask offers)) (event.Asked answer) a = asked_answer laws before after user strict offers answer a.0 a.1
+one_answer laws before after user strict (Some (want.Ask offers)) (event.Whole message) a = absurd a
+one_answer laws before after user strict (Some (want.Ask offers)) (event.Idle front) a = absurd a
+one_answer laws before after user strict (Some (want.Ask offers)) (event.Fed answer) a = absurd a
+one_answer laws before after user strict (Some (want.Ask offers)) (event.Bodies answer) a = absurd a
+one_answer laws before after user strict (Some (want.Ask offers)) (event.Judged answer) a = absurd a
+one_answer laws before after user strict (Some (want.Propose r)) (event.Judged answer) a = proposed_answer laws before after user strict r answer a
+one_answer laws before after user strict (Some (want.Propose r)) (event.Whole message) a = absurd a
+one_answer laws before after user strict (Some (want.Propose r)) (event.Idle front) a = absurd a
+one_answer laws before after user strict (Some (want.Propose r)) (event.Fed answer) a = absurd a
+one_answer laws before after user strict (Some (want.Propose r)) (event.Bodies answer) a = absurd a
+one_answer laws before after user strict (Some (want.Propose r)) (event.Asked answer) a = absurd a
 
 -- no front of an event is above the lowest front after it, which does not fall
 rise_within : (low : ℕ) (fronts : List ℕ) (high : ℕ) → RiseBetween low fronts high → (low ≤ high) × AreWithin high fronts
@@ -348,8 +348,8 @@ rise_within low (front ∷ fronts) high (first, rise) =
     (le_trans first later.0, (later.0, later.1))
 
 pub event_within : Laws → (before after : Moment) (user : List ℕ) (strict : Bool) (wanted : Option Want) (e : Event) → answered.IsAnswered before user strict wanted e after
-    → (before.lowest ≤ after.lowest) × AreWithin after.lowest (front_told e)
-event_within laws before after user strict wanted e a = rise_within before.lowest (front_told e) after.lowest (one_told laws before after user strict wanted e a).rise
+    → (before.lowest ≤ after.lowest) × AreWithin after.lowest (front_by e)
+event_within laws before after user strict wanted e a = rise_within before.lowest (front_by e) after.lowest (one_answer laws before after user strict wanted e a).rise
 
 -- ---- all of them
 
@@ -382,7 +382,7 @@ looks_on before between after [] second (added, is) at = looks_from added before
 looks_on before between after (l ∷ first) second (middle, b, was, is, later) at = (middle, b, was, is, looks_on middle between after first second later at)
 
 -- the fronts of looks alone
-looks_rise : (low high : ℕ) (e : Event) → RiseBetween low (front_told e) high → RiseBetween low (look_fronts (look_of e)) high
+looks_rise : (low high : ℕ) (e : Event) → RiseBetween low (front_by e) high → RiseBetween low (look_fronts (look_of e)) high
 looks_rise low high (event.Whole message) rise = rise
 looks_rise low high (event.Idle front) (first, rise) = le_trans first rise
 looks_rise low high (event.Fed answer) rise = rise
@@ -402,7 +402,7 @@ numbers_on [] second = refl
 numbers_on (w ∷ first) second = ap (λ ns. w.number ∷ ns) (numbers_on first second)
 
 -- all that holds of the steps that were answered
-pub record AllTold (start : Moment) (user : List ℕ) (strict : Bool) (steps : List Step) (now : Moment) : Type 0 where
+pub record AllAnswers (start : Moment) (user : List ℕ) (strict : Bool) (steps : List Step) (now : Moment) : Type 0 where
   pub right : (h : List Entry) → IsLaterThanAll now.read h → AreRight h user strict steps
   pub reads : Reads start.read now.read start.lowest now.lowest
   pub rise : RiseBetween start.lowest (fronts_of steps) now.lowest
@@ -412,8 +412,8 @@ pub record AllTold (start : Moment) (user : List ℕ) (strict : Bool) (steps : L
   pub looks : AreLooksAt start.read (looks_of steps) now.read
   pub looks_rise : RiseBetween start.lowest (look_fronts (looks_of steps)) now.lowest
 
-none_told : Laws → (start : Moment) (user : List ℕ) (strict : Bool) → AllTold start user strict [] start
-none_told laws start user strict = record {
+none_answered : Laws → (start : Moment) (user : List ℕ) (strict : Bool) → AllAnswers start user strict [] start
+none_answered laws start user strict = record {
   right = λ h later. tt;
   reads = laws.reflexive start.read start.lowest;
   rise = le_refl start.lowest;
@@ -434,13 +434,13 @@ own_on start between now stored more (first, first_is, first_numbers) (second, s
   numbers_on second first ∙ ap (λ ns. ns ++ map (λ (w : Waiting). w.number) first) second_numbers ∙ ap (λ ns. reverse more ++ ns) first_numbers ∙ sym (reverse-append stored more),
 )
 
-told_on : Laws → (start between now : Moment) (user : List ℕ) (strict : Bool) (s : Step) (earlier : List Step) → AllTold start user strict earlier between → Told between user strict (wanted_after earlier) s.event now → AllTold start user strict (s ∷ earlier) now
-told_on laws start between now user strict s earlier all one = record {
+answers_on : Laws → (start between now : Moment) (user : List ℕ) (strict : Bool) (s : Step) (earlier : List Step) → AllAnswers start user strict earlier between → OneAnswer between user strict (wanted_after earlier) s.event now → AllAnswers start user strict (s ∷ earlier) now
+answers_on laws start between now user strict s earlier all one = record {
   right = λ h later. (one.right h later, all.right h (laws.before between.read now.read between.lowest now.lowest h one.reads later));
   reads = laws.transitive start.read between.read now.read start.lowest between.lowest now.lowest all.reads one.reads;
-  rise = rise_on start.lowest between.lowest now.lowest (fronts_of earlier) (front_told s.event) all.rise one.rise;
+  rise = rise_on start.lowest between.lowest now.lowest (fronts_of earlier) (front_by s.event) all.rise one.rise;
   recorded = one.recorded ∙ ap (λ n. length_after n s.event) all.recorded;
-  at_length = (subst (λ n. AreLength n (front_told s.event)) all.recorded one.at_length, all.at_length);
+  at_length = (subst (λ n. AreLength n (front_by s.event)) all.recorded one.at_length, all.at_length);
   own = own_on start between now (stored_of earlier) (stored_by s.event) all.own one.own;
   looks = looks_on start.read between.read now.read (looks_of earlier) (look_of s.event) all.looks one.looks;
   looks_rise = subst (λ fs. RiseBetween start.lowest fs now.lowest) (sym (map-append _ (looks_of earlier) (look_of s.event)))
@@ -448,7 +448,7 @@ told_on laws start between now user strict s earlier all one = record {
       (looks_rise between.lowest now.lowest s.event one.rise));
 }
 
-pub all_told : Laws → (start now : Moment) (user : List ℕ) (strict : Bool) (steps : List Step) → AreAnswered start user strict steps now → AllTold start user strict steps now
-all_told laws start now user strict [] a = subst (AllTold start user strict []) (sym a) (none_told laws start user strict)
-all_told laws start now user strict (s ∷ earlier) (between, a, one) =
-    told_on laws start between now user strict s earlier (all_told laws start between user strict earlier a) (one_told laws between now user strict (wanted_after earlier) s.event one)
+pub all_answers : Laws → (start now : Moment) (user : List ℕ) (strict : Bool) (steps : List Step) → AreAnswered start user strict steps now → AllAnswers start user strict steps now
+all_answers laws start now user strict [] a = subst (AllAnswers start user strict []) (sym a) (none_answered laws start user strict)
+all_answers laws start now user strict (s ∷ earlier) (between, a, one) =
+    answers_on laws start between now user strict s earlier (all_answers laws start between user strict earlier a) (one_answer laws between now user strict (wanted_after earlier) s.event one)

@@ -3,8 +3,8 @@ use Rattle.std.proofs.Common.{◌≡◌, inl, inr, ◌≤◌, ◌<◌, ℕ, ◌+
 use Rattle.std.proofs.lemmas.Bool.{false≢true}
 use Rattle.std.proofs.lemmas.List.{append_assoc, map-append}
 use Rattle.blip_mux.specs.declared.message.Message.{Message}
-use Rattle.blip_mux.specs.Cutting.{Deed, after_deed, after_deeds}
-use Rattle.blip_mux.specs.Remembered.{Standing}
+use Rattle.blip_mux.specs.Cutting.{OutboxStep, after_outbox_step, after_outbox_steps}
+use Rattle.blip_mux.specs.Remembered.{InboxState}
 use Rattle.blip_mux.specs.Sending.{Sending}
 use Rattle.session_core.specs.declared.act.Want.{Want}
 use Rattle.session_core.specs.declared.event.Event.{Event}
@@ -13,7 +13,7 @@ use Rattle.session_core.specs.declared.look.Look.{Look}
 use Rattle.session_core.specs.declared.machine.Pending.{Pending}
 use Rattle.session_core.specs.declared.machine.Pending.TheVariants as pending
 use Rattle.session_core.specs.Conduct.{due_with, WantsFor, most_answers, is_answer, feed_front, AreWithin}
-use Rattle.session_core.specs.Fronts.{look_of, stored_by, front_told, looks_of, stored_of}
+use Rattle.session_core.specs.Fronts.{look_of, stored_by, front_by, looks_of, stored_of}
 use Rattle.session_core.specs.Running.{Running}
 use Rattle.session_core.specs.State.{Machine}
 use Rattle.session_core.specs.Steps.{Step, Steps, Leads, put_by, wanted_after}
@@ -27,19 +27,19 @@ use Rattle.session_run.specs.Turns.{IsExchange, puts_all}
 
 -- ---- messages put one after another
 
-expecting_on : (first second : List Message) (s : Standing) → expecting_all (first ++ second) s ≡ expecting_all second (expecting_all first s)
+expecting_on : (first second : List Message) (s : InboxState) → expecting_all (first ++ second) s ≡ expecting_all second (expecting_all first s)
 expecting_on [] second s = refl
 expecting_on (m ∷ first) second s = expecting_on first second (expecting_by m s)
 
-pub deeds_on : (s : Sending) (first second : List Deed) → after_deeds s (first ++ second) ≡ after_deeds (after_deeds s first) second
-deeds_on s [] second = refl
-deeds_on s (deed ∷ first) second = deeds_on (after_deed s deed) first second
+pub outbox_steps_on : (s : Sending) (first second : List OutboxStep) → after_outbox_steps s (first ++ second) ≡ after_outbox_steps (after_outbox_steps s first) second
+outbox_steps_on s [] second = refl
+outbox_steps_on s (step ∷ first) second = outbox_steps_on (after_outbox_step s step) first second
 
 put_on : (m : Mux) (first second : List Message) → put_as (put_as m first) second ≡ put_as m (first ++ second)
 put_on m first second =
-    ap (λ s. record m { inbox = s; outbox = after_deeds (after_deeds m.outbox (puts_all first)) (puts_all second) }) (sym (expecting_on first second m.inbox))
+    ap (λ s. record m { inbox = s; outbox = after_outbox_steps (after_outbox_steps m.outbox (puts_all first)) (puts_all second) }) (sym (expecting_on first second m.inbox))
     ∙ ap (λ s. record m { inbox = expecting_all (first ++ second) m.inbox; outbox = s })
-    (sym (deeds_on m.outbox (puts_all first) (puts_all second)) ∙ ap (after_deeds m.outbox) (sym (map-append _ first second)))
+    (sym (outbox_steps_on m.outbox (puts_all first) (puts_all second)) ∙ ap (after_outbox_steps m.outbox) (sym (map-append _ first second)))
 
 -- ---- the first event
 
@@ -91,7 +91,7 @@ pub begun : (old new : Session) (first : Event) (before now : Moment) (want : Op
     → (made : Makes old new first want) → new.listing.looks ≡ old.listing.looks → new.listing.stored ≡ old.listing.stored
     → IsAnswered before old.core.user old.core.strict None first now
     → WantsFor new.core.feed new.core.pending want → IsReady new → MayReply new.mux (due_with new.core.pending)
-    → feed_front old.core.feed ≤ now.lowest → AreWithin now.lowest (front_told first)
+    → feed_front old.core.feed ≤ now.lowest → AreWithin now.lowest (front_by first)
     → new.core.requests ≤ old.core.requests + 10001
     → Conversing old new first before now want (made.step ∷ [])
 begun old new first before now want is made looks stored answered wants ready may front within few = record {
@@ -174,7 +174,7 @@ pub went_on : (old middle asked new : Session) (first : Event) (before now after
     → Answers middle asked middle.core.user middle.core.strict now after wanted answer
     → (made : Makes asked new answer want) → new.listing ≡ asked.listing
     → WantsFor new.core.feed new.core.pending want → IsReady new → MayReply new.mux (due_with new.core.pending)
-    → now.lowest ≤ after.lowest → AreWithin after.lowest (front_told answer)
+    → now.lowest ≤ after.lowest → AreWithin after.lowest (front_by answer)
     → new.core.requests ≤ asked.core.requests + 10001 → most_answers new.core.pending < most_answers asked.core.pending
     → Conversing old new first before after want (made.step ∷ steps)
 went_on old middle asked new first before now after steps answer wanted want so_far got made listing wants ready may rises within few fewer = record {

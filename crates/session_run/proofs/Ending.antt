@@ -12,7 +12,7 @@ use Rattle.blip_frame.specs.declared.frame.FrameFault.{FrameFault}
 use Rattle.blip_mux.specs.declared.inbox.Taken.{Taken}
 use Rattle.blip_mux.specs.declared.inbox.TakeFault.{TakeFault}
 use Rattle.blip_mux.specs.Joining.{answer_in}
-use Rattle.blip_mux.specs.Standing.{answer_at}
+use Rattle.blip_mux.specs.InboxStates.{answer_at}
 use Rattle.blip_mux.specs.Sending.{Sending, picked}
 use Rattle.session_core.specs.declared.event.Event.{Event}
 use Rattle.session_core.specs.declared.machine.Pending.TheVariants as pending
@@ -21,7 +21,7 @@ use Rattle.session_core.specs.Fronts.{looks_of, stored_of}
 use Rattle.session_core.specs.State.{Machine}
 use Rattle.session_mux.specs.declared.frame_why.FrameWhy.{FrameWhy}
 use Rattle.session_mux.specs.Frames.{IsBadFrame, IsBadTaken}
-use Rattle.session_mux.specs.Sent.{Tells}
+use Rattle.session_mux.specs.Sent.{Records}
 use Rattle.session_run.specs.declared.ended.End.{End}
 use Rattle.session_run.specs.declared.ended.End.TheVariants as end
 use Rattle.session_run.specs.declared.ended.Ended.{Ended}
@@ -46,9 +46,9 @@ pub not_memory : (result : Got) → is_memory result ≡ false → result ≡ go
 not_memory result e is = false≢true (sym e ∙ ap is_memory is)
 
 -- what the law of traffic says
-abbrev pub TellsOn : Type 0
-TellsOn = (told between after : Option Traffic) (got more_got : List Got) (sent more_sent : List (List ℕ)) (failed : List Gave)
-    → Tells told got sent [] between → Tells between more_got more_sent failed after → Tells told (got ++ more_got) (sent ++ more_sent) failed after
+abbrev pub RecordsOn : Type 0
+RecordsOn = (traffic between after : Option Traffic) (got more_got : List Got) (sent more_sent : List (List ℕ)) (failed : List Gave)
+    → Records traffic got sent [] between → Records between more_got more_sent failed after → Records traffic (got ++ more_got) (sent ++ more_sent) failed after
 
 -- ---- the whole
 
@@ -108,34 +108,34 @@ at_most_one : (results last : List Got) (count : ℕ) → length results ≡ cou
 at_most_one results last count e below few = omega (arith, length-append results last, e, below, few)
 
 -- by these last results, at most one, in which no turn is
-pub run_ends : TellsOn → (setup : Setup) (start now final : Moment) (told told_now told_after : Option Traffic) (s new : Session) (count : ℕ) (e : End) (last : List Got)
+pub run_ends : RecordsOn → (setup : Setup) (start now final : Moment) (traffic traffic_now traffic_after : Option Traffic) (s new : Session) (count : ℕ) (e : End) (last : List Got)
     → final ≡ now → HasRead now now → new.listing.looks ≡ s.listing.looks → new.listing.stored ≡ s.listing.stored
     → count + length last ≤ 1099511627776
     → ((turns : List SessionTurn) (frames : List FrameParts) (results : List Got) (sent : List (List ℕ)) → Holds setup start now s turns frames results sent → length results ≡ count → EndsBy turns s.mux.outbox e results last [])
-    → Tells told_now last [] [] told_after
-    → Runs setup start now told s told_now count → IsServed setup start final told (ended_as e new) told_after
-run_ends law setup start now final told told_now told_after s new count e last same read looks stored few by tells runs =
-    subst (λ m. IsServed setup start m told (ended_as e new) told_after) (sym same)
-    (subst (λ l. IsServed setup start now told (record { end = e; looks = l; stored = new.listing.stored }) told_after) (sym looks)
-    (subst (λ l. IsServed setup start now told (record { end = e; looks = s.listing.looks; stored = l }) told_after) (sym stored)
+    → Records traffic_now last [] [] traffic_after
+    → Runs setup start now traffic s traffic_now count → IsServed setup start final traffic (ended_as e new) traffic_after
+run_ends law setup start now final traffic traffic_now traffic_after s new count e last same read looks stored few by records runs =
+    subst (λ m. IsServed setup start m traffic (ended_as e new) traffic_after) (sym same)
+    (subst (λ l. IsServed setup start now traffic (record { end = e; looks = l; stored = new.listing.stored }) traffic_after) (sym looks)
+    (subst (λ l. IsServed setup start now traffic (record { end = e; looks = s.listing.looks; stored = l }) traffic_after) (sym stored)
     (record {
       results = runs.results ++ last;
       sent = runs.sent;
       failed = [];
       session = session_after setup start now s runs.turns runs.frames runs.results last runs.sent e [] runs.holds read (omega (arith, few, runs.counted, length-append runs.results last)) (by runs.turns runs.frames runs.results runs.sent runs.holds runs.counted);
-      tells = subst (λ t. Tells told (runs.results ++ last) t [] told_after) (append-nil runs.sent) (law told told_now told_after runs.results last runs.sent [] [] runs.tells tells);
+      records = subst (λ t. Records traffic (runs.results ++ last) t [] traffic_after) (append-nil runs.sent) (law traffic traffic_now traffic_after runs.results last runs.sent [] [] runs.records records);
     })))
 
 -- ---- in a turn
 
 -- a session that ends in a turn, of which this is left
 turn_session : Came → Joins → (setup : Setup) (start now final : Moment) (old new : Session) (turns : List SessionTurn) (frames : List FrameParts) (results : List Got) (sent : List (List ℕ)) (e : End)
-    (result : Got) (told told_after : Option Traffic) (t : SessionTurn) (halted : Option Event) (left : Sending) (failed : List Gave)
-    → Holds setup start now old turns frames results sent → (did : Turned old new result now final told told_after t halted left failed)
+    (result : Got) (traffic traffic_after : Option Traffic) (t : SessionTurn) (halted : Option Event) (left : Sending) (failed : List Gave)
+    → Holds setup start now old turns frames results sent → (did : Turned old new result now final traffic traffic_after t halted left failed)
     → length (results ++ result ∷ []) ≤ 1099511627776
     → IsClosedAt e new.core halted → IsSentAt e left → EndsBy (t ∷ turns) left e (results ++ result ∷ []) [] failed
     → IsSession setup start final (ended_as e new) (results ++ result ∷ []) (sent ++ did.sent) failed
-turn_session came_law joins setup start now final old new turns frames results sent e result told told_after t halted left failed held did count is_closed whole by =
+turn_session came_law joins setup start now final old new turns frames results sent e result traffic traffic_after t halted left failed held did count is_closed whole by =
     let got : Received old new turns results result t.frame t.given = received_on came_law joins setup start now old new turns frames results sent result t.frame t.given held did.read in
     record {
       turns = t ∷ turns;
@@ -159,7 +159,7 @@ turn_session came_law joins setup start now final old new turns frames results s
       reads = did.reads;
       looks = did.looks ∙ ap (λ l. l ++ looks_of (undone halted ++ t.steps)) held.looks ∙ sym (looks_after (undone halted ++ t.steps) (steps_of turns)) ∙ ap looks_of (append_assoc (undone halted) t.steps (steps_of turns));
       stored = did.stored ∙ ap (λ l. l ++ stored_of (undone halted ++ t.steps)) held.stored ∙ sym (stored_after (undone halted ++ t.steps) (steps_of turns)) ∙ ap stored_of (append_assoc (undone halted) t.steps (steps_of turns));
-      put = (frames, did.frames, old.mux.outbox, refl, held.put, held.rest.idle, did.heard, did.go);
+      put = (frames, did.frames, old.mux.outbox, refl, held.put, held.rest.idle, did.no_bad_ack, did.go);
       written = written_more [] sent did.sent frames did.frames held.written (did.written (all_sent [] frames) held.checked).0;
       whole = whole;
       ends = by;
@@ -186,93 +186,93 @@ bad_after joins setup start now s turns frames results sent bytes w held bad =
 -- ---- by one result more
 
 -- all of whose turn went
-turn_runs : TellsOn → Came → Expects → Joins → Kept → Wants → (setup : Setup) (start now final : Moment) (told told_now told_between told_after : Option Traffic) (old new : Session) (count : ℕ) (result : Got)
-    → Tells told_now (result ∷ []) [] [] told_between
-    → Takes old new result now final told_between told_after None
-    → Runs setup start now told old told_now count → Runs setup start final told new told_after (count + 1)
-turn_runs law came_law expects joins kept wants setup start now final told told_now told_between told_after old new count result tells (t, did, value, rest, now_is, inbox, front, few) runs = record {
+turn_runs : RecordsOn → Came → Expects → Joins → Kept → Wants → (setup : Setup) (start now final : Moment) (traffic traffic_now traffic_between traffic_after : Option Traffic) (old new : Session) (count : ℕ) (result : Got)
+    → Records traffic_now (result ∷ []) [] [] traffic_between
+    → Takes old new result now final traffic_between traffic_after None
+    → Runs setup start now traffic old traffic_now count → Runs setup start final traffic new traffic_after (count + 1)
+turn_runs law came_law expects joins kept wants setup start now final traffic traffic_now traffic_between traffic_after old new count result records (t, did, value, rest, now_is, inbox, front, few) runs = record {
   turns = t ∷ runs.turns;
   frames = runs.frames ++ did.frames;
   results = runs.results ++ result ∷ [];
   sent = runs.sent ++ did.sent;
-  holds = holds_on came_law expects joins kept wants setup start now final old new runs.turns runs.frames runs.results runs.sent result told_between told_after t runs.holds did value rest now_is inbox;
-  tells = law told told_now told_after runs.results (result ∷ []) runs.sent did.sent [] runs.tells (law told_now told_between told_after (result ∷ []) [] [] did.sent [] tells did.tells);
+  holds = holds_on came_law expects joins kept wants setup start now final old new runs.turns runs.frames runs.results runs.sent result traffic_between traffic_after t runs.holds did value rest now_is inbox;
+  records = law traffic traffic_now traffic_after runs.results (result ∷ []) runs.sent did.sent [] runs.records (law traffic_now traffic_between traffic_after (result ∷ []) [] [] did.sent [] records did.records);
   counted = counted_on runs.results result count runs.counted;
 }
 
 -- in whose turn the session ends
-turn_ends : TellsOn → Came → Joins → (setup : Setup) (start now final : Moment) (told told_now told_between told_after : Option Traffic) (old new : Session) (count : ℕ) (result : Got) (e : End) (t : SessionTurn) (halted : Option Event) (left : Sending) (failed : List Gave)
+turn_ends : RecordsOn → Came → Joins → (setup : Setup) (start now final : Moment) (traffic traffic_now traffic_between traffic_after : Option Traffic) (old new : Session) (count : ℕ) (result : Got) (e : End) (t : SessionTurn) (halted : Option Event) (left : Sending) (failed : List Gave)
     → count < 1099511627776
-    → Tells told_now (result ∷ []) [] [] told_between
-    → Turned old new result now final told_between told_after t halted left failed
+    → Records traffic_now (result ∷ []) [] [] traffic_between
+    → Turned old new result now final traffic_between traffic_after t halted left failed
     → IsClosedAt e new.core halted → IsSentAt e left → ((turns : List SessionTurn) (results : List Got) → EndsBy turns left e results [] failed)
-    → Runs setup start now told old told_now count → IsServed setup start final told (ended_as e new) told_after
-turn_ends law came_law joins setup start now final told told_now told_between told_after old new count result e t halted left failed below tells did is_closed whole by runs = record {
+    → Runs setup start now traffic old traffic_now count → IsServed setup start final traffic (ended_as e new) traffic_after
+turn_ends law came_law joins setup start now final traffic traffic_now traffic_between traffic_after old new count result e t halted left failed below records did is_closed whole by runs = record {
   results = runs.results ++ result ∷ [];
   sent = runs.sent ++ did.sent;
   failed = failed;
-  session = turn_session came_law joins setup start now final old new runs.turns runs.frames runs.results runs.sent e result told_between told_after t halted left failed runs.holds did
+  session = turn_session came_law joins setup start now final old new runs.turns runs.frames runs.results runs.sent e result traffic_between traffic_after t halted left failed runs.holds did
       (omega (arith, below, counted_on runs.results result count runs.counted)) is_closed whole (by (t ∷ runs.turns) (runs.results ++ result ∷ []));
-  tells = law told told_now told_after runs.results (result ∷ []) runs.sent did.sent failed runs.tells (law told_now told_between told_after (result ∷ []) [] [] did.sent failed tells did.tells);
+  records = law traffic traffic_now traffic_after runs.results (result ∷ []) runs.sent did.sent failed runs.records (law traffic_now traffic_between traffic_after (result ∷ []) [] [] did.sent failed records did.records);
 }
 
 -- that takes part in no turn
-leaves_ends : TellsOn → (setup : Setup) (start now final : Moment) (told told_now told_between told_after : Option Traffic) (old new : Session) (count : ℕ) (bytes : List ℕ) (e : End)
+leaves_ends : RecordsOn → (setup : Setup) (start now final : Moment) (traffic traffic_now traffic_between traffic_after : Option Traffic) (old new : Session) (count : ℕ) (bytes : List ℕ) (e : End)
     → count < 1099511627776 → HasRead now now
-    → Tells told_now (got.Frame bytes ∷ []) [] [] told_between
+    → Records traffic_now (got.Frame bytes ∷ []) [] [] traffic_between
     → ((turns : List SessionTurn) (frames : List FrameParts) (results : List Got) (sent : List (List ℕ)) → Holds setup start now old turns frames results sent → length results ≡ count → EndsBy turns old.mux.outbox e results (got.Frame bytes ∷ []) [])
-    → Leaves old new now final told_between told_after
-    → Runs setup start now told old told_now count → IsServed setup start final told (ended_as e new) told_after
-leaves_ends law setup start now final told told_now told_between told_after old new count bytes e below read tells by leaves runs =
-    run_ends law setup start now final told told_now told_after old new count e (got.Frame bytes ∷ []) leaves.same read leaves.looks leaves.stored (omega (arith, below)) by
-    (law told_now told_between told_after (got.Frame bytes ∷ []) [] [] [] [] tells leaves.tells) runs
+    → Leaves old new now final traffic_between traffic_after
+    → Runs setup start now traffic old traffic_now count → IsServed setup start final traffic (ended_as e new) traffic_after
+leaves_ends law setup start now final traffic traffic_now traffic_between traffic_after old new count bytes e below read records by leaves runs =
+    run_ends law setup start now final traffic traffic_now traffic_after old new count e (got.Frame bytes ∷ []) leaves.same read leaves.looks leaves.stored (omega (arith, below)) by
+    (law traffic_now traffic_between traffic_after (got.Frame bytes ∷ []) [] [] [] [] records leaves.records) runs
 
-memory_ends : TellsOn → Came → Joins → (setup : Setup) (start now final : Moment) (told told_now told_between told_after : Option Traffic) (old new : Session) (count : ℕ) (result : Got)
+memory_ends : RecordsOn → Came → Joins → (setup : Setup) (start now final : Moment) (traffic traffic_now traffic_between traffic_after : Option Traffic) (old new : Session) (count : ℕ) (result : Got)
     → count < 1099511627776 → HasRead now now
-    → Tells told_now (result ∷ []) [] [] told_between
-    → Takes old new result now final told_between told_after (Some end.Memory)
-    → Runs setup start now told old told_now count → IsServed setup start final told (ended_as end.Memory new) told_after
-memory_ends law came_law joins setup start now final told told_now told_between told_after old new count result below read tells (inl (t, halted, left, did)) runs =
-    turn_ends law came_law joins setup start now final told told_now told_between told_after old new count result end.Memory t halted left [] below tells did tt tt (λ turns results. (inr refl, refl)) runs
-memory_ends law came_law joins setup start now final told told_now told_between told_after old new count result below read tells (inr (bytes, is, leaves)) runs =
-    leaves_ends law setup start now final told told_now told_between told_after old new count bytes end.Memory below read
-    (subst (λ r. Tells told_now (r ∷ []) [] [] told_between) is tells)
+    → Records traffic_now (result ∷ []) [] [] traffic_between
+    → Takes old new result now final traffic_between traffic_after (Some end.Memory)
+    → Runs setup start now traffic old traffic_now count → IsServed setup start final traffic (ended_as end.Memory new) traffic_after
+memory_ends law came_law joins setup start now final traffic traffic_now traffic_between traffic_after old new count result below read records (inl (t, halted, left, did)) runs =
+    turn_ends law came_law joins setup start now final traffic traffic_now traffic_between traffic_after old new count result end.Memory t halted left [] below records did tt tt (λ turns results. (inr refl, refl)) runs
+memory_ends law came_law joins setup start now final traffic traffic_now traffic_between traffic_after old new count result below read records (inr (bytes, is, leaves)) runs =
+    leaves_ends law setup start now final traffic traffic_now traffic_between traffic_after old new count bytes end.Memory below read
+    (subst (λ r. Records traffic_now (r ∷ []) [] [] traffic_between) is records)
     (λ turns frames results sent held counted. (inl (bytes, refl), refl)) leaves runs
 
-pub result_taken : TellsOn → Came → Expects → Joins → Kept → Wants → (setup : Setup) (start now final : Moment) (told told_now told_between told_after : Option Traffic) (old new : Session) (count : ℕ) (result : Got) (ends : Option End)
+pub result_taken : RecordsOn → Came → Expects → Joins → Kept → Wants → (setup : Setup) (start now final : Moment) (traffic traffic_now traffic_between traffic_after : Option Traffic) (old new : Session) (count : ℕ) (result : Got) (ends : Option End)
     → count < 1099511627776 → HasRead now now
-    → Tells told_now (result ∷ []) [] [] told_between
-    → Takes old new result now final told_between told_after ends
-    → Runs setup start now told old told_now count → RunsOn setup start final told new told_after count ends
-result_taken law came_law expects joins kept wants setup start now final told told_now told_between told_after old new count result None below read tells takes runs =
-    turn_runs law came_law expects joins kept wants setup start now final told told_now told_between told_after old new count result tells takes runs
-result_taken law came_law expects joins kept wants setup start now final told told_now told_between told_after old new count result (Some end.Closed) below read tells takes runs = absurd takes
-result_taken law came_law expects joins kept wants setup start now final told told_now told_between told_after old new count result (Some end.WireFault) below read tells (t, left, did, rest) runs =
-    turn_ends law came_law joins setup start now final told told_now told_between told_after old new count result end.WireFault t None left (gave.Failed ∷ []) below tells did (rest, refl) tt (λ turns results. inr (refl, refl)) runs
-result_taken law came_law expects joins kept wants setup start now final told told_now told_between told_after old new count result (Some (end.BadFrame index w)) below read tells (bytes, is, at, bad, leaves) runs =
-    leaves_ends law setup start now final told told_now told_between told_after old new count bytes (end.BadFrame index w) below read
-    (subst (λ r. Tells told_now (r ∷ []) [] [] told_between) is tells)
+    → Records traffic_now (result ∷ []) [] [] traffic_between
+    → Takes old new result now final traffic_between traffic_after ends
+    → Runs setup start now traffic old traffic_now count → RunsOn setup start final traffic new traffic_after count ends
+result_taken law came_law expects joins kept wants setup start now final traffic traffic_now traffic_between traffic_after old new count result None below read records takes runs =
+    turn_runs law came_law expects joins kept wants setup start now final traffic traffic_now traffic_between traffic_after old new count result records takes runs
+result_taken law came_law expects joins kept wants setup start now final traffic traffic_now traffic_between traffic_after old new count result (Some end.Closed) below read records takes runs = absurd takes
+result_taken law came_law expects joins kept wants setup start now final traffic traffic_now traffic_between traffic_after old new count result (Some end.WireFault) below read records (t, left, did, rest) runs =
+    turn_ends law came_law joins setup start now final traffic traffic_now traffic_between traffic_after old new count result end.WireFault t None left (gave.Failed ∷ []) below records did (rest, refl) tt (λ turns results. inr (refl, refl)) runs
+result_taken law came_law expects joins kept wants setup start now final traffic traffic_now traffic_between traffic_after old new count result (Some (end.BadFrame index w)) below read records (bytes, is, at, bad, leaves) runs =
+    leaves_ends law setup start now final traffic traffic_now traffic_between traffic_after old new count bytes (end.BadFrame index w) below read
+    (subst (λ r. Records traffic_now (r ∷ []) [] [] traffic_between) is records)
     (λ turns frames results sent held counted. (at ∙ ap (λ n. n + 1) held.count, got.Frame bytes, refl, bad_after joins setup start now old turns frames results sent bytes w held bad, refl))
     leaves runs
-result_taken law came_law expects joins kept wants setup start now final told told_now told_between told_after old new count result (Some end.TurnsFull) below read tells takes runs = absurd takes
-result_taken law came_law expects joins kept wants setup start now final told told_now told_between told_after old new count result (Some end.Memory) below read tells takes runs =
-    memory_ends law came_law joins setup start now final told told_now told_between told_after old new count result below read tells takes runs
+result_taken law came_law expects joins kept wants setup start now final traffic traffic_now traffic_between traffic_after old new count result (Some end.TurnsFull) below read records takes runs = absurd takes
+result_taken law came_law expects joins kept wants setup start now final traffic traffic_now traffic_between traffic_after old new count result (Some end.Memory) below read records takes runs =
+    memory_ends law came_law joins setup start now final traffic traffic_now traffic_between traffic_after old new count result below read records takes runs
 
 -- ---- after a step
 
-pub rest_after : (old new : Session) (result : Got) (now final : Moment) (told told_after : Option Traffic) (ends : Option End) → Takes old new result now final told told_after ends → ends ≡ None → IsAtRest new
-rest_after old new result now final told told_after None (t, did, value, rest, now_is, inbox, front, few) e = rest
-rest_after old new result now final told told_after (Some other) takes e = cc
+pub rest_after : (old new : Session) (result : Got) (now final : Moment) (traffic traffic_after : Option Traffic) (ends : Option End) → Takes old new result now final traffic traffic_after ends → ends ≡ None → IsAtRest new
+rest_after old new result now final traffic traffic_after None (t, did, value, rest, now_is, inbox, front, few) e = rest
+rest_after old new result now final traffic traffic_after (Some other) takes e = cc
 
-pub front_after : (old new : Session) (result : Got) (now final : Moment) (told told_after : Option Traffic) (ends : Option End) → Takes old new result now final told told_after ends → ends ≡ None → feed_front new.core.feed ≤ final.lowest
-front_after old new result now final told told_after None (t, did, value, rest, now_is, inbox, front, few) e = front
-front_after old new result now final told told_after (Some other) takes e = cc
+pub front_after : (old new : Session) (result : Got) (now final : Moment) (traffic traffic_after : Option Traffic) (ends : Option End) → Takes old new result now final traffic traffic_after ends → ends ≡ None → feed_front new.core.feed ≤ final.lowest
+front_after old new result now final traffic traffic_after None (t, did, value, rest, now_is, inbox, front, few) e = front
+front_after old new result now final traffic traffic_after (Some other) takes e = cc
 
-pub few_after : (old new : Session) (result : Got) (now final : Moment) (told told_after : Option Traffic) (ends : Option End) → Takes old new result now final told told_after ends → ends ≡ None → new.core.requests ≤ old.core.requests + 30003
-few_after old new result now final told told_after None (t, did, value, rest, now_is, inbox, front, few) e = few
-few_after old new result now final told told_after (Some other) takes e = cc
+pub few_after : (old new : Session) (result : Got) (now final : Moment) (traffic traffic_after : Option Traffic) (ends : Option End) → Takes old new result now final traffic traffic_after ends → ends ≡ None → new.core.requests ≤ old.core.requests + 30003
+few_after old new result now final traffic traffic_after None (t, did, value, rest, now_is, inbox, front, few) e = few
+few_after old new result now final traffic traffic_after (Some other) takes e = cc
 
 -- ---- the beginning
 
-pub runs_new : (setup : Setup) (now : Moment) (told : Option Traffic) (s : Session) → Tells told [] [] [] told → Holds setup now now s [] [] [] [] → Runs setup now now told s told 0
-runs_new setup now told s tells held = record { turns = []; frames = []; results = []; sent = []; holds = held; tells = tells; counted = refl }
+pub runs_new : (setup : Setup) (now : Moment) (traffic : Option Traffic) (s : Session) → Records traffic [] [] [] traffic → Holds setup now now s [] [] [] [] → Runs setup now now traffic s traffic 0
+runs_new setup now traffic s records held = record { turns = []; frames = []; results = []; sent = []; holds = held; records = records; counted = refl }

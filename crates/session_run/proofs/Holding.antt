@@ -13,8 +13,8 @@ use Rattle.blip_mux.specs.declared.message.Message.{Message}
 use Rattle.blip_mux.specs.declared.inbox.Taken.{Taken}
 use Rattle.blip_mux.specs.Apart.{AreApart}
 use Rattle.blip_mux.specs.Joining.{Event, came, expected, is_request, answer_in}
-use Rattle.blip_mux.specs.Remembered.{Standing}
-use Rattle.blip_mux.specs.Standing.{new_standing, expecting, answer_at, taken_after, StandsFor}
+use Rattle.blip_mux.specs.Remembered.{InboxState}
+use Rattle.blip_mux.specs.InboxStates.{new_inbox, expecting, answer_at, taken_after, StandsFor}
 use Rattle.blip_mux.specs.Sending.{Sending, new_sending, picked}
 use Rattle.session_core.specs.declared.act.Want.{Want}
 use Rattle.session_core.specs.declared.machine.Pending.{Pending}
@@ -37,20 +37,20 @@ use Rattle.session_run.proofs.Taking.{Kept, Wants}
 
 -- what the inbox keeps of what came, as its laws say
 abbrev pub Came : Type 0
-Came = (s : Standing) (before : List Event) (f : FrameParts) → StandsFor s before → StandsFor (taken_after s f) (came f ∷ before)
+Came = (s : InboxState) (before : List Event) (f : FrameParts) → StandsFor s before → StandsFor (taken_after s f) (came f ∷ before)
 
 abbrev pub Expects : Type 0
-Expects = (s : Standing) (before : List Event) (number : ℕ) → StandsFor s before → StandsFor (expecting s number) (expected number ∷ before)
+Expects = (s : InboxState) (before : List Event) (number : ℕ) → StandsFor s before → StandsFor (expecting s number) (expected number ∷ before)
 
 abbrev pub Joins : Type 0
-Joins = (s : Standing) (before : List Event) (f : FrameParts) → StandsFor s before → answer_at s f ≡ answer_in before f
+Joins = (s : InboxState) (before : List Event) (f : FrameParts) → StandsFor s before → answer_at s f ≡ answer_in before f
 
-one_stands : Expects → (s : Standing) (before : List Event) (m : Message) (b : Bool) → StandsFor s before
+one_stands : Expects → (s : InboxState) (before : List Event) (m : Message) (b : Bool) → StandsFor s before
     → StandsFor (if b then expecting s m.number else s) (if b then expected m.number ∷ before else before)
 one_stands law s before m true stands = law s before m.number stands
 one_stands law s before m false stands = stands
 
-all_stand : Expects → (messages : List Message) (s : Standing) (before : List Event) → StandsFor s before → StandsFor (expecting_all messages s) (all_put_after messages before)
+all_stand : Expects → (messages : List Message) (s : InboxState) (before : List Event) → StandsFor s before → StandsFor (expecting_all messages s) (all_put_after messages before)
 all_stand law [] s before stands = stands
 all_stand law (m ∷ messages) s before stands =
     all_stand law messages (expecting_by m s) (put_after m before) (one_stands law s before m (is_request m.kind && not m.no_reply) stands)
@@ -219,12 +219,12 @@ turn_answered setup start now final old turns steps frames results sent held a =
 
 pub holds_on : Came → Expects → Joins → Kept → Wants
     → (setup : Setup) (start now final : Moment) (old new : Session) (turns : List SessionTurn) (frames : List FrameParts) (results : List Got) (sent : List (List ℕ))
-    (result : Got) (told told_after : Option Traffic) (t : SessionTurn)
+    (result : Got) (traffic traffic_after : Option Traffic) (t : SessionTurn)
     → Holds setup start now old turns frames results sent
-    → (did : Turned old new result now final told told_after t None new.mux.outbox []) → did.value ≡ new.mux.sent.value → IsAtRest new → did.now ≡ final
+    → (did : Turned old new result now final traffic traffic_after t None new.mux.outbox []) → did.value ≡ new.mux.sent.value → IsAtRest new → did.now ≡ final
     → new.mux.inbox ≡ expecting_all (put_by t.steps) (inbox_after old.mux.inbox t.frame)
     → Holds setup start final new (t ∷ turns) (frames ++ did.frames) (results ++ result ∷ []) (sent ++ did.sent)
-holds_on came_law expects joins kept_law wants setup start now final old new turns frames results sent result told told_after t held did value rest now_is inbox =
+holds_on came_law expects joins kept_law wants setup start now final old new turns frames results sent result traffic traffic_after t held did value rest now_is inbox =
     let written : AreWrittenAfter (all_sent [] frames) did.sent did.frames × (did.value ≡ checksum (all_sent (all_sent [] frames) did.frames)) = did.written (all_sent [] frames) held.checked in
     let got : Received old new turns results result t.frame t.given = received_on came_law joins setup start now old new turns frames results sent result t.frame t.given held did.read in
     let users : (new.core.user ≡ old.core.user) × (new.core.strict ≡ old.core.strict) = users_stay kept_law old.core t.steps new.core did.leads in
@@ -244,7 +244,7 @@ holds_on came_law expects joins kept_law wants setup start now final old new tur
       taken = got.taken;
       kinds = got.kinds;
       read = got.read;
-      put = (frames, did.frames, old.mux.outbox, refl, held.put, held.rest.idle, did.heard, did.go);
+      put = (frames, did.frames, old.mux.outbox, refl, held.put, held.rest.idle, did.no_bad_ack, did.go);
       written = written_more [] sent did.sent frames did.frames held.written written.0;
       checked = sym value ∙ written.1 ∙ ap checksum (sym (sent_more [] frames did.frames));
     }
@@ -257,9 +257,9 @@ nothing_checked = refl
 
 -- a session to which nothing has come
 pub holds_new : (setup : Setup) (now : Moment) (s : Session)
-    → StandsFor new_standing [] → AreApart new_standing new_sending
+    → StandsFor new_inbox [] → AreApart new_inbox new_sending
     → s.core ≡ new_machine setup.user setup.version setup.strict
-    → s.mux.inbox ≡ new_standing → s.mux.outbox ≡ new_sending → s.mux.received.value ≡ 0 → s.mux.sent.value ≡ 0 → s.listing.looks ≡ [] → s.listing.stored ≡ [] → s.frames ≡ 0
+    → s.mux.inbox ≡ new_inbox → s.mux.outbox ≡ new_sending → s.mux.received.value ≡ 0 → s.mux.sent.value ≡ 0 → s.listing.looks ≡ [] → s.listing.stored ≡ [] → s.frames ≡ 0
     → Holds setup now now s [] [] [] []
 holds_new setup now s stands apart core inbox outbox received sent looks stored frames = record {
   user = ap (λ (m : Machine). m.user) core;
@@ -269,7 +269,7 @@ holds_new setup now s stands apart core inbox outbox received sent looks stored 
     pending = ap (λ (m : Machine). m.pending) core;
     ready = record {
       requests = ap (λ (o : Sending). o.requests) outbox ∙ sym (ap (λ (m : Machine). m.requests) core);
-      apart = subst (λ i. AreApart i s.mux.outbox) (sym inbox) (subst (AreApart new_standing) (sym outbox) apart);
+      apart = subst (λ i. AreApart i s.mux.outbox) (sym inbox) (subst (AreApart new_inbox) (sym outbox) apart);
     };
     idle = ap picked outbox;
   };

@@ -5,7 +5,7 @@ use Rattle.session_core.specs.declared.act.Acts.{Acts}
 use Rattle.session_core.specs.declared.event.Event.{Event}
 use Rattle.session_core.specs.Acts.{messages_from}
 use Rattle.session_core.specs.Conduct.{AreAnswers, due_at, due_with, IsStillDue, WantsFor, most_answers, is_answer, IsKept, requests_among, feed_front, AreWithin}
-use Rattle.session_core.specs.Fronts.{front_told}
+use Rattle.session_core.specs.Fronts.{front_by}
 use Rattle.session_core.specs.State.{Machine, Awaits}
 use Rattle.session_core.specs.Steps.{Step, Steps}
 use Rattle.session_core.specs.Transitions.{Done, Does, IsDoneBy}
@@ -69,7 +69,7 @@ step_of old new event acts awaits (done, does, (after, puts, want)) = (
 abbrev KeptBy : Machine → Event → Machine → Type 0
 KeptBy old event new =
     (new.user ≡ old.user) × (new.strict ≡ old.strict)
-    × ((most : ℕ) → feed_front old.feed ≤ most → AreWithin most (front_told event) → feed_front new.feed ≤ most)
+    × ((most : ℕ) → feed_front old.feed ≤ most → AreWithin most (front_by event) → feed_front new.feed ≤ most)
 
 kept_by : Kept → (old new : Machine) (event : Event) (acts : Acts) → Awaits old event → Stepped old event new acts → KeptBy old event new
 kept_by law old new event acts awaits (done, does, (after, puts, want)) =

@@ -12,11 +12,11 @@ use Rattle.blip_mux.specs.declared.message.Message.{Message}
 use Rattle.blip_mux.specs.declared.inbox.Taken.{Taken}
 use Rattle.blip_mux.specs.declared.inbox.Taken.TheVariants as takens
 use Rattle.blip_mux.specs.Apart.{AreApart, HasCome}
-use Rattle.blip_mux.specs.Cutting.{after_deeds, ArePicked}
+use Rattle.blip_mux.specs.Cutting.{after_outbox_steps, ArePicked}
 use Rattle.blip_mux.specs.Joining.{is_request}
-use Rattle.blip_mux.specs.Remembered.{Standing}
-use Rattle.blip_mux.specs.Standing.{answer_at, taken_after}
-use Rattle.blip_mux.specs.Sending.{Sending, picked, heard_in, is_reply_to}
+use Rattle.blip_mux.specs.Remembered.{InboxState}
+use Rattle.blip_mux.specs.InboxStates.{answer_at, taken_after}
+use Rattle.blip_mux.specs.Sending.{Sending, picked, acked_in, is_reply_to}
 use Rattle.session_core.specs.declared.event.Event.{Event}
 use Rattle.session_core.specs.declared.event.Event.TheVariants as event
 use Rattle.session_core.specs.declared.machine.Pending.{Pending}
@@ -28,7 +28,7 @@ use Rattle.session_core.specs.State.{Machine}
 use Rattle.session_core.specs.Steps.{Step, Leads, put_by}
 use Rattle.session_mux.specs.declared.mux.Mux.{Mux}
 use Rattle.session_mux.specs.Muxed.{Gives, IsPart, acknowledged_by, HaveGone}
-use Rattle.session_mux.specs.Sent.{AreWrittenFrom, Tells, expecting_all}
+use Rattle.session_mux.specs.Sent.{AreWrittenFrom, Records, expecting_all}
 use Rattle.session_run.specs.declared.ended.End.{End}
 use Rattle.session_run.specs.declared.ended.End.TheVariants as end
 use Rattle.session_run.specs.declared.session.Session.{Session}
@@ -36,7 +36,7 @@ use Rattle.session_run.specs.Answered.{Moment, HasRead, AreAnswered}
 use Rattle.session_run.specs.Held.{IsReady, IsAtRest, IsCalled, Conversed, Conversing, Went, GoesOn, IsEndOf, Turned, Takes}
 use Rattle.session_run.specs.Putting.{MayReply, put_as}
 use Rattle.session_run.specs.Turns.{undone, IsForTaken, IsForIdle, puts_all}
-use Rattle.session_run.proofs.Conversing.{at_rest, deeds_on}
+use Rattle.session_run.proofs.Conversing.{at_rest, outbox_steps_on}
 use Rattle.session_run.proofs.ActsPut.{PicksApart, picked_apart, picked_requests}
 
 -- to read nothing
@@ -49,15 +49,15 @@ none_written : (value : ℕ) → AreWrittenFrom value [] [] value
 none_written value sent e = (tt, e)
 
 -- what went is what may go after what was put
-abbrev went_with : (old middle new : Session) (first : Option Event) (before now final : Moment) (told told_after : Option Traffic) (steps : List Step) (halted : Option Event) (failed : List Gave)
+abbrev went_with : (old middle new : Session) (first : Option Event) (before now final : Moment) (traffic traffic_after : Option Traffic) (steps : List Step) (halted : Option Event) (failed : List Gave)
     → Leads old.core steps middle.core → IsCalled first (undone halted ++ steps) → AreAnswered before old.core.user old.core.strict (undone halted ++ steps) now → HasRead now final
     → middle.listing.looks ≡ old.listing.looks ++ looks_of (undone halted ++ steps) → middle.listing.stored ≡ old.listing.stored ++ stored_of (undone halted ++ steps)
     → new.core ≡ middle.core → new.listing ≡ middle.listing
-    → (out : Sending) → out ≡ after_deeds old.mux.outbox (puts_all (put_by steps)) → (crc : Crc) → crc ≡ old.mux.sent
+    → (out : Sending) → out ≡ after_outbox_steps old.mux.outbox (puts_all (put_by steps)) → (crc : Crc) → crc ≡ old.mux.sent
     → (frames : List FrameParts) (texts : List (List ℕ)) (left : Sending) (value : ℕ)
-    → ArePicked out frames left → AreWrittenFrom crc.value frames texts value → Tells told [] texts failed told_after
-    → Went old new first before final told told_after steps halted left failed
-went_with old middle new first before now final told told_after steps halted failed leads called answered reads looks stored core listing out out_is crc crc_is frames texts left value go written tells = record {
+    → ArePicked out frames left → AreWrittenFrom crc.value frames texts value → Records traffic [] texts failed traffic_after
+    → Went old new first before final traffic traffic_after steps halted left failed
+went_with old middle new first before now final traffic traffic_after steps halted failed leads called answered reads looks stored core listing out out_is crc crc_is frames texts left value go written records = record {
   now = now;
   frames = frames;
   sent = texts;
@@ -70,7 +70,7 @@ went_with old middle new first before now final told told_after steps halted fai
   stored = ap (λ l. l.stored) listing ∙ stored;
   go = subst (λ o. ArePicked o frames left) out_is go;
   written = subst (λ (c : Crc). AreWrittenFrom c.value frames texts value) crc_is written;
-  tells = tells;
+  records = records;
 }
 
 -- a session once all went
@@ -98,25 +98,25 @@ record Puts (old middle : Session) (first : Option Event) (before final : Moment
   pub front : feed_front middle.core.feed ≤ final.lowest
   pub few : middle.core.requests ≤ old.core.requests + 30003
 
-abbrev puts_went : (old middle new : Session) (first : Option Event) (before final : Moment) (told told_after : Option Traffic) (steps : List Step) (failed : List Gave)
+abbrev puts_went : (old middle new : Session) (first : Option Event) (before final : Moment) (traffic traffic_after : Option Traffic) (steps : List Step) (failed : List Gave)
     → Puts old middle first before final steps → HasRead final final → new.core ≡ middle.core → new.listing ≡ middle.listing → middle.mux.sent ≡ old.mux.sent
     → (frames : List FrameParts) (texts : List (List ℕ)) (left : Sending) (value : ℕ)
-    → ArePicked middle.mux.outbox frames left → AreWrittenFrom middle.mux.sent.value frames texts value → Tells told [] texts failed told_after
-    → Went old new first before final told told_after steps None left failed
-puts_went old middle new first before final told told_after steps failed put read core listing sent frames texts left value go written tells =
-    went_with old middle new first before final final told told_after steps None failed put.leads put.called put.answered read put.looks put.stored core listing
-    middle.mux.outbox (ap (λ (m : Mux). m.outbox) put.mux) middle.mux.sent sent frames texts left value go written tells
+    → ArePicked middle.mux.outbox frames left → AreWrittenFrom middle.mux.sent.value frames texts value → Records traffic [] texts failed traffic_after
+    → Went old new first before final traffic traffic_after steps None left failed
+puts_went old middle new first before final traffic traffic_after steps failed put read core listing sent frames texts left value go written records =
+    went_with old middle new first before final final traffic traffic_after steps None failed put.leads put.called put.answered read put.looks put.stored core listing
+    middle.mux.outbox (ap (λ (m : Mux). m.outbox) put.mux) middle.mux.sent sent frames texts left value go written records
 
-goes_by : PicksApart → (old middle new : Session) (first : Option Event) (before final : Moment) (told told_after : Option Traffic) (steps : List Step) (g : Gave) (result : Option End)
+goes_by : PicksApart → (old middle new : Session) (first : Option Event) (before final : Moment) (traffic traffic_after : Option Traffic) (steps : List Step) (g : Gave) (result : Option End)
     → Puts old middle first before final steps → HasRead final final → new.core ≡ middle.core → new.listing ≡ middle.listing → middle.mux.sent ≡ old.mux.sent
     → new.mux.inbox ≡ middle.mux.inbox
-    → HaveGone middle.mux.outbox middle.mux.sent.value told told_after g new.mux.outbox new.mux.sent.value → IsEndOf g result
-    → GoesOn old new first before final told told_after result
-goes_by law old middle new first before final told told_after steps gave.Done result put read core listing sent inbox (frames, texts, left, value, go, written, tells, (idle, left_is, value_is)) e =
+    → HaveGone middle.mux.outbox middle.mux.sent.value traffic traffic_after g new.mux.outbox new.mux.sent.value → IsEndOf g result
+    → GoesOn old new first before final traffic traffic_after result
+goes_by law old middle new first before final traffic traffic_after steps gave.Done result put read core listing sent inbox (frames, texts, left, value, go, written, records, (idle, left_is, value_is)) e =
     let gone : ArePicked middle.mux.outbox frames new.mux.outbox = subst (ArePicked middle.mux.outbox frames) left_is go in
-    subst (GoesOn old new first before final told told_after) (sym e) (
+    subst (GoesOn old new first before final traffic traffic_after) (sym e) (
       steps,
-      puts_went old middle new first before final told told_after steps [] put read core listing sent frames texts new.mux.outbox value gone written tells,
+      puts_went old middle new first before final traffic traffic_after steps [] put read core listing sent frames texts new.mux.outbox value gone written records,
       value_is,
       rested law middle new frames left put.rest put.ready core inbox go idle left_is,
       refl,
@@ -124,16 +124,16 @@ goes_by law old middle new first before final told told_after steps gave.Done re
       subst (λ (m : Machine). feed_front m.feed ≤ final.lowest) (sym core) put.front,
       subst (λ (m : Machine). m.requests ≤ old.core.requests + 30003) (sym core) put.few,
     )
-goes_by law old middle new first before final told told_after steps gave.Failed result put read core listing sent inbox (frames, texts, left, value, go, written, tells, is_left) e =
-    subst (GoesOn old new first before final told told_after) (sym e) (
+goes_by law old middle new first before final traffic traffic_after steps gave.Failed result put read core listing sent inbox (frames, texts, left, value, go, written, records, is_left) e =
+    subst (GoesOn old new first before final traffic traffic_after) (sym e) (
       steps,
       left,
-      puts_went old middle new first before final told told_after steps (gave.Failed ∷ []) put read core listing sent frames texts left value go written tells,
+      puts_went old middle new first before final traffic traffic_after steps (gave.Failed ∷ []) put read core listing sent frames texts left value go written records,
       ap (λ (m : Machine). m.pending) core ∙ put.rest,
     )
-goes_by law old middle new first before final told told_after steps gave.Memory result put read core listing sent inbox (frames, texts, left, value, go, written, tells, is_left) e =
-    subst (GoesOn old new first before final told told_after) (sym e)
-    (steps, None, left, puts_went old middle new first before final told told_after steps [] put read core listing sent frames texts left value go written tells)
+goes_by law old middle new first before final traffic traffic_after steps gave.Memory result put read core listing sent inbox (frames, texts, left, value, go, written, records, is_left) e =
+    subst (GoesOn old new first before final traffic traffic_after) (sym e)
+    (steps, None, left, puts_went old middle new first before final traffic traffic_after steps [] put read core listing sent frames texts left value go written records)
 
 -- ---- an event
 
@@ -151,35 +151,35 @@ conversing_puts old middle first before final steps so_far = record {
   few = omega (arith, so_far.room);
 }
 
-pub event_goes : PicksApart → (old middle new : Session) (first : Event) (before final : Moment) (told told_after : Option Traffic) (g : Gave) (result : Option End)
+pub event_goes : PicksApart → (old middle new : Session) (first : Event) (before final : Moment) (traffic traffic_after : Option Traffic) (g : Gave) (result : Option End)
     → ((steps : List Step) × Conversing old middle first before final None steps) → HasRead final final → new.core ≡ middle.core → new.listing ≡ middle.listing → middle.mux.sent ≡ old.mux.sent
     → new.mux.inbox ≡ middle.mux.inbox
-    → HaveGone middle.mux.outbox middle.mux.sent.value told told_after g new.mux.outbox new.mux.sent.value → IsEndOf g result
-    → GoesOn old new (Some first) before final told told_after result
-event_goes law old middle new first before final told told_after g result (steps, so_far) read core listing sent inbox gone e =
-    goes_by law old middle new (Some first) before final told told_after steps g result (conversing_puts old middle first before final steps so_far) read core listing sent inbox gone e
+    → HaveGone middle.mux.outbox middle.mux.sent.value traffic traffic_after g new.mux.outbox new.mux.sent.value → IsEndOf g result
+    → GoesOn old new (Some first) before final traffic traffic_after result
+event_goes law old middle new first before final traffic traffic_after g result (steps, so_far) read core listing sent inbox gone e =
+    goes_by law old middle new (Some first) before final traffic traffic_after steps g result (conversing_puts old middle first before final steps so_far) read core listing sent inbox gone e
 
 -- memory ran out
-pub event_halts : (old new : Session) (first : Event) (before final : Moment) (told : Option Traffic) → Tells told [] [] [] told
+pub event_halts : (old new : Session) (first : Event) (before final : Moment) (traffic : Option Traffic) → Records traffic [] [] [] traffic
     → ((steps : List Step) × (halted : Option Event) × (now : Moment) × Conversed old new first before now steps halted × HasRead now final)
-    → GoesOn old new (Some first) before final told told (Some end.Memory)
-event_halts old new first before final told tells (steps, halted, now, so_far, read) = (
+    → GoesOn old new (Some first) before final traffic traffic (Some end.Memory)
+event_halts old new first before final traffic records (steps, halted, now, so_far, read) = (
   steps,
   halted,
-  after_deeds old.mux.outbox (puts_all (put_by steps)),
-  went_with old new new (Some first) before now final told told steps halted [] so_far.leads so_far.exchange so_far.answered read so_far.looks so_far.stored refl refl
-      (after_deeds old.mux.outbox (puts_all (put_by steps))) refl old.mux.sent refl [] [] (after_deeds old.mux.outbox (puts_all (put_by steps))) old.mux.sent.value refl (none_written old.mux.sent.value) tells,
+  after_outbox_steps old.mux.outbox (puts_all (put_by steps)),
+  went_with old new new (Some first) before now final traffic traffic steps halted [] so_far.leads so_far.exchange so_far.answered read so_far.looks so_far.stored refl refl
+      (after_outbox_steps old.mux.outbox (puts_all (put_by steps))) refl old.mux.sent refl [] [] (after_outbox_steps old.mux.outbox (puts_all (put_by steps))) old.mux.sent.value refl (none_written old.mux.sent.value) records,
 )
 
 -- no event
-pub nothing_goes : PicksApart → (old new : Session) (now : Moment) (told told_after : Option Traffic) (g : Gave) (result : Option End)
+pub nothing_goes : PicksApart → (old new : Session) (now : Moment) (traffic traffic_after : Option Traffic) (g : Gave) (result : Option End)
     → old.core.pending ≡ pending.Nothing → IsReady old → feed_front old.core.feed ≤ now.lowest → HasRead now now → new.core ≡ old.core → new.listing ≡ old.listing
     → new.mux.inbox ≡ old.mux.inbox
     → old.listing.looks ≡ old.listing.looks ++ [] → old.listing.stored ≡ old.listing.stored ++ []
-    → HaveGone old.mux.outbox old.mux.sent.value told told_after g new.mux.outbox new.mux.sent.value → IsEndOf g result
-    → GoesOn old new None now now told told_after result
-nothing_goes law old new now told told_after g result rest ready front read core listing inbox looks stored gone e =
-    goes_by law old old new None now now told told_after [] g result
+    → HaveGone old.mux.outbox old.mux.sent.value traffic traffic_after g new.mux.outbox new.mux.sent.value → IsEndOf g result
+    → GoesOn old new None now now traffic traffic_after result
+nothing_goes law old new now traffic traffic_after g result rest ready front read core listing inbox looks stored gone e =
+    goes_by law old old new None now now traffic traffic_after [] g result
     (record {
       leads = refl;
       called = refl;
@@ -198,37 +198,37 @@ nothing_goes law old new now told told_after g result rest ready front read core
 
 -- what the laws of the multiplexer say
 abbrev pub TakesApart : Type 0
-TakesApart = (s : Standing) (out : Sending) (f : FrameParts) (taken : Taken) → answer_at s f ≡ Ok taken → AreApart s out → AreApart (taken_after s f) out
+TakesApart = (s : InboxState) (out : Sending) (f : FrameParts) (taken : Taken) → answer_at s f ≡ Ok taken → AreApart s out → AreApart (taken_after s f) out
 
-abbrev pub HearsApart : Type 0
-HearsApart = (s : Standing) (out : Sending) (kind : Kind) (number bytes : ℕ) → AreApart s out → AreApart s (record out { waiting = heard_in kind number bytes out.waiting })
+abbrev pub AcksApart : Type 0
+AcksApart = (s : InboxState) (out : Sending) (kind : Kind) (number bytes : ℕ) → AreApart s out → AreApart s (record out { waiting = acked_in kind number bytes out.waiting })
 
 abbrev pub WholeApart : Type 0
-WholeApart = (s : Standing) (out : Sending) (f : FrameParts) (message : Message) → answer_at s f ≡ Ok (takens.Whole message) → is_request message.kind ≡ true → AreApart s out
+WholeApart = (s : InboxState) (out : Sending) (f : FrameParts) (message : Message) → answer_at s f ≡ Ok (takens.Whole message) → is_request message.kind ≡ true → AreApart s out
     → (list_any (is_reply_to message.number) out.waiting ≡ false) × HasCome (taken_after s f) message.number
 
-acknowledged_apart : HearsApart → (s : Standing) (out : Sending) (given : Taken) → AreApart s out → AreApart s (after_deeds out (acknowledged_by given))
+acknowledged_apart : AcksApart → (s : InboxState) (out : Sending) (given : Taken) → AreApart s out → AreApart s (after_outbox_steps out (acknowledged_by given))
 acknowledged_apart law s out takens.Nothing apart = apart
 acknowledged_apart law s out (takens.Ack kind number bytes) apart = law s out kind number bytes apart
 acknowledged_apart law s out (takens.Owed kind number bytes) apart = apart
 acknowledged_apart law s out (takens.Whole message) apart = apart
 
-acknowledged_requests : (out : Sending) (given : Taken) → (after_deeds out (acknowledged_by given)).requests ≡ out.requests
+acknowledged_requests : (out : Sending) (given : Taken) → (after_outbox_steps out (acknowledged_by given)).requests ≡ out.requests
 acknowledged_requests out takens.Nothing = refl
 acknowledged_requests out (takens.Ack kind number bytes) = refl
 acknowledged_requests out (takens.Owed kind number bytes) = refl
 acknowledged_requests out (takens.Whole message) = refl
 
 -- session and wire still agree
-pub gives_ready : TakesApart → HearsApart → (old middle : Session) (bytes : List ℕ) (given : Taken) → Gives old.mux bytes given middle.mux → middle.core ≡ old.core → IsReady old → IsReady middle
-gives_ready takes hears old middle bytes given gives core ready = record {
+pub gives_ready : TakesApart → AcksApart → (old middle : Session) (bytes : List ℕ) (given : Taken) → Gives old.mux bytes given middle.mux → middle.core ≡ old.core → IsReady old → IsReady middle
+gives_ready takes acks_apart old middle bytes given gives core ready = record {
   requests = ap (λ (s : Sending). s.requests) gives.outbox ∙ acknowledged_requests old.mux.outbox given ∙ ready.requests ∙ ap (λ (m : Machine). m.requests) (sym core);
   apart = subst (λ s. AreApart s middle.mux.outbox) (sym gives.inbox) (subst (AreApart (taken_after old.mux.inbox gives.frame)) (sym gives.outbox)
-      (acknowledged_apart hears (taken_after old.mux.inbox gives.frame) old.mux.outbox given (takes old.mux.inbox old.mux.outbox gives.frame given gives.answer ready.apart)));
+      (acknowledged_apart acks_apart (taken_after old.mux.inbox gives.frame) old.mux.outbox given (takes old.mux.inbox old.mux.outbox gives.frame given gives.answer ready.apart)));
 }
 
-pub part_ready : TakesApart → HearsApart → (old middle : Session) (bytes : List ℕ) → ((given : Taken) × IsPart given × Gives old.mux bytes given middle.mux) → middle.core ≡ old.core → IsReady old → IsReady middle
-part_ready takes hears old middle bytes (given, part, gives) core ready = gives_ready takes hears old middle bytes given gives core ready
+pub part_ready : TakesApart → AcksApart → (old middle : Session) (bytes : List ℕ) → ((given : Taken) × IsPart given × Gives old.mux bytes given middle.mux) → middle.core ≡ old.core → IsReady old → IsReady middle
+part_ready takes acks_apart old middle bytes (given, part, gives) core ready = gives_ready takes acks_apart old middle bytes given gives core ready
 
 -- the reply to its message may be put
 may_by : (m : Mux) (message : Message) (p : Pending) (b : Bool) → is_request message.kind ≡ b
@@ -253,12 +253,12 @@ whole_may law old bytes message after p gives ready =
 abbrev Calls : Taken → Option Event → Type 0
 Calls given first = (steps : List Step) → IsCalled first steps → IsForTaken given steps
 
-abbrev turn_of : (old middle new : Session) (bytes : List ℕ) (given : Taken) (first : Option Event) (before final : Moment) (told told_after : Option Traffic) (steps : List Step) (halted : Option Event) (left : Sending) (failed : List Gave)
+abbrev turn_of : (old middle new : Session) (bytes : List ℕ) (given : Taken) (first : Option Event) (before final : Moment) (traffic traffic_after : Option Traffic) (steps : List Step) (halted : Option Event) (left : Sending) (failed : List Gave)
     → (gives : Gives old.mux bytes given middle.mux) → Calls given first → middle.core ≡ old.core → middle.listing ≡ old.listing → middle.mux.sent ≡ old.mux.sent
     → new.mux.received ≡ middle.mux.received → new.frames ≡ old.frames + 1
-    → Went middle new first before final told told_after steps halted left failed
-    → Turned old new (got.Frame bytes) before final told told_after (record { frame = Some gives.frame; given = given; steps = steps }) halted left failed
-turn_of old middle new bytes given first before final told told_after steps halted left failed gives calls core listing sent received count went = record {
+    → Went middle new first before final traffic traffic_after steps halted left failed
+    → Turned old new (got.Frame bytes) before final traffic traffic_after (record { frame = Some gives.frame; given = given; steps = steps }) halted left failed
+turn_of old middle new bytes given first before final traffic traffic_after steps halted left failed gives calls core listing sent received count went = record {
   now = went.now;
   frames = went.frames;
   sent = went.sent;
@@ -271,20 +271,20 @@ turn_of old middle new bytes given first before final told told_after steps halt
   looks = went.looks ∙ ap (λ l. l.looks ++ looks_of (undone halted ++ steps)) listing;
   stored = went.stored ∙ ap (λ l. l.stored ++ stored_of (undone halted ++ steps)) listing;
   count = count;
-  heard = gives.heard;
-  go = subst (λ s. ArePicked s went.frames left) (ap (λ s. after_deeds s (puts_all (put_by steps))) gives.outbox ∙ sym (deeds_on old.mux.outbox (acknowledged_by given) (puts_all (put_by steps)))) went.go;
+  no_bad_ack = gives.no_bad_ack;
+  go = subst (λ s. ArePicked s went.frames left) (ap (λ s. after_outbox_steps s (puts_all (put_by steps))) gives.outbox ∙ sym (outbox_steps_on old.mux.outbox (acknowledged_by given) (puts_all (put_by steps)))) went.go;
   written = subst (λ (c : Crc). AreWrittenFrom c.value went.frames went.sent went.value) sent went.written;
-  tells = went.tells;
+  records = went.records;
 }
 
-frame_goes : (old middle new : Session) (bytes : List ℕ) (given : Taken) (first : Option Event) (before final : Moment) (told told_after : Option Traffic) (result : Option End)
+frame_goes : (old middle new : Session) (bytes : List ℕ) (given : Taken) (first : Option Event) (before final : Moment) (traffic traffic_after : Option Traffic) (result : Option End)
     → (gives : Gives old.mux bytes given middle.mux) → Calls given first → middle.core ≡ old.core → middle.listing ≡ old.listing → middle.mux.sent ≡ old.mux.sent
     → new.mux.received ≡ middle.mux.received → new.frames ≡ old.frames + 1
-    → GoesOn middle new first before final told told_after result
-    → Takes old new (got.Frame bytes) before final told told_after result
-frame_goes old middle new bytes given first before final told told_after None gives calls core listing sent received count (steps, went, value, rest, now, inbox, front, few) = (
+    → GoesOn middle new first before final traffic traffic_after result
+    → Takes old new (got.Frame bytes) before final traffic traffic_after result
+frame_goes old middle new bytes given first before final traffic traffic_after None gives calls core listing sent received count (steps, went, value, rest, now, inbox, front, few) = (
   record { frame = Some gives.frame; given = given; steps = steps },
-  turn_of old middle new bytes given first before final told told_after steps None new.mux.outbox [] gives calls core listing sent received count went,
+  turn_of old middle new bytes given first before final traffic traffic_after steps None new.mux.outbox [] gives calls core listing sent received count went,
   value,
   rest,
   now,
@@ -292,31 +292,31 @@ frame_goes old middle new bytes given first before final told told_after None gi
   front,
   subst (λ (m : Machine). new.core.requests ≤ m.requests + 30003) core few,
 )
-frame_goes old middle new bytes given first before final told told_after (Some end.Closed) gives calls core listing sent received count goes = absurd goes
-frame_goes old middle new bytes given first before final told told_after (Some end.WireFault) gives calls core listing sent received count (steps, left, went, rest) = (
+frame_goes old middle new bytes given first before final traffic traffic_after (Some end.Closed) gives calls core listing sent received count goes = absurd goes
+frame_goes old middle new bytes given first before final traffic traffic_after (Some end.WireFault) gives calls core listing sent received count (steps, left, went, rest) = (
   record { frame = Some gives.frame; given = given; steps = steps },
   left,
-  turn_of old middle new bytes given first before final told told_after steps None left (gave.Failed ∷ []) gives calls core listing sent received count went,
+  turn_of old middle new bytes given first before final traffic traffic_after steps None left (gave.Failed ∷ []) gives calls core listing sent received count went,
   rest,
 )
-frame_goes old middle new bytes given first before final told told_after (Some (end.BadFrame index w)) gives calls core listing sent received count goes = absurd goes
-frame_goes old middle new bytes given first before final told told_after (Some end.TurnsFull) gives calls core listing sent received count goes = absurd goes
-frame_goes old middle new bytes given first before final told told_after (Some end.Memory) gives calls core listing sent received count (steps, halted, left, went) =
+frame_goes old middle new bytes given first before final traffic traffic_after (Some (end.BadFrame index w)) gives calls core listing sent received count goes = absurd goes
+frame_goes old middle new bytes given first before final traffic traffic_after (Some end.TurnsFull) gives calls core listing sent received count goes = absurd goes
+frame_goes old middle new bytes given first before final traffic traffic_after (Some end.Memory) gives calls core listing sent received count (steps, halted, left, went) =
     inl (
       record { frame = Some gives.frame; given = given; steps = steps },
       halted,
       left,
-      turn_of old middle new bytes given first before final told told_after steps halted left [] gives calls core listing sent received count went,
+      turn_of old middle new bytes given first before final traffic traffic_after steps halted left [] gives calls core listing sent received count went,
     )
 
 -- a frame whose message was answered
-pub whole_takes : (old middle new : Session) (bytes : List ℕ) (message : Message) (before final : Moment) (told told_after : Option Traffic) (result : Option End)
+pub whole_takes : (old middle new : Session) (bytes : List ℕ) (message : Message) (before final : Moment) (traffic traffic_after : Option Traffic) (result : Option End)
     → Gives old.mux bytes (takens.Whole message) middle.mux → middle.core ≡ old.core → middle.listing ≡ old.listing → middle.mux.sent ≡ old.mux.sent
     → new.mux.received ≡ middle.mux.received → new.frames ≡ old.frames + 1
-    → GoesOn middle new (Some (event.Whole message)) before final told told_after result
-    → Takes old new (got.Frame bytes) before final told told_after result
-whole_takes old middle new bytes message before final told told_after result gives core listing sent received count goes =
-    frame_goes old middle new bytes (takens.Whole message) (Some (event.Whole message)) before final told told_after result gives (λ steps called. called) core listing sent received count goes
+    → GoesOn middle new (Some (event.Whole message)) before final traffic traffic_after result
+    → Takes old new (got.Frame bytes) before final traffic traffic_after result
+whole_takes old middle new bytes message before final traffic traffic_after result gives core listing sent received count goes =
+    frame_goes old middle new bytes (takens.Whole message) (Some (event.Whole message)) before final traffic traffic_after result gives (λ steps called. called) core listing sent received count goes
 
 part_calls : (given : Taken) → IsPart given → Calls given None
 part_calls takens.Nothing part steps called = called
@@ -325,21 +325,21 @@ part_calls (takens.Owed kind number bytes) part steps called = called
 part_calls (takens.Whole message) part steps called = absurd part
 
 -- a frame that gave none
-pub part_takes : (old middle new : Session) (bytes : List ℕ) (before final : Moment) (told told_after : Option Traffic) (result : Option End)
+pub part_takes : (old middle new : Session) (bytes : List ℕ) (before final : Moment) (traffic traffic_after : Option Traffic) (result : Option End)
     → ((given : Taken) × IsPart given × Gives old.mux bytes given middle.mux) → middle.core ≡ old.core → middle.listing ≡ old.listing → middle.mux.sent ≡ old.mux.sent
     → new.mux.received ≡ middle.mux.received → new.frames ≡ old.frames + 1
-    → GoesOn middle new None before final told told_after result
-    → Takes old new (got.Frame bytes) before final told told_after result
-part_takes old middle new bytes before final told told_after result (given, part, gives) core listing sent received count goes =
-    frame_goes old middle new bytes given None before final told told_after result gives (part_calls given part) core listing sent received count goes
+    → GoesOn middle new None before final traffic traffic_after result
+    → Takes old new (got.Frame bytes) before final traffic traffic_after result
+part_takes old middle new bytes before final traffic traffic_after result (given, part, gives) core listing sent received count goes =
+    frame_goes old middle new bytes given None before final traffic traffic_after result gives (part_calls given part) core listing sent received count goes
 
 -- ---- the turn of an idle moment
 
-abbrev idle_turn : (old new : Session) (front : ℕ) (before final : Moment) (told told_after : Option Traffic) (steps : List Step) (halted : Option Event) (left : Sending) (failed : List Gave)
+abbrev idle_turn : (old new : Session) (front : ℕ) (before final : Moment) (traffic traffic_after : Option Traffic) (steps : List Step) (halted : Option Event) (left : Sending) (failed : List Gave)
     → waits old.core.feed ≡ true → new.mux.received ≡ old.mux.received → new.frames ≡ old.frames
-    → Went old new (Some (event.Idle front)) before final told told_after steps halted left failed
-    → Turned old new got.Idle before final told told_after (record { frame = None; given = takens.Nothing; steps = steps }) halted left failed
-idle_turn old new front before final told told_after steps halted left failed waiting received count went = record {
+    → Went old new (Some (event.Idle front)) before final traffic traffic_after steps halted left failed
+    → Turned old new got.Idle before final traffic traffic_after (record { frame = None; given = takens.Nothing; steps = steps }) halted left failed
+idle_turn old new front before final traffic traffic_after steps halted left failed waiting received count went = record {
   now = went.now;
   frames = went.frames;
   sent = went.sent;
@@ -352,20 +352,20 @@ idle_turn old new front before final told told_after steps halted left failed wa
   looks = went.looks;
   stored = went.stored;
   count = omega (arith, count);
-  heard = tt;
+  no_bad_ack = tt;
   go = went.go;
   written = went.written;
-  tells = went.tells;
+  records = went.records;
 }
 
 -- a feed waits, and the front was loaded
-pub idle_takes : (old new : Session) (front : ℕ) (before final : Moment) (told told_after : Option Traffic) (result : Option End)
+pub idle_takes : (old new : Session) (front : ℕ) (before final : Moment) (traffic traffic_after : Option Traffic) (result : Option End)
     → waits old.core.feed ≡ true → new.mux.received ≡ old.mux.received → new.frames ≡ old.frames
-    → GoesOn old new (Some (event.Idle front)) before final told told_after result
-    → Takes old new got.Idle before final told told_after result
-idle_takes old new front before final told told_after None waiting received count (steps, went, value, rest, now, inbox, at, few) = (
+    → GoesOn old new (Some (event.Idle front)) before final traffic traffic_after result
+    → Takes old new got.Idle before final traffic traffic_after result
+idle_takes old new front before final traffic traffic_after None waiting received count (steps, went, value, rest, now, inbox, at, few) = (
   record { frame = None; given = takens.Nothing; steps = steps },
-  idle_turn old new front before final told told_after steps None new.mux.outbox [] waiting received count went,
+  idle_turn old new front before final traffic traffic_after steps None new.mux.outbox [] waiting received count went,
   value,
   rest,
   now,
@@ -373,28 +373,28 @@ idle_takes old new front before final told told_after None waiting received coun
   at,
   few,
 )
-idle_takes old new front before final told told_after (Some end.Closed) waiting received count goes = absurd goes
-idle_takes old new front before final told told_after (Some end.WireFault) waiting received count (steps, left, went, rest) = (
+idle_takes old new front before final traffic traffic_after (Some end.Closed) waiting received count goes = absurd goes
+idle_takes old new front before final traffic traffic_after (Some end.WireFault) waiting received count (steps, left, went, rest) = (
   record { frame = None; given = takens.Nothing; steps = steps },
   left,
-  idle_turn old new front before final told told_after steps None left (gave.Failed ∷ []) waiting received count went,
+  idle_turn old new front before final traffic traffic_after steps None left (gave.Failed ∷ []) waiting received count went,
   rest,
 )
-idle_takes old new front before final told told_after (Some (end.BadFrame index w)) waiting received count goes = absurd goes
-idle_takes old new front before final told told_after (Some end.TurnsFull) waiting received count goes = absurd goes
-idle_takes old new front before final told told_after (Some end.Memory) waiting received count (steps, halted, left, went) =
+idle_takes old new front before final traffic traffic_after (Some (end.BadFrame index w)) waiting received count goes = absurd goes
+idle_takes old new front before final traffic traffic_after (Some end.TurnsFull) waiting received count goes = absurd goes
+idle_takes old new front before final traffic traffic_after (Some end.Memory) waiting received count (steps, halted, left, went) =
     inl (
       record { frame = None; given = takens.Nothing; steps = steps },
       halted,
       left,
-      idle_turn old new front before final told told_after steps halted left [] waiting received count went,
+      idle_turn old new front before final traffic traffic_after steps halted left [] waiting received count went,
     )
 
 -- no feed waits
-pub idle_passes : (old : Session) (now : Moment) (told : Option Traffic) → waits old.core.feed ≡ false → IsAtRest old → feed_front old.core.feed ≤ now.lowest → HasRead now now → Tells told [] [] [] told
+pub idle_passes : (old : Session) (now : Moment) (traffic : Option Traffic) → waits old.core.feed ≡ false → IsAtRest old → feed_front old.core.feed ≤ now.lowest → HasRead now now → Records traffic [] [] [] traffic
     → old.listing.looks ≡ old.listing.looks ++ [] → old.listing.stored ≡ old.listing.stored ++ []
-    → Takes old old got.Idle now now told told None
-idle_passes old now told waiting rest front read tells looks stored = (
+    → Takes old old got.Idle now now traffic traffic None
+idle_passes old now traffic waiting rest front read records looks stored = (
   record { frame = None; given = takens.Nothing; steps = [] },
   record {
     now = now;
@@ -409,10 +409,10 @@ idle_passes old now told waiting rest front read tells looks stored = (
     looks = looks;
     stored = stored;
     count = omega arith;
-    heard = tt;
+    no_bad_ack = tt;
     go = refl;
     written = none_written old.mux.sent.value;
-    tells = tells;
+    records = records;
   },
   refl,
   rest,

@@ -9,7 +9,7 @@ use Rattle.session_core.specs.declared.act.Want.TheVariants as want
 use Rattle.session_core.specs.declared.event.Event.{Event}
 use Rattle.session_core.specs.declared.event.Event.TheVariants as event
 use Rattle.session_core.specs.declared.look.Look.{Look}
-use Rattle.session_core.specs.Fronts.{front_told}
+use Rattle.session_core.specs.Fronts.{front_by}
 use Rattle.session_core.specs.Steps.{Step, wanted_after}
 use Rattle.write_path.specs.Asks.{AskedAt}
 use Rattle.write_path.specs.Bodies.{BodiesAt}
@@ -17,7 +17,7 @@ use Rattle.write_path.specs.Feed.{FeedAt}
 use Rattle.write_path.specs.Proposals.{Stores, recorded_after}
 use Rattle.write_path.specs.Reads.{Reads, WasRead, HasLength}
 
--- what a ground tells at a moment: the boards that it has read, the newest first; its lowest front; the length of the log, where it
+-- what a ground records at a moment: the boards that it has read, the newest first; its lowest front; the length of the log, where it
 -- is recorded; and its own entries, the newest first
 pub record Moment : Type 0 where
   pub read : List BoardState
@@ -106,4 +106,4 @@ AreLength (Some n) (front ∷ fronts) = (front ≡ n) × AreLength (Some n) fron
 -- where a length is recorded at the start, each look and each load is at that length and the entries stored by then
 abbrev pub AreAtLength : Option ℕ → List Step → Type 0
 AreAtLength n [] = Unit {0}
-AreAtLength n (s ∷ earlier) = AreLength (recorded_by n earlier) (front_told s.event) × AreAtLength n earlier
+AreAtLength n (s ∷ earlier) = AreLength (recorded_by n earlier) (front_by s.event) × AreAtLength n earlier

@@ -10,21 +10,21 @@ use Rattle.blip_frame.specs.Frame.{FrameParts, frame_at, frames_at, with_front, 
 use Rattle.blip_mux.specs.declared.inbox.Taken.{Taken}
 use Rattle.blip_mux.specs.declared.inbox.Taken.TheVariants as takens
 use Rattle.blip_mux.specs.Apart.{AreApart}
-use Rattle.blip_mux.specs.Cutting.{ArePicked, after_deeds}
-use Rattle.blip_mux.specs.Remembered.{Standing}
-use Rattle.blip_mux.specs.Standing.{answer_at, taken_after, StandsFor}
+use Rattle.blip_mux.specs.Cutting.{ArePicked, after_outbox_steps}
+use Rattle.blip_mux.specs.Remembered.{InboxState}
+use Rattle.blip_mux.specs.InboxStates.{answer_at, taken_after, StandsFor}
 use Rattle.blip_mux.specs.Sending.{Sending, picked}
 use Rattle.session_core.specs.declared.act.Want.{Want}
 use Rattle.session_core.specs.declared.event.Event.{Event}
 use Rattle.session_core.specs.declared.machine.Pending.TheVariants as pending
 use Rattle.session_core.specs.Conduct.{due_with, feed_front, most_answers, WantsFor, AreWithin}
-use Rattle.session_core.specs.Fronts.{looks_of, stored_of, front_told}
+use Rattle.session_core.specs.Fronts.{looks_of, stored_of, front_by}
 use Rattle.session_core.specs.State.{new_machine}
 use Rattle.session_core.specs.Steps.{Step, Steps, Leads, put_by, wanted_after}
 use Rattle.session_mux.specs.declared.mux.Mux.{Mux}
 use Rattle.session_mux.specs.Frames.{IsBadFrame}
-use Rattle.session_mux.specs.Muxed.{IsHeard}
-use Rattle.session_mux.specs.Sent.{AreWrittenFrom, Tells, expecting_all}
+use Rattle.session_mux.specs.Muxed.{IsNoBadAck}
+use Rattle.session_mux.specs.Sent.{AreWrittenFrom, Records, expecting_all}
 use Rattle.session_run.specs.declared.ended.End.{End}
 use Rattle.session_run.specs.declared.ended.End.TheVariants as end
 use Rattle.session_run.specs.declared.serve.Setup.{Setup}
@@ -50,7 +50,7 @@ pub record Makes (old new : Session) (event : Event) (want : Option Want) : Type
   pub mux : new.mux ≡ put_as old.mux step.puts
   pub user : new.core.user ≡ old.core.user
   pub strict : new.core.strict ≡ old.core.strict
-  pub front : (most : ℕ) → feed_front old.core.feed ≤ most → AreWithin most (front_told event) → feed_front new.core.feed ≤ most
+  pub front : (most : ℕ) → feed_front old.core.feed ≤ most → AreWithin most (front_by event) → feed_front new.core.feed ≤ most
 
 -- memory ran out as an event was taken: nothing was done for it, or it was taken and not all was put
 abbrev pub Halts : Session → Session → Event → Type 0
@@ -90,7 +90,7 @@ IsCalled None steps = steps ≡ []
 IsCalled (Some first) steps = IsExchange first steps
 
 -- steps were made for an event, if there was one, and frames were sent, until this was left
-pub record Went (old new : Session) (first : Option Event) (before final : Moment) (told told_after : Option Traffic) (steps : List Step) (halted : Option Event) (left : Sending) (failed : List Gave) : Type 0 where
+pub record Went (old new : Session) (first : Option Event) (before final : Moment) (traffic traffic_after : Option Traffic) (steps : List Step) (halted : Option Event) (left : Sending) (failed : List Gave) : Type 0 where
   pub now : Moment
   pub frames : List FrameParts
   pub sent : List (List ℕ)
@@ -101,21 +101,21 @@ pub record Went (old new : Session) (first : Option Event) (before final : Momen
   pub reads : HasRead now final
   pub looks : new.listing.looks ≡ old.listing.looks ++ looks_of (undone halted ++ steps)
   pub stored : new.listing.stored ≡ old.listing.stored ++ stored_of (undone halted ++ steps)
-  pub go : ArePicked (after_deeds old.mux.outbox (puts_all (put_by steps))) frames left
+  pub go : ArePicked (after_outbox_steps old.mux.outbox (puts_all (put_by steps))) frames left
   pub written : AreWrittenFrom old.mux.sent.value frames sent value
-  pub tells : Tells told [] sent failed told_after
+  pub records : Records traffic [] sent failed traffic_after
 
 -- all was sent that may be sent, or the session ends
 abbrev pub GoesOn : Session → Session → Option Event → Moment → Moment → Option Traffic → Option Traffic → Option End → Type 0
-GoesOn old new first before final told told_after None =
-    (steps : List Step) × (went : Went old new first before final told told_after steps None new.mux.outbox []) × (went.value ≡ new.mux.sent.value) × IsAtRest new
+GoesOn old new first before final traffic traffic_after None =
+    (steps : List Step) × (went : Went old new first before final traffic traffic_after steps None new.mux.outbox []) × (went.value ≡ new.mux.sent.value) × IsAtRest new
     × (went.now ≡ final) × (new.mux.inbox ≡ expecting_all (put_by steps) old.mux.inbox) × (feed_front new.core.feed ≤ final.lowest)
     × (new.core.requests ≤ old.core.requests + 30003)
-GoesOn old new first before final told told_after (Some end.WireFault) =
-    (steps : List Step) × (left : Sending) × Went old new first before final told told_after steps None left (gave.Failed ∷ []) × (new.core.pending ≡ pending.Nothing)
-GoesOn old new first before final told told_after (Some end.Memory) =
-    (steps : List Step) × (halted : Option Event) × (left : Sending) × Went old new first before final told told_after steps halted left []
-GoesOn old new first before final told told_after (Some other) = ⊥
+GoesOn old new first before final traffic traffic_after (Some end.WireFault) =
+    (steps : List Step) × (left : Sending) × Went old new first before final traffic traffic_after steps None left (gave.Failed ∷ []) × (new.core.pending ≡ pending.Nothing)
+GoesOn old new first before final traffic traffic_after (Some end.Memory) =
+    (steps : List Step) × (halted : Option Event) × (left : Sending) × Went old new first before final traffic traffic_after steps halted left []
+GoesOn old new first before final traffic traffic_after (Some other) = ⊥
 
 -- the frame was read and gave this, or the moment was idle
 abbrev pub IsRead : Got → Mux → Mux → Option FrameParts → Taken → Type 0
@@ -129,7 +129,7 @@ counted None = 0
 counted (Some f) = 1
 
 -- a result of the wire was taken in a turn, and this is left of what was to be sent
-pub record Turned (old new : Session) (result : Got) (before final : Moment) (told told_after : Option Traffic) (t : SessionTurn) (halted : Option Event) (left : Sending) (failed : List Gave) : Type 0 where
+pub record Turned (old new : Session) (result : Got) (before final : Moment) (traffic traffic_after : Option Traffic) (t : SessionTurn) (halted : Option Event) (left : Sending) (failed : List Gave) : Type 0 where
   pub now : Moment
   pub frames : List FrameParts
   pub sent : List (List ℕ)
@@ -142,39 +142,39 @@ pub record Turned (old new : Session) (result : Got) (before final : Moment) (to
   pub looks : new.listing.looks ≡ old.listing.looks ++ looks_of (undone halted ++ t.steps)
   pub stored : new.listing.stored ≡ old.listing.stored ++ stored_of (undone halted ++ t.steps)
   pub count : new.frames ≡ old.frames + counted t.frame
-  pub heard : IsHeard t.given old.mux.outbox
-  pub go : ArePicked (after_deeds old.mux.outbox (done_in t)) frames left
+  pub no_bad_ack : IsNoBadAck t.given old.mux.outbox
+  pub go : ArePicked (after_outbox_steps old.mux.outbox (done_in t)) frames left
   pub written : AreWrittenFrom old.mux.sent.value frames sent value
-  pub tells : Tells told [] sent failed told_after
+  pub records : Records traffic [] sent failed traffic_after
 
 -- the inbox once a frame was taken
-abbrev pub inbox_after : Standing → Option FrameParts → Standing
+abbrev pub inbox_after : InboxState → Option FrameParts → InboxState
 inbox_after s None = s
 inbox_after s (Some f) = taken_after s f
 
 -- the result did nothing that shows
-pub record Leaves (old new : Session) (before final : Moment) (told told_after : Option Traffic) : Type 0 where
+pub record Leaves (old new : Session) (before final : Moment) (traffic traffic_after : Option Traffic) : Type 0 where
   pub core : new.core ≡ old.core
   pub looks : new.listing.looks ≡ old.listing.looks
   pub stored : new.listing.stored ≡ old.listing.stored
   pub same : final ≡ before
-  pub tells : Tells told [] [] [] told_after
+  pub records : Records traffic [] [] [] traffic_after
 
 -- a result was taken and all was sent that may be sent, or the session ends by it
 abbrev pub Takes : Session → Session → Got → Moment → Moment → Option Traffic → Option Traffic → Option End → Type 0
-Takes old new result before final told told_after None =
-    (t : SessionTurn) × (did : Turned old new result before final told told_after t None new.mux.outbox []) × (did.value ≡ new.mux.sent.value) × IsAtRest new
+Takes old new result before final traffic traffic_after None =
+    (t : SessionTurn) × (did : Turned old new result before final traffic traffic_after t None new.mux.outbox []) × (did.value ≡ new.mux.sent.value) × IsAtRest new
     × (did.now ≡ final) × (new.mux.inbox ≡ expecting_all (put_by t.steps) (inbox_after old.mux.inbox t.frame)) × (feed_front new.core.feed ≤ final.lowest)
     × (new.core.requests ≤ old.core.requests + 30003)
-Takes old new result before final told told_after (Some end.WireFault) =
-    (t : SessionTurn) × (left : Sending) × Turned old new result before final told told_after t None left (gave.Failed ∷ []) × (new.core.pending ≡ pending.Nothing)
-Takes old new result before final told told_after (Some (end.BadFrame index w)) =
+Takes old new result before final traffic traffic_after (Some end.WireFault) =
+    (t : SessionTurn) × (left : Sending) × Turned old new result before final traffic traffic_after t None left (gave.Failed ∷ []) × (new.core.pending ≡ pending.Nothing)
+Takes old new result before final traffic traffic_after (Some (end.BadFrame index w)) =
     (bytes : List ℕ) × (result ≡ got.Frame bytes) × (index ≡ old.frames + 1)
-    × IsBadFrame (frame_at old.mux.received.value bytes) (answer_at old.mux.inbox) old.mux.outbox w × Leaves old new before final told told_after
-Takes old new result before final told told_after (Some end.Memory) =
-    ((t : SessionTurn) × (halted : Option Event) × (left : Sending) × Turned old new result before final told told_after t halted left [])
-    ⊎ ((bytes : List ℕ) × (result ≡ got.Frame bytes) × Leaves old new before final told told_after)
-Takes old new result before final told told_after (Some other) = ⊥
+    × IsBadFrame (frame_at old.mux.received.value bytes) (answer_at old.mux.inbox) old.mux.outbox w × Leaves old new before final traffic traffic_after
+Takes old new result before final traffic traffic_after (Some end.Memory) =
+    ((t : SessionTurn) × (halted : Option Event) × (left : Sending) × Turned old new result before final traffic traffic_after t halted left [])
+    ⊎ ((bytes : List ℕ) × (result ≡ got.Frame bytes) × Leaves old new before final traffic traffic_after)
+Takes old new result before final traffic traffic_after (Some other) = ⊥
 
 -- ---- from the beginning
 
@@ -198,21 +198,21 @@ pub record Holds (setup : Setup) (start now : Moment) (s : Session) (turns : Lis
   pub written : AreWrittenAfter [] sent frames
   pub checked : s.mux.sent.value ≡ checksum (all_sent [] frames)
 
--- the session runs, after so many results, of which the wire tells
-pub record Runs (setup : Setup) (start now : Moment) (told : Option Traffic) (s : Session) (told_now : Option Traffic) (count : ℕ) : Type 0 where
+-- the session runs, after so many results, which the wire records
+pub record Runs (setup : Setup) (start now : Moment) (traffic : Option Traffic) (s : Session) (traffic_now : Option Traffic) (count : ℕ) : Type 0 where
   pub turns : List SessionTurn
   pub frames : List FrameParts
   pub results : List Got
   pub sent : List (List ℕ)
   pub holds : Holds setup start now s turns frames results sent
-  pub tells : Tells told results sent [] told_now
+  pub records : Records traffic results sent [] traffic_now
   pub counted : length results ≡ count
 
 -- and goes on, or ends
 abbrev pub RunsOn : Setup → Moment → Moment → Option Traffic → Session → Option Traffic → ℕ → Option End → Type 0
-RunsOn setup start final told s told_now count None = Runs setup start final told s told_now (count + 1)
-RunsOn setup start final told s told_now count (Some e) =
-    IsServed setup start final told (record { end = e; looks = s.listing.looks; stored = s.listing.stored }) told_now
+RunsOn setup start final traffic s traffic_now count None = Runs setup start final traffic s traffic_now (count + 1)
+RunsOn setup start final traffic s traffic_now count (Some e) =
+    IsServed setup start final traffic (record { end = e; looks = s.listing.looks; stored = s.listing.stored }) traffic_now
 
 -- a frame that was not sent ends the session
 abbrev pub IsEndOf : Gave → Option End → Type 0

@@ -3,7 +3,7 @@ use Rattle.std.specs.Prelude.{◌≡◌, ℕ, ◌+◌, true, false, List, [], �
 use Rattle.std.specs.List.{list_any}
 use Rattle.blip_mux.specs.declared.message.Message.{Message}
 use Rattle.blip_mux.specs.Apart.{HasCome}
-use Rattle.blip_mux.specs.Cutting.{after_deeds}
+use Rattle.blip_mux.specs.Cutting.{after_outbox_steps}
 use Rattle.blip_mux.specs.Joining.{is_reply}
 use Rattle.blip_mux.specs.Sending.{Waiting, is_reply_to}
 use Rattle.session_core.specs.declared.act.Act.{Act}
@@ -37,7 +37,7 @@ MayPutAll waiting (a ∷ acts) = MayPut waiting a × (are_requests acts ≡ true
 
 -- these messages put at once
 abbrev pub put_as : Mux → List Message → Mux
-put_as m messages = record m { inbox = expecting_all messages m.inbox; outbox = after_deeds m.outbox (puts_all messages) }
+put_as m messages = record m { inbox = expecting_all messages m.inbox; outbox = after_outbox_steps m.outbox (puts_all messages) }
 
 -- the reply that is due, if one is, may be put: the request has come, and no reply to it waits
 abbrev pub MayReply : Mux → Option ℕ → Type 0

@@ -16,7 +16,7 @@ use Rattle.session_core.specs.State.{Machine, new_machine}
 use Rattle.session_mux.specs.declared.frame_why.FrameWhy.{FrameWhy}
 use Rattle.session_mux.specs.declared.frame_why.FrameWhy.TheVariants as why
 use Rattle.session_mux.specs.Frames.{IsBadTaken, why_of}
-use Rattle.session_mux.specs.Sent.{Tells}
+use Rattle.session_mux.specs.Sent.{Records}
 use Rattle.session_run.specs.declared.ended.End.{End}
 use Rattle.session_run.specs.declared.ended.End.TheVariants as end
 use Rattle.session_run.specs.declared.ended.Ended.{Ended}
@@ -123,10 +123,10 @@ pub record IsSession (setup : Setup) (start final : Moment) (ended : Ended) (res
   pub whole : IsSentAt ended.end left
   pub ends : EndsBy turns left ended.end taken last failed
 
--- The wire, as far as it tells, was served with a session.
-pub record IsServed (setup : Setup) (start final : Moment) (told : Option Traffic) (ended : Ended) (told_after : Option Traffic) : Type 0 where
+-- The wire, as far as it records, was served with a session.
+pub record IsServed (setup : Setup) (start final : Moment) (traffic : Option Traffic) (ended : Ended) (traffic_after : Option Traffic) : Type 0 where
   pub results : List Got
   pub sent : List (List ℕ)
   pub failed : List Gave
   pub session : IsSession setup start final ended results sent failed
-  pub tells : Tells told results sent failed told_after
+  pub records : Records traffic results sent failed traffic_after

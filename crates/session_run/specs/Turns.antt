@@ -7,7 +7,7 @@ use Rattle.blip_mux.specs.declared.message.Message.{Message}
 use Rattle.blip_mux.specs.declared.inbox.Taken.{Taken}
 use Rattle.blip_mux.specs.declared.inbox.Taken.TheVariants as takens
 use Rattle.blip_mux.specs.Between.{waiting_of}
-use Rattle.blip_mux.specs.Cutting.{Deed, puts, after_deeds, ArePicked}
+use Rattle.blip_mux.specs.Cutting.{OutboxStep, puts, after_outbox_steps, ArePicked}
 use Rattle.blip_mux.specs.Joining.{Event, came, expected, is_request, answer_in}
 use Rattle.blip_mux.specs.Sending.{Sending, new_sending, picked}
 use Rattle.session_core.specs.declared.event.Event as session
@@ -16,7 +16,7 @@ use Rattle.session_core.specs.Conduct.{is_answer}
 use Rattle.session_core.specs.Running.{waits}
 use Rattle.session_core.specs.State.{Machine}
 use Rattle.session_core.specs.Steps.{Step, Leads, put_by}
-use Rattle.session_mux.specs.Muxed.{acknowledged_by, IsHeard}
+use Rattle.session_mux.specs.Muxed.{acknowledged_by, IsNoBadAck}
 
 -- a frame that was taken and what it gave, or an idle moment, which gave nothing; and the steps that the session made for it, the last
 -- of which is the first of the list
@@ -123,10 +123,10 @@ AreJoined (t ∷ earlier) = IsJoined t.frame t.given (events_of earlier) × AreJ
 -- ---- what went
 
 -- what all of a turn does to what is to be sent: the acknowledgement of its frame, and what is put
-abbrev pub puts_all : List Message → List Deed
+abbrev pub puts_all : List Message → List OutboxStep
 puts_all messages = map (λ m. puts (waiting_of m)) messages
 
-abbrev pub done_in : SessionTurn → List Deed
+abbrev pub done_in : SessionTurn → List OutboxStep
 done_in t = acknowledged_by t.given ++ puts_all (put_by t.steps)
 
 -- The frames that went: after each turn those that are picked, one after another, until there is none; but for the last turn, after
@@ -135,4 +135,4 @@ abbrev pub AreSent : List SessionTurn → List FrameParts → Sending → Type 0
 AreSent [] frames left = (frames ≡ []) × (left ≡ new_sending)
 AreSent (t ∷ earlier) frames left =
     (before : List FrameParts) × (last : List FrameParts) × (s : Sending) × (frames ≡ before ++ last)
-    × AreSent earlier before s × (picked s ≡ None) × IsHeard t.given s × ArePicked (after_deeds s (done_in t)) last left
+    × AreSent earlier before s × (picked s ≡ None) × IsNoBadAck t.given s × ArePicked (after_outbox_steps s (done_in t)) last left

@@ -21,19 +21,19 @@ pub(crate) fn read<G: Ground>(
     want: Want,
 ) -> Result<Event, Memory>
     requires wants { WantsFor core.now.feed core.now.pending (Some want) }
-    requires front { feed_front core.now.feed ≤ G.floor ground.old }
+    requires front { feed_front core.now.feed ≤ G.lowest_front ground.old }
     ensures answered { IfOk result (λ event. IsAnswered
-        (moment (G.read ground.old) (G.floor ground.old) (G.recorded ground.old)
+        (moment (G.read ground.old) (G.lowest_front ground.old) (G.recorded ground.old)
         (G.own ground.old))
         core.now.user core.now.strict (Some want) event
-        (moment (G.read ground.new) (G.floor ground.new) (G.recorded ground.new)
+        (moment (G.read ground.new) (G.lowest_front ground.new) (G.recorded ground.new)
         (G.own ground.new))) }
     ensures awaited { IfOk result (λ event. Awaits core.now event) }
     ensures answer { IfOk result (λ event. is_answer event ≡ true) }
     ensures err { OnErr result (HasRead
-        (moment (G.read ground.old) (G.floor ground.old) (G.recorded ground.old)
+        (moment (G.read ground.old) (G.lowest_front ground.old) (G.recorded ground.old)
         (G.own ground.old))
-        (moment (G.read ground.new) (G.floor ground.new) (G.recorded ground.new)
+        (moment (G.read ground.new) (G.lowest_front ground.new) (G.recorded ground.new)
         (G.own ground.new))) }
 {
     match want {

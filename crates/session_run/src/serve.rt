@@ -35,9 +35,9 @@ pub fn serve_session<W: Wire, G: Ground>(
     wire: &mut W,
 ) -> (G, Ended)
     ensures session { IsServed setup
-        (moment (G.read ground) (G.floor ground) (G.recorded ground) (G.own ground))
-        (moment (G.read result.0) (G.floor result.0) (G.recorded result.0) (G.own result.0))
-        (W.told wire.old) result.1 (W.told wire.new) }
+        (moment (G.read ground) (G.lowest_front ground) (G.recorded ground) (G.own ground))
+        (moment (G.read result.0) (G.lowest_front result.0) (G.recorded result.0) (G.own result.0))
+        (W.recorded wire.old) result.1 (W.recorded wire.new) }
 
     // The wire is said to have failed only where it did.
     ensures fault { result.1.end ≡ End.WireFault → W.faults wire.old < W.faults wire.new }

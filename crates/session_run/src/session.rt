@@ -7,7 +7,7 @@ ghost use Rattle.sg_outside.specs.Wire.{Traffic};
 ghost use Rattle.session_core.specs.declared.event.Event.{Event};
 ghost use Rattle.session_core.specs.declared.machine.Pending.{Pending};
 ghost use Rattle.session_core.specs.Conduct.{feed_front, due_at, due_with, WantsFor, most_answers, is_answer, AreWithin};
-ghost use Rattle.session_core.specs.Fronts.{look_of, stored_by, front_told};
+ghost use Rattle.session_core.specs.Fronts.{look_of, stored_by, front_by};
 ghost use Rattle.session_core.specs.State.{Awaits, new_machine};
 ghost use Rattle.session_core.specs.Steps.{Step};
 ghost use Rattle.session_run.specs.declared.ended.End.{End};
@@ -47,7 +47,7 @@ impl Session {
         ensures core { result.core ≡ new_machine user version strict }
         ensures frames { result.frames ≡ 0 }
     {
-        blip_mux::laws::standing();
+        blip_mux::laws::inbox_states();
         blip_mux::laws::replies();
         Session {
             core: Core::new(user, version, strict),
@@ -112,12 +112,12 @@ impl Session {
         want: Want,
     ) -> Result<Event, Memory>
         requires wants { WantsFor self.old.core.feed self.old.core.pending (Some want) }
-        requires front { feed_front self.old.core.feed ≤ G.floor ground.old }
+        requires front { feed_front self.old.core.feed ≤ G.lowest_front ground.old }
         ensures answered { IfOk result (λ event. IsAnswered
-            (moment (G.read ground.old) (G.floor ground.old)
+            (moment (G.read ground.old) (G.lowest_front ground.old)
             (G.recorded ground.old) (G.own ground.old)) self.old.core.user
             self.old.core.strict (Some want) event
-            (moment (G.read ground.new) (G.floor ground.new)
+            (moment (G.read ground.new) (G.lowest_front ground.new)
             (G.recorded ground.new) (G.own ground.new))) }
         ensures awaited { IfOk result (λ event. Awaits self.old.core event) }
         ensures answer { IfOk result (λ event. is_answer event ≡ true) }
@@ -126,9 +126,9 @@ impl Session {
         ensures stored { IfOk result (λ event. self.new.listing.stored
             ≡ self.old.listing.stored ++ stored_by event) }
         ensures read { OnErr result (HasRead
-            (moment (G.read ground.old) (G.floor ground.old)
+            (moment (G.read ground.old) (G.lowest_front ground.old)
             (G.recorded ground.old) (G.own ground.old))
-            (moment (G.read ground.new) (G.floor ground.new)
+            (moment (G.read ground.new) (G.lowest_front ground.new)
             (G.recorded ground.new) (G.own ground.new))) }
         ensures same_looks { OnErr result (self.new.listing.looks ≡ self.old.listing.looks) }
         ensures same_stored { OnErr result (self.new.listing.stored ≡ self.old.listing.stored) }
@@ -154,24 +154,24 @@ impl Session {
         requires room { self.old.core.requests ≤ 9223372036854745800 }
         requires ready { IsReady self.old }
         requires may { MayReply self.old.mux (due_at self.old.core.pending event) }
-        requires front { feed_front self.old.core.feed ≤ G.floor ground.old }
-        requires seen { AreWithin (G.floor ground.old) (front_told event) }
+        requires front { feed_front self.old.core.feed ≤ G.lowest_front ground.old }
+        requires seen { AreWithin (G.lowest_front ground.old) (front_by event) }
         ensures ok { (before : Moment)
             → IsAnswered before self.old.core.user self.old.core.strict None event
-            (moment (G.read ground.old) (G.floor ground.old)
+            (moment (G.read ground.old) (G.lowest_front ground.old)
             (G.recorded ground.old) (G.own ground.old))
             → OnOk result ((steps : List Step)
             × Conversing self.old self.new event before
-            (moment (G.read ground.new) (G.floor ground.new)
+            (moment (G.read ground.new) (G.lowest_front ground.new)
             (G.recorded ground.new) (G.own ground.new)) None steps) }
         ensures halted { (before : Moment)
             → IsAnswered before self.old.core.user self.old.core.strict None event
-            (moment (G.read ground.old) (G.floor ground.old)
+            (moment (G.read ground.old) (G.lowest_front ground.old)
             (G.recorded ground.old) (G.own ground.old))
             → OnErr result ((steps : List Step) × (halted : Option Event) × (now : Moment)
             × Conversed self.old self.new event before now steps halted
             × HasRead now
-            (moment (G.read ground.new) (G.floor ground.new)
+            (moment (G.read ground.new) (G.lowest_front ground.new)
             (G.recorded ground.new) (G.own ground.new))) }
         ensures frames { self.new.frames ≡ self.old.frames }
         ensures received { self.new.mux.received ≡ self.old.mux.received }
@@ -203,15 +203,15 @@ impl Session {
         requires room { self.old.core.requests ≤ 9223372036854745800 }
         requires ready { IsReady self.old }
         requires may { MayReply self.old.mux (due_at self.old.core.pending event) }
-        requires front { feed_front self.old.core.feed ≤ G.floor ground.old }
-        requires seen { AreWithin (G.floor ground.old) (front_told event) }
+        requires front { feed_front self.old.core.feed ≤ G.lowest_front ground.old }
+        requires seen { AreWithin (G.lowest_front ground.old) (front_by event) }
         ensures goes { (before : Moment)
             → IsAnswered before self.old.core.user self.old.core.strict None event
-            (moment (G.read ground.old) (G.floor ground.old)
+            (moment (G.read ground.old) (G.lowest_front ground.old)
             (G.recorded ground.old) (G.own ground.old))
             → GoesOn self.old self.new (Some event) before
-            (moment (G.read ground.new) (G.floor ground.new)
-            (G.recorded ground.new) (G.own ground.new)) (W.told wire.old) (W.told
+            (moment (G.read ground.new) (G.lowest_front ground.new)
+            (G.recorded ground.new) (G.own ground.new)) (W.recorded wire.old) (W.recorded
             wire.new) result }
         ensures faults { W.faults wire.old ≤ W.faults wire.new }
         ensures fault { result ≡ Some End.WireFault → W.faults wire.old < W.faults wire.new }
@@ -231,7 +231,7 @@ impl Session {
         requires pending { self.old.core.pending ≡ Pending.Nothing }
         requires ready { IsReady self.old }
         ensures goes { (now : Moment) → feed_front self.old.core.feed ≤ now.lowest
-            → GoesOn self.old self.new None now now (W.told wire.old) (W.told wire.new) result }
+            → GoesOn self.old self.new None now now (W.recorded wire.old) (W.recorded wire.new) result }
         ensures faults { W.faults wire.old ≤ W.faults wire.new }
         ensures fault { result ≡ Some End.WireFault → W.faults wire.old < W.faults wire.new }
         ensures frames { self.new.frames ≡ self.old.frames }
@@ -253,12 +253,12 @@ impl Session {
         requires rest { IsAtRest self.old }
         requires room { self.old.core.requests ≤ 9223372036854745800 }
         requires count { self.old.frames < 18446744073709551615 }
-        requires front { feed_front self.old.core.feed ≤ G.floor ground.old }
+        requires front { feed_front self.old.core.feed ≤ G.lowest_front ground.old }
         ensures takes { Takes self.old self.new (Got.Frame bytes.now)
-            (moment (G.read ground.old) (G.floor ground.old)
+            (moment (G.read ground.old) (G.lowest_front ground.old)
             (G.recorded ground.old) (G.own ground.old))
-            (moment (G.read ground.new) (G.floor ground.new)
-            (G.recorded ground.new) (G.own ground.new)) (W.told wire.old) (W.told wire.new)
+            (moment (G.read ground.new) (G.lowest_front ground.new)
+            (G.recorded ground.new) (G.own ground.new)) (W.recorded wire.old) (W.recorded wire.new)
             result }
         ensures faults { W.faults wire.old ≤ W.faults wire.new }
         ensures fault { result ≡ Some End.WireFault → W.faults wire.old < W.faults wire.new }
@@ -289,12 +289,12 @@ impl Session {
     ) -> Option<End>
         requires rest { IsAtRest self.old }
         requires room { self.old.core.requests ≤ 9223372036854745800 }
-        requires front { feed_front self.old.core.feed ≤ G.floor ground.old }
+        requires front { feed_front self.old.core.feed ≤ G.lowest_front ground.old }
         ensures takes { Takes self.old self.new Got.Idle
-            (moment (G.read ground.old) (G.floor ground.old)
+            (moment (G.read ground.old) (G.lowest_front ground.old)
             (G.recorded ground.old) (G.own ground.old))
-            (moment (G.read ground.new) (G.floor ground.new)
-            (G.recorded ground.new) (G.own ground.new)) (W.told wire.old) (W.told wire.new)
+            (moment (G.read ground.new) (G.lowest_front ground.new)
+            (G.recorded ground.new) (G.own ground.new)) (W.recorded wire.old) (W.recorded wire.new)
             result }
         ensures faults { W.faults wire.old ≤ W.faults wire.new }
         ensures fault { result ≡ Some End.WireFault → W.faults wire.old < W.faults wire.new }
@@ -319,24 +319,24 @@ impl Session {
         requires rest { IsAtRest self.old }
         requires room { self.old.core.requests ≤ 9223372036854745800 }
         requires count { self.old.frames < 18446744073709551615 }
-        requires front { feed_front self.old.core.feed ≤ G.floor ground.old }
-        ensures runs { (setup : Setup) (start : Moment) (told : Option Traffic) (count : ℕ)
+        requires front { feed_front self.old.core.feed ≤ G.lowest_front ground.old }
+        ensures runs { (setup : Setup) (start : Moment) (traffic : Option Traffic) (count : ℕ)
             → Runs setup start
-            (moment (G.read ground.old) (G.floor ground.old)
-            (G.recorded ground.old) (G.own ground.old)) told self.old (W.told
+            (moment (G.read ground.old) (G.lowest_front ground.old)
+            (G.recorded ground.old) (G.own ground.old)) traffic self.old (W.recorded
             wire.old) count → count < 1099511627776
             → RunsOn setup start
-            (moment (G.read ground.new) (G.floor ground.new)
-            (G.recorded ground.new) (G.own ground.new)) told self.new (W.told
+            (moment (G.read ground.new) (G.lowest_front ground.new)
+            (G.recorded ground.new) (G.own ground.new)) traffic self.new (W.recorded
             wire.new) count result }
         ensures rest { result ≡ None → IsAtRest self.new }
-        ensures front { result ≡ None → feed_front self.new.core.feed ≤ G.floor ground.new }
+        ensures front { result ≡ None → feed_front self.new.core.feed ≤ G.lowest_front ground.new }
         ensures few { result ≡ None → self.new.core.requests ≤ self.old.core.requests + 30003 }
         ensures count { self.new.frames ≤ self.old.frames + 1 }
         ensures faults { W.faults wire.old ≤ W.faults wire.new }
         ensures fault { result ≡ Some End.WireFault → W.faults wire.old < W.faults wire.new }
     {
-        blip_mux::laws::standing();
+        blip_mux::laws::inbox_states();
         session_mux::laws::traffic();
         session_core::laws::conduct();
         match wire.recv() {

@@ -20,7 +20,7 @@ use Rattle.std.specs.Prelude.{codes, is_some}
 use Rattle.sg_history.specs.Line.{IsLargeFront, IsLargeWrite, NoEntry}
 use Rattle.sg_history.proofs.LineTexts.{line_pieces}
 
--- a text as a number, by which short texts are told apart
+-- a text as a number, by which short texts are distinguished
 abbrev code : List ℕ → ℕ
 code [] = 0
 code (b ∷ bs) = b + 256 * code bs

@@ -18,7 +18,7 @@ pub record SideEntry : Type 0 where
   pub value : SideValue
 
 -- a board: its log; the entries that wait, by rising numbers; the rooms that are outstanding, of which only counts how often
--- each stands; the bytes stored and asked for; the side map; and how many faults it met
+-- each stands; the bytes stored and asked for; the side map; and how many faults it counted
 pub record BoardState : Type 0 where
   pub log : List Entry
   pub pending : List Waiting
@@ -52,7 +52,7 @@ SideFollows earlier later =
 
 -- the second board comes after the first: its book is later and its log extends the other's; its entries and outstanding rooms
 -- are in number at least as many, and its bytes exceed the other's by at most 20,971,520 for each one more; its side map
--- follows the other's; and it met at least as many faults
+-- follows the other's; and it counted at least as many faults
 pub record After (earlier later : BoardState) : Type 0 where
   pub book : Later (board_book earlier) (board_book later)
   pub log : Extends earlier.log later.log

@@ -90,7 +90,7 @@ GoesOn turn [] = Unit {0}
 GoesOn turn (before ∷ earlier) =
     Extends before.history turn.history × (before.front ≤ turn.front)
 
--- turns of a device, of which the last stands first: each front is a place of its history, and each turn goes on from the one before
+-- turns of a device, of which the last stands first: each front is a place of its history, and each turn continues the one before
 abbrev pub IsRun : List DeviceTurn → Type 0
 IsRun [] = Unit {0}
 IsRun (turn ∷ earlier) = (turn.front ≤ length turn.history) × GoesOn turn earlier × IsRun earlier

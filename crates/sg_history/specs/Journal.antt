@@ -18,7 +18,7 @@ use Rattle.sg_history.specs.declared.entries.Entry.TheVariants as entry
 use Rattle.sg_history.specs.declared.entries.Write.{Write}
 use Rattle.sg_history.specs.History.{History, as_write}
 use Rattle.sg_history.specs.Current.{write_of_rev}
-use Rattle.sg_history.specs.Principals.{Put, Standing, as_put}
+use Rattle.sg_history.specs.Principals.{Put, PrincipalState, as_put}
 
 -- the first line
 abbrev pub header : List ℕ
@@ -99,16 +99,16 @@ pub record IsPutRole (role : List ℕ) (its_channels : List (List ℕ)) : Type 0
   pub channels : IsTrue (is_channels its_channels) × IsUtf8 (channels_text its_channels)
 
 -- a put or a drop in its grammar
-abbrev pub IsPutOf : Grantee → Option Standing → Type 0
-IsPutOf (User name) (Some standing) = IsPutUser name standing.channels standing.roles
+abbrev pub IsPutOf : Grantee → Option PrincipalState → Type 0
+IsPutOf (User name) (Some state) = IsPutUser name state.channels state.roles
 IsPutOf (User name) None = IsTrue (is_name name) × IsUtf8 name
-IsPutOf (Role name) (Some standing) = IsPutRole name standing.channels
+IsPutOf (Role name) (Some state) = IsPutRole name state.channels
 IsPutOf (Role name) None = IsTrue (is_name name) × IsUtf8 name
 
 -- an entry in its grammar, by the write or else the put or drop that it is: one that is neither has no fields
 abbrev pub IsEntryBy : Option Write → Option Put → Type 0
 IsEntryBy (Some w) put = IsWrite w
-IsEntryBy None (Some put) = IsPutOf put.of put.standing
+IsEntryBy None (Some put) = IsPutOf put.of put.state
 IsEntryBy None None = Unit {0}
 
 -- an entry in its grammar: each of its fields is, and each that is no number is UTF-8

@@ -14,7 +14,7 @@ abbrev pub everyone : List ℕ
 everyone = 33 ∷ []
 
 -- what a user or a role was given by its last put, or nothing where it was never put, or dropped since
-pub record Standing : Type 0 where
+pub record PrincipalState : Type 0 where
   pub channels : List (List ℕ)
   pub roles : List (List ℕ)
 
@@ -28,39 +28,39 @@ same_grantee (Role a) (Role b) = bytes_eq a b
 -- the user or role that an entry puts or drops, with what it is from then on: none where it is dropped
 pub record Put : Type 0 where
   pub of : Grantee
-  pub standing : Option Standing
+  pub state : Option PrincipalState
 
 -- the put or drop that an entry is, if it is one
 abbrev pub as_put : Entry → Option Put
 as_put (entry.Write w) = None
 as_put (entry.PutUser name channels roles) =
-    Some (record { of = User name; standing = Some (record { channels = channels; roles = roles }) })
+    Some (record { of = User name; state = Some (record { channels = channels; roles = roles }) })
 as_put (entry.PutRole name channels) =
-    Some (record { of = Role name; standing = Some (record { channels = channels; roles = [] }) })
-as_put (entry.DropUser name) = Some (record { of = User name; standing = None })
-as_put (entry.DropRole name) = Some (record { of = Role name; standing = None })
+    Some (record { of = Role name; state = Some (record { channels = channels; roles = [] }) })
+as_put (entry.DropUser name) = Some (record { of = User name; state = None })
+as_put (entry.DropRole name) = Some (record { of = Role name; state = None })
 as_put entry.Unused = None
 
 -- what a put or a drop makes of a user or role, given what it was before
-abbrev pub standing_after : Option Put → Grantee → Option Standing → Option Standing
-standing_after None whom before = before
-standing_after (Some put) whom before = if same_grantee put.of whom then put.standing else before
+abbrev pub principal_after : Option Put → Grantee → Option PrincipalState → Option PrincipalState
+principal_after None whom before = before
+principal_after (Some put) whom before = if same_grantee put.of whom then put.state else before
 
 -- what an entry makes of a user, given what it was before
-abbrev pub user_after : Entry → List ℕ → Option Standing → Option Standing
-user_after e user before = standing_after (as_put e) (User user) before
+abbrev pub user_after : Entry → List ℕ → Option PrincipalState → Option PrincipalState
+user_after e user before = principal_after (as_put e) (User user) before
 
 -- a user: its last put, or none where it does not exist
-abbrev pub user_at : List Entry → List ℕ → Option Standing
+abbrev pub user_at : List Entry → List ℕ → Option PrincipalState
 user_at [] user = None
 user_at (e ∷ older) user = user_after e user (user_at older user)
 
 -- what an entry makes of a role, given what it was before
-abbrev pub role_after : Entry → List ℕ → Option Standing → Option Standing
-role_after e role before = standing_after (as_put e) (Role role) before
+abbrev pub role_after : Entry → List ℕ → Option PrincipalState → Option PrincipalState
+role_after e role before = principal_after (as_put e) (Role role) before
 
 -- a role: its last put, or none where it does not exist
-abbrev pub role_at : List Entry → List ℕ → Option Standing
+abbrev pub role_at : List Entry → List ℕ → Option PrincipalState
 role_at [] role = None
 role_at (e ∷ older) role = role_after e role (role_at older role)
 
@@ -83,15 +83,15 @@ abbrev pub is_given : List Entry → List ℕ → List ℕ → Bool
 is_given es user role = list_any (λ doc. gives_role (current es doc) user role) (documents es)
 
 -- the name of a role that is put: none where another is put, or it is dropped
-abbrev pub role_named : Grantee → Option Standing → List (List ℕ)
-role_named (User name) standing = []
+abbrev pub role_named : Grantee → Option PrincipalState → List (List ℕ)
+role_named (User name) state = []
 role_named (Role name) None = []
-role_named (Role name) (Some standing) = name ∷ []
+role_named (Role name) (Some state) = name ∷ []
 
 -- the role that a put is of, if it is one of a role
 abbrev pub role_put : Option Put → List (List ℕ)
 role_put None = []
-role_put (Some put) = role_named put.of put.standing
+role_put (Some put) = role_named put.of put.state
 
 -- the role that an entry puts, if it puts one
 abbrev pub role_put_by : Entry → List (List ℕ)
@@ -103,19 +103,19 @@ roles_put [] = []
 roles_put (e ∷ older) = role_put_by e ++ roles_put older
 
 -- whether a put stands
-abbrev pub exists : Option Standing → Bool
+abbrev pub exists : Option PrincipalState → Bool
 exists None = false
-exists (Some standing) = true
+exists (Some state) = true
 
 -- whether a put names the role
-abbrev pub names_role : Option Standing → List ℕ → Bool
+abbrev pub names_role : Option PrincipalState → List ℕ → Bool
 names_role None role = false
-names_role (Some standing) role = among standing.roles role
+names_role (Some state) role = among state.roles role
 
 -- whether a put has the channel
-abbrev pub names_channel : Option Standing → List ℕ → Bool
+abbrev pub names_channel : Option PrincipalState → List ℕ → Bool
 names_channel None channel = false
-names_channel (Some standing) channel = among standing.channels channel
+names_channel (Some state) channel = among state.channels channel
 
 -- a user that exists has each role that exists and that its last put names or a current revision gives to it
 abbrev pub has_role : List Entry → List ℕ → List ℕ → Bool

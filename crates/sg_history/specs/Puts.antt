@@ -20,14 +20,14 @@ roles_in None = []
 roles_in (Some roles) = roles.now
 
 -- what a put gives
-abbrev pub given_in : Given → principals.Standing
+abbrev pub given_in : Given → principals.PrincipalState
 given_in given = record { channels = given.channels.now; roles = roles_in given.roles }
 
 -- what a user or role was given, or none where it was never put, or dropped since
-abbrev pub standing_in : Option Given → Option principals.Standing
-standing_in None = None
-standing_in (Some given) = Some (given_in given)
+abbrev pub principal_in : Option Given → Option principals.PrincipalState
+principal_in None = None
+principal_in (Some given) = Some (given_in given)
 
 -- a put or a drop
 abbrev pub put_in : puts.Put → principals.Put
-put_in put = record { of = grantee_in put.of; standing = standing_in put.given }
+put_in put = record { of = grantee_in put.of; state = principal_in put.given }

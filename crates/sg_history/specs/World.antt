@@ -38,7 +38,7 @@ pub record IsSound (world : World) : Type 0 where
   pub taken : (number : ℕ) → times_taken world number ≡ once_among number world.count
   pub waiting : IsTrue (rises_from (length world.log + 1) world.pending)
 
--- what a log and the waiting entries come to once those that come next were moved to the log
+-- what a log and the waiting entries are once those that come next were moved to the log
 pub record Released : Type 0 where
   pub log : List Entry
   pub pending : List Waiting

@@ -21,7 +21,7 @@ pub fn cut(text: &[u8], at: u8) -> Option<(&[u8], &[u8])>
     Some((&text[..place], &text[place + 1..]))
 }
 
-/// Puts the fields of a line at the front of `into`, and tells how many they are; none where they are more than fit.
+/// Puts the fields of a line at the front of `into`, and says how many they are; none where they are more than fit.
 pub(crate) fn fields_of<'a>(line: &'a [u8], into: &mut [&'a [u8]; MOST]) -> Option<usize>
     ensures within { IfSome result (λ n. n ≤ 12) }
     ensures room { length into.new ≡ 12 }

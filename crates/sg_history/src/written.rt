@@ -42,7 +42,7 @@ impl<'a> Written<'a> {
             .contains(&(doc.as_bytes(), rev.generation, rev.digest.as_bytes()))
     }
 
-    /// Puts a revision in, and tells whether it was not there before.
+    /// Puts a revision in, and says whether it was not there before.
     pub fn insert(&mut self, doc: &'a DocId, rev: &'a RevId) -> Result<bool, AllocError>
         ensures added { IfOk result (λ added. added ≡ not (has self.old doc.now rev.now)) }
         ensures ok { OnOk result ((other : List ℕ) (r : RevId) → has self.new other r

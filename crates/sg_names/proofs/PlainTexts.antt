@@ -28,7 +28,7 @@ use Rattle.sg_names.specs.declared.key.Key.{Key}
 use Rattle.sg_names.specs.declared.rev_id.RevId.{RevId}
 use Rattle.sg_names.specs.declared.role_grants.RoleGrant.{RoleGrant}
 
--- a test that each byte passes tells what it implies of each
+-- a test that each byte passes says what it implies of each
 implied : (p q : ℕ → Bool) → ((b : ℕ) → p b ≡ true → q b ≡ true) → (text : List ℕ) → list_all p text ≡ true → list_all q text ≡ true
 implied p q f [] h = refl
 implied p q f (b ∷ bs) h = let both = and_parts (p b) (list_all p bs) h in and_from _ _ (f b both.0) (implied p q f bs both.1)

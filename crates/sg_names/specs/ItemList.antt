@@ -16,7 +16,7 @@ rises order [] = true
 rises order (x ∷ []) = true
 rises order (x ∷ y ∷ more) = is_lt (order x y) && rises order (y ∷ more)
 
--- items of a grammar can be told apart in a list: a text has no comma, is not `-`, and is that of one item
+-- items of a grammar can be distinguished in a list: a text has no comma, is not `-`, and is that of one item
 pub record AreApart {X : Type 0} (text : X → List ℕ) (admits : X → Bool) : Type 0 where
   pub lacks_comma : (x : X) → IsTrue (admits x) → IsTrue (lacks 44 (text x))
   pub is_no_dash : (x : X) → IsTrue (admits x) → text x ≢ 45 ∷ []

@@ -13,7 +13,7 @@ use sg_outside::{Bytes, Memory};
 use std::alloc::{AllocError, Global};
 use std::cmp::Ordering;
 
-/// What stands in a list. Its text is `text`, and `admits` tells whether it is in its grammar.
+/// What stands in a list. Its text is `text`, and `admits` says whether it is in its grammar.
 pub trait Item: Drop {
     ghost text: { Self → List ℕ };
 

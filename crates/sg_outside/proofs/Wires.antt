@@ -1,4 +1,4 @@
--- what a wire with a script of results tells
+-- what a wire with a script of results records
 use Rattle.std.proofs.Common.{◌≡◌, ◌≢◌, ℕ, zero, suc, ◌+◌, ◌∷◌, ◌++◌, [], List, map, drop, Some, refl, ap, sym, subst, ◌∙◌, le_refl, ◌<◌, ◌≤◌, length, slice_index_or, le_of_suc-le-suc, not-suc-le-zero}
 use Rattle.sg_outside.specs.declared.wire.Got.{Got}
 use Rattle.sg_outside.specs.declared.wire.Got.TheVariants as got
@@ -37,7 +37,7 @@ results_next (x ∷ xs) (suc k) = ap (λ rs. x ∷ rs) (results_next xs k)
 same_traffic : {a b c d : List Got} (sent : List (List ℕ)) (gave : List Gave) → a ≡ b → c ≡ d → ◌≡◌ {A = Traffic} (record { got = a; sent = sent; gave = gave; coming = c }) (record { got = b; sent = sent; gave = gave; coming = d })
 same_traffic sent gave p q = rw (p, q) refl
 
--- once a result was received the wire tells one result more
+-- once a result was received the wire records one result more
 pub traffic_next : (script : List Got) (calls : ℕ) (sent : List (List ℕ)) (gave : List Gave) → traffic script (calls + 1) sent gave ≡ received (traffic script calls sent gave) (next_of (drop calls script))
 traffic_next script calls sent gave = simp unary_clauses (same_traffic sent gave (results_next script calls) (sym (after_drop script calls)))
 

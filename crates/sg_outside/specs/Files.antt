@@ -30,7 +30,7 @@ Loads None Longer before after = ⊥
 Loads file Failed before after = after ≡ before
 Loads file Memory before after = after ≡ before
 
--- the same where the object tells what is under each name
-abbrev pub LoadsIfTold : Option (List ℕ → Option (List ℕ)) → List ℕ → Loaded → List ℕ → List ℕ → Type 0
-LoadsIfTold None name loaded before after = Appends loaded before after
-LoadsIfTold (Some files) name loaded before after = Loads (files name) loaded before after
+-- the same where the object records what is under each name
+abbrev pub LoadsIfRecorded : Option (List ℕ → Option (List ℕ)) → List ℕ → Loaded → List ℕ → List ℕ → Type 0
+LoadsIfRecorded None name loaded before after = Appends loaded before after
+LoadsIfRecorded (Some files) name loaded before after = Loads (files name) loaded before after

@@ -20,7 +20,7 @@ results zero script = []
 results (suc n) [] = got.End ∷ results n []
 results (suc n) (result ∷ script) = result ∷ results n script
 
--- what a wire tells that has a script of results, after so many of them
+-- what a wire records that has a script of results, after so many of them
 abbrev pub traffic : List Got → ℕ → List (List ℕ) → List Gave → Traffic
 traffic script calls sent gave = record { got = results calls script; sent = sent; gave = gave; coming = drop calls script }
 

@@ -15,7 +15,7 @@ Takes before bytes Done after = after ≡ before ++ bytes
 Takes before bytes Failed after = (part : List ℕ) × (rest : List ℕ) × (bytes ≡ part ++ rest) × (after ≡ before ++ part)
 Takes before bytes Memory after = after ≡ before
 
--- the same where the object tells what it took
-abbrev pub TakesIfTold : Option (List ℕ) → List ℕ → Gave → Option (List ℕ) → Type 0
-TakesIfTold None bytes gave after = after ≡ None
-TakesIfTold (Some before) bytes gave after = (taken : List ℕ) × (after ≡ Some taken) × Takes before bytes gave taken
+-- the same where the object records what it took
+abbrev pub TakesIfRecorded : Option (List ℕ) → List ℕ → Gave → Option (List ℕ) → Type 0
+TakesIfRecorded None bytes gave after = after ≡ None
+TakesIfRecorded (Some before) bytes gave after = (taken : List ℕ) × (after ≡ Some taken) × Takes before bytes gave taken

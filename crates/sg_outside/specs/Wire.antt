@@ -1,11 +1,11 @@
--- what a wire answers, and what it tells
+-- what a wire answers, and what it records
 use Rattle.std.specs.Prelude.{◌≡◌, ℕ, ◌<◌, ◌≤◌, List, [], ◌∷◌, ◌++◌, Option, Some, None}
 use Rattle.sg_outside.specs.declared.sink.Gave.{Gave}
 use Rattle.sg_outside.specs.declared.sink.Gave.TheVariants as gave
 use Rattle.sg_outside.specs.declared.wire.Got.{Got}
 use Rattle.sg_outside.specs.declared.wire.Got.TheVariants as got
 
--- what a wire tells: the results of receiving so far, the frames that were sent, what each sending answered, and the results still to come, all in order
+-- what a wire records: the results of receiving so far, the frames that were sent, what each sending answered, and the results still to come, all in order
 pub record Traffic : Type 0 where
   pub got : List Got
   pub sent : List (List ℕ)
@@ -31,7 +31,7 @@ abbrev pub after_next : List Got → List Got
 after_next [] = []
 after_next (first ∷ later) = later
 
--- what a wire tells once this was received
+-- what a wire records once this was received
 abbrev pub received : Traffic → Got → Traffic
 received before result = record before { got = before.got ++ result ∷ []; coming = after_next before.coming }
 
@@ -48,10 +48,10 @@ Receives before got.End after = ReceivesNext before got.End after
 Receives before got.Failed after = ReceivesNext before got.Failed after
 Receives before got.Memory after = after ≡ before
 
--- the same where the wire tells
-abbrev pub ReceivesIfTold : Option Traffic → Got → Option Traffic → Type 0
-ReceivesIfTold None result after = after ≡ None
-ReceivesIfTold (Some before) result after = (traffic : Traffic) × (after ≡ Some traffic) × Receives before result traffic
+-- the same where the wire records
+abbrev pub ReceivesIfRecorded : Option Traffic → Got → Option Traffic → Type 0
+ReceivesIfRecorded None result after = after ≡ None
+ReceivesIfRecorded (Some before) result after = (traffic : Traffic) × (after ≡ Some traffic) × Receives before result traffic
 
 -- the frame is sent, at a fault it is not; out of memory nothing happened
 abbrev pub sent_after : Traffic → List ℕ → Gave → Traffic
@@ -59,7 +59,7 @@ sent_after before frame gave.Done = record before { sent = before.sent ++ frame 
 sent_after before frame gave.Failed = record before { gave = before.gave ++ gave.Failed ∷ [] }
 sent_after before frame gave.Memory = before
 
--- the same where the wire tells
-abbrev pub SendsIfTold : Option Traffic → List ℕ → Gave → Option Traffic → Type 0
-SendsIfTold None frame answer after = after ≡ None
-SendsIfTold (Some before) frame answer after = after ≡ Some (sent_after before frame answer)
+-- the same where the wire records
+abbrev pub SendsIfRecorded : Option Traffic → List ℕ → Gave → Option Traffic → Type 0
+SendsIfRecorded None frame answer after = after ≡ None
+SendsIfRecorded (Some before) frame answer after = after ≡ Some (sent_after before frame answer)

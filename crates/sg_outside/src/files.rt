@@ -1,7 +1,7 @@
 //! Files that are read whole.
 
 ghost use Rattle.std.specs.Prelude.{◌≡◌, ◌⊎◌, ℕ, List, Option, Some};
-ghost use Rattle.sg_outside.specs.Files.{CountsLoad, LoadsIfTold};
+ghost use Rattle.sg_outside.specs.Files.{CountsLoad, LoadsIfRecorded};
 
 use crate::bytes::Bytes;
 use std::alloc::{AllocError, Global};
@@ -39,12 +39,12 @@ pub trait Files: Drop {
     /// How often it failed so far.
     ghost faults: { Self → ℕ };
 
-    /// The bytes under each name that has a file, where it tells them.
-    ghost told: { Self → Option (List ℕ → Option (List ℕ)) };
+    /// The bytes under each name that has a file, where it records them.
+    ghost recorded: { Self → Option (List ℕ → Option (List ℕ)) };
 
     /// Appends the whole file to `into`; every answer but `Whole` leaves `into` as it was.
     fn load(&mut self, name: &str, into: &mut Bytes) -> Loaded
         ensures counted { CountsLoad (faults self.old) result (faults self.new) }
-        ensures kept { told self.new ≡ told self.old }
-        ensures loaded { LoadsIfTold (told self.old) name.now result into.old into.new };
+        ensures kept { recorded self.new ≡ recorded self.old }
+        ensures loaded { LoadsIfRecorded (recorded self.old) name.now result into.old into.new };
 }

@@ -1,5 +1,5 @@
 //! What stands outside the gateway, as traits: files, where output goes, and the wire to a device. Each
-//! has a count of faults, and tells what it holds or took where it can.
+//! has a count of faults, and records what it holds or took where it can.
 #![tactic(auto)]
 
 pub mod bytes;

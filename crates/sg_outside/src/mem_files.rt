@@ -63,7 +63,7 @@ impl MemFiles {
 impl Files for MemFiles {
     ghost faults = { λ _. 0 };
 
-    ghost told = { λ f. Some (λ name. Some (bytes_under f.files.items name)) };
+    ghost recorded = { λ f. Some (λ name. Some (bytes_under f.files.items name)) };
 
     fn load(&mut self, name: &str, into: &mut Bytes) -> Loaded {
         match find(self.files.as_slice(), name) {
@@ -126,7 +126,7 @@ impl Files for ScriptedFiles {
 
     ghost faults = { λ f. f.faults };
 
-    ghost told = { λ f. Some (λ name. file_under f.files.items name) };
+    ghost recorded = { λ f. Some (λ name. file_under f.files.items name) };
 
     fn load(&mut self, name: &str, into: &mut Bytes) -> Loaded
         ensures counted { CountsLoad self.old.faults result self.new.faults }

@@ -45,7 +45,7 @@ fn receive_at(alloc: Global, inputs: &[Input], place: usize) -> Result<Got, Allo
     }
 }
 
-/// A wire in memory, which never fails and tells what was received and sent: its inputs come one after
+/// A wire in memory, which never fails and records what was received and sent: its inputs come one after
 /// another, and then its end.
 #[derive(Drop)]
 pub struct MemWire {
@@ -61,7 +61,7 @@ impl MemWire {
     pub fn new(alloc: Global, inputs: Vec<Input>) -> MemWire
         ensures inputs { result.inputs.items ≡ inputs.items }
         ensures sent { result.sent.items ≡ [] }
-        ensures told { ⟦<MemWire as Wire>⟧.told result
+        ensures recorded { ⟦<MemWire as Wire>⟧.recorded result
             ≡ Some (traffic (map got_of inputs.items) 0 [] []) }
     {
         MemWire {
@@ -76,7 +76,7 @@ impl MemWire {
 impl Wire for MemWire {
     ghost faults = { λ _. 0 };
 
-    ghost told = { λ w. Some (traffic (map got_of w.inputs.items) w.calls w.sent.items (all_done w.sent.items)) };
+    ghost recorded = { λ w. Some (traffic (map got_of w.inputs.items) w.calls w.sent.items (all_done w.sent.items)) };
 
     fn recv(&mut self) -> Got {
         if self.calls == usize::MAX {

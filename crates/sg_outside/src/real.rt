@@ -1,4 +1,4 @@
-//! The real files and the real standard output: the trusted edge. They count their faults and tell nothing
+//! The real files and the real standard output: the trusted edge. They count their faults and record nothing
 //! of content.
 
 ghost use Rattle.std.specs.Prelude.{◌≡◌, None};
@@ -42,7 +42,7 @@ fn load_path<R: RuntimeFiles>(rt: &R, path: &str, faults: &mut u64, into: &mut B
 impl<'r, R: RuntimeFiles + Drop> Files for RealFiles<'r, R> {
     ghost faults = { λ f. f.faults };
 
-    ghost told = { λ _. None };
+    ghost recorded = { λ _. None };
 
     fn load(&mut self, name: &str, into: &mut Bytes) -> Loaded {
         load_path(self.rt, name, &mut self.faults, into)

@@ -86,7 +86,7 @@ fn take_all(bytes: &[u8], into: &mut Bytes) -> Gave
 
 impl Sink for ScriptedSink {
     ghost use Rattle.std.specs.Prelude.{List, ℕ, ◌++◌};
-    ghost use Rattle.sg_outside.specs.Sink.{TakesIfTold};
+    ghost use Rattle.sg_outside.specs.Sink.{TakesIfRecorded};
     ghost use Rattle.sg_outside.specs.Scripts.{GivesByScript, gives_of};
 
     ghost faults = { λ s. s.faults };
@@ -95,7 +95,7 @@ impl Sink for ScriptedSink {
 
     fn give(&mut self, bytes: &[u8]) -> Gave
         ensures counted { Counts self.old.faults result self.new.faults }
-        ensures taken { TakesIfTold (Some self.old.bytes) bytes.now result (Some self.new.bytes) }
+        ensures taken { TakesIfRecorded (Some self.old.bytes) bytes.now result (Some self.new.bytes) }
         ensures script { GivesByScript (fault_at self.old.script.items (gives_of self.old))
             self.old.bytes bytes.now result self.new.bytes }
         ensures kept { self.new.script ≡ self.old.script }

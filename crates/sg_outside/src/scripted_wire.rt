@@ -88,7 +88,7 @@ fn send_or_fail(
     }
 }
 
-/// A wire in memory, which tells what was received and sent: the results of its script come one after
+/// A wire in memory, which records what was received and sent: the results of its script come one after
 /// another, and then its end; the k-th sending fails where the k-th mark says so, and one past the marks
 /// does not. Lack of memory in the script is answered at this call and all that follow.
 #[derive(Drop)]
@@ -114,7 +114,8 @@ impl ScriptedWire {
         ensures send_fails { result.send_fails.items ≡ send_fails.items }
         ensures sendings { sendings_of result ≡ 0 }
         ensures faults { ⟦<ScriptedWire as Wire>⟧.faults result ≡ 0 }
-        ensures told { ⟦<ScriptedWire as Wire>⟧.told result ≡ Some (traffic script.items 0 [] []) }
+        ensures recorded { ⟦<ScriptedWire as Wire>⟧.recorded result
+            ≡ Some (traffic script.items 0 [] []) }
     {
         ScriptedWire {
             script,
@@ -136,11 +137,11 @@ impl ScriptedWire {
 
 impl Wire for ScriptedWire {
     ghost use Rattle.sg_outside.specs.Scripts.{fails_at, sendings_of};
-    ghost use Rattle.sg_outside.specs.Wire.{SendsIfTold};
+    ghost use Rattle.sg_outside.specs.Wire.{SendsIfRecorded};
 
     ghost faults = { λ w. w.faults };
 
-    ghost told = { λ w. Some (traffic w.script.items w.calls w.sent.items w.gave.items) };
+    ghost recorded = { λ w. Some (traffic w.script.items w.calls w.sent.items w.gave.items) };
 
     fn recv(&mut self) -> Got {
         if self.calls == usize::MAX {
@@ -160,7 +161,7 @@ impl Wire for ScriptedWire {
 
     fn send(&mut self, frame: &[u8]) -> Gave
         ensures counted { Counts self.old.faults result self.new.faults }
-        ensures told { SendsIfTold
+        ensures recorded { SendsIfRecorded
             (Some (traffic self.old.script.items self.old.calls self.old.sent.items self.old.gave.items))
             frame.now result
             (Some (traffic self.new.script.items self.new.calls self.new.sent.items self.new.gave.items)) }

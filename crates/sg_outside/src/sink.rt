@@ -1,7 +1,7 @@
 //! Where output goes.
 
 ghost use Rattle.std.specs.Prelude.{◌≡◌, ℕ, List, Option, [], Some};
-ghost use Rattle.sg_outside.specs.Sink.{Counts, TakesIfTold};
+ghost use Rattle.sg_outside.specs.Sink.{Counts, TakesIfRecorded};
 
 use crate::bytes::Bytes;
 use std::alloc::Global;
@@ -22,15 +22,15 @@ pub trait Sink: Drop {
     /// How often it failed so far.
     ghost faults: { Self → ℕ };
 
-    /// The bytes taken so far, where it tells them.
+    /// The bytes taken so far, where it records them.
     ghost taken: { Self → Option (List ℕ) };
 
     fn give(&mut self, bytes: &[u8]) -> Gave
         ensures counted { Counts (faults self.old) result (faults self.new) }
-        ensures taken { TakesIfTold (taken self.old) bytes.now result (taken self.new) };
+        ensures taken { TakesIfRecorded (taken self.old) bytes.now result (taken self.new) };
 }
 
-/// A sink in memory, which never fails and tells what it took.
+/// A sink in memory, which never fails and records what it took.
 #[derive(Drop)]
 pub struct MemSink {
     pub bytes: Bytes,

@@ -2,7 +2,7 @@
 
 ghost use Rattle.std.specs.Prelude.{◌≡◌, ℕ, List, Option};
 ghost use Rattle.sg_outside.specs.Sink.{Counts};
-ghost use Rattle.sg_outside.specs.Wire.{Traffic, CountsGot, ReceivesIfTold, SendsIfTold};
+ghost use Rattle.sg_outside.specs.Wire.{Traffic, CountsGot, ReceivesIfRecorded, SendsIfRecorded};
 
 use crate::bytes::Bytes;
 use crate::sink::Gave;
@@ -29,15 +29,16 @@ pub trait Wire: Drop {
     /// How often it failed so far.
     ghost faults: { Self → ℕ };
 
-    /// What was received and sent so far, and what is still to come, where it tells them.
-    ghost told: { Self → Option Traffic };
+    /// What was received and sent so far, and what is still to come, where it records them.
+    ghost recorded: { Self → Option Traffic };
 
     fn recv(&mut self) -> Got
         ensures counted { CountsGot (faults self.old) result (faults self.new) }
-        ensures told { ReceivesIfTold (told self.old) result (told self.new) };
+        ensures recorded { ReceivesIfRecorded (recorded self.old) result (recorded self.new) };
 
-    /// Sends one frame: the whole of it, or at every other answer none that is told.
+    /// Sends one frame: the whole of it, or at every other answer none that is recorded.
     fn send(&mut self, frame: &[u8]) -> Gave
         ensures counted { Counts (faults self.old) result (faults self.new) }
-        ensures told { SendsIfTold (told self.old) frame.now result (told self.new) };
+        ensures recorded { SendsIfRecorded (recorded self.old) frame.now result
+            (recorded self.new) };
 }

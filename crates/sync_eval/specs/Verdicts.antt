@@ -9,7 +9,7 @@ use Rattle.sync_meaning.specs.Texts.{rule_text}
 use Rattle.sync_eval.specs.declared.verdict.Verdict.{Verdict}
 use Rattle.sync_eval.specs.declared.verdict.Verdict.TheVariants.{Accept, Deny, Memory}
 
--- a run that comes to effects accepts with them, and one that a rule stops is denied by that rule
+-- a run that ends with effects accepts with them, and one that a rule stops is denied by that rule
 abbrev pub verdict : Result Effects Stop → Verdict
 verdict (Ok effects) = Accept effects
 verdict (Err (stop.Deny rule)) = Deny rule

@@ -12,7 +12,7 @@ use sync_meaning::{Context, Effects, Rule, Stop, evaluate};
 use sync_resolve::Resolved;
 
 /// What a program says of a revision: it is accepted, with these effects, or denied by this rule.
-/// `Memory` is want of memory, which may come in the place of any verdict.
+/// `Memory` says that memory ran out, which may come in the place of any verdict.
 #[derive(Drop)]
 pub enum Verdict {
     Accept(Effects),
@@ -29,7 +29,7 @@ pub fn judge(
     old: Option<&Doc>,
     context: &Context,
 ) -> Verdict
-    // It is the verdict by the meaning, with its rule and place, want of memory apart.
+    // It is the verdict by the meaning, with its rule and place, but for `Memory`.
     ensures { result ≢ Verdict.Memory → result ≡ verdict (meaning program.now (node_tree doc.now)
         (option_map (λ doc. node_tree doc.now) old.entry) context.now) }
 {

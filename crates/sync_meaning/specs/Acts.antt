@@ -17,7 +17,7 @@ Found A = Result A Stop
 abbrev pub Act : Type 0 → Type 0
 Act A = State → Found (A × State)
 
--- what was found, and what comes of it in its state
+-- what was found, and what is made of it in its state
 abbrev pub and_then : {A B : Type 0} → Found (A × State) → (A → Act B) → Found (B × State)
 and_then (Ok p) f = f p.0 p.1
 and_then (Err e) f = Err e

@@ -38,7 +38,7 @@ text_at _ = None
 unfoldable pub text_in : Value → Option (List ℕ)
 text_in x = text_at (out-Value x)
 
--- what comes of a text, if there is one
+-- what is made of a text, if there is one
 abbrev pub with_text : Option (List ℕ) → (List ℕ → Option (List (List ℕ))) → Option (List (List ℕ))
 with_text (Some s) f = f s
 with_text None f = None

@@ -1,4 +1,4 @@
--- What expressions come to.
+-- What expressions evaluate to.
 use Rattle.std.specs.Prelude.{ℕ, zero, suc, ◌+◌, pos, Bool, true, false, not, ◌&&◌, if◌then◌else◌, codes, List, [], ◌∷◌, ◌++◌, length, Option, Some, None, Ok}
 use Rattle.std.specs.Str.{bytes_eq}
 use Rattle.sync_tokens.specs.declared.place.Place.{Place}
@@ -347,7 +347,7 @@ module _ (inner : Bool → Scope → Expr → Act Target) where
   unfoldable pub opened : Bool → Scope → Expr → Act Target
   opened called scope e = if called then callee scope e else (do x ← node scope e; pure (t.Value x))
 
--- To a depth that nothing comes to which has visits left: of two expressions that are open, one directly in the other,
+-- To a depth that nothing reaches which has visits left: of two expressions that are open, one directly in the other,
 -- at least one takes a visit.
 unfoldable pub evaluated : ℕ → Bool → Scope → Expr → Act Target
 evaluated zero called scope e = out_of_visits (place_of e)

@@ -85,7 +85,7 @@ forbidden_at _ = None
 unfoldable pub forbidden_in : Value → Option (List ℕ)
 forbidden_in x = forbidden_at (out-Value x)
 
--- what throwing comes to, by the text under `forbidden`
+-- what throwing does, by the text under `forbidden`
 abbrev pub thrown_by : Place → Option (List ℕ) → Stop
 thrown_by p (Some s) = denial (Forbidden s) p
 thrown_by p None = fault Thrown p
@@ -325,7 +325,7 @@ module _ (depth : ℕ) where
     unfoldable pub opened : Scope → Statement → Act Completion
     opened scope s = statement_at scope (out-Statement s)
 
--- To a depth that nothing comes to which has visits left, since each statement takes one.
+-- To a depth that nothing reaches which has visits left, since each statement takes one.
 unfoldable pub run : ℕ → Scope → Statement → Act Completion
 run zero scope s = out_of_visits (statement_place s)
 run (suc depth) scope s = opened depth (run depth) scope s

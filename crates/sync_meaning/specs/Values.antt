@@ -101,7 +101,7 @@ integer_at p _ = type_fault p
 unfoldable pub integer_in : Place → Value → Found ℤ
 integer_in p x = integer_at p (out-Value x)
 
--- what was found, and what comes of it
+-- what was found, and what is made of it
 abbrev pub found_then : {A B : Type 0} → Found A → (A → Found B) → Found B
 found_then (Ok a) f = f a
 found_then (Err e) f = Err e

@@ -23,7 +23,7 @@ pub enum Builtin {
     IsArray,
 }
 
-/// What an expression comes to. All but `Value` come where a call follows.
+/// What an expression evaluates to. All but `Value` come where a call follows.
 #[derive(Debug, Drop)]
 pub enum Target {
     Value(Value),

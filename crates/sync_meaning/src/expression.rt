@@ -165,7 +165,7 @@ fn as_value(place: Place, target: Target) -> Result<Value, Stop>
     }
 }
 
-/// What a literal comes to.
+/// What a literal evaluates to.
 #[tactic(auto, unfolding(crate::specs::Expressions::literal))]
 fn literal(state: &mut State, place: Place, found: Result<Value, Stop>) -> Result<Value, Stop>
     ensures { Does (spec.literal place found state.old) result state.new }
@@ -181,7 +181,7 @@ fn text_value(alloc: Global, text: &DocText) -> Result<Value, Memory>
     Value::text(alloc, text.copy(alloc)?)
 }
 
-/// What a text of the program comes to.
+/// What a text of the program evaluates to.
 #[tactic(auto, unfolding(crate::specs::Expressions::literal))]
 fn text(alloc: Global, state: &mut State, place: Place, text: &DocText) -> Result<Value, Stop>
     ensures { Does (spec.literal place (Ok (Value.Text text.now)) state.old) result state.new }
@@ -190,7 +190,7 @@ fn text(alloc: Global, state: &mut State, place: Place, text: &DocText) -> Resul
     Ok(text_value(alloc, text)?)
 }
 
-/// What a name comes to.
+/// What a name evaluates to.
 #[tactic(auto, unfolding(crate::specs::Expressions::name))]
 fn name(scope: &Scope, state: &mut State, place: Place, name: &DocText) -> Result<Value, Stop>
     ensures { Does (spec.name scope.now place name.now state.old) result state.new }

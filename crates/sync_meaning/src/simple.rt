@@ -45,7 +45,7 @@ fn forbidden_in(value: &Value) -> Option<&DocText>
     }
 }
 
-/// What `throw` of a value comes to.
+/// What `throw` of a value does.
 #[tactic(auto, unfolding(crate::specs::Statements::thrown))]
 fn thrown(alloc: Global, place: Place, value: &Value) -> Stop
     ensures { result ≢ Stop.Memory → result ≡ spec.thrown place value.now }

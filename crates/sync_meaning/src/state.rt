@@ -25,7 +25,7 @@ pub struct Context {
     pub channels: Channels,
 }
 
-/// What a run has come to.
+/// What a run has made so far.
 #[derive(Drop)]
 pub struct State {
     pub context: Context,

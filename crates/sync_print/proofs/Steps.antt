@@ -1,4 +1,4 @@
--- What the printing of each node comes to, part by part.
+-- What the printing of each node gives, part by part.
 use Rattle.std.proofs.Common.{◌≡◌, ℕ, suc, ◌+◌, ◌<◌, Bool, false, Option, Some, None, option_map, List, ◌∷◌, ◌++◌, map, drop, length, get_or, drop-cons, sym, ap, ◌∙◌, arith}
 use Rattle.sync_tokens.specs.declared.place.Place.{Place}
 use Rattle.sync_tokens.specs.declared.token.Kind.TheVariants as kinds

@@ -110,17 +110,17 @@ simple_begins (g.increment n k is) = named_begins n
 simple_begins (g.decrement n k is) = named_begins n
 simple_begins (g.value x) = expr_begins x
 
--- a sign that a test tells apart from the next token is not seen
-told_apart : (f : Kind → Bool) (s : Sign) (k : Kind) → f (kinds.Sign s) ≡ false → f k ≡ true → is_sign s k ≡ false
+-- a sign that a test distinguishes from the next token is not seen
+distinguished : (f : Kind → Bool) (s : Sign) (k : Kind) → f (kinds.Sign s) ≡ false → f k ≡ true → is_sign s k ≡ false
 unfolding same_sign
-told_apart f s (kinds.Sign t) other is =
+distinguished f s (kinds.Sign t) other is =
     by_bool (same_sign t s) (λ h. (let same : t ≡ s = same_true the_signs.the_type (search rules) t s h in
     absurd (true≢false (sym is ∙ ap (λ z. f (kinds.Sign z)) same ∙ other)))) (λ h. h)
-told_apart f s _ other is = refl
+distinguished f s _ other is = refl
 
 pub begins_unseen : (s : Sign) (ts : Tokens) → sign_begins s ≡ false → begins (kind ts) ≡ true → sees s ts ≡ false
 unfolding sees
-begins_unseen s ts other is = told_apart begins s (kind ts) other is
+begins_unseen s ts other is = distinguished begins s (kind ts) other is
 
 -- ---- a primary is no prefix
 
@@ -163,7 +163,7 @@ closing _ = false
 
 pub closing_unseen : (s : Sign) (ts : Tokens) → sign_closes s ≡ false → closing (kind ts) ≡ true → sees s ts ≡ false
 unfolding sees
-closing_unseen s ts other is = told_apart closing s (kind ts) other is
+closing_unseen s ts other is = distinguished closing s (kind ts) other is
 
 pub closing_ends : (n : ℕ) (k : Kind) → closing k ≡ true → EndsChain n k
 unfolding same_sign operator_at operator

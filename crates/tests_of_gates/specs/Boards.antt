@@ -6,7 +6,7 @@ use Rattle.sg_history.specs.Board.{BoardState, board_book, After}
 use Rattle.sg_history.specs.World.{rises_from}
 use Rattle.pending_front.specs.Storing.{MayStore, IsAbove}
 
--- a board of a log and of entries that wait: it has no rooms and no side map, counts no bytes and met no faults
+-- a board of a log and of entries that wait: it has no rooms and no side map, counts neither bytes nor faults
 abbrev pub board_with : List Entry → List Waiting → BoardState
 board_with log waiting = record { log = log; pending = waiting; rooms = []; bytes = 0; side = []; faults = 0 }
 

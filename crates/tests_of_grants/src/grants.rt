@@ -116,7 +116,12 @@ fn periods_of_users(rt: HostRuntime) -> Result<(), Fail> {
 }
 
 /// Channels, and behind a bar roles, each with a space before it; `none` where the user does not exist.
-fn standing(alloc: Global, history: &GrantHistory, user: &str, k: u64) -> Result<String, Fail> {
+fn state_of_user(
+    alloc: Global,
+    history: &GrantHistory,
+    user: &str,
+    k: u64,
+) -> Result<String, Fail> {
     if k > history.applied() {
         return Err(Fail::from("the place is not applied"));
     }
@@ -140,7 +145,7 @@ fn standing(alloc: Global, history: &GrantHistory, user: &str, k: u64) -> Result
 }
 
 /// What users have at places of the worked journals, one a line: the journal, the place, the user.
-const STANDINGS: &str = "\
+const STATES: &str = "\
 backfill 0 ann>none\n\
 backfill 4 ann> ! A|\n\
 backfill 5 ann> ! A B|\n\
@@ -166,15 +171,15 @@ dropped_twice 3 bob> ! A|\n\
 dropped_twice 4 bob>none";
 
 #[test]
-fn standings_of_users(rt: HostRuntime) -> Result<(), Fail> {
+fn states_of_users(rt: HostRuntime) -> Result<(), Fail> {
     let alloc = rt.alloc();
-    for line in STANDINGS.split('\n') {
+    for line in STATES.split('\n') {
         let (asked, want) = line.split_once('>').ok_or("no line of the table")?;
         let mut words = asked.split(' ');
         let log = worked(alloc, words.next().unwrap_or(""))?;
         let history = applied(alloc, &log)?;
         let k = read_decimal(words.next().unwrap_or("")).unwrap_or(0);
-        let text = standing(alloc, &history, words.next().unwrap_or(""), k)?;
+        let text = state_of_user(alloc, &history, words.next().unwrap_or(""), k)?;
         assert!(rt; text.as_str() == want, "{line}");
     }
     Ok(())

@@ -162,7 +162,7 @@ fn three_words(text: &str) -> Option<(&str, &str, &str)> {
     Some((first, second, third))
 }
 
-fn heard_text(
+fn acked_text(
     alloc: Global,
     outbox: &mut Outbox,
     kind: Kind,
@@ -177,19 +177,19 @@ fn heard_text(
 }
 
 /// What an outbox answers to an acknowledgement: kind, number and bytes.
-fn heard(alloc: Global, outbox: &mut Outbox, words: &str) -> Result<String, Fail> {
+fn ack_answer(alloc: Global, outbox: &mut Outbox, words: &str) -> Result<String, Fail> {
     let (kind, number, bytes) = three_words(words).ok_or("no acknowledgement")?;
     let (number, bytes) = (number.parse()?, bytes.parse()?);
-    Ok(heard_text(alloc, outbox, kind_of(kind), number, bytes)?)
+    Ok(acked_text(alloc, outbox, kind_of(kind), number, bytes)?)
 }
 
 /// What an outbox answers to acknowledgements that come one after another.
-fn all_heard(alloc: Global, list: &str) -> Result<String, Fail> {
+fn all_acked(alloc: Global, list: &str) -> Result<String, Fail> {
     let mut outbox = sent(alloc)?;
     let mut text = String::new(alloc);
     for words in list.split(',') {
-        let heard = heard(alloc, &mut outbox, words)?;
-        text.push_str(format!(in alloc; "{heard} ")?.as_str())?;
+        let answer = ack_answer(alloc, &mut outbox, words)?;
+        text.push_str(format!(in alloc; "{answer} ")?.as_str())?;
     }
     Ok(text)
 }
@@ -205,7 +205,7 @@ fn sent_text(alloc: Global, call: &str, input: &str) -> Result<String, Fail> {
         "numbers" => Ok(numbers_text(alloc)?),
         "first" => Ok(first_text(alloc)?),
         "requests" => Ok(requests_text(alloc)?),
-        _ => all_heard(alloc, input),
+        _ => all_acked(alloc, input),
     }
 }
 

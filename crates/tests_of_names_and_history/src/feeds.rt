@@ -22,7 +22,7 @@ fn log_of(alloc: Global, lines: &str) -> Result<Log, Fail> {
     Ok(read_journal(alloc, journal.as_slice())?)
 }
 
-/// Options: `active` where deleted documents are left out, `revocations` where ended grants are told, and the channels of a filter.
+/// Options: `active` where deleted documents are left out, `revocations` where ended grants are rows, and the channels of a filter.
 fn options_of(alloc: Global, words: &str, filter: &str) -> Result<Options, TextFault> {
     let filter = if filter.is_empty() {
         None

@@ -181,7 +181,7 @@ fn is_line_refused_so(alloc: Global, line: &str) -> Result<bool, Fail> {
 }
 
 #[test]
-fn the_first_bad_line_is_told(rt: HostRuntime) -> Result<(), Fail> {
+fn the_first_bad_line_is_named(rt: HostRuntime) -> Result<(), Fail> {
     for line in BAD.split('\n') {
         assert!(rt; is_refused_so(rt.alloc(), line)?, "{line}");
     }

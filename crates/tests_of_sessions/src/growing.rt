@@ -42,7 +42,7 @@ impl Ground for GrowingGround {
 
     ghost read = { λ g. g.ground.read };
 
-    ghost floor = { λ g. length g.ground.board.log };
+    ghost lowest_front = { λ g. length g.ground.board.log };
 
     ghost recorded = { λ g. None };
 

@@ -10,7 +10,7 @@ use sync_syntax::parse;
 use sync_syntax::tree::Program;
 
 /// A line for each body, with the document, the one before (`-` where there is none), who writes (`a` is ann,
-/// an editor with the channels `!` and `A`, and `*` is bob, who has the channel `*`), and what comes of it: the
+/// an editor with the channels `!` and `A`, and `*` is bob, who has the channel `*`), and the outcome: the
 /// channels, the grants and the roles, or the rule. A body stands on the second line of its function, whose
 /// parameters are `doc` and `old`.
 pub(crate) const BODIES: &str = "\

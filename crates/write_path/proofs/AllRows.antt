@@ -32,7 +32,7 @@ use Rattle.repl_messages.specs.declared.looks.Body.TheVariants as body
 use Rattle.repl_messages.specs.Looks.{winning_write, said_by, left_by_write, body_with, body_of}
 use Rattle.write_path.specs.ByName.{last_named, before_all, all_rows, place_by}
 use Rattle.write_path.proofs.Same.{same_bytes, bytes_themselves}
-use Rattle.write_path.proofs.RowsTell.{place_now, row_names}
+use Rattle.write_path.proofs.RowsSay.{place_now, row_names}
 
 last_found : (before : Option Row) (rows : List Row) (doc : List ℕ) (r : Row) → last_named before rows doc ≡ Some r → (before ≡ Some r) ⊎ (HasRow rows r × (r.doc ≡ doc))
 last_found before [] doc r h = inl h

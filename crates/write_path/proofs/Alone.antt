@@ -1,9 +1,9 @@
--- a room that is out alone
+-- a room that is outstanding alone
 use Rattle.std.proofs.Common.{◌≡◌, ℕ, Bool, true, false, not, List, [], ◌∷◌, Option, Some, None, refl, sym, ap, ◌∙◌, if◌then◌else◌, nat_eq}
 use Rattle.std.proofs.lemmas.Bool.{and_from, or_left, eq-eqb, false≢true}
 use Rattle.std.proofs.lemmas.Slice.Eq.{bytes_eq-Decides}
 use Rattle.sg_history.specs.declared.room.RoomFor.{RoomFor}
-use Rattle.doc_board.specs.Rooms.{same_doc, same_room, is_out, without}
+use Rattle.doc_board.specs.Rooms.{same_doc, same_room, is_outstanding, without}
 
 doc_itself : (doc : Option (List ℕ)) → same_doc doc doc ≡ true
 doc_itself None = refl
@@ -12,8 +12,8 @@ doc_itself (Some doc) = (bytes_eq-Decides doc doc).1 refl
 room_itself : (room : RoomFor) → same_room room room ≡ true
 room_itself room = and_from (same_doc room.doc room.doc) (nat_eq room.bytes room.bytes) (doc_itself room.doc) (eq-eqb room.bytes room.bytes refl)
 
-pub alone_out : (room : RoomFor) → is_out (room ∷ []) room ≡ true
-alone_out room = or_left (same_room room room) false (room_itself room)
+pub alone_outstanding : (room : RoomFor) → is_outstanding (room ∷ []) room ≡ true
+alone_outstanding room = or_left (same_room room room) false (room_itself room)
 
 pub alone_gone : (room : RoomFor) → without room (room ∷ []) ≡ []
 alone_gone room = ap (λ (b : Bool). if b then [] else room ∷ []) (room_itself room)

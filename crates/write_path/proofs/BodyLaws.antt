@@ -16,7 +16,7 @@ use Rattle.repl_messages.specs.declared.looks.Body.{Body}
 use Rattle.repl_messages.specs.declared.looks.Body.TheVariants as body
 use Rattle.repl_messages.specs.Looks.{winning_write, said_by, is_still_shown, is_still_gone, left_by_write, body_with, body_of}
 use Rattle.write_path.proofs.Same.{same_views, view_itself, number_itself}
-use Rattle.write_path.proofs.RowsTell.{seen}
+use Rattle.write_path.proofs.RowsSay.{seen}
 use Rattle.write_path.proofs.Winners.{winner_names, current_winner}
 
 abbrev chosen : Bool → Bool → List Node → ℕ → Option Write → Body

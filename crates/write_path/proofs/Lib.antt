@@ -9,7 +9,7 @@ pub mod Maps
 pub mod OneRead
 pub mod Proposed
 pub mod ReadLaws
-pub mod RowsTell
+pub mod RowsSay
 pub mod Said
 pub mod Same
 pub mod Winners

@@ -1,4 +1,4 @@
--- What was answered of a history is said of each that goes on from it.
+-- What was answered of a history is said of each that extends it.
 use Rattle.std.proofs.Common.{◌≡◌, ◌≤◌, ℕ, List, length, map, take, reverse, sym, ◌∙◌, ap, subst, le_refl}
 use Rattle.std.proofs.lemmas.List.{take-append-le}
 use Rattle.std.proofs.Math.Seq.{take-length}

@@ -191,7 +191,7 @@ fn rows_if_left(
 }
 
 /// What a board answers for the rows that a device wants, by an index of its log. Where a row says that its document
-/// left, one pass over the log tells since when it is gone.
+/// left, one pass over the log says since when it is gone.
 fn bodies_by<'a>(
     alloc: Global,
     index: &'a LogIndex,

@@ -30,7 +30,10 @@ pub fn rows_now(
     user: &Name,
     filter: &Option<Channels>,
 ) -> Result<Rows, Memory>
-    ensures { IfOk result (λ rows. rows ≡ feed (past (entries_of log.now) (length (entries_of log.now))) user.now by_name.before_all (by_name.all_rows filter.now)) }
+    ensures { IfOk result
+        (λ rows. rows
+        ≡ feed (past (entries_of log.now) (length (entries_of log.now))) user.now by_name.before_all
+        (by_name.all_rows filter.now)) }
 {
     let options = Options {
         filter: filter_copy(alloc, filter)?,
@@ -54,7 +57,8 @@ pub fn rows_by_name<'a>(
     alloc: Global,
     rows: &'a [Row],
 ) -> Result<BTreeMap<&'a str, &'a Row>, Memory>
-    ensures { IfOk result (λ m. (doc : List ℕ) → under m doc ≡ by_name.last_named None rows.now doc) }
+    ensures { IfOk result
+        (λ m. (doc : List ℕ) → under m doc ≡ by_name.last_named None rows.now doc) }
 {
     let mut map = BTreeMap::new(alloc);
     for row in rows {

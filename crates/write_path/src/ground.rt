@@ -23,7 +23,7 @@ pub trait Ground: Drop {
     ghost read: { Self → List BoardState };
 
     /// No front that it answers from now on is below this.
-    ghost floor: { Self → ℕ };
+    ghost lowest_front: { Self → ℕ };
 
     /// The length of the log, where nobody else changes it.
     ghost recorded: { Self → Option ℕ };
@@ -34,8 +34,8 @@ pub trait Ground: Drop {
     /// The length of the log, without a read: no front that it answered before is above it.
     fn front(&mut self) -> u64
         ensures read { read self.new ≡ read self.old }
-        ensures rises { floor self.old ≤ result }
-        ensures floor { floor self.new ≡ result }
+        ensures rises { lowest_front self.old ≤ result }
+        ensures lowest_front { lowest_front self.new ≡ result }
         ensures recorded { recorded self.new ≡ recorded self.old }
         ensures own { own self.new ≡ own self.old }
         ensures length { IfSome (recorded self.old) (λ n. result ≡ n) };
@@ -48,7 +48,8 @@ pub trait Ground: Drop {
         since: &Key,
         options: &Options,
     ) -> Result<Fed, Memory>
-        ensures reads { Reads (read self.old) (read self.new) (floor self.old) (floor self.new) }
+        ensures reads { Reads (read self.old) (read self.new) (lowest_front self.old)
+            (lowest_front self.new) }
         ensures recorded { recorded self.new ≡ recorded self.old }
         ensures own { own self.new ≡ own self.old }
         ensures answer { IfOk result (λ fed. (b : BoardState)
@@ -65,7 +66,8 @@ pub trait Ground: Drop {
         rows: &[Row],
         most: u64,
     ) -> Result<Bodies, Memory>
-        ensures reads { Reads (read self.old) (read self.new) (floor self.old) (floor self.new) }
+        ensures reads { Reads (read self.old) (read self.new) (lowest_front self.old)
+            (lowest_front self.new) }
         ensures recorded { recorded self.new ≡ recorded self.old }
         ensures own { own self.new ≡ own self.old }
         ensures answer { IfOk result (λ bodies. (b : BoardState)
@@ -74,7 +76,8 @@ pub trait Ground: Drop {
 
     /// Reads the documents' trees for revisions that a device offers. Out of memory it may have read, or not.
     fn ask(&mut self, alloc: Global, offers: &[Offer]) -> Result<Asked, Memory>
-        ensures reads { Reads (read self.old) (read self.new) (floor self.old) (floor self.new) }
+        ensures reads { Reads (read self.old) (read self.new) (lowest_front self.old)
+            (lowest_front self.new) }
         ensures recorded { recorded self.new ≡ recorded self.old }
         ensures own { own self.new ≡ own self.old }
         ensures answer { IfOk result (λ asked. (b : BoardState)
@@ -90,7 +93,8 @@ pub trait Ground: Drop {
         strict: bool,
         revision: Revision,
     ) -> Outcome
-        ensures stores { Stores (read self.old) (read self.new) (floor self.old) (floor self.new)
+        ensures stores { Stores (read self.old) (read self.new) (lowest_front self.old)
+            (lowest_front self.new)
             (own self.old) (own self.new) (recorded self.old) (strict || revision.noconflicts)
             (option_copied by.entry) revision result }
         ensures recorded { recorded self.new ≡ recorded_after (recorded self.old) result };

@@ -91,7 +91,7 @@ impl Ground for SoloGround {
 
     ghost read = { λ g. g.read };
 
-    ghost floor = { λ g. length g.board.log };
+    ghost lowest_front = { λ g. length g.board.log };
 
     ghost recorded = { λ g. Some (length g.board.log) };
 

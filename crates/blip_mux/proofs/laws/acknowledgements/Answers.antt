@@ -1,10 +1,10 @@
 use Rattle.std.specs.FinSet as set
-use Rattle.blip_mux.specs.Standing.{so_far_at}
-use Rattle.blip_mux.proofs.AckKinds.{heard_kind, owed_kind}
+use Rattle.blip_mux.specs.InboxStates.{so_far_at}
+use Rattle.blip_mux.proofs.AckKinds.{acked_kind, owed_kind}
 use Rattle.blip_mux.proofs.laws.acknowledgements.Goals as goal
 
-pub returns-clause-heard : goal.returns-clause-heard
-returns-clause-heard c s f kind number bytes e = heard_kind s.requests (set.contains s.expected f.number) (so_far_at s f) f kind number bytes e
+pub returns-clause-acked : goal.returns-clause-acked
+returns-clause-acked c s f kind number bytes e = acked_kind s.requests (set.contains s.expected f.number) (so_far_at s f) f kind number bytes e
 
 pub returns-clause-owed : goal.returns-clause-owed
 returns-clause-owed c s f kind number bytes e = owed_kind s.requests (set.contains s.expected f.number) (so_far_at s f) f kind number bytes e

@@ -1,5 +1,5 @@
 use Rattle.std.proofs.lemmas.Bool.{false≢true}
-use Rattle.blip_mux.proofs.Apart.{take_apart, whole_apart, put_apart, hear_apart, pick_apart}
+use Rattle.blip_mux.proofs.Apart.{take_apart, whole_apart, put_apart, ack_apart, pick_apart}
 use Rattle.blip_mux.proofs.laws.replies.Goals as goal
 
 pub returns-clause-new : goal.returns-clause-new
@@ -14,8 +14,8 @@ returns-clause-whole c = whole_apart
 pub returns-clause-put : goal.returns-clause-put
 returns-clause-put c = put_apart
 
-pub returns-clause-heard : goal.returns-clause-heard
-returns-clause-heard c = hear_apart
+pub returns-clause-acked : goal.returns-clause-acked
+returns-clause-acked c = ack_apart
 
 pub returns-clause-picked : goal.returns-clause-picked
 returns-clause-picked c = pick_apart

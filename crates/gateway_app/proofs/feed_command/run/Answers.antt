@@ -5,7 +5,7 @@ use Rattle.gateway_app.proofs.feed_command.run.Goals as goal
 
 pub returns-in-Ok-clause-ends : goal.returns-in-Ok-clause-ends
 returns-in-Ok-clause-ends g c = λ f bytes read.
-    let P : FeedWords → Type 0 = λ w. HasFile (g.F.Files.told c.args.files.now) w.journal bytes → Ends c.run_feed.result w bytes (g.O.Sink.taken c.args.out.now) (g.O.Sink.taken c.run_feed.new.out) in
+    let P : FeedWords → Type 0 = λ w. HasFile (g.F.Files.recorded c.args.files.now) w.journal bytes → Ends c.run_feed.result w bytes (g.O.Sink.taken c.args.out.now) (g.O.Sink.taken c.run_feed.new.out) in
     subst P (sym (c.in-Ok.ensures.only f read)) (c.run_feed.ensures.ends bytes)
 
 pub returns-in-Err-BadWords-clause-words : goal.returns-in-Err-BadWords-clause-words

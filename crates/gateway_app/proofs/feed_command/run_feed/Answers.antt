@@ -4,7 +4,7 @@ use Rattle.gateway_app.proofs.feed_command.run_feed.Goals as goal
 
 pub returns-in-Ok-clause-ends : goal.returns-in-Ok-clause-ends
 returns-in-Ok-clause-ends g c = λ bytes file.
-    let loaded = c.in-Ok.ensures.told bytes file in
+    let loaded = c.in-Ok.ensures.recorded bytes file in
     with_bytes c.print_feed.result (words_of c.args.request.now) bytes c.in-Ok.journal _ _ _ _ (loaded.0, loaded.1) c.print_feed.ensures
 
 pub returns-in-Ok-clause-absent : goal.returns-in-Ok-clause-absent
@@ -12,4 +12,4 @@ returns-in-Ok-clause-absent g c = λ absent. absurd (c.in-Ok.ensures.absent abse
 
 pub returns-in-Err-clause-ends : goal.returns-in-Err-clause-ends
 returns-in-Err-clause-ends g c = λ bytes file.
-    not_loaded c.in-Err.status (words_of c.args.request.now) bytes _ _ (c.in-Err.ensures.told bytes file)
+    not_loaded c.in-Err.status (words_of c.args.request.now) bytes _ _ (c.in-Err.ensures.recorded bytes file)

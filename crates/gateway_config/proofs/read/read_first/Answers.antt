@@ -8,15 +8,15 @@ pub returns-in_err-settings : goal.returns-in_err-settings
 returns-in_err-settings c =
     let ms = members_of c.args.object.now in
     let path = c.args.object.now.path.now in
-    let told = first_part (setting_tests path ms) (sync_fault path ms ∷ []) c.in_err-settings.field-0.0 c.in_err-settings.ensures in
-    search (rules, told)
+    let fault_is = first_part (setting_tests path ms) (sync_fault path ms ∷ []) c.in_err-settings.field-0.0 c.in_err-settings.ensures in
+    search (rules, fault_is)
 
 pub returns-in_err-program : goal.returns-in_err-program
 returns-in_err-program c =
     let ms = members_of c.args.object.now in
     let path = c.args.object.now.path.now in
-    let told = second_part (setting_tests path ms) (sync_fault path ms ∷ []) c.in_err-program.field-0.0 c.in_ok-settings.ensures.0 (one_named (sync_fault path ms) c.in_err-program.field-0.0 c.in_err-program.ensures) in
-    search (rules, told)
+    let fault_is = second_part (setting_tests path ms) (sync_fault path ms ∷ []) c.in_err-program.field-0.0 c.in_ok-settings.ensures.0 (one_named (sync_fault path ms) c.in_err-program.field-0.0 c.in_err-program.ensures) in
+    search (rules, fault_is)
 
 pub returns : goal.returns
 returns c =

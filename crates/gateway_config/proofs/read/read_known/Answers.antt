@@ -7,15 +7,15 @@ pub returns-in_err-settings : goal.returns-in_err-settings
 returns-in_err-settings c =
     let ms = members_of c.args.object.now in
     let path = c.args.object.now.path.now in
-    let told = first_part (first_tests path ms) (principal_tests path ms) c.in_err-settings.field-0.0 c.in_err-settings.ensures in
-    search (rules, told)
+    let fault_is = first_part (first_tests path ms) (principal_tests path ms) c.in_err-settings.field-0.0 c.in_err-settings.ensures in
+    search (rules, fault_is)
 
 pub returns-in_err-roles : goal.returns-in_err-roles
 returns-in_err-roles c =
     let ms = members_of c.args.object.now in
     let path = c.args.object.now.path.now in
-    let told = second_part (first_tests path ms) (principal_tests path ms) c.in_err-roles.field-0.0 c.in_ok-settings.ensures.0 c.in_err-roles.ensures in
-    search (rules, told)
+    let fault_is = second_part (first_tests path ms) (principal_tests path ms) c.in_err-roles.field-0.0 c.in_ok-settings.ensures.0 c.in_err-roles.ensures in
+    search (rules, fault_is)
 
 pub returns : goal.returns
 returns c =

@@ -8,15 +8,15 @@ pub returns-in_err-config : goal.returns-in_err-config
 returns-in_err-config c =
     let ms = members_of c.args.object.now in
     let path = c.args.object.now.path.now in
-    let told = first_part (known_tests path ms) (unknown path config_members ms ∷ []) c.in_err-config.field-0.0 c.in_err-config.ensures in
-    search (rules, told)
+    let fault_is = first_part (known_tests path ms) (unknown path config_members ms ∷ []) c.in_err-config.field-0.0 c.in_err-config.ensures in
+    search (rules, fault_is)
 
 pub returns-in_err-only : goal.returns-in_err-only
 returns-in_err-only c =
     let ms = members_of c.args.object.now in
     let path = c.args.object.now.path.now in
-    let told = second_part (known_tests path ms) (unknown path config_members ms ∷ []) c.in_err-only.field-0.0 c.in_ok-config.ensures.0 (one_named (unknown path config_members ms) c.in_err-only.field-0.0 c.in_err-only.ensures) in
-    search (rules, told)
+    let fault_is = second_part (known_tests path ms) (unknown path config_members ms ∷ []) c.in_err-only.field-0.0 c.in_ok-config.ensures.0 (one_named (unknown path config_members ms) c.in_err-only.field-0.0 c.in_err-only.ensures) in
+    search (rules, fault_is)
 
 pub returns : goal.returns
 returns c =

@@ -9,8 +9,8 @@ use Rattle.gateway_config.proofs.role.read_items.Goals as goal
 pub returns-in_err-role : goal.returns-in_err-role
 returns-in_err-role c =
     let l = c.loop-item in
-    let told = roles_named c.args.items.now l.item-index c.item-item.result (length c.as_slice.result.now) (has l.seen) l.roles c.in_err-role.field-0.0 c.loop-item-test.true c.item-item.is (ap length c.as_slice.ensures) l.invariant.seen c.in_err-role.ensures.read l.invariant.fault in
-    search (rules, told)
+    let fault_is = roles_named c.args.items.now l.item-index c.item-item.result (length c.as_slice.result.now) (has l.seen) l.roles c.in_err-role.field-0.0 c.loop-item-test.true c.item-item.is (ap length c.as_slice.ensures) l.invariant.seen c.in_err-role.ensures.read l.invariant.fault in
+    search (rules, fault_is)
 
 pub loop-item-preserved : goal.loop-item-preserved
 loop-item-preserved c =

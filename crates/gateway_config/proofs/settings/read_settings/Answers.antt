@@ -7,15 +7,15 @@ pub returns-in_err-database : goal.returns-in_err-database
 returns-in_err-database c =
     let ms = members_of c.args.object.now in
     let path = c.args.object.now.path.now in
-    let told = first_part (text_tests path ms) (limit_tests path ms) c.in_err-database.field-0.0 c.in_err-database.ensures in
-    search (rules, told)
+    let fault_is = first_part (text_tests path ms) (limit_tests path ms) c.in_err-database.field-0.0 c.in_err-database.ensures in
+    search (rules, fault_is)
 
 pub returns-in_err-accepts : goal.returns-in_err-accepts
 returns-in_err-accepts c =
     let ms = members_of c.args.object.now in
     let path = c.args.object.now.path.now in
-    let told = second_part (text_tests path ms) (limit_tests path ms) c.in_err-accepts.field-0.0 c.in_ok-database.ensures.0 c.in_err-accepts.ensures in
-    search (rules, told)
+    let fault_is = second_part (text_tests path ms) (limit_tests path ms) c.in_err-accepts.field-0.0 c.in_ok-database.ensures.0 c.in_err-accepts.ensures in
+    search (rules, fault_is)
 
 pub returns : goal.returns
 returns c =

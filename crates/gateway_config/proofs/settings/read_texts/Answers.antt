@@ -8,15 +8,15 @@ pub returns-in_err-database : goal.returns-in_err-database
 returns-in_err-database c =
     let ms = members_of c.args.object.now in
     let path = c.args.object.now.path.now in
-    let told = first_part (database_fault path ms ∷ []) (bind_fault path ms ∷ []) c.in_err-database.field-0.0 (one_named (database_fault path ms) c.in_err-database.field-0.0 c.in_err-database.ensures) in
-    search (rules, told)
+    let fault_is = first_part (database_fault path ms ∷ []) (bind_fault path ms ∷ []) c.in_err-database.field-0.0 (one_named (database_fault path ms) c.in_err-database.field-0.0 c.in_err-database.ensures) in
+    search (rules, fault_is)
 
 pub returns-in_err-bind : goal.returns-in_err-bind
 returns-in_err-bind c =
     let ms = members_of c.args.object.now in
     let path = c.args.object.now.path.now in
-    let told = second_part (database_fault path ms ∷ []) (bind_fault path ms ∷ []) c.in_err-bind.field-0.0 (one_none (database_fault path ms) c.in_ok-database.ensures.0) (one_named (bind_fault path ms) c.in_err-bind.field-0.0 c.in_err-bind.ensures) in
-    search (rules, told)
+    let fault_is = second_part (database_fault path ms ∷ []) (bind_fault path ms ∷ []) c.in_err-bind.field-0.0 (one_none (database_fault path ms) c.in_ok-database.ensures.0) (one_named (bind_fault path ms) c.in_err-bind.field-0.0 c.in_err-bind.ensures) in
+    search (rules, fault_is)
 
 pub returns : goal.returns
 returns c =

@@ -10,16 +10,16 @@ returns-in_err-roles-clause-read c =
     let ms = members_of c.args.object.now in
     let path = c.args.object.now.path.now in
     let had = has c.args.seen.now in
-    let told = first_part (names_fault path ms ∷ []) (session_fault path had ms ∷ []) c.in_err-roles.field-0.0 (one_named (names_fault path ms) c.in_err-roles.field-0.0 c.in_err-roles.ensures) in
-    search (rules, told)
+    let fault_is = first_part (names_fault path ms ∷ []) (session_fault path had ms ∷ []) c.in_err-roles.field-0.0 (one_named (names_fault path ms) c.in_err-roles.field-0.0 c.in_err-roles.ensures) in
+    search (rules, fault_is)
 
 pub returns-in_err-session-clause-read : goal.returns-in_err-session-clause-read
 returns-in_err-session-clause-read c =
     let ms = members_of c.args.object.now in
     let path = c.args.object.now.path.now in
     let had = has c.args.seen.now in
-    let told = second_part (names_fault path ms ∷ []) (session_fault path had ms ∷ []) c.in_err-session.field-0.0 (one_none (names_fault path ms) c.in_ok-roles.ensures.0) (one_named (session_fault path had ms) c.in_err-session.field-0.0 c.in_err-session.ensures.read) in
-    search (rules, told)
+    let fault_is = second_part (names_fault path ms ∷ []) (session_fault path had ms ∷ []) c.in_err-session.field-0.0 (one_none (names_fault path ms) c.in_ok-roles.ensures.0) (one_named (session_fault path had ms) c.in_err-session.field-0.0 c.in_err-session.ensures.read) in
+    search (rules, fault_is)
 
 pub returns-clause-read : goal.returns-clause-read
 returns-clause-read c =

@@ -9,8 +9,8 @@ use Rattle.gateway_config.proofs.user.read_items.Goals as goal
 pub returns-in_err-user : goal.returns-in_err-user
 returns-in_err-user c =
     let l = c.loop-item in
-    let told = users_named c.args.items.now l.item-index c.item-item.result (length c.as_slice-place.result.now) (has l.names) (has l.sessions) l.users c.in_err-user.field-0.0 c.loop-item-test.true c.item-item.is (ap length c.as_slice-place.ensures) l.invariant.names l.invariant.sessions c.in_err-user.ensures.read l.invariant.fault in
-    search (rules, told)
+    let fault_is = users_named c.args.items.now l.item-index c.item-item.result (length c.as_slice-place.result.now) (has l.names) (has l.sessions) l.users c.in_err-user.field-0.0 c.loop-item-test.true c.item-item.is (ap length c.as_slice-place.ensures) l.invariant.names l.invariant.sessions c.in_err-user.ensures.read l.invariant.fault in
+    search (rules, fault_is)
 
 pub loop-item-preserved : goal.loop-item-preserved
 loop-item-preserved c =

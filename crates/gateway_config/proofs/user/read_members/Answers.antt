@@ -10,8 +10,8 @@ returns-in_err-name-clause-read c =
     let path = c.args.object.now.path.now in
     let had = has c.args.names.now in
     let held = has c.args.sessions.now in
-    let told = first_part (holder_tests path had ms) (further_tests path held ms) c.in_err-name.field-0.0 c.in_err-name.ensures.read in
-    search (rules, told)
+    let fault_is = first_part (holder_tests path had ms) (further_tests path held ms) c.in_err-name.field-0.0 c.in_err-name.ensures.read in
+    search (rules, fault_is)
 
 pub returns-in_err-roles-clause-read : goal.returns-in_err-roles-clause-read
 returns-in_err-roles-clause-read c =
@@ -19,8 +19,8 @@ returns-in_err-roles-clause-read c =
     let path = c.args.object.now.path.now in
     let had = has c.args.names.now in
     let held = has c.args.sessions.now in
-    let told = second_part (holder_tests path had ms) (further_tests path held ms) c.in_err-roles.field-0.0 c.in_ok-name.ensures.read.0 c.in_err-roles.ensures.read in
-    search (rules, told)
+    let fault_is = second_part (holder_tests path had ms) (further_tests path held ms) c.in_err-roles.field-0.0 c.in_ok-name.ensures.read.0 c.in_err-roles.ensures.read in
+    search (rules, fault_is)
 
 pub returns-clause-read : goal.returns-clause-read
 returns-clause-read c =

@@ -11,8 +11,8 @@ returns-in_err-user-clause-read c =
     let path = c.args.object.now.path.now in
     let had = has c.args.names.now in
     let held = has c.args.sessions.now in
-    let told = first_part (user_tests path had held ms) (unknown path user_members ms ∷ []) c.in_err-user.field-0.0 c.in_err-user.ensures.read in
-    search (rules, told)
+    let fault_is = first_part (user_tests path had held ms) (unknown path user_members ms ∷ []) c.in_err-user.field-0.0 c.in_err-user.ensures.read in
+    search (rules, fault_is)
 
 pub returns-in_err-only-clause-read : goal.returns-in_err-only-clause-read
 returns-in_err-only-clause-read c =
@@ -20,8 +20,8 @@ returns-in_err-only-clause-read c =
     let path = c.args.object.now.path.now in
     let had = has c.args.names.now in
     let held = has c.args.sessions.now in
-    let told = second_part (user_tests path had held ms) (unknown path user_members ms ∷ []) c.in_err-only.field-0.0 c.in_ok-user.ensures.read.0 (one_named (unknown path user_members ms) c.in_err-only.field-0.0 c.in_err-only.ensures) in
-    search (rules, told)
+    let fault_is = second_part (user_tests path had held ms) (unknown path user_members ms ∷ []) c.in_err-only.field-0.0 c.in_ok-user.ensures.read.0 (one_named (unknown path user_members ms) c.in_err-only.field-0.0 c.in_err-only.ensures) in
+    search (rules, fault_is)
 
 pub returns-clause-read : goal.returns-clause-read
 returns-clause-read c =

@@ -3,7 +3,7 @@ use Rattle.sg_history.proofs.JournalTexts.{some_rest}
 use Rattle.sg_history.specs.Pieces.{pieces}
 use Rattle.record_file.specs.Faults.{at_place, bad_item, item_fault}
 use Rattle.record_file.proofs.Lines.{bad_next, bad_unended, items_more, all_more}
-use Rattle.record_file.proofs.Refusals.{told_at}
+use Rattle.record_file.proofs.Refusals.{names_at}
 use Rattle.record_file.proofs.record.read_items.Goals as goal
 
 pub returns-in_default-clause-line : goal.returns-in_default-clause-line
@@ -16,7 +16,7 @@ pub returns-in-Err-clause-line : goal.returns-in-Err-clause-line
 returns-in-Err-clause-line c =
     let cut = c.in-Some.ensures.some in
     let next = bad_next c.loop-rest.place c.loop-rest.rest.now c.in-Some.line.now c.in-Some.after.now cut.0 cut.1 in
-    rw c.refuse.ensures (told_at _ _ c.loop-rest.place (item_fault c.in-Some.line.now) c.in-Err.fault (sym c.loop-rest.invariant.bad ∙ next) c.in-Err.ensures.fault)
+    rw c.refuse.ensures (names_at _ _ c.loop-rest.place (item_fault c.in-Some.line.now) c.in-Err.fault (sym c.loop-rest.invariant.bad ∙ next) c.in-Err.ensures.fault)
 
 pub loop-rest-preserved : goal.loop-rest-preserved
 loop-rest-preserved c =

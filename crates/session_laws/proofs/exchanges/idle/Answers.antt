@@ -1,4 +1,4 @@
-use Rattle.session_laws.proofs.Telling.{idle_looks, idle_from, idle_puts}
+use Rattle.session_laws.proofs.CaughtUp.{idle_looks, idle_from, idle_puts}
 use Rattle.session_laws.proofs.exchanges.idle.Goals as goal
 
 pub returns-clause-looks : goal.returns-clause-looks

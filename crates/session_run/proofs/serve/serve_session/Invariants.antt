@@ -5,11 +5,11 @@ use Rattle.session_run.proofs.serve.serve_session.Given as goal
 
 abbrev pub invariant-loop-received : goal.invariant-loop-received
 invariant-loop-received g l = record {
-  runs : Runs l.fn.setup (record { read = g.G.Ground.read l.initial.ground; lowest = g.G.Ground.floor l.initial.ground; recorded = g.G.Ground.recorded l.initial.ground; own = g.G.Ground.own l.initial.ground })
-      (record { read = g.G.Ground.read l.ground; lowest = g.G.Ground.floor l.ground; recorded = g.G.Ground.recorded l.ground; own = g.G.Ground.own l.ground })
-      (g.W.Wire.told l.initial.wire) l.session (g.W.Wire.told l.wire) l.received;
+  runs : Runs l.fn.setup (record { read = g.G.Ground.read l.initial.ground; lowest = g.G.Ground.lowest_front l.initial.ground; recorded = g.G.Ground.recorded l.initial.ground; own = g.G.Ground.own l.initial.ground })
+      (record { read = g.G.Ground.read l.ground; lowest = g.G.Ground.lowest_front l.ground; recorded = g.G.Ground.recorded l.ground; own = g.G.Ground.own l.ground })
+      (g.W.Wire.recorded l.initial.wire) l.session (g.W.Wire.recorded l.wire) l.received;
   rest : IsAtRest l.session;
-  front : feed_front l.session.core.feed ≤ g.G.Ground.floor l.ground;
+  front : feed_front l.session.core.feed ≤ g.G.Ground.lowest_front l.ground;
   room : l.session.core.requests ≤ l.received * 30003;
   count : l.session.frames ≤ l.received;
   faults : g.W.Wire.faults l.initial.wire ≤ g.W.Wire.faults l.wire;

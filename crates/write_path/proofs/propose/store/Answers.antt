@@ -1,9 +1,9 @@
 use Rattle.std.proofs.Common.{◌≡◌, ◌++◌, ◌∷◌, [], ◌∙◌, ap, sym, subst, true, arith, List, length, Some}
 use Rattle.sg_history.specs.declared.entries.Entry.{Entry}
 use Rattle.sg_history.specs.declared.room.RoomFor.{RoomFor}
-use Rattle.doc_board.specs.Rooms.{is_out, room_for, without}
+use Rattle.doc_board.specs.Rooms.{is_outstanding, room_for, without}
 use Rattle.doc_board.specs.State.{last_on}
-use Rattle.write_path.proofs.Alone.{alone_out, alone_gone, not_stale}
+use Rattle.write_path.proofs.Alone.{alone_outstanding, alone_gone, not_stale}
 use Rattle.write_path.proofs.Grown.{extends_still, last_still}
 use Rattle.write_path.proofs.propose.store.Goals as goal
 
@@ -12,7 +12,7 @@ commit-requires-clause-out c =
     let room : RoomFor = c.in-Ok.room.made_for in
     let alone : c.room.new.self.rooms ≡ room ∷ [] =
     c.in-Ok.ensures.ok ∙ ap (λ (rs : List RoomFor). rs ++ room_for (Some c.args.entry.doc) c.len-bytes.result ∷ []) c.requires.rooms ∙ ap (λ (r : RoomFor). r ∷ []) (sym c.in-Ok.ensures.room) in
-    subst (λ (rs : List RoomFor). is_out rs room ≡ true) (sym alone) (alone_out room)
+    subst (λ (rs : List RoomFor). is_outstanding rs room ≡ true) (sym alone) (alone_outstanding room)
 
 pub commit-requires-clause-candidate : goal.commit-requires-clause-candidate
 commit-requires-clause-candidate c = (

@@ -5,8 +5,8 @@ use Rattle.sg_history.specs.declared.entries.Entry.{Entry}
 use Rattle.sg_history.specs.declared.room.RoomFor.{RoomFor}
 use Rattle.grant_history.specs.Stands.{StandsFor}
 use Rattle.doc_board.specs.Kept.{IsKept, placed}
-use Rattle.doc_board.specs.Rooms.{is_out}
-use Rattle.doc_board.proofs.OutRooms.{made_out}
+use Rattle.doc_board.specs.Rooms.{is_outstanding}
+use Rattle.doc_board.proofs.OutstandingRooms.{made_outstanding}
 use Rattle.doc_board.proofs.Stored.{kept_spare, kept_placed, kept_room}
 use Rattle.doc_board.proofs.board.Board.make_room.Goals as goal
 
@@ -38,4 +38,4 @@ returns-clause-out c =
     let rooms : List RoomFor = c.self.inside.rooms.items in
     let same : c.in_ok-kept_for.kept_for ≡ c.in_ok-made_for.made_for = c.in_ok-kept_for.ensures ∙ sym c.in_ok-made_for.ensures in
     let items : c.push.new.self.items ≡ rooms ++ c.in_ok-made_for.made_for ∷ [] = c.in_ok-push.ensures.items ∙ ap (λ (r : RoomFor). rooms ++ r ∷ []) same in
-    subst (λ (rs : List RoomFor). is_out rs c.in_ok-made_for.made_for ≡ true) (sym items) (made_out c.in_ok-made_for.made_for rooms)
+    subst (λ (rs : List RoomFor). is_outstanding rs c.in_ok-made_for.made_for ≡ true) (sym items) (made_outstanding c.in_ok-made_for.made_for rooms)

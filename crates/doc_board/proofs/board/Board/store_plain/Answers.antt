@@ -1,14 +1,14 @@
 use Rattle.std.proofs.Common.{◌≡◌, ◌++◌, ◌∷◌, [], List, refl, subst, sym, true}
 use Rattle.sg_history.specs.declared.entries.Entry.{Entry}
 use Rattle.grant_history.specs.Stands.{StandsFor}
-use Rattle.doc_board.specs.Rooms.{is_out}
+use Rattle.doc_board.specs.Rooms.{is_outstanding}
 use Rattle.doc_board.specs.State.{State}
 use Rattle.doc_board.proofs.Stored.{kept_plain}
 use Rattle.doc_board.proofs.board.Board.store_plain.Goals as goal
 
 pub invariant_of-self : goal.invariant_of-self
 invariant_of-self c =
-    let O : State → Type 0 = λ s. is_out s.rooms c.args.room.made_for ≡ true in
+    let O : State → Type 0 = λ s. is_outstanding s.rooms c.args.room.made_for ≡ true in
     let B : List Entry → Type 0 = λ es. StandsFor c.self.inside.grants es in (
       rw c.close.ensures
           (kept_plain c.args.entry c.self.inside.log.entries c.put.new.self c.self.inside.documents c.self.inside.rooms.items c.args.room.made_for

@@ -4,24 +4,24 @@ use Rattle.sg_history.specs.declared.entries.Entry.TheVariants as kinds
 use Rattle.grant_history.specs.Stands.{StandsFor}
 use Rattle.doc_board.specs.Candidates.{ExtendsTree}
 use Rattle.doc_board.specs.Kept.{has_place}
-use Rattle.doc_board.specs.Rooms.{is_out}
+use Rattle.doc_board.specs.Rooms.{is_outstanding}
 use Rattle.doc_board.specs.State.{State, newest_first}
 use Rattle.rev_tree.specs.declared.tree.Node.{Node}
 use Rattle.rev_tree.specs.Documents.{tree_at}
 use Rattle.doc_board.proofs.OnBoards.{whole}
-use Rattle.doc_board.proofs.OutRooms.{out_has_place}
+use Rattle.doc_board.proofs.OutstandingRooms.{outstanding_has_place}
 use Rattle.doc_board.proofs.Stored.{kept_write}
 use Rattle.doc_board.proofs.board.Board.store_write.Goals as goal
 
 pub put-requires : goal.put-requires
 put-requires c =
-    let O : State → Type 0 = λ s. is_out s.rooms c.args.room.made_for ≡ true in
+    let O : State → Type 0 = λ s. is_outstanding s.rooms c.args.room.made_for ≡ true in
     let P : Option (List ℕ) → Type 0 = λ o. has_place c.self.inside.documents o ≡ true in
-    subst P c.requires.doc (out_has_place c.self.inside.documents c.args.room.made_for c.self.inside.rooms.items c.self.invariant.0.out (subst O (sym c.self.view_is) c.requires.out))
+    subst P c.requires.doc (outstanding_has_place c.self.inside.documents c.args.room.made_for c.self.inside.rooms.items c.self.invariant.0.out (subst O (sym c.self.view_is) c.requires.out))
 
 pub invariant_of-self : goal.invariant_of-self
 invariant_of-self c =
-    let O : State → Type 0 = λ s. is_out s.rooms c.args.room.made_for ≡ true in
+    let O : State → Type 0 = λ s. is_outstanding s.rooms c.args.room.made_for ≡ true in
     let S : State → Type 0 = λ s. c.args.sequence ≡ length s.log + 1 in
     let E : State → Type 0 = λ s. ExtendsTree (tree_at (newest_first s) c.args.entry.doc) c.args.entry c.args.tree in
     let h = c.args.self.now.log in

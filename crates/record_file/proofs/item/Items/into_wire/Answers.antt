@@ -9,4 +9,4 @@ use Rattle.record_file.proofs.item.Items.into_wire.Goals as goal
 pub returns : goal.returns
 returns c =
     let given = inputs_give c.args.self c.in_ok-inputs.inputs.items (c.in_ok-inputs.ensures ∙ ap (λ (items : List Item). map (λ i. input_of i) items) c.self.view_is) in
-    c.new.ensures.told ∙ ap (λ (results : List Got). Some (traffic results 0 [] [])) given
+    c.new.ensures.recorded ∙ ap (λ (results : List Got). Some (traffic results 0 [] [])) given

@@ -2,13 +2,13 @@ use Rattle.std.proofs.Common.{◌∙◌, sym, ap, arith, subst, length}
 use Rattle.std.specs.Prelude.{Option}
 use mathlib.Core.Option.{none}
 use Rattle.atomic_table.specs.Table.{Allows, Me, step}
-use Rattle.seq_gate.specs.Passes.{with_floor}
+use Rattle.seq_gate.specs.Passes.{with_lowest_front}
 use Rattle.seq_gate.specs.Rule.{IsSound}
 use Rattle.seq_gate.specs.Turns.{LoadsFront}
 use Rattle.seq_gate.specs.Views.{PassView}
 use Rattle.seq_gate.specs.declared.known.View.{View}
 use Rattle.seq_gate.proofs.Keeping.{to_front}
-use Rattle.seq_gate.proofs.Resting.{draws_floor, rests_as, rests}
+use Rattle.seq_gate.proofs.Resting.{draws_lowest_front, rests_as, rests}
 use Rattle.seq_gate.proofs.pass.Pass.front.Goals as goal
 
 pub load-requires : goal.load-requires
@@ -25,5 +25,5 @@ load-requires g c =
 pub invariant_of-self : goal.invariant_of-self
 invariant_of-self g c =
     let seat = c.self.inside.seat in
-    let q = with_floor seat.me.0.knows c.load.result in
-    rests _ q _ (rests_as seat.me _ q c.self.invariant.me c.load.ensures.2.0) (draws_floor seat.me.0.knows _ _ c.self.invariant.draws)
+    let q = with_lowest_front seat.me.0.knows c.load.result in
+    rests _ q _ (rests_as seat.me _ q c.self.invariant.me c.load.ensures.2.0) (draws_lowest_front seat.me.0.knows _ _ c.self.invariant.draws)

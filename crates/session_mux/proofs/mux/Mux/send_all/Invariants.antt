@@ -8,7 +8,7 @@ decreases-loop-wire g l = all_left_of l.self.outbox
 
 abbrev pub invariant-loop-wire : goal.invariant-loop-wire
 invariant-loop-wire g l = record {
-  going : Going l.initial.self.outbox l.initial.self.sent.value (g.W.Wire.told l.initial.wire) l.self.outbox l.self.sent.value (g.W.Wire.told l.wire);
+  going : Going l.initial.self.outbox l.initial.self.sent.value (g.W.Wire.recorded l.initial.wire) l.self.outbox l.self.sent.value (g.W.Wire.recorded l.wire);
   faults : g.W.Wire.faults l.initial.wire ≤ g.W.Wire.faults l.wire;
   inbox : l.self.inbox ≡ l.initial.self.inbox;
   received : l.self.received ≡ l.initial.self.received;

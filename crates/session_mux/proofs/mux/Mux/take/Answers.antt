@@ -8,4 +8,4 @@ put_ack-requires c =
 
 pub acked-requires : goal.acked-requires
 acked-requires c =
-    c.acknowledgements.ensures.heard c.args.self.now.inbox (parts_of c.in-Ok.frame) c.in-Ok-Ack.kind c.in-Ok-Ack.number c.in-Ok-Ack.bytes (c.in-Ok-Ack.ensures.taken ∙ ap Ok c.in-Ok-Ack.field-0-is)
+    c.acknowledgements.ensures.acked c.args.self.now.inbox (parts_of c.in-Ok.frame) c.in-Ok-Ack.kind c.in-Ok-Ack.number c.in-Ok-Ack.bytes (c.in-Ok-Ack.ensures.taken ∙ ap Ok c.in-Ok-Ack.field-0-is)

@@ -11,15 +11,15 @@ invariant-loop-want g l = record {
   wants : WantsFor l.self.core.feed l.self.core.pending l.want;
   ready : IsReady l.self;
   may : MayReply l.self.mux (due_with l.self.core.pending);
-  front : feed_front l.self.core.feed ≤ g.G.Ground.floor l.ground;
+  front : feed_front l.self.core.feed ≤ g.G.Ground.lowest_front l.ground;
   room : l.self.core.requests + 10001 * most_answers l.self.core.pending ≤ l.fn.self.core.requests + 30003;
   frames : l.self.frames ≡ l.fn.self.frames;
   received : l.self.mux.received ≡ l.fn.self.mux.received;
   sent : l.self.mux.sent ≡ l.fn.self.mux.sent;
   run : (before : Moment) → IsAnswered before l.fn.self.core.user l.fn.self.core.strict None l.fn.event
-      (record { read = g.G.Ground.read l.initial.ground; lowest = g.G.Ground.floor l.initial.ground; recorded = g.G.Ground.recorded l.initial.ground; own = g.G.Ground.own l.initial.ground })
+      (record { read = g.G.Ground.read l.initial.ground; lowest = g.G.Ground.lowest_front l.initial.ground; recorded = g.G.Ground.recorded l.initial.ground; own = g.G.Ground.own l.initial.ground })
       → (steps : List Step) × Conversing l.fn.self l.self l.fn.event before
-      (record { read = g.G.Ground.read l.ground; lowest = g.G.Ground.floor l.ground; recorded = g.G.Ground.recorded l.ground; own = g.G.Ground.own l.ground }) l.want steps;
+      (record { read = g.G.Ground.read l.ground; lowest = g.G.Ground.lowest_front l.ground; recorded = g.G.Ground.recorded l.ground; own = g.G.Ground.own l.ground }) l.want steps;
 }
 
 abbrev pub decreases-loop-want : goal.decreases-loop-want

@@ -11,5 +11,5 @@ pub record Acknowledgement : Type 0 where
   pub bytes : ℕ
 
 -- the frame of an acknowledgement
-abbrev pub told_by : Acknowledgement → FrameParts
-told_by a = record { number = a.number; kind = a.kind; urgent = true; no_reply = true; more = false; payload = varint a.bytes }
+abbrev pub ack_frame : Acknowledgement → FrameParts
+ack_frame a = record { number = a.number; kind = a.kind; urgent = true; no_reply = true; more = false; payload = varint a.bytes }

@@ -1,4 +1,4 @@
--- What a device is told of its feed, and when the history is looked at for it.
+-- What a device learns of its feed, and when the history is looked at for it.
 use Rattle.std.proofs.Common.{◌≡◌, ◌≤◌, ◌<◌, ℕ, zero, suc, arith, ◌+◌, Bool, true, false, ◌&&◌, nat_lt, List, [], ◌∷◌, ◌++◌, length, Option, Some, None, Result, Ok, Err, refl, sym, ◌∙◌, ap, subst, if◌then◌else◌}
 use Rattle.std.specs.Prelude.{◌↔◌, IsSome}
 use Rattle.std.proofs.lemmas.Bool.{false≢true, ltb-true, lt-ltb}
@@ -44,7 +44,7 @@ use Rattle.session_core.specs.Running.{Running, rest, is_none, waits, next_acts,
 use Rattle.session_core.specs.State.{Machine, new_machine, AwaitsBy}
 use Rattle.session_core.specs.Steps.{Step, Steps, Leads, put_by}
 use Rattle.session_core.specs.Transitions.{Done, puts, asks, goes_on, looks_again, answered_by, most_ancestors, asker_of, refused, on_sub_changes, on_changes, on_served, on_request, answers, wanted_of, on_wanted, on_reply, first_of, on_first_look, on_next_look, on_fed, on_bodies_of, on_bodies, on_asked, on_judged, on_idle, Does, DoesByMessage}
-use Rattle.session_laws.specs.Exchanges.{IsAboveLast, IsFromLast, empty_offers, was_told, RunsFeed}
+use Rattle.session_laws.specs.Exchanges.{IsAboveLast, IsFromLast, empty_offers, has_caught_up, RunsFeed}
 use Rattle.session_laws.proofs.BatchSizes.{HasBatch, ReadHasBatch, read_batch}
 
 -- ---- empty offers among messages
@@ -91,13 +91,13 @@ outcome_none asker outcome.Memory507 = reply_none asker kinds.Err _ refl
 -- ---- what always holds
 
 -- neither a feed's first look nor its next is awaited
-abbrev is_quiet : Pending → Bool
-is_quiet pending.Nothing = true
-is_quiet (pending.Feed asked) = false
-is_quiet pending.More = false
-is_quiet (pending.Bodies rows) = true
-is_quiet (pending.Ask asker proposed) = true
-is_quiet (pending.Push asker) = true
+abbrev awaits_no_feed : Pending → Bool
+awaits_no_feed pending.Nothing = true
+awaits_no_feed (pending.Feed asked) = false
+awaits_no_feed pending.More = false
+awaits_no_feed (pending.Bodies rows) = true
+awaits_no_feed (pending.Ask asker proposed) = true
+awaits_no_feed (pending.Push asker) = true
 
 abbrev is_first : Pending → Bool
 is_first pending.Nothing = false
@@ -116,48 +116,48 @@ FirstBatch (pending.Bodies rows) = Unit {0}
 FirstBatch (pending.Ask asker proposed) = Unit {0}
 FirstBatch (pending.Push asker) = Unit {0}
 
--- a feed that runs: the last look for a feed is its own; a batch has one row at least; only of a continuous one the device was told that it
--- caught up; it was told so where no rows are left, unless the next look is awaited; and no first look is
+-- a feed that runs: the last look for a feed is its own; a batch has one row at least; only of a continuous one the device was informed that it
+-- caught up; it was informed so where no rows are left, unless the next look is awaited; and no first look is
 pub record FitsFeed (fronts : List ℕ) (r : Running) (awaited : Pending) : Type 0 where
   pub earlier : List ℕ
   pub front : fronts ≡ r.front ∷ earlier
   pub batch : 1 ≤ r.batch
   pub continuous : r.caught_up ≡ true → r.continuous ≡ true
-  pub told : is_quiet awaited ≡ true → is_none r.rows ≡ true → r.caught_up ≡ true
+  pub without_rows : awaits_no_feed awaited ≡ true → is_none r.rows ≡ true → r.caught_up ≡ true
   pub later : is_first awaited ≡ false
 
 abbrev Fits : List ℕ → Option Running → Pending → Type 0
 Fits fronts None awaited = FirstBatch awaited
 Fits fronts (Some r) awaited = FitsFeed fronts r awaited
 
-abbrev all_told : Option Running → ℕ
-all_told feed = if was_told feed then 1 else 0
+abbrev caught_up_count : Option Running → ℕ
+caught_up_count feed = if has_caught_up feed then 1 else 0
 
--- after an event: the same holds; and where a feed ran, an empty offer was put exactly where the device is told then and was not before
-pub record Told (fronts : List ℕ) (m : Machine) (done : Done) : Type 0 where
+-- after an event: the same holds; and where a feed ran, an empty offer was put exactly where the device is informed then and was not before
+pub record CaughtUpBy (fronts : List ℕ) (m : Machine) (done : Done) : Type 0 where
   pub fits : Fits fronts done.after.feed done.after.pending
-  pub count : (r : Running) → m.feed ≡ Some r → (n : ℕ) → empty_offers (messages_from n done.acts) + all_told m.feed ≡ all_told done.after.feed
+  pub count : (r : Running) → m.feed ≡ Some r → (n : ℕ) → empty_offers (messages_from n done.acts) + caught_up_count m.feed ≡ caught_up_count done.after.feed
 
-still_fits : (fronts : List ℕ) (feed : Option Running) (awaited next : Pending) → is_quiet awaited ≡ true → is_first next ≡ false → FirstBatch next → Fits fronts feed awaited → Fits fronts feed next
-still_fits fronts None awaited next quiet later first fits = first
-still_fits fronts (Some r) awaited next quiet later first fits =
-    record { earlier = fits.earlier; front = fits.front; batch = fits.batch; continuous = fits.continuous; told = λ q. fits.told quiet; later = later }
+still_fits : (fronts : List ℕ) (feed : Option Running) (awaited next : Pending) → awaits_no_feed awaited ≡ true → is_first next ≡ false → FirstBatch next → Fits fronts feed awaited → Fits fronts feed next
+still_fits fronts None awaited next no_feed later first fits = first
+still_fits fronts (Some r) awaited next no_feed later first fits =
+    record { earlier = fits.earlier; front = fits.front; batch = fits.batch; continuous = fits.continuous; without_rows = λ q. fits.without_rows no_feed; later = later }
 
-stays : (fronts : List ℕ) (m : Machine) (done : Done) → done.after.feed ≡ m.feed → OfferNone done.acts → is_quiet m.pending ≡ true → is_first done.after.pending ≡ false → FirstBatch done.after.pending
-    → Fits fronts m.feed m.pending → Told fronts m done
-stays fronts m done same none quiet later first fits = record {
-  fits = subst (λ f. Fits fronts f done.after.pending) (sym same) (still_fits fronts m.feed m.pending done.after.pending quiet later first fits);
-  count = λ r e n. omega (arith, none n, ap all_told same);
+stays : (fronts : List ℕ) (m : Machine) (done : Done) → done.after.feed ≡ m.feed → OfferNone done.acts → awaits_no_feed m.pending ≡ true → is_first done.after.pending ≡ false → FirstBatch done.after.pending
+    → Fits fronts m.feed m.pending → CaughtUpBy fronts m done
+stays fronts m done same none no_feed later first fits = record {
+  fits = subst (λ f. Fits fronts f done.after.pending) (sym same) (still_fits fronts m.feed m.pending done.after.pending no_feed later first fits);
+  count = λ r e n. omega (arith, none n, ap caught_up_count same);
 }
 
-puts_stay : (fronts : List ℕ) (m : Machine) (acts : List Act) → OfferNone acts → is_quiet m.pending ≡ true → Fits fronts m.feed m.pending → Told fronts m (puts m acts)
-puts_stay fronts m acts none quiet fits = stays fronts m (puts m acts) refl none quiet refl tt fits
+puts_stay : (fronts : List ℕ) (m : Machine) (acts : List Act) → OfferNone acts → awaits_no_feed m.pending ≡ true → Fits fronts m.feed m.pending → CaughtUpBy fronts m (puts m acts)
+puts_stay fronts m acts none no_feed fits = stays fronts m (puts m acts) refl none no_feed refl tt fits
 
-refused_stay : (fronts : List ℕ) (m : Machine) (asker : Asker) (error : ErrorKind) → is_quiet m.pending ≡ true → Fits fronts m.feed m.pending → Told fronts m (refused m asker error)
-refused_stay fronts m asker error quiet fits = puts_stay fronts m (refusal_act asker error) (reply_none asker kinds.Err (error_payload error) refl) quiet fits
+refused_stay : (fronts : List ℕ) (m : Machine) (asker : Asker) (error : ErrorKind) → awaits_no_feed m.pending ≡ true → Fits fronts m.feed m.pending → CaughtUpBy fronts m (refused m asker error)
+refused_stay fronts m asker error no_feed fits = puts_stay fronts m (refusal_act asker error) (reply_none asker kinds.Err (error_payload error) refl) no_feed fits
 
-asks_stay : (fronts : List ℕ) (m : Machine) (awaited : Pending) (wanted : Want) → is_quiet m.pending ≡ true → is_first awaited ≡ false → FirstBatch awaited → Fits fronts m.feed m.pending → Told fronts m (asks m awaited wanted)
-asks_stay fronts m awaited wanted quiet later first fits = stays fronts m (asks m awaited wanted) refl (λ n. refl) quiet later first fits
+asks_stay : (fronts : List ℕ) (m : Machine) (awaited : Pending) (wanted : Want) → awaits_no_feed m.pending ≡ true → is_first awaited ≡ false → FirstBatch awaited → Fits fronts m.feed m.pending → CaughtUpBy fronts m (asks m awaited wanted)
+asks_stay fronts m awaited wanted no_feed later first fits = stays fronts m (asks m awaited wanted) refl (λ n. refl) no_feed later first fits
 
 -- ---- a feed goes on
 
@@ -165,25 +165,25 @@ asks_stay fronts m awaited wanted quiet later first fits = stays fronts m (asks 
 abbrev GoesOn : List ℕ → Version → ℕ → Running → Type 0
 GoesOn fronts version requests r =
     Fits fronts (next_feed requests r) pending.Nothing
-    × ((n : ℕ) → empty_offers (messages_from n (next_acts version r)) + all_told (Some r) ≡ all_told (next_feed requests r))
+    × ((n : ℕ) → empty_offers (messages_from n (next_acts version r)) + caught_up_count (Some r) ≡ caught_up_count (next_feed requests r))
 
 next_goes : (fronts earlier : List ℕ) (version : Version) (requests : ℕ) (rows : List Row) (batch : ℕ) (options : Options) (continuous : Bool) (number front : ℕ) (caught_up : Bool)
     → fronts ≡ front ∷ earlier → 1 ≤ batch → (caught_up ≡ true → continuous ≡ true)
     → GoesOn fronts version requests (record { rows = rows; batch = batch; options = options; continuous = continuous; number = number; front = front; caught_up = caught_up })
 next_goes fronts earlier version requests rows zero options continuous number front caught_up last some only = absurd (omega (arith, some))
 next_goes fronts earlier version requests [] (suc k) options true number front true last some only =
-    (record { earlier = earlier; front = last; batch = some; continuous = λ e. refl; told = λ q e. refl; later = refl }, λ n. omega arith)
+    (record { earlier = earlier; front = last; batch = some; continuous = λ e. refl; without_rows = λ q e. refl; later = refl }, λ n. omega arith)
 next_goes fronts earlier version requests [] (suc k) options true number front false last some only =
-    (record { earlier = earlier; front = last; batch = some; continuous = λ e. refl; told = λ q e. refl; later = refl }, λ n. omega arith)
+    (record { earlier = earlier; front = last; batch = some; continuous = λ e. refl; without_rows = λ q e. refl; later = refl }, λ n. omega arith)
 next_goes fronts earlier version requests [] (suc k) options false number front true last some only = absurd (false≢true (only refl))
 next_goes fronts earlier version requests [] (suc k) options false number front false last some only = (tt, λ n. omega arith)
 next_goes fronts earlier version requests (row ∷ rows) (suc k) options true number front true last some only =
-    (record { earlier = earlier; front = last; batch = some; continuous = λ e. refl; told = λ q e. refl; later = refl }, λ n. omega arith)
+    (record { earlier = earlier; front = last; batch = some; continuous = λ e. refl; without_rows = λ q e. refl; later = refl }, λ n. omega arith)
 next_goes fronts earlier version requests (row ∷ rows) (suc k) options true number front false last some only =
-    (record { earlier = earlier; front = last; batch = some; continuous = λ e. refl; told = λ q e. absurd (false≢true e); later = refl }, λ n. omega arith)
+    (record { earlier = earlier; front = last; batch = some; continuous = λ e. refl; without_rows = λ q e. absurd (false≢true e); later = refl }, λ n. omega arith)
 next_goes fronts earlier version requests (row ∷ rows) (suc k) options false number front true last some only = absurd (false≢true (only refl))
 next_goes fronts earlier version requests (row ∷ rows) (suc k) options false number front false last some only =
-    (record { earlier = earlier; front = last; batch = some; continuous = λ e. absurd (false≢true e); told = λ q e. absurd (false≢true e); later = refl }, λ n. omega arith)
+    (record { earlier = earlier; front = last; batch = some; continuous = λ e. absurd (false≢true e); without_rows = λ q e. absurd (false≢true e); later = refl }, λ n. omega arith)
 
 it_goes : (fronts earlier : List ℕ) (version : Version) (requests : ℕ) (r : Running) → fronts ≡ r.front ∷ earlier → 1 ≤ r.batch → (r.caught_up ≡ true → r.continuous ≡ true) → GoesOn fronts version requests r
 it_goes fronts earlier version requests r last some only =
@@ -202,10 +202,10 @@ pub record Follows (fronts : List ℕ) (m : Machine) (r : Running) : Type 0 wher
   pub batch : 1 ≤ r.batch
   pub continuous : r.caught_up ≡ true → r.continuous ≡ true
 
-told_before : (fronts : List ℕ) (m : Machine) (r : Running) → Follows fronts m r → all_told m.feed ≡ all_told (Some r)
-told_before fronts m r f = ap all_told f.is ∙ ap counted (sym f.caught_up)
+caught_up_before : (fronts : List ℕ) (m : Machine) (r : Running) → Follows fronts m r → caught_up_count m.feed ≡ caught_up_count (Some r)
+caught_up_before fronts m r f = ap caught_up_count f.is ∙ ap counted (sym f.caught_up)
 
-goes : (fronts : List ℕ) (m : Machine) (acts : List Act) (requests : ℕ) (r : Running) → OfferNone acts → Follows fronts m r → Told fronts m (goes_on m acts requests r)
+goes : (fronts : List ℕ) (m : Machine) (acts : List Act) (requests : ℕ) (r : Running) → OfferNone acts → Follows fronts m r → CaughtUpBy fronts m (goes_on m acts requests r)
 goes fronts m acts requests r none f =
     let it : GoesOn fronts m.version requests r = it_goes fronts f.earlier m.version requests r f.front f.batch f.continuous in
     record {
@@ -214,16 +214,16 @@ goes fronts m acts requests r none f =
           let one : ℕ = empty_offers (messages_from 0 (next_acts m.version r)) in
           let all : empty_offers (messages_from n (acts ++ next_acts m.version r)) ≡ empty_offers (messages_from n acts) + one =
           acts_on n acts (next_acts m.version r) one (λ k. omega (arith, it.1 k, it.1 0)) in
-          omega (arith, all, none n, it.1 0, told_before fronts m r f);
+          omega (arith, all, none n, it.1 0, caught_up_before fronts m r f);
     }
 
-looks : (fronts : List ℕ) (m : Machine) (acts : List Act) (requests : ℕ) (r : Running) → OfferNone acts → Follows fronts m r → Told fronts m (looks_again m acts requests r)
+looks : (fronts : List ℕ) (m : Machine) (acts : List Act) (requests : ℕ) (r : Running) → OfferNone acts → Follows fronts m r → CaughtUpBy fronts m (looks_again m acts requests r)
 looks fronts m acts requests r none f = record {
-  fits = record { earlier = f.earlier; front = f.front; batch = f.batch; continuous = f.continuous; told = λ q e. absurd (false≢true q); later = refl };
-  count = λ other e n. omega (arith, none n, told_before fronts m r f);
+  fits = record { earlier = f.earlier; front = f.front; batch = f.batch; continuous = f.continuous; without_rows = λ q e. absurd (false≢true q); later = refl };
+  count = λ other e n. omega (arith, none n, caught_up_before fronts m r f);
 }
 
-answered_goes : (b : Bool) (fronts : List ℕ) (m : Machine) (acts : List Act) (requests : ℕ) (r : Running) → OfferNone acts → Follows fronts m r → Told fronts m (answered_by b m acts requests r)
+answered_goes : (b : Bool) (fronts : List ℕ) (m : Machine) (acts : List Act) (requests : ℕ) (r : Running) → OfferNone acts → Follows fronts m r → CaughtUpBy fronts m (answered_by b m acts requests r)
 answered_goes true fronts m acts requests r none f = looks fronts m acts requests r none f
 answered_goes false fronts m acts requests r none f = goes fronts m acts requests r none f
 
@@ -242,48 +242,48 @@ rest_follows fronts m r e fits =
 
 -- ---- messages
 
-feed_asked : (fronts : List ℕ) (m : Machine) (asked : Subscription) (feed : Option Running) → m.feed ≡ feed → 1 ≤ asked.batch → is_quiet m.pending ≡ true → Fits fronts m.feed m.pending → Told fronts m (on_sub_changes m asked feed)
-feed_asked fronts m asked None e some quiet fits = record {
+feed_asked : (fronts : List ℕ) (m : Machine) (asked : Subscription) (feed : Option Running) → m.feed ≡ feed → 1 ≤ asked.batch → awaits_no_feed m.pending ≡ true → Fits fronts m.feed m.pending → CaughtUpBy fronts m (on_sub_changes m asked feed)
+feed_asked fronts m asked None e some no_feed fits = record {
   fits = subst (λ f. Fits fronts f (pending.Feed asked)) (sym e) some;
   count = λ r is n. absurd (none-some r (sym e ∙ is));
 }
-feed_asked fronts m asked (Some r) e some quiet fits = refused_stay fronts m asked.asker errors.FeedRuns409 quiet fits
+feed_asked fronts m asked (Some r) e some no_feed fits = refused_stay fronts m asked.asker errors.FeedRuns409 no_feed fits
 
-offered : (b : Bool) (fronts : List ℕ) (m : Machine) (asker : Asker) (wanted : Want) → is_quiet m.pending ≡ true → Fits fronts m.feed m.pending → Told fronts m (on_changes b m asker wanted)
-offered true fronts m asker wanted quiet fits = refused_stay fronts m asker errors.UsePropose409 quiet fits
-offered false fronts m asker wanted quiet fits = asks_stay fronts m (pending.Ask asker false) wanted quiet refl tt fits
+offered : (b : Bool) (fronts : List ℕ) (m : Machine) (asker : Asker) (wanted : Want) → awaits_no_feed m.pending ≡ true → Fits fronts m.feed m.pending → CaughtUpBy fronts m (on_changes b m asker wanted)
+offered true fronts m asker wanted no_feed fits = refused_stay fronts m asker errors.UsePropose409 no_feed fits
+offered false fronts m asker wanted no_feed fits = asks_stay fronts m (pending.Ask asker false) wanted no_feed refl tt fits
 
-served : (fronts : List ℕ) (m : Machine) (asker : Asker) (r : Request) → HasBatch r → is_quiet m.pending ≡ true → Fits fronts m.feed m.pending → Told fronts m (on_served m asker r)
-served fronts m asker (request.GetCheckpoint client) some quiet fits = refused_stay fronts m asker errors.NoHandler404 quiet fits
-served fronts m asker (request.SetCheckpoint client rev body) some quiet fits = refused_stay fronts m asker errors.NoHandler404 quiet fits
-served fronts m asker (request.SubChanges since continuous batch options) some quiet fits =
-    feed_asked fronts m (record { asker = asker; since = since; continuous = continuous; batch = batch; options = options }) m.feed refl some quiet fits
-served fronts m asker (request.Changes offers) some quiet fits = offered m.strict fronts m asker (want.Ask offers) quiet fits
-served fronts m asker (request.ProposeChanges offers) some quiet fits = asks_stay fronts m (pending.Ask asker true) (want.Ask offers) quiet refl tt fits
-served fronts m asker (request.Rev revision) some quiet fits = asks_stay fronts m (pending.Push asker) (want.Propose revision) quiet refl tt fits
+served : (fronts : List ℕ) (m : Machine) (asker : Asker) (r : Request) → HasBatch r → awaits_no_feed m.pending ≡ true → Fits fronts m.feed m.pending → CaughtUpBy fronts m (on_served m asker r)
+served fronts m asker (request.GetCheckpoint client) some no_feed fits = refused_stay fronts m asker errors.NoHandler404 no_feed fits
+served fronts m asker (request.SetCheckpoint client rev body) some no_feed fits = refused_stay fronts m asker errors.NoHandler404 no_feed fits
+served fronts m asker (request.SubChanges since continuous batch options) some no_feed fits =
+    feed_asked fronts m (record { asker = asker; since = since; continuous = continuous; batch = batch; options = options }) m.feed refl some no_feed fits
+served fronts m asker (request.Changes offers) some no_feed fits = offered m.strict fronts m asker (want.Ask offers) no_feed fits
+served fronts m asker (request.ProposeChanges offers) some no_feed fits = asks_stay fronts m (pending.Ask asker true) (want.Ask offers) no_feed refl tt fits
+served fronts m asker (request.Rev revision) some no_feed fits = asks_stay fronts m (pending.Push asker) (want.Propose revision) no_feed refl tt fits
 
-requested : (fronts : List ℕ) (m : Machine) (message : Message) (read : Result Request RequestFault) → ReadHasBatch read → is_quiet m.pending ≡ true → Fits fronts m.feed m.pending → Told fronts m (on_request m message read)
-requested fronts m message (Err fault) some quiet fits = refused_stay fronts m (asker_of message) (error_of fault) quiet fits
-requested fronts m message (Ok r) some quiet fits = served fronts m (asker_of message) r some quiet fits
+requested : (fronts : List ℕ) (m : Machine) (message : Message) (read : Result Request RequestFault) → ReadHasBatch read → awaits_no_feed m.pending ≡ true → Fits fronts m.feed m.pending → CaughtUpBy fronts m (on_request m message read)
+requested fronts m message (Err fault) some no_feed fits = refused_stay fronts m (asker_of message) (error_of fault) no_feed fits
+requested fronts m message (Ok r) some no_feed fits = served fronts m (asker_of message) r some no_feed fits
 
-wanted_rows_are : (fronts : List ℕ) (m : Machine) (message : Message) (r : Running) (rows : List Row) → m.feed ≡ Some r → is_quiet m.pending ≡ true → Fits fronts m.feed m.pending → Told fronts m (on_wanted m message r rows)
-wanted_rows_are fronts m message r [] e quiet fits =
+wanted_rows_are : (fronts : List ℕ) (m : Machine) (message : Message) (r : Running) (rows : List Row) → m.feed ≡ Some r → awaits_no_feed m.pending ≡ true → Fits fronts m.feed m.pending → CaughtUpBy fronts m (on_wanted m message r rows)
+wanted_rows_are fronts m message r [] e no_feed fits =
     answered_goes (r.continuous && is_none (rest r).rows) fronts m [] m.requests (rest r) (λ n. refl) (rest_follows fronts m r e fits)
-wanted_rows_are fronts m message r (row ∷ rows) e quiet fits =
-    asks_stay fronts m (pending.Bodies (row ∷ rows)) (want.Bodies r.options (row ∷ rows) (most_ancestors message)) quiet refl tt fits
+wanted_rows_are fronts m message r (row ∷ rows) e no_feed fits =
+    asks_stay fronts m (pending.Bodies (row ∷ rows)) (want.Bodies r.options (row ∷ rows) (most_ancestors message)) no_feed refl tt fits
 
-reply_with : (fronts : List ℕ) (m : Machine) (message : Message) (r : Running) (b : Bool) → m.feed ≡ Some r → is_quiet m.pending ≡ true → Fits fronts m.feed m.pending
-    → Told fronts m (if b then on_wanted m message r (wanted_of r message) else puts m [])
-reply_with fronts m message r true e quiet fits = wanted_rows_are fronts m message r (wanted_of r message) e quiet fits
-reply_with fronts m message r false e quiet fits = puts_stay fronts m [] (λ n. refl) quiet fits
+reply_with : (fronts : List ℕ) (m : Machine) (message : Message) (r : Running) (b : Bool) → m.feed ≡ Some r → awaits_no_feed m.pending ≡ true → Fits fronts m.feed m.pending
+    → CaughtUpBy fronts m (if b then on_wanted m message r (wanted_of r message) else puts m [])
+reply_with fronts m message r true e no_feed fits = wanted_rows_are fronts m message r (wanted_of r message) e no_feed fits
+reply_with fronts m message r false e no_feed fits = puts_stay fronts m [] (λ n. refl) no_feed fits
 
-reply_taken : (fronts : List ℕ) (m : Machine) (message : Message) (feed : Option Running) → m.feed ≡ feed → is_quiet m.pending ≡ true → Fits fronts m.feed m.pending → Told fronts m (on_reply m message feed)
-reply_taken fronts m message None e quiet fits = puts_stay fronts m [] (λ n. refl) quiet fits
-reply_taken fronts m message (Some r) e quiet fits = reply_with fronts m message r (answers r message) e quiet fits
+reply_taken : (fronts : List ℕ) (m : Machine) (message : Message) (feed : Option Running) → m.feed ≡ feed → awaits_no_feed m.pending ≡ true → Fits fronts m.feed m.pending → CaughtUpBy fronts m (on_reply m message feed)
+reply_taken fronts m message None e no_feed fits = puts_stay fronts m [] (λ n. refl) no_feed fits
+reply_taken fronts m message (Some r) e no_feed fits = reply_with fronts m message r (answers r message) e no_feed fits
 
-by_message : (fronts : List ℕ) (m : Machine) (message : Message) (done : Done) (b : Bool) → DoesByMessage b m message done → is_quiet m.pending ≡ true → Fits fronts m.feed m.pending → Told fronts m done
-by_message fronts m message done true (read, is, e) quiet fits = subst (Told fronts m) (sym e) (requested fronts m message read (read_batch message.payload m.version read is) quiet fits)
-by_message fronts m message done false e quiet fits = subst (Told fronts m) (sym e) (reply_taken fronts m message m.feed refl quiet fits)
+by_message : (fronts : List ℕ) (m : Machine) (message : Message) (done : Done) (b : Bool) → DoesByMessage b m message done → awaits_no_feed m.pending ≡ true → Fits fronts m.feed m.pending → CaughtUpBy fronts m done
+by_message fronts m message done true (read, is, e) no_feed fits = subst (CaughtUpBy fronts m) (sym e) (requested fronts m message read (read_batch message.payload m.version read is) no_feed fits)
+by_message fronts m message done false e no_feed fits = subst (CaughtUpBy fronts m) (sym e) (reply_taken fronts m message m.feed refl no_feed fits)
 
 -- ---- answers of the history
 
@@ -300,7 +300,7 @@ batch_asked fronts m asked awaited fits =
 feed_begins : (m : Machine) (asked : Subscription) (front : ℕ) (rows : List Row) (fronts : List ℕ) → 1 ≤ asked.batch → GoesOn (front ∷ fronts) m.version m.requests (first_of asked rows front)
 feed_begins m asked front rows fronts some = it_goes (front ∷ fronts) fronts m.version m.requests (first_of asked rows front) refl some (λ e. absurd (false≢true e))
 
-first_look : (fronts : List ℕ) (m : Machine) (asked : Subscription) (answer : Fed) → m.pending ≡ pending.Feed asked → Fits fronts m.feed m.pending → Told (front_of answer ∷ fronts) m (on_first_look m asked answer)
+first_look : (fronts : List ℕ) (m : Machine) (asked : Subscription) (answer : Fed) → m.pending ≡ pending.Feed asked → Fits fronts m.feed m.pending → CaughtUpBy (front_of answer ∷ fronts) m (on_first_look m asked answer)
 first_look fronts m asked (fed.Future front) awaited fits =
     let none : m.feed ≡ None = none_runs fronts m asked m.feed refl awaited fits in
     record {
@@ -314,7 +314,7 @@ first_look fronts m asked (fed.Rows front rows) awaited fits =
       count = λ r e n. absurd (none-some r (sym none ∙ e));
     }
 
-next_look : (fronts : List ℕ) (m : Machine) (feed : Option Running) (front : ℕ) (rows : List Row) → m.feed ≡ feed → Fits fronts m.feed m.pending → Told (front ∷ fronts) m (on_next_look m feed (fed.Rows front rows))
+next_look : (fronts : List ℕ) (m : Machine) (feed : Option Running) (front : ℕ) (rows : List Row) → m.feed ≡ feed → Fits fronts m.feed m.pending → CaughtUpBy (front ∷ fronts) m (on_next_look m feed (fed.Rows front rows))
 next_look fronts m None front rows e fits = record {
   fits = subst (λ f. Fits (front ∷ fronts) f pending.Nothing) (sym e) tt;
   count = λ r is n. absurd (none-some r (sym e ∙ is));
@@ -324,7 +324,7 @@ next_look fronts m (Some r) front rows e fits =
     goes (front ∷ fronts) m [] m.requests (record r { rows = rows; front = front }) (λ n. refl)
     (record { was = r; is = e; caught_up = refl; earlier = fronts; front = refl; batch = f.batch; continuous = f.continuous })
 
-fed_to : (fronts : List ℕ) (m : Machine) (answer : Fed) (awaited : Pending) → m.pending ≡ awaited → AwaitsBy m.feed awaited (event.Fed answer) → Fits fronts m.feed m.pending → Told (front_of answer ∷ fronts) m (on_fed m answer awaited)
+fed_to : (fronts : List ℕ) (m : Machine) (answer : Fed) (awaited : Pending) → m.pending ≡ awaited → AwaitsBy m.feed awaited (event.Fed answer) → Fits fronts m.feed m.pending → CaughtUpBy (front_of answer ∷ fronts) m (on_fed m answer awaited)
 fed_to fronts m answer pending.Nothing e a fits = absurd a
 fed_to fronts m answer (pending.Feed asked) e a fits = first_look fronts m asked answer e fits
 fed_to fronts m (fed.Future front) pending.More e a fits = absurd a
@@ -333,72 +333,72 @@ fed_to fronts m answer (pending.Bodies rows) e a fits = absurd a
 fed_to fronts m answer (pending.Ask asker proposed) e a fits = absurd a
 fed_to fronts m answer (pending.Push asker) e a fits = absurd a
 
-bodies_of : (fronts : List ℕ) (m : Machine) (b : Bodies) (wanted : List Row) (feed : Option Running) → m.feed ≡ feed → is_quiet m.pending ≡ true → Fits fronts m.feed m.pending → Told fronts m (on_bodies_of m b wanted feed)
-bodies_of fronts m b wanted None e quiet fits = puts_stay fronts m [] (λ n. refl) quiet fits
-bodies_of fronts m b wanted (Some r) e quiet fits =
+bodies_of : (fronts : List ℕ) (m : Machine) (b : Bodies) (wanted : List Row) (feed : Option Running) → m.feed ≡ feed → awaits_no_feed m.pending ≡ true → Fits fronts m.feed m.pending → CaughtUpBy fronts m (on_bodies_of m b wanted feed)
+bodies_of fronts m b wanted None e no_feed fits = puts_stay fronts m [] (λ n. refl) no_feed fits
+bodies_of fronts m b wanted (Some r) e no_feed fits =
     answered_goes (r.continuous && is_none (rest r).rows) fronts m (body_acts wanted b.answers) (m.requests + length wanted) (rest r) (bodies_none wanted b.answers) (rest_follows fronts m r e fits)
 
-bodied : (fronts : List ℕ) (m : Machine) (b : Bodies) (awaited : Pending) → m.pending ≡ awaited → AwaitsBy m.feed awaited (event.Bodies b) → Fits fronts m.feed m.pending → Told fronts m (on_bodies m b awaited)
+bodied : (fronts : List ℕ) (m : Machine) (b : Bodies) (awaited : Pending) → m.pending ≡ awaited → AwaitsBy m.feed awaited (event.Bodies b) → Fits fronts m.feed m.pending → CaughtUpBy fronts m (on_bodies m b awaited)
 bodied fronts m b pending.Nothing e a fits = absurd a
 bodied fronts m b (pending.Feed asked) e a fits = absurd a
 bodied fronts m b pending.More e a fits = absurd a
-bodied fronts m b (pending.Bodies rows) e a fits = bodies_of fronts m b rows m.feed refl (ap is_quiet e) fits
+bodied fronts m b (pending.Bodies rows) e a fits = bodies_of fronts m b rows m.feed refl (ap awaits_no_feed e) fits
 bodied fronts m b (pending.Ask asker proposed) e a fits = absurd a
 bodied fronts m b (pending.Push asker) e a fits = absurd a
 
-asked_to : (fronts : List ℕ) (m : Machine) (answer : Asked) (awaited : Pending) → m.pending ≡ awaited → AwaitsBy m.feed awaited (event.Asked answer) → Fits fronts m.feed m.pending → Told fronts m (on_asked m answer awaited)
+asked_to : (fronts : List ℕ) (m : Machine) (answer : Asked) (awaited : Pending) → m.pending ≡ awaited → AwaitsBy m.feed awaited (event.Asked answer) → Fits fronts m.feed m.pending → CaughtUpBy fronts m (on_asked m answer awaited)
 asked_to fronts m answer pending.Nothing e a fits = absurd a
 asked_to fronts m answer (pending.Feed asked) e a fits = absurd a
 asked_to fronts m answer pending.More e a fits = absurd a
 asked_to fronts m answer (pending.Bodies rows) e a fits = absurd a
 asked_to fronts m answer (pending.Ask asker proposed) e a fits =
-    puts_stay fronts m (reply_act asker kinds.Rpy (answers_payload answer.answers proposed)) (reply_none asker kinds.Rpy (answers_payload answer.answers proposed) refl) (ap is_quiet e) fits
+    puts_stay fronts m (reply_act asker kinds.Rpy (answers_payload answer.answers proposed)) (reply_none asker kinds.Rpy (answers_payload answer.answers proposed) refl) (ap awaits_no_feed e) fits
 asked_to fronts m answer (pending.Push asker) e a fits = absurd a
 
-judged_to : (fronts : List ℕ) (m : Machine) (o : Outcome) (awaited : Pending) → m.pending ≡ awaited → AwaitsBy m.feed awaited (event.Judged o) → Fits fronts m.feed m.pending → Told fronts m (on_judged m o awaited)
+judged_to : (fronts : List ℕ) (m : Machine) (o : Outcome) (awaited : Pending) → m.pending ≡ awaited → AwaitsBy m.feed awaited (event.Judged o) → Fits fronts m.feed m.pending → CaughtUpBy fronts m (on_judged m o awaited)
 judged_to fronts m o pending.Nothing e a fits = absurd a
 judged_to fronts m o (pending.Feed asked) e a fits = absurd a
 judged_to fronts m o pending.More e a fits = absurd a
 judged_to fronts m o (pending.Bodies rows) e a fits = absurd a
 judged_to fronts m o (pending.Ask asker proposed) e a fits = absurd a
-judged_to fronts m o (pending.Push asker) e a fits = puts_stay fronts m (outcome_act asker o) (outcome_none asker o) (ap is_quiet e) fits
+judged_to fronts m o (pending.Push asker) e a fits = puts_stay fronts m (outcome_act asker o) (outcome_none asker o) (ap awaits_no_feed e) fits
 
-idled_with : (fronts : List ℕ) (m : Machine) (r : Running) (b : Bool) → m.feed ≡ Some r → is_quiet m.pending ≡ true → Fits fronts m.feed m.pending → Told fronts m (if b then looks_again m [] m.requests r else puts m [])
-idled_with fronts m r true e quiet fits = looks fronts m [] m.requests r (λ n. refl) (follows fronts m r e fits)
-idled_with fronts m r false e quiet fits = puts_stay fronts m [] (λ n. refl) quiet fits
+idled_with : (fronts : List ℕ) (m : Machine) (r : Running) (b : Bool) → m.feed ≡ Some r → awaits_no_feed m.pending ≡ true → Fits fronts m.feed m.pending → CaughtUpBy fronts m (if b then looks_again m [] m.requests r else puts m [])
+idled_with fronts m r true e no_feed fits = looks fronts m [] m.requests r (λ n. refl) (follows fronts m r e fits)
+idled_with fronts m r false e no_feed fits = puts_stay fronts m [] (λ n. refl) no_feed fits
 
-idled : (fronts : List ℕ) (m : Machine) (front : ℕ) (feed : Option Running) → m.feed ≡ feed → is_quiet m.pending ≡ true → Fits fronts m.feed m.pending → Told fronts m (on_idle m front feed)
-idled fronts m front None e quiet fits = puts_stay fronts m [] (λ n. refl) quiet fits
-idled fronts m front (Some r) e quiet fits = idled_with fronts m r (nat_lt r.front front) e quiet fits
+idled : (fronts : List ℕ) (m : Machine) (front : ℕ) (feed : Option Running) → m.feed ≡ feed → awaits_no_feed m.pending ≡ true → Fits fronts m.feed m.pending → CaughtUpBy fronts m (on_idle m front feed)
+idled fronts m front None e no_feed fits = puts_stay fronts m [] (λ n. refl) no_feed fits
+idled fronts m front (Some r) e no_feed fits = idled_with fronts m r (nat_lt r.front front) e no_feed fits
 
-message_quiet : (feed : Option Running) (message : Message) (awaited : Pending) → AwaitsBy feed awaited (event.Whole message) → is_quiet awaited ≡ true
-message_quiet feed message pending.Nothing a = refl
-message_quiet feed message (pending.Feed asked) a = absurd a
-message_quiet feed message pending.More a = absurd a
-message_quiet feed message (pending.Bodies rows) a = absurd a
-message_quiet feed message (pending.Ask asker proposed) a = absurd a
-message_quiet feed message (pending.Push asker) a = absurd a
+message_no_feed : (feed : Option Running) (message : Message) (awaited : Pending) → AwaitsBy feed awaited (event.Whole message) → awaits_no_feed awaited ≡ true
+message_no_feed feed message pending.Nothing a = refl
+message_no_feed feed message (pending.Feed asked) a = absurd a
+message_no_feed feed message pending.More a = absurd a
+message_no_feed feed message (pending.Bodies rows) a = absurd a
+message_no_feed feed message (pending.Ask asker proposed) a = absurd a
+message_no_feed feed message (pending.Push asker) a = absurd a
 
-idle_quiet : (feed : Option Running) (front : ℕ) (awaited : Pending) → AwaitsBy feed awaited (event.Idle front) → is_quiet awaited ≡ true
-idle_quiet feed front pending.Nothing a = refl
-idle_quiet feed front (pending.Feed asked) a = absurd a
-idle_quiet feed front pending.More a = absurd a
-idle_quiet feed front (pending.Bodies rows) a = absurd a
-idle_quiet feed front (pending.Ask asker proposed) a = absurd a
-idle_quiet feed front (pending.Push asker) a = absurd a
+idle_no_feed : (feed : Option Running) (front : ℕ) (awaited : Pending) → AwaitsBy feed awaited (event.Idle front) → awaits_no_feed awaited ≡ true
+idle_no_feed feed front pending.Nothing a = refl
+idle_no_feed feed front (pending.Feed asked) a = absurd a
+idle_no_feed feed front pending.More a = absurd a
+idle_no_feed feed front (pending.Bodies rows) a = absurd a
+idle_no_feed feed front (pending.Ask asker proposed) a = absurd a
+idle_no_feed feed front (pending.Push asker) a = absurd a
 
 -- ---- each event
 
-event_told : (fronts : List ℕ) (m : Machine) (x : Event) (done : Done) → AwaitsBy m.feed m.pending x → Does m x done → Fits fronts m.feed m.pending → Told (feed_look x ++ fronts) m done
-event_told fronts m (event.Whole message) done a does fits = by_message fronts m message done (is_request message.kind) does (message_quiet m.feed message m.pending a) fits
-event_told fronts m (event.Idle front) done a does fits = subst (Told fronts m) (sym does) (idled fronts m front m.feed refl (idle_quiet m.feed front m.pending a) fits)
-event_told fronts m (event.Fed answer) done a does fits = subst (Told (front_of answer ∷ fronts) m) (sym does) (fed_to fronts m answer m.pending refl a fits)
-event_told fronts m (event.Bodies b) done a does fits = subst (Told fronts m) (sym does) (bodied fronts m b m.pending refl a fits)
-event_told fronts m (event.Asked answer) done a does fits = subst (Told fronts m) (sym does) (asked_to fronts m answer m.pending refl a fits)
-event_told fronts m (event.Judged o) done a does fits = subst (Told fronts m) (sym does) (judged_to fronts m o m.pending refl a fits)
+event_caught_up : (fronts : List ℕ) (m : Machine) (x : Event) (done : Done) → AwaitsBy m.feed m.pending x → Does m x done → Fits fronts m.feed m.pending → CaughtUpBy (feed_look x ++ fronts) m done
+event_caught_up fronts m (event.Whole message) done a does fits = by_message fronts m message done (is_request message.kind) does (message_no_feed m.feed message m.pending a) fits
+event_caught_up fronts m (event.Idle front) done a does fits = subst (CaughtUpBy fronts m) (sym does) (idled fronts m front m.feed refl (idle_no_feed m.feed front m.pending a) fits)
+event_caught_up fronts m (event.Fed answer) done a does fits = subst (CaughtUpBy (front_of answer ∷ fronts) m) (sym does) (fed_to fronts m answer m.pending refl a fits)
+event_caught_up fronts m (event.Bodies b) done a does fits = subst (CaughtUpBy fronts m) (sym does) (bodied fronts m b m.pending refl a fits)
+event_caught_up fronts m (event.Asked answer) done a does fits = subst (CaughtUpBy fronts m) (sym does) (asked_to fronts m answer m.pending refl a fits)
+event_caught_up fronts m (event.Judged o) done a does fits = subst (CaughtUpBy fronts m) (sym does) (judged_to fronts m o m.pending refl a fits)
 
-step_told : (fronts : List ℕ) (m : Machine) (s : Step) (after : Machine) → (made : Steps m s after) → Fits fronts m.feed m.pending → Told (feed_look s.event ++ fronts) m made.done
-step_told fronts m s after made fits = event_told fronts m s.event made.done made.awaited made.does fits
+step_caught_up : (fronts : List ℕ) (m : Machine) (s : Step) (after : Machine) → (made : Steps m s after) → Fits fronts m.feed m.pending → CaughtUpBy (feed_look s.event ++ fronts) m made.done
+step_caught_up fronts m s after made fits = event_caught_up fronts m s.event made.done made.awaited made.does fits
 
 -- ---- all steps
 
@@ -406,7 +406,7 @@ all_fit : (user : List ℕ) (version : Version) (strict : Bool) (steps : List St
 all_fit user version strict [] m leads = subst (λ (x : Machine). Fits [] x.feed x.pending) (sym leads) tt
 all_fit user version strict (s ∷ earlier) m (before, leads, made) =
     subst (λ (x : Machine). Fits (feed_look s.event ++ feed_looks earlier) x.feed x.pending) (sym made.leads)
-    (step_told (feed_looks earlier) before s m made (all_fit user version strict earlier before leads)).fits
+    (step_caught_up (feed_looks earlier) before s m made (all_fit user version strict earlier before leads)).fits
 
 -- ---- idle moments
 
@@ -462,9 +462,9 @@ idle_puts m after s front is made =
 
 -- ---- the empty offers of a feed
 
-begin_told : (m : Machine) (s : Step) (first : Machine) (asked : Subscription) (front : ℕ) (rows : List Row) (fronts : List ℕ) → m.pending ≡ pending.Feed asked → s.event ≡ event.Fed (fed.Rows front rows) → Steps m s first
-    → Fits fronts m.feed m.pending → empty_offers s.puts ≡ all_told first.feed
-begin_told m s first asked front rows fronts awaited came made fits =
+begin_caught_up : (m : Machine) (s : Step) (first : Machine) (asked : Subscription) (front : ℕ) (rows : List Row) (fronts : List ℕ) → m.pending ≡ pending.Feed asked → s.event ≡ event.Fed (fed.Rows front rows) → Steps m s first
+    → Fits fronts m.feed m.pending → empty_offers s.puts ≡ caught_up_count first.feed
+begin_caught_up m s first asked front rows fronts awaited came made fits =
     let does : made.done ≡ on_first_look m asked (fed.Rows front rows) =
     subst (λ p. made.done ≡ on_fed m (fed.Rows front rows) p) awaited (subst (λ x. Does m x made.done) came made.does) in
     let r : Running = first_of asked rows front in
@@ -473,51 +473,51 @@ begin_told m s first asked front rows fronts awaited came made fits =
     let all : empty_offers (messages_from (m.requests + 1) (acceptance_act asked.asker ++ next_acts m.version r)) ≡ empty_offers (messages_from (m.requests + 1) (acceptance_act asked.asker)) + one =
     acts_on (m.requests + 1) (acceptance_act asked.asker) (next_acts m.version r) one (λ k. omega (arith, it.1 k, it.1 0)) in
     let reply : empty_offers (messages_from (m.requests + 1) (acceptance_act asked.asker)) ≡ 0 = reply_none asked.asker kinds.Rpy ok_payload refl (m.requests + 1) in
-    let sum : empty_offers (messages_from (m.requests + 1) (acceptance_act asked.asker ++ next_acts m.version r)) ≡ all_told (next_feed m.requests r) = omega (arith, all, reply, it.1 0) in
+    let sum : empty_offers (messages_from (m.requests + 1) (acceptance_act asked.asker ++ next_acts m.version r)) ≡ caught_up_count (next_feed m.requests r) = omega (arith, all, reply, it.1 0) in
     ap empty_offers made.puts ∙ ap (λ (d : Done). empty_offers (messages_from (m.requests + 1) d.acts)) does
-    ∙ sum ∙ sym (ap (λ (x : Machine). all_told x.feed) made.leads ∙ ap (λ (d : Done). all_told d.after.feed) does)
+    ∙ sum ∙ sym (ap (λ (x : Machine). caught_up_count x.feed) made.leads ∙ ap (λ (d : Done). caught_up_count d.after.feed) does)
 
 leads_on : (start first : Machine) (earlier : List Step) → Leads start earlier first → (more : List Step) (m : Machine) → LeadsFeed first more m → Leads start (more ++ earlier) m
 leads_on start first earlier leads [] m e = subst (Leads start earlier) (sym e) leads
 leads_on start first earlier leads (s ∷ more) m (before, feeds, runs, made) = (before, leads_on start first earlier leads more before feeds, made)
 
 one_more : (fronts : List ℕ) (messages : List Message) (before : Machine) (s : Step) (after : Machine) (feed : Option Running) → before.feed ≡ feed → IsSome feed → Steps before s after → Fits fronts before.feed before.pending
-    → empty_offers messages ≡ all_told before.feed → empty_offers (messages ++ s.puts) ≡ all_told after.feed
+    → empty_offers messages ≡ caught_up_count before.feed → empty_offers (messages ++ s.puts) ≡ caught_up_count after.feed
 one_more fronts messages before s after None e runs made fits so_far = absurd (false≢true runs)
 one_more fronts messages before s after (Some r) e runs made fits so_far =
-    let step : empty_offers (messages_from (before.requests + 1) made.done.acts) + all_told before.feed ≡ all_told made.done.after.feed =
-    (step_told fronts before s after made fits).count r e (before.requests + 1) in
-    omega (arith, empties_on messages s.puts, so_far, step, ap empty_offers made.puts, ap (λ (x : Machine). all_told x.feed) made.leads)
+    let step : empty_offers (messages_from (before.requests + 1) made.done.acts) + caught_up_count before.feed ≡ caught_up_count made.done.after.feed =
+    (step_caught_up fronts before s after made fits).count r e (before.requests + 1) in
+    omega (arith, empties_on messages s.puts, so_far, step, ap empty_offers made.puts, ap (λ (x : Machine). caught_up_count x.feed) made.leads)
 
-all_counted : (user : List ℕ) (version : Version) (strict : Bool) (earlier : List Step) (s : Step) (first : Machine) → Leads (new_machine user version strict) (s ∷ earlier) first → empty_offers s.puts ≡ all_told first.feed
-    → (more : List Step) (m : Machine) → LeadsFeed first more m → empty_offers (put_by (more ++ s ∷ [])) ≡ all_told m.feed
-all_counted user version strict earlier s first leads begun [] m e = begun ∙ ap (λ (x : Machine). all_told x.feed) (sym e)
+all_counted : (user : List ℕ) (version : Version) (strict : Bool) (earlier : List Step) (s : Step) (first : Machine) → Leads (new_machine user version strict) (s ∷ earlier) first → empty_offers s.puts ≡ caught_up_count first.feed
+    → (more : List Step) (m : Machine) → LeadsFeed first more m → empty_offers (put_by (more ++ s ∷ [])) ≡ caught_up_count m.feed
+all_counted user version strict earlier s first leads begun [] m e = begun ∙ ap (λ (x : Machine). caught_up_count x.feed) (sym e)
 all_counted user version strict earlier s first leads begun (t ∷ more) m (before, feeds, runs, made) =
     one_more (feed_looks (more ++ s ∷ earlier)) (put_by (more ++ s ∷ [])) before t m before.feed refl runs made
     (all_fit user version strict (more ++ s ∷ earlier) before (leads_on (new_machine user version strict) first (s ∷ earlier) leads more before feeds))
     (all_counted user version strict earlier s first leads begun more before feeds)
 
-pub told_once : (user : List ℕ) (version : Version) (strict : Bool) (earlier : List Step) (begin : Step) (more : List Step) (after : Machine) → RunsFeed user version strict earlier begin more after
-    → empty_offers (put_by (more ++ begin ∷ [])) ≡ (if was_told after.feed then 1 else 0)
-told_once user version strict earlier begin more after f =
+pub caught_up_once : (user : List ℕ) (version : Version) (strict : Bool) (earlier : List Step) (begin : Step) (more : List Step) (after : Machine) → RunsFeed user version strict earlier begin more after
+    → empty_offers (put_by (more ++ begin ∷ [])) ≡ (if has_caught_up after.feed then 1 else 0)
+caught_up_once user version strict earlier begin more after f =
     all_counted user version strict earlier begin f.first (f.before, f.leads, f.begins)
-    (begin_told f.before begin f.first f.asked f.front f.rows (feed_looks earlier) f.awaited f.event f.begins (all_fit user version strict earlier f.before f.leads)) more after f.runs
+    (begin_caught_up f.before begin f.first f.asked f.front f.rows (feed_looks earlier) f.awaited f.event f.begins (all_fit user version strict earlier f.before f.leads)) more after f.runs
 
-quiet_then : (fronts : List ℕ) (r : Running) (awaited : Pending) → FitsFeed fronts r awaited → (awaited ≡ pending.More → ⊥) → is_quiet awaited ≡ true
-quiet_then fronts r pending.Nothing fits not = refl
-quiet_then fronts r (pending.Feed asked) fits not = absurd (false≢true (sym fits.later))
-quiet_then fronts r pending.More fits not = absurd (not refl)
-quiet_then fronts r (pending.Bodies rows) fits not = refl
-quiet_then fronts r (pending.Ask asker proposed) fits not = refl
-quiet_then fronts r (pending.Push asker) fits not = refl
+no_feed_then : (fronts : List ℕ) (r : Running) (awaited : Pending) → FitsFeed fronts r awaited → (awaited ≡ pending.More → ⊥) → awaits_no_feed awaited ≡ true
+no_feed_then fronts r pending.Nothing fits not = refl
+no_feed_then fronts r (pending.Feed asked) fits not = absurd (false≢true (sym fits.later))
+no_feed_then fronts r pending.More fits not = absurd (not refl)
+no_feed_then fronts r (pending.Bodies rows) fits not = refl
+no_feed_then fronts r (pending.Ask asker proposed) fits not = refl
+no_feed_then fronts r (pending.Push asker) fits not = refl
 
-told_where : (fronts : List ℕ) (feed : Option Running) (awaited : Pending) → Fits fronts feed awaited → waits feed ≡ true → (awaited ≡ pending.More → ⊥) → was_told feed ≡ true
-told_where fronts None awaited fits waiting not = absurd (false≢true waiting)
-told_where fronts (Some r) awaited fits waiting not = fits.told (quiet_then fronts r awaited fits not) waiting
+caught_up_where : (fronts : List ℕ) (feed : Option Running) (awaited : Pending) → Fits fronts feed awaited → waits feed ≡ true → (awaited ≡ pending.More → ⊥) → has_caught_up feed ≡ true
+caught_up_where fronts None awaited fits waiting not = absurd (false≢true waiting)
+caught_up_where fronts (Some r) awaited fits waiting not = fits.without_rows (no_feed_then fronts r awaited fits not) waiting
 
-pub waiting_told : (user : List ℕ) (version : Version) (strict : Bool) (earlier : List Step) (begin : Step) (more : List Step) (after : Machine) → RunsFeed user version strict earlier begin more after
+pub waiting_caught_up : (user : List ℕ) (version : Version) (strict : Bool) (earlier : List Step) (begin : Step) (more : List Step) (after : Machine) → RunsFeed user version strict earlier begin more after
     → waits after.feed ≡ true → (after.pending ≡ pending.More → ⊥) → empty_offers (put_by (more ++ begin ∷ [])) ≡ 1
-waiting_told user version strict earlier begin more after f waiting not =
+waiting_caught_up user version strict earlier begin more after f waiting not =
     let leads : Leads (new_machine user version strict) (more ++ begin ∷ earlier) after = leads_on (new_machine user version strict) f.first (begin ∷ earlier) (f.before, f.leads, f.begins) more after f.runs in
-    told_once user version strict earlier begin more after f
-    ∙ ap counted (told_where (feed_looks (more ++ begin ∷ earlier)) after.feed after.pending (all_fit user version strict (more ++ begin ∷ earlier) after leads) waiting not)
+    caught_up_once user version strict earlier begin more after f
+    ∙ ap counted (caught_up_where (feed_looks (more ++ begin ∷ earlier)) after.feed after.pending (all_fit user version strict (more ++ begin ∷ earlier) after leads) waiting not)

@@ -1,4 +1,4 @@
--- What the row of a document tells: what is shown of it, and the place of its last change.
+-- What the row of a document says: what is shown of it, and the place of its last change.
 use Rattle.std.proofs.Common.{◌≡◌, ℕ, ◌+◌, refl, sym, ◌∙◌, ap, inl, inr, ◌⊎◌, arith, Bool, true, false, if◌then◌else◌, List, [], ◌∷◌, length, Option, Some, None}
 use Rattle.std.proofs.lemmas.Bool.{false≢true}
 use Rattle.std.proofs.lemmas.Option.{none-some, same_Some}
@@ -68,18 +68,18 @@ changed_has (e ∷ older) user filter doc =
     go true h before x = x
     go false h before x = inr (at (view (e ∷ older) user filter doc) (view older user filter doc) refl refl h)
 
--- the bits of a row tell whether its document is shown, and whether that is deleted
-told_by_bits : (shown wrote deleted : Bool) (by seq : ℕ) (rev : RevId) (doc : List ℕ) → shown_by (Some (record { key = record { by = by; seq = seq }; doc = doc; rev = rev; bits = bits_of (if shown then Some (record { seq = seq; rev = rev; deleted = deleted }) else None) wrote deleted })) ≡ (if shown then Some (record { seq = seq; rev = rev; deleted = deleted }) else None)
-told_by_bits true true true by seq rev doc = refl
-told_by_bits true true false by seq rev doc = refl
-told_by_bits true false true by seq rev doc = refl
-told_by_bits true false false by seq rev doc = refl
-told_by_bits false true true by seq rev doc = refl
-told_by_bits false true false by seq rev doc = refl
-told_by_bits false false true by seq rev doc = refl
-told_by_bits false false false by seq rev doc = refl
+-- the bits of a row say whether its document is shown, and whether that is deleted
+said_by_bits : (shown wrote deleted : Bool) (by seq : ℕ) (rev : RevId) (doc : List ℕ) → shown_by (Some (record { key = record { by = by; seq = seq }; doc = doc; rev = rev; bits = bits_of (if shown then Some (record { seq = seq; rev = rev; deleted = deleted }) else None) wrote deleted })) ≡ (if shown then Some (record { seq = seq; rev = rev; deleted = deleted }) else None)
+said_by_bits true true true by seq rev doc = refl
+said_by_bits true true false by seq rev doc = refl
+said_by_bits true false true by seq rev doc = refl
+said_by_bits true false false by seq rev doc = refl
+said_by_bits false true true by seq rev doc = refl
+said_by_bits false true false by seq rev doc = refl
+said_by_bits false false true by seq rev doc = refl
+said_by_bits false false false by seq rev doc = refl
 
--- a row at a change tells what is shown there, and its place
+-- a row at a change says what is shown there, and its place
 module _ (user : List ℕ) (filter : Option (List (List ℕ))) (doc : List ℕ) where
   shown_at : (at : List Entry) → (at ≡ []) ⊎ ((c : Current) × (current at doc ≡ Some c)) → shown_by (row_at at user filter doc) ≡ view at user filter doc
   shown_at [] x = refl
@@ -88,7 +88,7 @@ module _ (user : List ℕ) (filter : Option (List (List ℕ))) (doc : List ℕ) 
     where
       go : (o : Option Current) (c : Current) → o ≡ Some c → shown_by (row_with (length older + 1) (writes e doc) (view_of (e ∷ older) user filter o) doc o) ≡ view_of (e ∷ older) user filter o
       go None c h = absurd (none-some _ h)
-      go (Some d) c h = told_by_bits (is_shown (e ∷ older) user filter d) (writes e doc) d.deleted (length older + 1) d.seq d.rev doc
+      go (Some d) c h = said_by_bits (is_shown (e ∷ older) user filter d) (writes e doc) d.deleted (length older + 1) d.seq d.rev doc
 
   place_at : (at : List Entry) → (at ≡ []) ⊎ ((c : Current) × (current at doc ≡ Some c)) → place_by (row_at at user filter doc) ≡ length at
   place_at [] x = refl

@@ -1,5 +1,5 @@
 use Rattle.blip_mux.proofs.Joins.{stands_new, stands_after, stands_expecting, same_answer}
-use Rattle.blip_mux.proofs.laws.standing.Goals as goal
+use Rattle.blip_mux.proofs.laws.inbox_states.Goals as goal
 
 pub returns-clause-new : goal.returns-clause-new
 returns-clause-new c = stands_new

@@ -7,15 +7,15 @@ use Rattle.blip_frame.specs.Frame.{FrameParts}
 use Rattle.blip_mux.specs.declared.inbox.Taken.{Taken}
 use Rattle.blip_mux.specs.declared.inbox.TakeFault.{TakeFault}
 use Rattle.blip_mux.specs.Begun.{Begun}
-use Rattle.blip_mux.specs.Remembered.{Standing}
+use Rattle.blip_mux.specs.Remembered.{InboxState}
 use Rattle.blip_mux.specs.Joining.{Event, came, expected, Joined, answer_to, followed_by, is_request, is_reply, begun_or, with_frame, brought_by, frames_of, requests_in, is_awaited}
 
--- the standing of an inbox to which nothing has come
-abbrev pub new_standing : Standing
-new_standing = record { requests = 0; expected = set.empty; requests_begun = map.empty; replies_begun = map.empty }
+-- the state of an inbox to which nothing has come
+abbrev pub new_inbox : InboxState
+new_inbox = record { requests = 0; expected = set.empty; requests_begun = map.empty; replies_begun = map.empty }
 
 -- a reply to the request of this number is expected from now on
-abbrev pub expecting : Standing → ℕ → Standing
+abbrev pub expecting : InboxState → ℕ → InboxState
 expecting s number = record s { expected = set.insert s.expected number }
 
 -- messages that are not whole, once a frame of one of them was taken
@@ -23,28 +23,28 @@ abbrev pub begun_after : map.FinMap nat_cmp Begun → FrameParts → map.FinMap 
 begun_after begun f = if f.more then map.insert begun f.number (with_frame (begun_or (map.get begun f.number) f) f) else map.remove begun f.number
 
 -- what has come of the message that a frame is part of
-abbrev pub so_far_at : Standing → FrameParts → Option Begun
+abbrev pub so_far_at : InboxState → FrameParts → Option Begun
 so_far_at s f = if is_request f.kind then map.get s.requests_begun f.number else map.get s.replies_begun f.number
 
 -- what an inbox answers to a frame
-abbrev pub answer_at : Standing → FrameParts → Result Taken TakeFault
+abbrev pub answer_at : InboxState → FrameParts → Result Taken TakeFault
 answer_at s f = answer_to s.requests (set.contains s.expected f.number) (so_far_at s f) f
 
--- the standing once a frame was taken
-abbrev pub taken_after : Standing → FrameParts → Standing
+-- the state once a frame was taken
+abbrev pub taken_after : InboxState → FrameParts → InboxState
 taken_after s f =
     if is_request f.kind then record s { requests = max f.number s.requests; requests_begun = begun_after s.requests_begun f }
     else if is_reply f.kind then record s { expected = (if f.more then s.expected else set.remove s.expected f.number); replies_begun = begun_after s.replies_begun f }
     else s
 
 -- what an inbox answers to events, one after another, up to the first fault
-abbrev pub taken_from : Standing → List Event → Joined
+abbrev pub taken_from : InboxState → List Event → Joined
 taken_from s [] = ([], None)
 taken_from s (came f ∷ events) = followed_by (answer_at s f) (taken_from (taken_after s f) events)
 taken_from s (expected number ∷ events) = taken_from (expecting s number) events
 
--- a standing says what the events before it gave
-pub record StandsFor (s : Standing) (before : List Event) : Type 0 where
+-- a state says what the events before it gave
+pub record StandsFor (s : InboxState) (before : List Event) : Type 0 where
   pub requests : s.requests ≡ requests_in before
   pub awaited : (number : ℕ) → set.contains s.expected number ≡ is_awaited before number
   pub requests_begun : (number : ℕ) → map.get s.requests_begun number ≡ brought_by (frames_of is_request number before)

@@ -1,4 +1,4 @@
--- rooms that are out
+-- rooms that are outstanding
 use Rattle.std.proofs.Common.{◌≡◌, ◌+◌, ℕ, Bool, true, false, ◌||◌, List, [], ◌∷◌, ◌++◌, length, Option, Some, None, refl, sym, ap, ◌∙◌, arith, if◌then◌else◌, nat_eq}
 use Rattle.std.specs.Prelude.{is_some}
 use mathlib.Core.Bool.{false≢true}
@@ -10,7 +10,7 @@ use Rattle.std.proofs.lemmas.List.Folds.{list_any-append}
 use Rattle.doc_board.specs.declared.document.Document.{Document}
 use Rattle.sg_history.specs.declared.room.RoomFor.{RoomFor}
 use Rattle.doc_board.specs.Kept.{has_place, or_blank, placed}
-use Rattle.doc_board.specs.Rooms.{same_doc, same_room, is_out, without}
+use Rattle.doc_board.specs.Rooms.{same_doc, same_room, is_outstanding, without}
 use Rattle.std.proofs.lemmas.Slice.Eq.{bytes_eq-Decides}
 use Rattle.doc_board.proofs.Documents.{Documents, same_names}
 
@@ -35,9 +35,9 @@ less_one true out r rooms others h rest = omega arith
 less_one false out r rooms others h rest = omega (arith, rest h)
 
 -- there is one less
-pub one_less : (room : RoomFor) (rooms : List RoomFor) → is_out rooms room ≡ true → length (without room rooms) + 1 ≡ length rooms
+pub one_less : (room : RoomFor) (rooms : List RoomFor) → is_outstanding rooms room ≡ true → length (without room rooms) + 1 ≡ length rooms
 one_less room [] h = absurd (false≢true h)
-one_less room (r ∷ rooms) h = less_one (same_room r room) (is_out rooms room) r rooms (without room rooms) h (one_less room rooms)
+one_less room (r ∷ rooms) h = less_one (same_room r room) (is_outstanding rooms room) r rooms (without room rooms) h (one_less room rooms)
 
 -- ---- places of documents
 
@@ -51,12 +51,12 @@ of_one : (documents : Documents) (r room : RoomFor) (b : Bool) (out : Bool) → 
 of_one documents r room true out e h here rest = same_place documents r.doc room.doc (and_parts (same_doc r.doc room.doc) (nat_eq r.bytes room.bytes) e).0 here
 of_one documents r room false out e h here rest = rest h
 
--- a room that is out has the place of its document
-pub out_has_place : (documents : Documents) (room : RoomFor) (rooms : List RoomFor) → list_all (λ r. has_place documents r.doc) rooms ≡ true → is_out rooms room ≡ true → has_place documents room.doc ≡ true
-out_has_place documents room [] all h = absurd (false≢true h)
-out_has_place documents room (r ∷ rooms) all h =
+-- a room that is outstanding has the place of its document
+pub outstanding_has_place : (documents : Documents) (room : RoomFor) (rooms : List RoomFor) → list_all (λ r. has_place documents r.doc) rooms ≡ true → is_outstanding rooms room ≡ true → has_place documents room.doc ≡ true
+outstanding_has_place documents room [] all h = absurd (false≢true h)
+outstanding_has_place documents room (r ∷ rooms) all h =
     let parts = and_parts (has_place documents r.doc) (list_all (λ x. has_place documents x.doc) rooms) all in
-    of_one documents r room (same_room r room) (is_out rooms room) refl h parts.0 (out_has_place documents room rooms parts.1)
+    of_one documents r room (same_room r room) (is_outstanding rooms room) refl h parts.0 (outstanding_has_place documents room rooms parts.1)
 
 -- a place that was there stays where one is set
 place_stays : (before after : Documents) (doc : List ℕ) (d : Document) → ((name : List ℕ) → get_by_text after name ≡ (if bytes_eq doc name then Some d else get_by_text before name)) → (o : Option (List ℕ)) → has_place before o ≡ true → has_place after o ≡ true
@@ -117,7 +117,7 @@ doc_itself (Some doc) = text_itself doc
 room_itself : (room : RoomFor) → same_room room room ≡ true
 room_itself room = and_from (same_doc room.doc room.doc) (nat_eq room.bytes room.bytes) (doc_itself room.doc) (eq-eqb room.bytes room.bytes refl)
 
--- the room that is made is out
-pub made_out : (room : RoomFor) (rooms : List RoomFor) → is_out (rooms ++ room ∷ []) room ≡ true
-made_out room rooms =
-    list_any-append (λ (r : RoomFor). same_room r room) rooms (room ∷ []) ∙ or_right (is_out rooms room) _ (or_left (same_room room room) false (room_itself room))
+-- the room that is made is outstanding
+pub made_outstanding : (room : RoomFor) (rooms : List RoomFor) → is_outstanding (rooms ++ room ∷ []) room ≡ true
+made_outstanding room rooms =
+    list_any-append (λ (r : RoomFor). same_room r room) rooms (room ∷ []) ∙ or_right (is_outstanding rooms room) _ (or_left (same_room room room) false (room_itself room))
