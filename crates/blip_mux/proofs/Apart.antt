@@ -245,7 +245,7 @@ kind_zero kinds.Err e = absurd (suc-ne-zero 1 e)
 kind_zero kinds.AckMsg e = absurd (suc-ne-zero 3 e)
 kind_zero kinds.AckRpy e = absurd (suc-ne-zero 4 e)
 
--- a frame is of a request where what had come of its message is
+-- a frame is of a request where what had arrived of its message is
 of_request : (requests : ℕ) (awaited : Bool) (o : Option Begun) (f : FrameParts) → may_come requests awaited o f ≡ true → (begun_or o f).kind ≡ kinds.Msg → f.kind ≡ kinds.Msg
 of_request requests awaited None f may is = is
 of_request requests awaited (Some b) f may is = kind_zero f.kind (sym (eqb-true (kind_number b.kind) (kind_number f.kind) may) ∙ ap kind_number is)

@@ -41,7 +41,7 @@ further p = record p { sent = p.sent + largest_written }
 pub waits_further : (p : Pending) → waits (further p) ≡ without_piece (waits p)
 waits_further p = ap (λ (xs : List ℕ). record (waits p) { sent = p.sent + largest_written; rest = xs }) (sym (drop-drop largest_written p.sent (text p.message)))
 
--- what has come of a message
+-- what has arrived of a message
 abbrev pub got : List Event → Message → Option Begun
 got before m = brought_by (cond (is_request m.kind) (frames_of is_request m.number before) (frames_of is_reply m.number before))
 

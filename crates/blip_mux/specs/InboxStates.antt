@@ -22,7 +22,7 @@ expecting s number = record s { expected = set.insert s.expected number }
 abbrev pub begun_after : map.FinMap nat_cmp Begun → FrameParts → map.FinMap nat_cmp Begun
 begun_after begun f = if f.more then map.insert begun f.number (with_frame (begun_or (map.get begun f.number) f) f) else map.remove begun f.number
 
--- what has come of the message that a frame is part of
+-- what has arrived of the message that a frame is part of
 abbrev pub so_far_at : InboxState → FrameParts → Option Begun
 so_far_at s f = if is_request f.kind then map.get s.requests_begun f.number else map.get s.replies_begun f.number
 

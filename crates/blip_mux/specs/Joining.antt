@@ -39,7 +39,7 @@ acknowledges kinds.Err = kinds.AckRpy
 acknowledges kinds.AckMsg = kinds.AckMsg
 acknowledges kinds.AckRpy = kinds.AckRpy
 
--- ---- what has come of one message
+-- ---- what has arrived of one message
 
 -- so many bytes after the last acknowledgement the next one is owed
 abbrev pub acknowledge_after : ℕ
@@ -152,7 +152,7 @@ frames_of class number (came f ∷ before) =
     if class f.kind && number == f.number then (if f.more then f ∷ frames_of class number before else []) else frames_of class number before
 frames_of class number (expected other ∷ before) = frames_of class number before
 
--- what has come of the message that a frame is part of
+-- what has arrived of the message that a frame is part of
 abbrev pub so_far_in : List Event → FrameParts → Option Begun
 so_far_in before f = brought_by (if is_request f.kind then frames_of is_request f.number before else frames_of is_reply f.number before)
 

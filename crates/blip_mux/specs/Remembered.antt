@@ -8,18 +8,18 @@ use Rattle.blip_frame.specs.declared.frame.Kind.{Kind}
 use Rattle.blip_frame.specs.contracts.frame.Kind as kind
 use Rattle.blip_mux.specs.Begun.{Begun}
 
--- what has come of messages that are not whole, by their numbers
+-- what has arrived of messages that are not whole, by their numbers
 abbrev pub Unfinished : Type 0
 Unfinished = map.FinMap nat_cmp Begun
 
--- the greatest number of the requests that have begun, the numbers of the sent requests whose reply is expected and has not come whole, and what has come of requests and of replies
+-- the greatest number of the requests that have begun, the numbers of the sent requests whose reply is expected and has not come whole, and what has arrived of requests and of replies
 pub record InboxState : Type 0 where
   pub requests : ℕ
   pub expected : set.FinSet nat_cmp
   pub requests_begun : Unfinished
   pub replies_begun : Unfinished
 
--- what has come of a message is stored as the tuple of its fields
+-- what has arrived of a message is stored as the tuple of its fields
 abbrev pub begun_code : Coded Begun
 begun_code =
     code_by (Kind × (Bool × (Bool × (List ℕ × ℕ)))) (coded× kind.the_row.coded (coded× coded_bool (coded× coded_bool (coded× (coded_list coded_ℕ) coded_ℕ)))) (λ b. (b.kind, (b.urgent, (b.no_reply, (b.bytes, b.unacknowledged))))) (λ p. record { kind = p.0; urgent = p.1.0; no_reply = p.1.1.0; bytes = p.1.1.1.0; unacknowledged = p.1.1.1.1 }) (λ _. refl)

@@ -44,7 +44,7 @@ pub enum TakeFault {
 }
 
 /// What has come in one direction. Contracts see which requests have begun, the numbers of the sent
-/// requests whose reply is expected, and what has come of the messages that are not whole.
+/// requests whose reply is expected, and what has arrived of the messages that are not whole.
 #[derive(Drop)]
 pub struct Inbox {
     requests: u64,

@@ -16,7 +16,7 @@ use std::alloc::{AllocError, Global};
 use std::collections::BTreeMap;
 use std::marker::Model;
 
-/// What has come of messages that are not whole. Contracts see the map from their numbers.
+/// What has arrived of messages that are not whole. Contracts see the map from their numbers.
 #[derive(Drop)]
 pub(crate) struct Parts {
     alloc: Global,

@@ -3,7 +3,7 @@
 use crate::tree::Tree;
 use sg_names::RevId;
 
-/// What came of an extension.
+/// The outcome of an extension.
 #[derive(Drop)]
 pub enum Extended {
     /// The tree with the revision, and how many of the listed ancestors are kept.
