@@ -1,4 +1,4 @@
--- the rows that are asked for, in the order of their keys
+-- the rows that are asked for, in the order of their keys. Only proofs need this.
 use Rattle.std.specs.Prelude.{ℕ, List, [], ◌∷◌, Option, Some, None, if◌then◌else◌}
 use Rattle.std.specs.declared.cmp.Ordering.{Ordering}
 use Rattle.std.specs.declared.cmp.Ordering.TheVariants.{Less, Equal, Greater}

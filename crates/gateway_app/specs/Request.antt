@@ -1,4 +1,4 @@
--- what the words were read as
+-- what the words were read as. Only proofs need this.
 use Rattle.gateway_app.specs.declared.words.FeedRequest.{FeedRequest}
 use Rattle.gateway_app.specs.Words.{FeedWords}
 

@@ -1,4 +1,4 @@
--- Texts that were seen.
+-- Texts that were seen. Only proofs need this.
 use Rattle.std.specs.Prelude.{ℕ, Bool, List, is_some}
 use denote.Ref.{Bor}
 use Rattle.std.specs.BTreeMap.{BTreeMap, get_by}

@@ -1,4 +1,4 @@
--- Numbers of properties.
+-- Numbers of properties. Only proofs need this.
 use Rattle.std.specs.Prelude.{ℕ, zero, suc, List, Option, Some, None, decimal, if◌then◌else◌}
 use Rattle.std.specs.Str.{bytes_eq}
 

@@ -1,4 +1,4 @@
--- reading a journal line by line
+-- reading a journal line by line. Only proofs need this.
 use Rattle.std.specs.Prelude.{◌≡◌, ◌≢◌, ◌⊎◌, ℕ, Bool, List, [], ◌∷◌, ◌++◌, reverse, Option, Some, None, IsTrue}
 use Rattle.sg_names.specs.Grammar.{lacks}
 use Rattle.sg_history.specs.declared.entries.Entry.{Entry}
