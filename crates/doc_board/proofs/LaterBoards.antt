@@ -10,8 +10,11 @@ use Rattle.sg_history.specs.Board.{BoardState, board_book}
 use Rattle.sg_history.specs.Book.{Book, Later, IsLastWrite, book_of, waiting_at, entry_or, write_at, written_in, writes_up_to, first_write, last_write_up_to}
 use Rattle.sg_history.specs.History.{past}
 use Rattle.sg_history.specs.Current.{Sequenced, sequenced_before, last_write}
-use Rattle.rev_tree.specs.Documents.{sequence_of, tree_in, last_at}
+use Rattle.sg_names.specs.declared.rev_id.RevId.{RevId}
+use Rattle.rev_tree.specs.Documents.{sequence_of, tree_in, last_at, base_in, rev_written_in}
+use Rattle.rev_tree.specs.Extension.{first_of}
 use Rattle.doc_board.specs.Boards.{board_top, board_last, board_tree, highest}
+use Rattle.doc_board.specs.Judging.{board_base}
 
 -- ---- the last write up to a number
 
@@ -96,6 +99,23 @@ later_tree same board later doc on = go (first_write (writes_up_to (board_book b
     go : (o : Option Sequenced) → first_write (writes_up_to (board_book board) (board_top board) doc) ≡ o → tree_in later (board_last board doc) doc ≡ tree_in (board_book board) (board_last board doc) doc
     go None is = same_at 0 (ap (λ (o : Option Sequenced). sequence_of o) is) refl
     go (Some last) is = same_at last.seq (ap (λ (o : Option Sequenced). sequence_of o) is) (same (board_book board) later doc last last.seq on (last_is board doc last is) (omega arith))
+
+abbrev pub SameBases : Type 0
+SameBases = (earlier later : Book) (doc : List ℕ) (last : Sequenced) (ancestors : List RevId) → Later earlier later → IsLastWrite earlier doc last → base_in later last.seq doc ancestors ≡ base_in earlier last.seq doc ancestors
+
+none_written : (a b : Book) (doc : List ℕ) (o : Option RevId) → rev_written_in a 0 doc o ≡ rev_written_in b 0 doc o
+none_written a b doc None = refl
+none_written a b doc (Some rev) = refl
+
+pub later_base : SameBases → (board : BoardState) (later : Book) (doc : List ℕ) (ancestors : List RevId) → Later (board_book board) later → base_in later (board_last board doc) doc ancestors ≡ board_base board doc ancestors
+later_base same board later doc ancestors on = go (first_write (writes_up_to (board_book board) (board_top board) doc)) refl
+  where
+    same_at : (number : ℕ) → board_last board doc ≡ number → base_in later number doc ancestors ≡ base_in (board_book board) number doc ancestors → base_in later (board_last board doc) doc ancestors ≡ base_in (board_book board) (board_last board doc) doc ancestors
+    same_at number is h = subst (λ (n : ℕ). base_in later n doc ancestors ≡ base_in (board_book board) n doc ancestors) (sym is) h
+
+    go : (o : Option Sequenced) → first_write (writes_up_to (board_book board) (board_top board) doc) ≡ o → base_in later (board_last board doc) doc ancestors ≡ base_in (board_book board) (board_last board doc) doc ancestors
+    go None is = same_at 0 (ap (λ (o : Option Sequenced). sequence_of o) is) (none_written later (board_book board) doc (first_of ancestors))
+    go (Some last) is = same_at last.seq (ap (λ (o : Option Sequenced). sequence_of o) is) (same (board_book board) later doc last ancestors on (last_is board doc last is))
 
 -- ---- the last write of the log
 

@@ -1,7 +1,9 @@
 pub mod BoardTrees
+pub mod Bodies
 pub mod Documents
 pub mod LaterBoards
 pub mod Lawful
 pub mod OutstandingRooms
 pub mod Stored
 pub mod OnBoards
+pub mod OneVerdict

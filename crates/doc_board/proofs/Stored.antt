@@ -15,8 +15,10 @@ use Rattle.rev_tree.specs.Writes.{AreAccepted}
 use Rattle.sg_history.specs.declared.room.RoomFor.{RoomFor}
 use Rattle.sg_history.specs.Line.{is_write}
 use Rattle.doc_board.specs.Candidates.{ExtendsTree}
-use Rattle.doc_board.specs.Kept.{AreKept, IsKept, has_place, placed}
+use Rattle.doc_board.specs.Kept.{AreKept, HaveDocuments, IsKept, has_place, placed}
 use Rattle.doc_board.specs.Lawful.{AreLawful}
+use Rattle.doc_board.specs.Recorded.{HasDocument, AreFollowing}
+use Rattle.doc_board.proofs.Bodies.{no_body, following_bodies}
 use Rattle.doc_board.proofs.Lawful.{SameRevisions, SameLeaves, follows}
 use Rattle.doc_board.specs.Rooms.{is_outstanding, without}
 use Rattle.rev_tree.specs.Documents.{writes_of, tree_at}
@@ -34,8 +36,8 @@ no_rule : (e : Entry) (es : List Entry) → is_write e ≡ false → may_follow 
 no_rule e es h = none_may_follow (as_write e) es h
 
 -- a write
-pub kept_write : SameRevisions → SameLeaves → (w : Write) (log new : entries.EntryList) (before after : Documents) (rooms : List RoomFor) (room : RoomFor) (sequence : ℕ) (tree : List Node) → IsKept log before rooms → is_outstanding rooms room ≡ true → IsEntry (entry.Write w) → w.at < sequence → sequence ≡ length log.list + 1 → ExtendsTree (tree_at (reverse log.list) w.doc) w tree → ((name : List ℕ) → get_by_text after name ≡ (if bytes_eq w.doc name then Some (record { last = sequence; tree = tree }) else get_by_text before name)) → new.list ≡ log.list ++ entry.Write w ∷ [] → new.spare + 1 ≡ log.spare → IsKept new after (without room rooms)
-kept_write same_revisions same_leaves w log new before after rooms room sequence tree kept out named judged next extends put list spare =
+pub kept_write : SameRevisions → SameLeaves → (w : Write) (log new : entries.EntryList) (before after : Documents) (rooms : List RoomFor) (room : RoomFor) (sequence : ℕ) (tree : List Node) → IsKept log before rooms → is_outstanding rooms room ≡ true → IsEntry (entry.Write w) → HasDocument w.body → w.at < sequence → sequence ≡ length log.list + 1 → ExtendsTree (tree_at (reverse log.list) w.doc) w tree → ((name : List ℕ) → get_by_text after name ≡ (if bytes_eq w.doc name then Some (record { last = sequence; tree = tree }) else get_by_text before name)) → new.list ≡ log.list ++ entry.Write w ∷ [] → new.spare + 1 ≡ log.spare → IsKept new after (without room rooms)
+kept_write same_revisions same_leaves w log new before after rooms room sequence tree kept out named body judged next extends put list spare =
     let es : List Entry = reverse log.list in
     let at : sequence ≡ length es + 1 = next ∙ ap (λ (n : ℕ). n + 1) (sym (length-reverse log.list)) in
     let less = one_less room rooms out in
@@ -46,6 +48,7 @@ kept_write same_revisions same_leaves w log new before after rooms room sequence
       out = places_stay before after w.doc (record { last = sequence; tree = tree }) put (without room rooms) (all_without (λ r. has_place before r.doc) room rooms kept.out);
       spare = omega (arith, kept.spare);
       accepted = subst Q (sym (newest log new (entry.Write w) list)) (accepted_with w es tree extends kept.accepted);
+      bodies = subst HaveDocuments (sym (newest log new (entry.Write w) list)) (body, kept.bodies);
       lawful = subst AreLawful (sym (newest log new (entry.Write w) list)) (named, follows same_revisions same_leaves w es tree (kept.accepted w.doc) extends (subst (λ (n : ℕ). w.at < n) at judged), kept.lawful);
     }
 
@@ -61,6 +64,7 @@ kept_plain e log new places rooms room kept out named plain list spare =
       out = all_without (λ r. has_place places r.doc) room rooms kept.out;
       spare = omega (arith, kept.spare);
       accepted = subst Q (sym (newest log new e list)) (accepted_past e es plain kept.accepted);
+      bodies = subst HaveDocuments (sym (newest log new e list)) (no_body e plain, kept.bodies);
       lawful = subst AreLawful (sym (newest log new e list)) (named, no_rule e es plain, kept.lawful);
     }
 
@@ -76,6 +80,7 @@ kept_spare log new places rooms kept same spare =
       out = kept.out;
       spare = spare;
       accepted = subst Q (sym same) kept.accepted;
+      bodies = subst (λ (x : List Entry). HaveDocuments (reverse x)) (sym same) kept.bodies;
       lawful = subst (λ (x : List Entry). AreLawful (reverse x)) (sym same) kept.lawful;
     }
 
@@ -87,6 +92,7 @@ kept_placed log before after rooms doc kept made =
       out = all_placed before after doc made rooms kept.out;
       spare = kept.spare;
       accepted = kept.accepted;
+      bodies = kept.bodies;
       lawful = kept.lawful;
     }
 
@@ -101,5 +107,21 @@ kept_room log before after rooms room kept made spare =
       out = all_with before after room rooms made kept.out;
       spare = omega (arith, length-append rooms (room ∷ []));
       accepted = kept.accepted;
+      bodies = kept.bodies;
       lawful = kept.lawful;
+    }
+
+-- ---- a log that was recorded
+
+pub kept_open : (log : entries.EntryList) (es : List Entry) (documents : Documents) → es ≡ log.list → AreKept (reverse es) documents → ((doc : List ℕ) → AreAccepted (writes_of (reverse es) doc)) → AreFollowing (reverse es) → AreLawful (reverse log.list) → IsKept log documents []
+kept_open log es documents same kept accepted following lawful =
+    let P : List Entry → Type 0 = λ x. AreKept (reverse x) documents in
+    let Q : List Entry → Type 0 = λ x. (doc : List ℕ) → AreAccepted (writes_of (reverse x) doc) in
+    record {
+      documents = subst P same kept;
+      out = refl;
+      spare = omega arith;
+      accepted = subst Q same accepted;
+      bodies = subst (λ (x : List Entry). HaveDocuments (reverse x)) same (following_bodies (reverse es) following);
+      lawful = lawful;
     }

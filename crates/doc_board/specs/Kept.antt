@@ -1,5 +1,5 @@
 -- what a board keeps beside its log
-use Rattle.std.specs.Prelude.{◌≡◌, ◌≤◌, ◌*◌, ℕ, Bool, true, List, [], length, reverse, is_some, Option, Some, None, MatchOption, nat_eq, if◌then◌else◌}
+use Rattle.std.specs.Prelude.{◌≡◌, ◌≤◌, ◌*◌, ℕ, Bool, true, List, [], ◌∷◌, length, reverse, is_some, Option, Some, None, IfSome, MatchOption, nat_eq, if◌then◌else◌}
 use Rattle.std.specs.BTreeMap.{BTreeMap, get_by_text}
 use Rattle.std.specs.List.{list_all}
 use Rattle.std.specs.Str.{bytes_eq}
@@ -7,11 +7,13 @@ use Rattle.std.specs.Global.{Global}
 use Rattle.std.specs.Prelude.{String}
 use Rattle.sg_history.specs.declared.entries.Entry.{Entry}
 use Rattle.sg_history.specs.EntryList as entries
+use Rattle.sg_history.specs.History.{as_write}
 use Rattle.rev_tree.specs.declared.tree.Node.{Node}
 use Rattle.rev_tree.specs.Writes.{AreAccepted}
 use Rattle.doc_board.specs.declared.document.Document.{Document}
 use Rattle.sg_history.specs.declared.room.RoomFor.{RoomFor}
 use Rattle.doc_board.specs.Lawful.{AreLawful}
+use Rattle.doc_board.specs.Recorded.{HasDocument}
 use Rattle.rev_tree.specs.Documents.{writes_of, tree_at, last_at}
 
 -- what is to be kept of a document after these entries, the newest first
@@ -55,10 +57,16 @@ abbrev pub kept_nodes : Option Document → List Node
 kept_nodes None = []
 kept_nodes (Some kept) = kept.tree
 
--- a board keeps each document that was written; each room that is outstanding has the place of its document, and two places of the log; each write of a document was an accepted extension of the tree of those before it; and each entry is in its grammar and follows the rules of a journal
+-- the body of each write among these entries is a document
+abbrev pub HaveDocuments : List Entry → Type 0
+HaveDocuments [] = Unit {0}
+HaveDocuments (e ∷ older) = IfSome (as_write e) (λ w. HasDocument w.body) × HaveDocuments older
+
+-- a board keeps each document that was written; each room that is outstanding has the place of its document, and two places of the log; each write of a document was an accepted extension of the tree of those before it, and its body is a document; and each entry is in its grammar and follows the rules of a journal
 pub record IsKept (log : entries.EntryList) (places : BTreeMap (String Global) Document) (rooms : List RoomFor) : Type 0 where
   pub documents : AreKept (reverse log.list) places
   pub out : list_all (λ r. has_place places r.doc) rooms ≡ true
   pub spare : 2 * length rooms ≤ log.spare
   pub accepted : (doc : List ℕ) → AreAccepted (writes_of (reverse log.list) doc)
+  pub bodies : HaveDocuments (reverse log.list)
   pub lawful : AreLawful (reverse log.list)

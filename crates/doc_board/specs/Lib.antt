@@ -2,6 +2,7 @@ pub mod Answers
 pub mod Boards
 pub mod Candidates
 pub mod Contexts
+pub mod Judging
 pub mod Kept
 pub mod Lawful
 pub mod Offers

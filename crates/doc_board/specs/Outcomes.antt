@@ -1,22 +1,25 @@
 -- The outcome of a revision that is proposed, by a board: the first of the answers that is due.
-use Rattle.std.specs.Prelude.{◌≡◌, ◌≤◌, ◌<◌, ℕ, Bool, true, false, List, [], ◌∷◌, length, reverse, take, option_map, Option, Some, IsTrue}
+use Rattle.std.specs.Prelude.{◌≡◌, ◌≤◌, ◌<◌, ℕ, Bool, true, false, List, length, reverse, take, option_map, Option, Some, Ok, Err, IsTrue}
 use Rattle.sg_names.specs.Grammar.{is_doc_id}
 use Rattle.sg_names.specs.RevId.{is_rev}
 use Rattle.sg_names.specs.Revs.{is_revs}
 use Rattle.sg_names.specs.declared.rev_id.RevId.{RevId}
 use Rattle.sg_history.specs.declared.entries.Write.{Write}
 use Rattle.sg_history.specs.Board.{BoardState}
-use Rattle.sg_history.specs.Principals.{everyone}
 use Rattle.rev_tree.specs.Documents.{recorded}
 use Rattle.rev_tree.specs.Tree.{winner_of}
 use Rattle.rev_tree.specs.Extension.{Verdict, verdict_of, is_known, has_bad_history, makes_conflict, extends_tree, kept_of, with_write}
 use Rattle.repl_messages.specs.declared.request.Field.{Field}
 use Rattle.repl_messages.specs.declared.request.Field.TheVariants as field
 use Rattle.repl_messages.specs.declared.revision.Revision.{Revision}
+use Rattle.sync_syntax.specs.declared.tree.Program.{Program}
+use Rattle.sync_meaning.specs.declared.effects.Effects.{Effects}
+use Rattle.sync_meaning.specs.declared.fault.Stop.TheVariants.{Deny}
 use Rattle.doc_board.specs.declared.outcome.Outcome.{Outcome}
 use Rattle.doc_board.specs.declared.outcome.Outcome.TheVariants as outcome
 use Rattle.doc_board.specs.Answers.{proposer_exists}
 use Rattle.doc_board.specs.Boards.{board_tree}
+use Rattle.doc_board.specs.Judging.{IsSaid, body_or_empty}
 use Rattle.doc_board.specs.Recorded.{HasDocument}
 
 -- ---- the revision itself
@@ -71,26 +74,30 @@ pub record IsJudged (strict : Bool) (by : Option (List ℕ)) (r : Revision) (boa
 abbrev pub IsWinner : BoardState → List ℕ → RevId → Type 0
 IsWinner board doc leaf = option_map (λ w. w.rev) (winner_of (board_tree board doc)) ≡ Some leaf
 
--- the outcome of a revision that is proposed, under strictness or not, by a user or by the administrator; out of memory may come at any
-abbrev pub IsOutcome : Bool → Option (List ℕ) → Revision → BoardState → Outcome → Type 0
-IsOutcome strict by r board (outcome.Bad400 bad) = IsBadField r bad
-IsOutcome strict by r board (outcome.TooLarge413 bytes) = IsTooLarge r bytes
-IsOutcome strict by r board (outcome.UserGone401 at) = IsUserGone by r board at
-IsOutcome strict by r board (outcome.Known at) = IsJudged strict by r board is_known at
-IsOutcome strict by r board (outcome.BadHistory400 at) = IsJudged strict by r board has_bad_history at
-IsOutcome strict by r board (outcome.Conflict409 at leaf) = IsJudged strict by r board makes_conflict at × IsWinner board r.doc leaf
-IsOutcome strict by r board (outcome.Stored sequence at) = IsJudged strict by r board extends_tree at × (at < sequence)
-IsOutcome strict by r board outcome.Memory507 = Unit {0}
+-- the program accepts the revision by the board, with some effects
+abbrev pub IsAccepted : Program → Option (List ℕ) → Revision → BoardState → Type 0
+IsAccepted program by r board = (effects : Effects) × IsSaid program by r board (Ok effects)
+
+-- the outcome of a revision that is proposed, under a program and strictness or not, by a user or by the administrator; out of memory may come at any
+abbrev pub IsOutcome : Program → Bool → Option (List ℕ) → Revision → BoardState → Outcome → Type 0
+IsOutcome program strict by r board (outcome.Bad400 bad) = IsBadField r bad
+IsOutcome program strict by r board (outcome.TooLarge413 bytes) = IsTooLarge r bytes
+IsOutcome program strict by r board (outcome.UserGone401 at) = IsUserGone by r board at
+IsOutcome program strict by r board (outcome.Known at) = IsJudged strict by r board is_known at
+IsOutcome program strict by r board (outcome.BadHistory400 at) = IsJudged strict by r board has_bad_history at
+IsOutcome program strict by r board (outcome.Conflict409 at leaf) = IsJudged strict by r board makes_conflict at × IsWinner board r.doc leaf
+IsOutcome program strict by r board (outcome.Denied403 at rule) = IsJudged strict by r board extends_tree at × IsSaid program by r board (Err (Deny rule))
+IsOutcome program strict by r board (outcome.Stored sequence at) = IsJudged strict by r board extends_tree at × IsAccepted program by r board × (at < sequence)
+IsOutcome program strict by r board outcome.Memory507 = Unit {0}
 
 -- ---- the write that is stored
 
--- a body, or `{}` where there are no bytes
-abbrev pub body_or_empty : List ℕ → List ℕ
-body_or_empty [] = 123 ∷ 125 ∷ []
-body_or_empty (b ∷ bs) = b ∷ bs
+-- the effects that a write has
+abbrev pub effects_in : Write → Effects
+effects_in w = record { channels = w.channels; grants = w.grants; roles = w.roles }
 
--- the write of a revision that was judged by a board: with the ancestors that its document's tree keeps of it, at the board's front, with the winner that the tree then has, and in the channel of every user alone
-pub record IsWriteOf (author : Option (List ℕ)) (r : Revision) (board : BoardState) (w : Write) : Type 0 where
+-- the write of a revision that was judged by a board: with the ancestors that its document's tree keeps of it, at the board's front, with the winner that the tree then has, and with the effects with which the program accepts the revision
+pub record IsWriteOf (program : Program) (author : Option (List ℕ)) (r : Revision) (board : BoardState) (w : Write) : Type 0 where
   pub doc : w.doc ≡ r.doc
   pub rev : w.rev ≡ r.rev
   pub ancestors : w.ancestors ≡ take (kept_of (board_tree board r.doc) r.ancestors) r.ancestors
@@ -99,6 +106,4 @@ pub record IsWriteOf (author : Option (List ℕ)) (r : Revision) (board : BoardS
   pub by : w.by ≡ author
   pub at : w.at ≡ length board.log
   pub winner : option_map (λ l. l.rev) (winner_of (with_write (board_tree board r.doc) (recorded w))) ≡ Some w.winner
-  pub channels : w.channels ≡ everyone ∷ []
-  pub grants : w.grants ≡ []
-  pub roles : w.roles ≡ []
+  pub accepted : IsSaid program author r board (Ok (effects_in w))

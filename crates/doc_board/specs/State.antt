@@ -9,9 +9,12 @@ use Rattle.rev_tree.specs.declared.tree.Node.{Node}
 use Rattle.rev_tree.specs.Extension.{Recorded}
 use Rattle.rev_tree.specs.Documents.{writes_in, tree_in, last_in, base_in}
 
+-- all entries, and the rooms that are outstanding; up to which place of the log its grants are known, and how many entries were read for them
 pub record State : Type 0 where
   pub log : List Entry
   pub rooms : List RoomFor
+  pub known : ℕ
+  pub reads : ℕ
 
 -- all entries, the newest first
 abbrev pub newest_first : State → List Entry

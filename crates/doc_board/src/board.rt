@@ -1,6 +1,6 @@
 //! The board: the log, each document's tree, and the rooms that are outstanding.
 
-ghost use Rattle.std.specs.Prelude.{◌≡◌, ◌≢◌, ◌≤◌, ◌<◌, ◌+◌, ◌++◌, ◌∷◌, [], ℕ, List, true, false, length, reverse, is_some, Some, option_map, OnOk, OnErr, IfOk, IfSome, IsTrue, Err};
+ghost use Rattle.std.specs.Prelude.{◌≡◌, ◌≢◌, ◌≤◌, ◌<◌, ◌+◌, ◌-◌, ◌*◌, ◌++◌, ◌∷◌, [], ℕ, List, true, false, length, reverse, is_some, Some, option_map, OnOk, OnErr, IfOk, IfSome, IsTrue, Err};
 ghost use Rattle.std.specs.Option.{option_copied};
 ghost use Rattle.sg_history.specs.History.{entries_of, among};
 ghost use Rattle.sg_history.specs.Principals as principals;
@@ -12,7 +12,7 @@ ghost use Rattle.doc_board.specs.Candidates.{MayBeStored, ExtendsTree, Fits, IfS
 ghost use Rattle.sg_history.specs.Journal.{IsEntry};
 ghost use Rattle.sg_history.specs.Line.{is_write};
 ghost use Rattle.doc_board.specs.Lawful.{AreLawful};
-ghost use Rattle.doc_board.specs.Recorded.{AreFollowing, IsFirstBad};
+ghost use Rattle.doc_board.specs.Recorded.{HasDocument, AreFollowing, IsFirstBad};
 ghost use Rattle.doc_board.specs.Rooms.{is_outstanding, room_for, without};
 ghost use Rattle.doc_board.specs.State.{newest_first, writes_on, tree_on, last_on, base_on};
 ghost use Rattle.rev_tree.specs.Documents.{tree_at, tree_when, last_at, base_write, deletes};
@@ -35,13 +35,15 @@ use std::marker::Model;
 
 /// The log, with each document's tree of revisions, the rooms that are outstanding, and the history of its grants, which has
 /// an index of the log. What is stored allocates nothing then: a room has it beforehand. The grants are brought up to
-/// the log by the calls that may take memory.
+/// the log by the calls that may take memory. Contracts see up to which place of the log they are, and how many entries
+/// were read for them, which stands still at its type's end.
 #[derive(Drop)]
 pub struct Board {
     log: Log,
     documents: Documents,
     rooms: Vec<RoomFor>,
     grants: GrantHistory,
+    reads: u64,
 }
 
 impl Model for Board {
@@ -54,7 +56,12 @@ impl Model for Board {
 
     ghost Value = { State };
 
-    ghost view = { λ b. record { log = entries_of b.log; rooms = b.rooms.items } };
+    ghost view = { λ b. record {
+      log = entries_of b.log;
+      rooms = b.rooms.items;
+      known = b.grants.applied;
+      reads = b.reads;
+    } };
 
     ghost invariant = { λ b. IsKept b.log.entries b.documents b.rooms.items
         × StandsFor b.grants b.log.entries.list };
@@ -65,12 +72,15 @@ impl Board {
     pub fn new(alloc: Global) -> Result<Board, Memory>
         ensures log { IfOk result (λ board. board.log ≡ []) }
         ensures rooms { IfOk result (λ board. board.rooms ≡ []) }
+        ensures known { IfOk result (λ board. board.known ≡ 0) }
+        ensures reads { IfOk result (λ board. board.reads ≡ 0) }
     {
         Ok(Board {
             log: Log::new(alloc),
             documents: BTreeMap::new(alloc),
             rooms: Vec::new(alloc),
             grants: GrantHistory::new(alloc),
+            reads: 0,
         })
     }
 
@@ -79,6 +89,8 @@ impl Board {
         requires { AreLawful (reverse (entries_of log)) }
         ensures log { IfOk result (λ board. board.log ≡ entries_of log) }
         ensures rooms { IfOk result (λ board. board.rooms ≡ []) }
+        ensures known { IfOk result (λ board. board.known ≡ 0) }
+        ensures reads { IfOk result (λ board. board.reads ≡ 0) }
         ensures following { IfOk result (λ board. AreFollowing (reverse (entries_of log))) }
         ensures bad { (sequence : ℕ) → result ≡ Err (OpenFault.Bad sequence) → IsFirstBad
             (entries_of log) sequence }
@@ -89,6 +101,7 @@ impl Board {
             documents,
             rooms: Vec::new(alloc),
             grants: GrantHistory::new(alloc),
+            reads: 0,
         })
     }
 
@@ -132,35 +145,58 @@ impl Board {
         document::last_of(document::document_of(&self.documents, doc))
     }
 
+    /// Brings the grants up to the end of the log. Out of memory they are up to some place before it.
+    fn apply_grants(&mut self) -> Result<(), Memory>
+        ensures log { self.new.log ≡ self.old.log }
+        ensures rooms { self.new.rooms ≡ self.old.rooms }
+        ensures known { OnOk result (self.new.known ≡ length self.old.log) }
+        ensures reads { self.new.reads
+            ≤ self.old.reads + 2 * (length self.old.log - self.old.known) }
+    {
+        let front = self.front();
+        let mut log = LogReads::new(&self.log);
+        let applied = self.grants.apply(&mut log, front);
+        self.reads = self.reads.saturating_add(log.reads());
+        applied
+    }
+
     /// The channels of a user at the end of the log, each once; none where the user does not exist.
     pub fn channels(&mut self, user: &Name) -> Result<Option<Channels>, Memory>
-        ensures same { self.new ≡ self.old }
+        ensures log { self.new.log ≡ self.old.log }
+        ensures rooms { self.new.rooms ≡ self.old.rooms }
+        ensures known { OnOk result (self.new.known ≡ length self.old.log) }
+        ensures reads { self.new.reads
+            ≤ self.old.reads + 2 * (length self.old.log - self.old.known) }
         ensures exists { IfOk result (λ found. is_some found ≡ principals.exists
             (principals.user_at (newest_first self.old) user.now)) }
         ensures channels { IfOk result (λ found. IfSome found
             (λ channels. (channel : List ℕ) → among channels channel ≡ principals.has_channel
             (newest_first self.old) user.now channel)) }
     {
-        let front = self.front();
-        let mut log = LogReads::new(&self.log);
-        self.grants.apply(&mut log, front)?;
+        self.apply_grants()?;
         channels_at_end(&self.grants, user)
     }
 
-    /// What is needed to judge a revision that is proposed, by a user or by the administrator.
+    /// What is needed to judge a revision that is proposed, by a user or by the administrator. At most two entries of the log
+    /// are read for the grants of each one that came since they were known.
     pub fn snapshot(
         &mut self,
         revision: &Revision,
         strict: bool,
         by: Option<&Name>,
     ) -> Result<Snapshot, Memory>
-        ensures same { self.new ≡ self.old }
+        ensures log { self.new.log ≡ self.old.log }
+        ensures rooms { self.new.rooms ≡ self.old.rooms }
+        ensures known { OnOk result (self.new.known ≡ length self.old.log) }
+        ensures reads { self.new.reads
+            ≤ self.old.reads + 2 * (length self.old.log - self.old.known) }
         ensures at { IfOk result (λ s. s.at ≡ length self.old.log) }
         ensures last { IfOk result (λ s. s.last ≡ last_on self.old revision.now.doc) }
         ensures step { IfOk result
             (λ s. IsStep (tree_on self.old revision.now.doc) revision.now strict s.step) }
         ensures old { IfOk result (λ s. s.old ≡ option_map (λ w. w.body)
             (base_on self.old revision.now.doc revision.now.ancestors)) }
+        ensures old_document { IfOk result (λ s. IfSome s.old (λ body. HasDocument body)) }
         ensures old_deleted { IfOk result (λ s. s.old_deleted ≡ deletes
             (base_on self.old revision.now.doc revision.now.ancestors)) }
         ensures user { IfOk result (λ s. s.user_exists ≡ proposer_exists (newest_first self.old)
@@ -170,9 +206,7 @@ impl Board {
     {
         histories();
         let alloc = *self.rooms.allocator();
-        let front = self.front();
-        let mut log = LogReads::new(&self.log);
-        self.grants.apply(&mut log, front)?;
+        self.apply_grants()?;
         let context = context_at_end(alloc, &self.grants, by)?;
         snapshot_of(
             alloc,
@@ -193,6 +227,8 @@ impl Board {
         ensures err { OnErr result (self.new.rooms ≡ self.old.rooms) }
         ensures room { IfOk result (λ room. room ≡ room_for (option_copied doc.entry) bytes) }
         ensures out { IfOk result (λ room. IsTrue (is_outstanding self.new.rooms room)) }
+        ensures known { self.new.known ≡ self.old.known }
+        ensures reads { self.new.reads ≡ self.old.reads }
     {
         let alloc = *self.rooms.allocator();
         let made_for = room::room_for(alloc, doc, bytes)?;
@@ -213,6 +249,8 @@ impl Board {
         ensures room { IfOk result (λ room. room.made_for ≡ room_for
             (option_copied doc.entry) body_bytes) }
         ensures out { IfOk result (λ room. IsTrue (is_outstanding self.new.rooms room.made_for)) }
+        ensures known { self.new.known ≡ self.old.known }
+        ensures reads { self.new.reads ≡ self.old.reads }
     {
         match self.make_room(doc, body_bytes) {
             Ok(made_for) => Ok(Room::new(made_for)),
@@ -226,6 +264,8 @@ impl Board {
         requires plain { is_write entry ≡ false }
         ensures log { self.new.log ≡ self.old.log ++ entry ∷ [] }
         ensures rooms { self.new.rooms ≡ without room.made_for self.old.rooms }
+        ensures known { self.new.known ≡ self.old.known }
+        ensures reads { self.new.reads ≡ self.old.reads }
     {
         grant_history::laws::extended(&self.grants);
         room.close(&mut self.rooms);
@@ -237,10 +277,13 @@ impl Board {
         requires out { IsTrue (is_outstanding self.old.rooms room.made_for) }
         requires doc { room.made_for.doc ≡ Some entry.doc }
         requires entry { IsEntry (kinds.Write entry) }
+        requires body { HasDocument entry.body }
         requires at { entry.at < sequence }
         requires extends { ExtendsTree (tree_on self.old entry.doc) entry tree }
         ensures log { self.new.log ≡ self.old.log ++ kinds.Write entry ∷ [] }
         ensures rooms { self.new.rooms ≡ without room.made_for self.old.rooms }
+        ensures known { self.new.known ≡ self.old.known }
+        ensures reads { self.new.reads ≡ self.old.reads }
     {
         trees_of_writes();
         histories();
@@ -271,6 +314,8 @@ impl Board {
             ++ entry_of candidate ∷ []) }
         ensures rooms { IfStored result
             (λ sequence at. self.new.rooms ≡ without room.made_for self.old.rooms) }
+        ensures known { self.new.known ≡ self.old.known }
+        ensures reads { self.new.reads ≡ self.old.reads }
     {
         match candidate {
             Candidate::Plain(entry) => {
@@ -305,6 +350,8 @@ impl Board {
         requires out { IsTrue (is_outstanding self.old.rooms room.made_for) }
         ensures log { self.new.log ≡ self.old.log ++ kinds.Unused ∷ [] }
         ensures rooms { self.new.rooms ≡ without room.made_for self.old.rooms }
+        ensures known { self.new.known ≡ self.old.known }
+        ensures reads { self.new.reads ≡ self.old.reads }
     {
         number.spend();
         self.store_plain(room, Entry::Unused);

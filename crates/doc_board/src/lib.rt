@@ -20,4 +20,4 @@ pub use outcome::{MOST_BODY_BYTES, Outcome};
 pub use room::Room;
 pub use sg_history::RoomFor;
 pub use snapshot::Snapshot;
-pub use sync_meaning::Context;
+pub use sync_meaning::{Context, Rule};

@@ -2,6 +2,7 @@
 
 use repl_messages::Field;
 use sg_history::RevId;
+use sync_meaning::Rule;
 
 /// The most bytes that a document's body may have.
 pub const MOST_BODY_BYTES: u64 = 20_971_520;
@@ -21,6 +22,8 @@ pub enum Outcome {
     BadHistory400 { at: u64 },
     /// It would make a conflict, where none is allowed, with the document's winner.
     Conflict409 { at: u64, leaf: RevId },
+    /// The program denies it, by this rule.
+    Denied403 { at: u64, rule: Rule },
     /// It is stored at this sequence.
     Stored { sequence: u64, at: u64 },
     /// Out of memory.

@@ -1,11 +1,12 @@
 //! What a board says of a revision that is proposed.
 
-ghost use Rattle.std.specs.Prelude.{◌≡◌, length, reverse, option_map, IfOk};
+ghost use Rattle.std.specs.Prelude.{◌≡◌, length, reverse, option_map, IfOk, IfSome};
 ghost use Rattle.std.specs.Option.{option_copied};
 ghost use Rattle.sg_history.specs.History.{entries_of};
 ghost use Rattle.doc_board.specs.Answers as answers;
 ghost use Rattle.doc_board.specs.Answers.{IsStep};
 ghost use Rattle.doc_board.specs.Kept as kept;
+ghost use Rattle.doc_board.specs.Recorded.{HasDocument};
 ghost use Rattle.log_index.specs.Index.{Indexes};
 ghost use Rattle.rev_tree.specs.Documents.{tree_at, last_at, base_write, deletes};
 
@@ -28,7 +29,7 @@ pub struct Snapshot {
     pub last: u64,
     /// The outcome of the revision in the document's tree; never lack of memory.
     pub step: Extended,
-    /// The body of the write on which the revision is based; none where its first ancestor was never written.
+    /// The body of the write on which the revision is based, which is a document; none where its first ancestor was never written.
     pub old: Option<Bytes>,
     /// Whether that write is a deletion.
     pub old_deleted: bool,
@@ -124,6 +125,7 @@ pub(crate) fn snapshot_of(
     context: Context,
 ) -> Result<Snapshot, Memory>
     requires kept { kept.AreKept (reverse (entries_of log.now)) documents.now }
+    requires bodies { kept.HaveDocuments (reverse (entries_of log.now)) }
     requires indexes { Indexes index.now (reverse (entries_of log.now)) }
     ensures at { IfOk result (λ s. s.at ≡ length (entries_of log.now)) }
     ensures last { IfOk result (λ s. s.last ≡ last_at
@@ -132,6 +134,7 @@ pub(crate) fn snapshot_of(
         (reverse (entries_of log.now)) revision.now.doc) revision.now strict s.step) }
     ensures old { IfOk result (λ s. s.old ≡ option_map (λ w. w.body)
         (base_write (reverse (entries_of log.now)) revision.now.doc revision.now.ancestors)) }
+    ensures old_document { IfOk result (λ s. IfSome s.old (λ body. HasDocument body)) }
     ensures old_deleted { IfOk result (λ s. s.old_deleted ≡ deletes
         (base_write (reverse (entries_of log.now)) revision.now.doc revision.now.ancestors)) }
     ensures user { IfOk result (λ s. s.user_exists ≡ answers.proposer_exists

@@ -30,7 +30,7 @@ invariant_of-self c =
     let B : List Entry → Type 0 = λ es. StandsFor c.self.inside.grants es in (
       rw c.close.ensures
           (kept_write c.trees_of_writes.ensures.revisions c.trees_of_writes.ensures.leaves c.args.entry c.self.inside.log.entries c.put-2.new.self c.self.inside.documents c.put.new.documents c.self.inside.rooms.items c.args.room.made_for c.args.sequence c.args.tree
-          c.self.invariant.0 (subst O (sym c.self.view_is) c.requires.out) c.requires.entry c.requires.at (subst S (sym c.self.view_is) c.requires.sequence) (subst E (sym c.self.view_is) extends) c.put.ensures c.put-2.ensures.list c.put-2.ensures.spare),
+          c.self.invariant.0 (subst O (sym c.self.view_is) c.requires.out) c.requires.entry c.requires.body c.requires.at (subst S (sym c.self.view_is) c.requires.sequence) (subst E (sym c.self.view_is) extends) c.put.ensures c.put-2.ensures.list c.put-2.ensures.spare),
       subst B (sym c.put-2.ensures.list) (c.extended.ensures c.self.inside.log.entries.list (c.self.inside.log.entries.list ++ kinds.Write c.args.entry ∷ []) c.self.invariant.1 (kinds.Write c.args.entry ∷ [], refl)),
     )
 
