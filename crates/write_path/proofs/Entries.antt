@@ -1,5 +1,5 @@
 -- the write of a revision in its grammar is an entry in its grammar
-use Rattle.std.proofs.Common.{◌≡◌, ◌<◌, ◌^◌, ℕ, Bool, true, false, ◌&&◌, List, [], ◌∷◌, map, length, take, zero, suc, Option, Some, None, refl, sym, ap, ◌∙◌, subst, arith, IsTrue, decimal}
+use Rattle.std.proofs.Common.{◌≡◌, ◌<◌, ◌^◌, ℕ, Bool, true, false, ◌&&◌, List, [], ◌∷◌, map, length, take, zero, suc, Option, Some, None, Ok, refl, sym, ap, ◌∙◌, subst, arith, IsTrue, decimal}
 use Rattle.std.specs.Prelude.{IsUtf8, nat_le, nat_lt, nat_eq, not, option_map, IfSome}
 use Rattle.std.specs.List.{list_all, join_with_byte}
 use Rattle.std.specs.Str.{IsAscii}
@@ -12,14 +12,11 @@ use Rattle.sg_names.specs.Grammar.{is_digest, is_digest_byte}
 use Rattle.sg_names.specs.RevId.{rev_text, is_rev}
 use Rattle.sg_names.specs.Revs.{revs_text, is_revs}
 use Rattle.sg_names.specs.Grammar.{is_doc_id, is_name}
-use Rattle.sg_names.specs.Channels.{channels_text, is_channels}
-use Rattle.sg_names.specs.Grants.{grants_text, is_grants}
-use Rattle.sg_names.specs.RoleGrants.{role_grants_text, is_role_grants}
-use Rattle.sg_names.specs.declared.grants.Grant.{Grant}
-use Rattle.sg_names.specs.declared.role_grants.RoleGrant.{RoleGrant}
+use Rattle.sg_names.specs.Channels.{channels_text}
+use Rattle.sg_names.specs.Grants.{grants_text}
+use Rattle.sg_names.specs.RoleGrants.{role_grants_text}
 use Rattle.sg_history.specs.declared.entries.Write.{Write}
 use Rattle.sg_history.specs.Journal.{IsWrite, is_body, is_by, by_text}
-use Rattle.sg_history.specs.Principals.{everyone}
 use Rattle.std.proofs.Common.{Fits, w8, slice_index_or}
 use Rattle.sg_names.specs.Hex.{are_bytes}
 use Rattle.rev_tree.specs.declared.tree.Node.{Node}
@@ -30,7 +27,11 @@ use Rattle.repl_messages.specs.declared.revision.Revision.{Revision}
 use Rattle.doc_board.specs.Answers.{IsNewTree, recorded_with}
 use Rattle.doc_board.specs.Candidates.{ExtendsTree}
 use Rattle.doc_board.specs.Boards.{board_of, board_tree}
-use Rattle.doc_board.specs.Outcomes.{IsWriteOf, body_or_empty}
+use Rattle.sync_syntax.specs.declared.tree.Program.{Program}
+use Rattle.sync_meaning.specs.declared.effects.Effects.{Effects}
+use Rattle.sync_meaning.specs.Laws.{AreEffects}
+use Rattle.doc_board.specs.Judging.{IsSaid, body_or_empty}
+use Rattle.doc_board.specs.Outcomes.{IsWriteOf, effects_in}
 use Rattle.doc_board.specs.Recorded.{HasDocument}
 use Rattle.doc_board.specs.State.{State, tree_on}
 use Rattle.rev_tree.specs.Documents.{recorded}
@@ -85,10 +86,7 @@ first_revs (r ∷ rs) (suc k) h =
     let parts = and_parts (is_rev r) (is_revs rs) h in
     and_from (is_rev r) (is_revs (take k rs)) parts.0 (first_revs rs k parts.1)
 
--- the texts `!` and `-`
-bang_utf8 : IsUtf8 (33 ∷ [])
-bang_utf8 = IsUtf8-from_ascii (33 ∷ []) (IsAscii-cons 33 [] (omega arith) IsAscii-nil)
-
+-- the text `-`
 dash_utf8 : IsUtf8 (45 ∷ [])
 dash_utf8 = IsUtf8-from_ascii (45 ∷ []) (IsAscii-cons 45 [] (omega arith) IsAscii-nil)
 
@@ -97,9 +95,15 @@ by_is : (by : Option (List ℕ)) → IfSome by (λ name. IsTrue (is_name name) �
 by_is None h = (refl, dash_utf8)
 by_is (Some name) h = h
 
--- the write of a revision, which is in the channel of every user alone and grants nothing
-pub write_is_entry : (w : Write) → IsTrue (is_doc_id w.doc) × IsUtf8 w.doc → IsTrue (is_rev w.rev) → IsTrue (is_revs w.ancestors) → IsTrue (is_body w.body) → IfSome w.by (λ name. IsTrue (is_name name) × IsUtf8 name) → w.at < 2 ^ 64 → IsTrue (is_rev w.winner) → w.channels ≡ everyone ∷ [] → w.grants ≡ [] → w.roles ≡ [] → IsWrite w
-write_is_entry w doc rev ancestors body by at winner channels grants roles = record {
+-- the texts of effects are UTF-8
+pub record AreTexts (e : Effects) : Type 0 where
+  pub channels : IsUtf8 (channels_text e.channels)
+  pub grants : IsUtf8 (grants_text e.grants)
+  pub roles : IsUtf8 (role_grants_text e.roles)
+
+-- the write of a revision, with effects in their grammars
+pub write_is_entry : (w : Write) → IsTrue (is_doc_id w.doc) × IsUtf8 w.doc → IsTrue (is_rev w.rev) → IsTrue (is_revs w.ancestors) → IsTrue (is_body w.body) → IfSome w.by (λ name. IsTrue (is_name name) × IsUtf8 name) → w.at < 2 ^ 64 → IsTrue (is_rev w.winner) → AreEffects (effects_in w) → AreTexts (effects_in w) → IsWrite w
+write_is_entry w doc rev ancestors body by at winner lawful texts = record {
   doc = doc;
   rev = (rev, rev_utf8 w.rev rev);
   ancestors = (ancestors, revs_utf8 w.ancestors ancestors);
@@ -107,9 +111,9 @@ write_is_entry w doc rev ancestors body by at winner channels grants roles = rec
   by = by_is w.by by;
   at = at;
   winner = (winner, rev_utf8 w.winner winner);
-  channels = subst (λ (cs : List (List ℕ)). IsTrue (is_channels cs) × IsUtf8 (channels_text cs)) (sym channels) (refl, bang_utf8);
-  grants = subst (λ (gs : List Grant). IsTrue (is_grants gs) × IsUtf8 (grants_text gs)) (sym grants) (refl, dash_utf8);
-  roles = subst (λ (gs : List RoleGrant). IsTrue (is_role_grants gs) × IsUtf8 (role_grants_text gs)) (sym roles) (refl, dash_utf8);
+  channels = (lawful.channels, texts.channels);
+  grants = (lawful.grants, texts.grants);
+  roles = (lawful.roles, texts.roles);
 }
 
 -- bytes are below 256
@@ -122,29 +126,29 @@ pub body_is_document : (body : List ℕ) → HasDocument body → HasDocument (b
 body_is_document [] h = braces
 body_is_document (b ∷ bytes) h = h
 
-recorded_same : (author : Option (List ℕ)) (r : Revision) (front : ℕ) (tree : List Node) (kept : ℕ) (w : Write) → IsWritten author r front tree kept w → recorded w ≡ recorded_with r kept
-recorded_same author r front tree kept w is =
+recorded_same : (author : Option (List ℕ)) (r : Revision) (front : ℕ) (tree : List Node) (kept : ℕ) (effects : Effects) (w : Write) → IsWritten author r front tree kept effects w → recorded w ≡ recorded_with r kept
+recorded_same author r front tree kept effects w is =
     ap (λ (rev : RevId). record { rev = rev; ancestors = w.ancestors; deleted = w.deleted }) is.rev
     ∙ ap (λ (ancestors : List RevId). record { rev = r.rev; ancestors = ancestors; deleted = w.deleted }) is.ancestors
     ∙ ap (λ (deleted : Bool). record { rev = r.rev; ancestors = take kept r.ancestors; deleted = deleted }) is.deleted
 
 -- the write of a revision that extends a tree extends it
-pub extends_new : (before : List Node) (author : Option (List ℕ)) (r : Revision) (front : ℕ) (tree : List Node) (kept : ℕ) (w : Write) → IsNewTree before r tree kept → IsWritten author r front tree kept w → ExtendsTree before w tree
-extends_new before author r front tree kept w new is = record {
-  accepted = subst (λ (x : Recorded). IsTrue (is_accepted before x)) (sym (recorded_same author r front tree kept w is)) new.accepted;
-  tree = new.tree ∙ ap (with_write before) (sym (recorded_same author r front tree kept w is));
+pub extends_new : (before : List Node) (author : Option (List ℕ)) (r : Revision) (front : ℕ) (tree : List Node) (kept : ℕ) (effects : Effects) (w : Write) → IsNewTree before r tree kept → IsWritten author r front tree kept effects w → ExtendsTree before w tree
+extends_new before author r front tree kept effects w new is = record {
+  accepted = subst (λ (x : Recorded). IsTrue (is_accepted before x)) (sym (recorded_same author r front tree kept effects w is)) new.accepted;
+  tree = new.tree ∙ ap (with_write before) (sym (recorded_same author r front tree kept effects w is));
   winner = is.winner;
 }
 
-pub extends_on : (s : State) (author : Option (List ℕ)) (r : Revision) (front : ℕ) (tree : List Node) (kept : ℕ) (w : Write) → board_tree (board_of s) r.doc ≡ tree_on s r.doc → IsNewTree (board_tree (board_of s) r.doc) r tree kept → IsWritten author r front tree kept w → ExtendsTree (tree_on s w.doc) w tree
-extends_on s author r front tree kept w same new is =
+pub extends_on : (s : State) (author : Option (List ℕ)) (r : Revision) (front : ℕ) (tree : List Node) (kept : ℕ) (effects : Effects) (w : Write) → board_tree (board_of s) r.doc ≡ tree_on s r.doc → IsNewTree (board_tree (board_of s) r.doc) r tree kept → IsWritten author r front tree kept effects w → ExtendsTree (tree_on s w.doc) w tree
+extends_on s author r front tree kept effects w same new is =
     let on : ExtendsTree (tree_on s r.doc) w tree =
-    subst (λ (t : List Node). ExtendsTree t w tree) same (extends_new (board_tree (board_of s) r.doc) author r front tree kept w new is) in
+    subst (λ (t : List Node). ExtendsTree t w tree) same (extends_new (board_tree (board_of s) r.doc) author r front tree kept effects w new is) in
     subst (λ (doc : List ℕ). ExtendsTree (tree_on s doc) w tree) (sym is.doc) on
 
--- it is the write of the revision by the board
-pub write_by : (s : State) (author : Option (List ℕ)) (r : Revision) (tree : List Node) (kept : ℕ) (w : Write) → IsNewTree (board_tree (board_of s) r.doc) r tree kept → IsWritten author r (length s.log) tree kept w → IsWriteOf author r (board_of s) w
-write_by s author r tree kept w new is =
+-- it is the write of the revision by the board, under a program that accepts it with its effects
+pub write_by : (s : State) (program : Program) (author : Option (List ℕ)) (r : Revision) (tree : List Node) (kept : ℕ) (effects : Effects) (w : Write) → IsNewTree (board_tree (board_of s) r.doc) r tree kept → IsWritten author r (length s.log) tree kept effects w → IsSaid program author r (board_of s) (Ok effects) → IsWriteOf program author r (board_of s) w
+write_by s program author r tree kept effects w new is said =
     let before : List Node = board_tree (board_of s) r.doc in
     record {
       doc = is.doc;
@@ -154,10 +158,8 @@ write_by s author r tree kept w new is =
       body = is.body;
       by = is.by;
       at = is.at;
-      winner = ap (λ (t : List Node). option_map (λ l. l.rev) (winner_of t)) (sym (extends_new before author r (length s.log) tree kept w new is).tree) ∙ is.winner;
-      channels = is.channels;
-      grants = is.grants;
-      roles = is.roles;
+      winner = ap (λ (t : List Node). option_map (λ l. l.rev) (winner_of t)) (sym (extends_new before author r (length s.log) tree kept effects w new is).tree) ∙ is.winner;
+      accepted = subst (λ (e : Effects). IsSaid program author r (board_of s) (Ok e)) (sym is.has_effects) said;
     }
 
 positive : (n : ℕ) → nat_eq n 0 ≡ false → 0 < n

@@ -12,7 +12,7 @@ use Rattle.sg_history.specs.History.{Extends, as_write}
 use Rattle.rev_tree.specs.declared.tree.Node.{Node}
 use Rattle.rev_tree.specs.Documents.{tree_in, last_in}
 use Rattle.doc_board.specs.Boards.{board_of, bytes_stored, bytes_asked, body_size}
-use Rattle.doc_board.specs.Outcomes.{body_or_empty}
+use Rattle.doc_board.specs.Judging.{body_or_empty}
 use Rattle.doc_board.specs.Candidates.{ExtendsTree}
 use Rattle.doc_board.specs.State.{State, tree_on, last_on}
 use Rattle.write_path.proofs.OneRead.{same_book}

@@ -3,9 +3,12 @@ pub mod Alone
 pub mod BoardBodies
 pub mod BodyLaws
 pub mod Braces
+pub mod Decided
 pub mod Entries
 pub mod Grown
+pub mod Judged
 pub mod Maps
+pub mod NameTexts
 pub mod OneRead
 pub mod Proposed
 pub mod ReadLaws

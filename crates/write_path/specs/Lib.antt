@@ -8,3 +8,4 @@ pub mod Reads
 pub mod Shape
 pub mod Solo
 pub mod Trail
+pub mod Verdicts

@@ -5,6 +5,7 @@ use Rattle.sg_history.specs.declared.entries.Entry.TheVariants as entry
 use Rattle.sg_history.specs.declared.entries.Write.{Write}
 use Rattle.sg_history.specs.Board.{BoardState, board_book}
 use Rattle.repl_messages.specs.declared.revision.Revision.{Revision}
+use Rattle.sync_syntax.specs.declared.tree.Program.{Program}
 use Rattle.doc_board.specs.declared.outcome.Outcome.{Outcome}
 use Rattle.doc_board.specs.declared.outcome.Outcome.TheVariants as outcome
 use Rattle.doc_board.specs.Boards.{board_of}
@@ -15,45 +16,47 @@ use Rattle.write_path.specs.Reads.{Reads, WasRead, HasLength}
 -- ---- at any ground
 
 -- the answer is that of a board that was read in between, whose log has the recorded length
-pub record IsAnswered (before after : List BoardState) (recorded : Option ℕ) (strict : Bool) (by : Option (List ℕ)) (r : Revision) (answer : Outcome) : Type 0 where
+pub record IsAnswered (before after : List BoardState) (recorded : Option ℕ) (program : Program) (strict : Bool) (by : Option (List ℕ)) (r : Revision) (answer : Outcome) : Type 0 where
   pub board : BoardState
   pub was_read : WasRead before after board
   pub has_length : HasLength recorded board
-  pub outcome : IsOutcome strict by r board answer
+  pub outcome : IsOutcome program strict by r board answer
 
 -- the write of the revision, judged by one board that was read in between, is the one entry that is own since; it stands at its sequence in the book of another board that was read in between
-pub record IsStored (before after : List BoardState) (own_before own_after : List Waiting) (recorded : Option ℕ) (strict : Bool) (by : Option (List ℕ)) (r : Revision) (sequence at : ℕ) : Type 0 where
+pub record IsStored (before after : List BoardState) (own_before own_after : List Waiting) (recorded : Option ℕ) (program : Program) (strict : Bool) (by : Option (List ℕ)) (r : Revision) (sequence at : ℕ) : Type 0 where
   pub judged : BoardState
   pub was_judged : WasRead before after judged
   pub has_length : HasLength recorded judged
-  pub outcome : IsOutcome strict by r judged (outcome.Stored sequence at)
+  pub outcome : IsOutcome program strict by r judged (outcome.Stored sequence at)
   pub write : Write
-  pub is_write : IsWriteOf by r judged write
+  pub is_write : IsWriteOf program by r judged write
   pub own : own_after ≡ record { number = sequence; entry = entry.Write write } ∷ own_before
   pub holding : BoardState
   pub was_read : WasRead before after holding
   pub there : board_book holding sequence ≡ Some (entry.Write write)
 
 -- what is answered: without a board where the revision itself is refused, else by a board that was read in between; and what is own since: the stored write, at every other answer nothing more
-abbrev pub IsProposed : List BoardState → List BoardState → List Waiting → List Waiting → Option ℕ → Bool → Option (List ℕ) → Revision → Outcome → Type 0
-IsProposed before after own_before own_after recorded strict by r (outcome.Bad400 field) = (own_after ≡ own_before) × IsBadField r field
-IsProposed before after own_before own_after recorded strict by r (outcome.TooLarge413 bytes) = (own_after ≡ own_before) × IsTooLarge r bytes
-IsProposed before after own_before own_after recorded strict by r (outcome.UserGone401 at) =
-    (own_after ≡ own_before) × IsAnswered before after recorded strict by r (outcome.UserGone401 at)
-IsProposed before after own_before own_after recorded strict by r (outcome.Known at) =
-    (own_after ≡ own_before) × IsAnswered before after recorded strict by r (outcome.Known at)
-IsProposed before after own_before own_after recorded strict by r (outcome.BadHistory400 at) =
-    (own_after ≡ own_before) × IsAnswered before after recorded strict by r (outcome.BadHistory400 at)
-IsProposed before after own_before own_after recorded strict by r (outcome.Conflict409 at leaf) =
-    (own_after ≡ own_before) × IsAnswered before after recorded strict by r (outcome.Conflict409 at leaf)
-IsProposed before after own_before own_after recorded strict by r (outcome.Stored sequence at) =
-    IsStored before after own_before own_after recorded strict by r sequence at
-IsProposed before after own_before own_after recorded strict by r outcome.Memory507 = own_after ≡ own_before
+abbrev pub IsProposed : List BoardState → List BoardState → List Waiting → List Waiting → Option ℕ → Program → Bool → Option (List ℕ) → Revision → Outcome → Type 0
+IsProposed before after own_before own_after recorded program strict by r (outcome.Bad400 field) = (own_after ≡ own_before) × IsBadField r field
+IsProposed before after own_before own_after recorded program strict by r (outcome.TooLarge413 bytes) = (own_after ≡ own_before) × IsTooLarge r bytes
+IsProposed before after own_before own_after recorded program strict by r (outcome.UserGone401 at) =
+    (own_after ≡ own_before) × IsAnswered before after recorded program strict by r (outcome.UserGone401 at)
+IsProposed before after own_before own_after recorded program strict by r (outcome.Known at) =
+    (own_after ≡ own_before) × IsAnswered before after recorded program strict by r (outcome.Known at)
+IsProposed before after own_before own_after recorded program strict by r (outcome.BadHistory400 at) =
+    (own_after ≡ own_before) × IsAnswered before after recorded program strict by r (outcome.BadHistory400 at)
+IsProposed before after own_before own_after recorded program strict by r (outcome.Conflict409 at leaf) =
+    (own_after ≡ own_before) × IsAnswered before after recorded program strict by r (outcome.Conflict409 at leaf)
+IsProposed before after own_before own_after recorded program strict by r (outcome.Denied403 at rule) =
+    (own_after ≡ own_before) × IsAnswered before after recorded program strict by r (outcome.Denied403 at rule)
+IsProposed before after own_before own_after recorded program strict by r (outcome.Stored sequence at) =
+    IsStored before after own_before own_after recorded program strict by r sequence at
+IsProposed before after own_before own_after recorded program strict by r outcome.Memory507 = own_after ≡ own_before
 
 -- what proposing does to the boards read, to the lowest front and to the own entries, and what it answers
-pub record Stores (before after : List BoardState) (lowest_before lowest_after : ℕ) (own_before own_after : List Waiting) (recorded : Option ℕ) (strict : Bool) (by : Option (List ℕ)) (r : Revision) (answer : Outcome) : Type 0 where
+pub record Stores (before after : List BoardState) (lowest_before lowest_after : ℕ) (own_before own_after : List Waiting) (recorded : Option ℕ) (program : Program) (strict : Bool) (by : Option (List ℕ)) (r : Revision) (answer : Outcome) : Type 0 where
   pub reads : Reads before after lowest_before lowest_after
-  pub proposed : IsProposed before after own_before own_after recorded strict by r answer
+  pub proposed : IsProposed before after own_before own_after recorded program strict by r answer
 
 -- a recorded length is one more where the revision was stored, else the same; where none is recorded, none is then
 abbrev pub recorded_after : Option ℕ → Outcome → Option ℕ
@@ -63,21 +66,27 @@ recorded_after (Some n) answer = Some n
 
 -- ---- at a board with one owner
 
+-- the log and the rooms are as before
+pub record IsAsBefore (before after : State) : Type 0 where
+  pub log : after.log ≡ before.log
+  pub rooms : after.rooms ≡ before.rooms
+
 -- the log has the write of the revision besides, at this sequence, which is its end; the rooms are as before
-pub record IsGrown (before after : State) (by : Option (List ℕ)) (r : Revision) (sequence : ℕ) : Type 0 where
+pub record IsGrown (before after : State) (program : Program) (by : Option (List ℕ)) (r : Revision) (sequence : ℕ) : Type 0 where
   pub write : Write
   pub next : sequence ≡ length before.log + 1
   pub log : after.log ≡ before.log ++ entry.Write write ∷ []
   pub rooms : after.rooms ≡ before.rooms
-  pub is_write : IsWriteOf by r (board_of before) write
+  pub is_write : IsWriteOf program by r (board_of before) write
 
 -- what the board is after the answer: with the write where the revision was stored, else as before
-abbrev pub IsBoardAfter : State → State → Option (List ℕ) → Revision → Outcome → Type 0
-IsBoardAfter before after by r (outcome.Bad400 field) = after ≡ before
-IsBoardAfter before after by r (outcome.TooLarge413 bytes) = after ≡ before
-IsBoardAfter before after by r (outcome.UserGone401 at) = after ≡ before
-IsBoardAfter before after by r (outcome.Known at) = after ≡ before
-IsBoardAfter before after by r (outcome.BadHistory400 at) = after ≡ before
-IsBoardAfter before after by r (outcome.Conflict409 at leaf) = after ≡ before
-IsBoardAfter before after by r (outcome.Stored sequence at) = IsGrown before after by r sequence
-IsBoardAfter before after by r outcome.Memory507 = after ≡ before
+abbrev pub IsBoardAfter : State → State → Program → Option (List ℕ) → Revision → Outcome → Type 0
+IsBoardAfter before after program by r (outcome.Bad400 field) = IsAsBefore before after
+IsBoardAfter before after program by r (outcome.TooLarge413 bytes) = IsAsBefore before after
+IsBoardAfter before after program by r (outcome.UserGone401 at) = IsAsBefore before after
+IsBoardAfter before after program by r (outcome.Known at) = IsAsBefore before after
+IsBoardAfter before after program by r (outcome.BadHistory400 at) = IsAsBefore before after
+IsBoardAfter before after program by r (outcome.Conflict409 at leaf) = IsAsBefore before after
+IsBoardAfter before after program by r (outcome.Denied403 at rule) = IsAsBefore before after
+IsBoardAfter before after program by r (outcome.Stored sequence at) = IsGrown before after program by r sequence
+IsBoardAfter before after program by r outcome.Memory507 = IsAsBefore before after

@@ -1,25 +1,27 @@
 -- What the functions of a proposal hand on to one another. Only proofs need this.
-use Rattle.std.specs.Prelude.{◌≡◌, ◌<◌, ℕ, List, [], ◌∷◌, take, option_map, Option, Some, None}
+use Rattle.std.specs.Prelude.{◌≡◌, ◌<◌, ℕ, List, ◌∷◌, take, option_map, Option, Some, None}
 use Rattle.sg_history.specs.declared.book.Waiting.{Waiting}
 use Rattle.sg_history.specs.declared.entries.Entry.{Entry}
 use Rattle.sg_history.specs.declared.entries.Write.{Write}
 use Rattle.sg_history.specs.Book.{book_of}
-use Rattle.sg_history.specs.Principals.{everyone}
 use Rattle.rev_tree.specs.declared.tree.Node.{Node}
 use Rattle.rev_tree.specs.Tree.{winner_of}
 use Rattle.repl_messages.specs.declared.revision.Revision.{Revision}
 use Rattle.doc_board.specs.declared.outcome.Outcome.{Outcome}
 use Rattle.doc_board.specs.declared.outcome.Outcome.TheVariants as outcome
-use Rattle.doc_board.specs.Outcomes.{IsBadField, IsTooLarge, body_or_empty}
+use Rattle.sync_meaning.specs.declared.effects.Effects.{Effects}
+use Rattle.doc_board.specs.Judging.{body_or_empty}
+use Rattle.doc_board.specs.Outcomes.{IsBadField, IsTooLarge, effects_in}
 
--- the refusal of a revision itself, whatever the board
+-- the refusal of a revision itself, whatever the board; or memory was short
 abbrev pub IsRefusal : Revision → Outcome → Type 0
 IsRefusal r (outcome.Bad400 field) = IsBadField r field
 IsRefusal r (outcome.TooLarge413 bytes) = IsTooLarge r bytes
+IsRefusal r outcome.Memory507 = Unit {0}
 IsRefusal r other = ⊥
 
--- the write of a revision with the first so many of its ancestors, at this front, which names the winner of this tree
-pub record IsWritten (author : Option (List ℕ)) (r : Revision) (front : ℕ) (tree : List Node) (kept : ℕ) (w : Write) : Type 0 where
+-- the write of a revision with the first so many of its ancestors, at this front, which names the winner of this tree and has these effects
+pub record IsWritten (author : Option (List ℕ)) (r : Revision) (front : ℕ) (tree : List Node) (kept : ℕ) (effects : Effects) (w : Write) : Type 0 where
   pub doc : w.doc ≡ r.doc
   pub rev : w.rev ≡ r.rev
   pub ancestors : w.ancestors ≡ take kept r.ancestors
@@ -28,9 +30,7 @@ pub record IsWritten (author : Option (List ℕ)) (r : Revision) (front : ℕ) (
   pub by : w.by ≡ author
   pub at : w.at ≡ front
   pub winner : option_map (λ l. l.rev) (winner_of tree) ≡ Some w.winner
-  pub channels : w.channels ≡ everyone ∷ []
-  pub grants : w.grants ≡ []
-  pub roles : w.roles ≡ []
+  pub has_effects : effects_in w ≡ effects
 
 -- the revision is stored at some sequence, judged at this front, or memory was short
 abbrev pub IsStoredOrMemory : Outcome → ℕ → Type 0

@@ -15,6 +15,7 @@ use repl_messages::{Asked, Bodies, Fed, Offer, Revision};
 use sg_history::{Key, Name, Options, Row};
 use sg_outside::Memory;
 use std::alloc::Global;
+use sync_resolve::Resolved;
 
 /// Where a session reads the history. Others may change it between two calls: each call that reads
 /// adds the boards that it read to those that were, and its answer is that of the log of one of them.
@@ -85,17 +86,18 @@ pub trait Ground: Drop {
             × AskedAt b offers.now asked) };
 
     /// Proposes a revision, by a user or, where there is none, by the administrator. Under `strict` it may make no conflict, nor
-    /// where the revision says so. Out of memory it may have read, or not.
+    /// where the revision says so; and the program may deny it. Out of memory it may have read, or not.
     fn propose(
         &mut self,
         alloc: Global,
+        program: &Resolved,
         by: Option<&Name>,
         strict: bool,
         revision: Revision,
     ) -> Outcome
         ensures stores { Stores (read self.old) (read self.new) (lowest_front self.old)
             (lowest_front self.new)
-            (own self.old) (own self.new) (recorded self.old) (strict || revision.noconflicts)
-            (option_copied by.entry) revision result }
+            (own self.old) (own self.new) (recorded self.old)
+            program.now (strict || revision.noconflicts) (option_copied by.entry) revision result }
         ensures recorded { recorded self.new ≡ recorded_after (recorded self.old) result };
 }

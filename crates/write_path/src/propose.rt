@@ -1,32 +1,40 @@
 //! Proposals: a revision is read, judged by the board, and stored.
 
-ghost use Rattle.std.specs.Prelude.{◌≡◌, ◌≢◌, ◌≤◌, ◌+◌, ◌++◌, ◌∷◌, ◌||◌, [], true, false, length, take, option_map, Some, IfOk, IfSome, IfNone, IsTrue, IsUtf8};
+ghost use Rattle.std.specs.Prelude.{◌≡◌, ◌≢◌, ◌≤◌, ◌+◌, ◌++◌, ◌∷◌, ◌||◌, [], true, false, length, take, option_map, Some, Ok, IfOk, IfErr, IfSome, IfNone, IsTrue, IsUtf8};
 ghost use Rattle.std.specs.Option.{option_copied};
 ghost use Rattle.sg_names.specs.Grammar.{is_name, is_doc_id};
 ghost use Rattle.sg_names.specs.RevId as names;
 ghost use Rattle.sg_names.specs.Revs as lists;
 ghost use Rattle.sg_history.specs.declared.entries.Entry.TheVariants as kinds;
 ghost use Rattle.sg_history.specs.Journal.{IsEntry, is_body};
-ghost use Rattle.sg_history.specs.Principals as principals;
+ghost use Rattle.json_doc.specs.Reading.{IsDocument};
+ghost use Rattle.json_doc.specs.View.{node_tree};
 ghost use Rattle.rev_tree.specs.Tree as trees;
+ghost use Rattle.sync_meaning.specs.Laws.{AreEffects};
+ghost use Rattle.sync_syntax.specs.declared.tree.Program.{Program};
 ghost use Rattle.doc_board.specs.Answers.{IsNewTree, IsStep, proposer_exists};
 ghost use Rattle.doc_board.specs.Boards.{board_of, board_tree};
 ghost use Rattle.doc_board.specs.Candidates.{ExtendsTree};
-ghost use Rattle.doc_board.specs.Outcomes.{IsOutcome, IsWellFormed, body_or_empty};
+ghost use Rattle.doc_board.specs.Judging.{IsSaid, body_or_empty};
+ghost use Rattle.doc_board.specs.Outcomes.{IsOutcome, IsWellFormed};
 ghost use Rattle.doc_board.specs.Recorded.{HasDocument};
 ghost use Rattle.doc_board.specs.State.{newest_first, tree_on, last_on};
-ghost use Rattle.write_path.specs.Proposals.{IsBoardAfter};
+ghost use Rattle.write_path.specs.Proposals.{IsAsBefore, IsBoardAfter};
 ghost use Rattle.write_path.specs.Shape.{IsRefusal, IsWritten, IsStoredOrMemory};
+ghost use Rattle.write_path.specs.Verdicts.{IsBasis, IsDecided};
 
+use crate::judging::{Basis, document_in, said_of};
+use crate::texts::pass_effects;
 use doc_board::laws::{boards, winners};
-use doc_board::{Board, Candidate, Commit, MOST_BODY_BYTES, Outcome, Snapshot, is_document};
+use doc_board::{Board, Candidate, Commit, MOST_BODY_BYTES, Outcome, Snapshot};
+use json_doc::Doc;
 use repl_messages::{Field, Revision};
 use rev_tree::{Extended, Tree};
-use sg_history::{
-    ChannelName, Channels, Grants, Name, Number, RevId, Revs, RoleGrants, TextFault, Write,
-};
+use sg_history::{Name, Number, RevId, Revs, Write};
 use sg_outside::{Bytes, Memory};
 use std::alloc::{AllocError, Global};
+use sync_eval::{Effects, Verdict};
+use sync_resolve::Resolved;
 
 fn is_rev(rev: &RevId) -> bool
     ensures { result ≡ names.is_rev rev.now }
@@ -41,41 +49,30 @@ fn are_revs(revs: &[RevId]) -> bool
     revs.iter().all(|r| is_rev(r))
 }
 
-/// The refusal of a revision that is bad itself: of its names, its size, or its body.
-fn refusal_of(alloc: Global, revision: &Revision) -> Result<Option<Outcome>, AllocError>
-    ensures some { IfOk result (λ found. IfSome found (IsRefusal revision.now)) }
-    ensures none { IfOk result (λ found. IfNone found (IsWellFormed revision.now)) }
+/// The document of a revision that is well formed, or its refusal: of its names, its size, or its body.
+fn document_of(alloc: Global, revision: &Revision) -> Result<Doc, Outcome>
+    ensures formed { IfOk result (λ doc. IsWellFormed revision.now) }
+    ensures document { IfOk result (λ doc. IsDocument revision.now.body (node_tree doc)) }
+    ensures refusal { IfErr result (IsRefusal revision.now) }
 {
     let _ = revision.doc.as_str();
     if !is_rev(&revision.rev) {
-        return Ok(Some(Outcome::Bad400 { field: Field::Rev }));
+        return Err(Outcome::Bad400 { field: Field::Rev });
     }
     if !are_revs(revision.ancestors.as_slice()) {
-        return Ok(Some(Outcome::Bad400 {
+        return Err(Outcome::Bad400 {
             field: Field::History,
-        }));
+        });
     }
     let bytes = revision.body.len() as u64;
     if bytes > MOST_BODY_BYTES {
-        return Ok(Some(Outcome::TooLarge413 { bytes }));
+        return Err(Outcome::TooLarge413 { bytes });
     }
-    if !is_document(alloc, revision.body.as_slice())? {
-        return Ok(Some(Outcome::Bad400 { field: Field::Body }));
+    match document_in(alloc, revision.body.as_slice()) {
+        Ok(Some(doc)) => Ok(doc),
+        Ok(None) => Err(Outcome::Bad400 { field: Field::Body }),
+        Err(_) => Err(Outcome::Memory507),
     }
-    Ok(None)
-}
-
-/// The list of the channel that every user has.
-fn everyone(alloc: Global) -> Result<Channels, AllocError>
-    ensures { IfOk result (λ channels. channels ≡ principals.everyone ∷ []) }
-{
-    let mut channels = Channels::new(alloc);
-    match ChannelName::parse(alloc, "!") {
-        Ok(channel) => channels.push(channel)?,
-        Err(TextFault::Memory) => return Err(AllocError),
-        Err(TextFault::Bad) => unreachable!(),
-    }
-    Ok(channels)
 }
 
 /// Whether there are bytes, as in each body that is stored.
@@ -130,7 +127,8 @@ fn winner_of(alloc: Global, tree: &Tree) -> Result<RevId, AllocError>
     }
 }
 
-/// The write of a revision that was judged at a front, with so many of its ancestors and the tree after it.
+/// The write of a revision that was judged at a front, with so many of its ancestors, the tree after it, and the effects with
+/// which it is accepted.
 fn write_of(
     alloc: Global,
     by: Option<&Name>,
@@ -138,16 +136,19 @@ fn write_of(
     at: u64,
     tree: &Tree,
     kept: u64,
+    effects: Effects,
 ) -> Result<Write, AllocError>
     requires tree { tree.now ≢ [] }
     requires formed { IsWellFormed revision }
+    requires effects { AreEffects effects }
     ensures write { IfOk result
-        (λ w. IsWritten (option_copied by.entry) revision at tree.now kept w) }
+        (λ w. IsWritten (option_copied by.entry) revision at tree.now kept effects w) }
     ensures entry { IfOk result (λ w. IsTrue (names.is_rev w.winner) → IsEntry (kinds.Write w)) }
     ensures body { IfOk result (λ w. HasDocument w.body) }
     ensures size { IfOk result (λ w. length w.body ≤ 20971520) }
 {
     let _ = revision.doc.as_str();
+    pass_effects(&effects);
     Ok(Write {
         winner: winner_of(alloc, tree)?,
         doc: revision.doc,
@@ -157,9 +158,9 @@ fn write_of(
         body: body_of(alloc, revision.body)?,
         by: copy_of(alloc, by)?,
         at,
-        channels: everyone(alloc)?,
-        grants: Grants::new(alloc),
-        roles: RoleGrants::new(alloc),
+        channels: effects.channels,
+        grants: effects.grants,
+        roles: effects.roles,
     })
 }
 
@@ -207,13 +208,14 @@ fn store(board: &mut Board, entry: Write, tree: Tree, base: u64) -> Option<u64>
     }
 }
 
-/// Makes the write of a revision that the board judged in this turn, and stores it.
+/// Makes the write of a revision that the board judged in this turn, with the effects with which it is accepted, and stores it.
 fn store_revision(
     alloc: Global,
     board: &mut Board,
     by: Option<&Name>,
     revision: Revision,
     judged: Judged,
+    effects: Effects,
 ) -> Outcome
     requires rooms { board.old.rooms ≡ [] }
     requires formed { IsWellFormed revision }
@@ -221,8 +223,11 @@ fn store_revision(
     requires base { judged.base ≡ last_on board.old revision.doc }
     requires tree { IsNewTree (board_tree (board_of board.old) revision.doc) revision
         judged.tree judged.kept }
+    requires effects { AreEffects effects }
     ensures answer { IsStoredOrMemory result judged.at }
-    ensures board { IsBoardAfter board.old board.new (option_copied by.entry) revision result }
+    ensures board { (program : Program)
+        → IsSaid program (option_copied by.entry) revision (board_of board.old) (Ok effects)
+        → IsBoardAfter board.old board.new program (option_copied by.entry) revision result }
 {
     let _ = board.log();
     boards();
@@ -233,7 +238,7 @@ fn store_revision(
         tree,
         kept,
     } = judged;
-    let Ok(entry) = write_of(alloc, by, revision, at, &tree, kept) else {
+    let Ok(entry) = write_of(alloc, by, revision, at, &tree, kept, effects) else {
         return Outcome::Memory507;
     };
     match store(board, entry, tree, base) {
@@ -242,38 +247,78 @@ fn store_revision(
     }
 }
 
-/// What is needed to judge a revision, by the trees of the board.
+/// Stores a revision that extends its document's tree where the program accepts it.
+fn store_accepted(
+    alloc: Global,
+    board: &mut Board,
+    program: &Resolved,
+    by: Option<&Name>,
+    revision: Revision,
+    doc: Doc,
+    basis: Basis,
+    judged: Judged,
+) -> Outcome
+    requires rooms { board.old.rooms ≡ [] }
+    requires formed { IsWellFormed revision }
+    requires document { IsDocument revision.body (node_tree doc) }
+    requires basis { IsBasis board.old (option_copied by) revision basis }
+    requires at { judged.at ≡ length board.old.log }
+    requires base { judged.base ≡ last_on board.old revision.doc }
+    requires tree { IsNewTree (board_tree (board_of board.old) revision.doc) revision
+        judged.tree judged.kept }
+    ensures answer { IsDecided program.now (option_copied by.entry) revision
+        (board_of board.old) judged.at result }
+    ensures board { IsBoardAfter board.old board.new program.now (option_copied by.entry)
+        revision result }
+{
+    sync_meaning::laws::effects();
+    let at = judged.at;
+    match said_of(alloc, program, &revision, doc, &basis) {
+        Verdict::Accept(effects) => store_revision(alloc, board, by, revision, judged, effects),
+        Verdict::Deny(rule) => Outcome::Denied403 { at, rule },
+        Verdict::Memory => Outcome::Memory507,
+    }
+}
+
+/// What is needed to judge a revision, by the trees of the board, which has the same log and rooms then.
 fn snapshot_of(
     board: &mut Board,
     revision: &Revision,
     strict: bool,
     by: Option<&Name>,
 ) -> Result<Snapshot, Memory>
-    ensures same { board.new ≡ board.old }
+    ensures same { IsAsBefore board.old board.new }
     ensures at { IfOk result (λ s. s.at ≡ length board.old.log) }
     ensures last { IfOk result (λ s. s.last ≡ last_on board.old revision.now.doc) }
     ensures step { IfOk result (λ s. IsStep
         (board_tree (board_of board.old) revision.now.doc) revision.now strict s.step) }
     ensures user { IfOk result (λ s. s.user_exists ≡ proposer_exists (newest_first board.old)
         (option_copied by.entry)) }
+    ensures basis { IfOk result (λ s. IsBasis board.old (option_copied by.entry) revision.now
+        (record { old = s.old; old_deleted = s.old_deleted; context = s.context })) }
 {
     boards();
     board.snapshot(revision, strict, by)
 }
 
-/// Has the board judge a revision that is well formed, and stores it where it extends its document's tree.
+/// Has the board and the program judge a revision that is well formed, and stores it where it extends its document's tree and
+/// the program accepts it.
 fn judge(
     alloc: Global,
     board: &mut Board,
+    program: &Resolved,
     by: Option<&Name>,
     strict: bool,
     revision: Revision,
+    doc: Doc,
 ) -> Outcome
     requires rooms { board.old.rooms ≡ [] }
     requires formed { IsWellFormed revision }
-    ensures outcome { IsOutcome strict (option_copied by.entry) revision
+    requires document { IsDocument revision.body (node_tree doc) }
+    ensures outcome { IsOutcome program.now strict (option_copied by.entry) revision
         (board_of board.old) result }
-    ensures board { IsBoardAfter board.old board.new (option_copied by.entry) revision result }
+    ensures board { IsBoardAfter board.old board.new program.now (option_copied by.entry)
+        revision result }
 {
     let Ok(snapshot) = snapshot_of(board, &revision, strict, by) else {
         return Outcome::Memory507;
@@ -282,8 +327,10 @@ fn judge(
         at,
         last: base,
         step,
+        old,
+        old_deleted,
         user_exists,
-        ..
+        context,
     } = snapshot;
     if !user_exists {
         return Outcome::UserGone401 { at };
@@ -294,35 +341,42 @@ fn judge(
         Extended::Conflict409 { leaf } => Outcome::Conflict409 { at, leaf },
         Extended::Memory => Outcome::Memory507,
         Extended::NewTree { tree, kept } => {
+            let basis = Basis {
+                old,
+                old_deleted,
+                context,
+            };
             let judged = Judged {
                 at,
                 base,
                 tree,
                 kept,
             };
-            store_revision(alloc, board, by, revision, judged)
+            store_accepted(alloc, board, program, by, revision, doc, basis, judged)
         }
     }
 }
 
 /// Proposes a revision to a board, by a user or by the administrator: it is stored where it is well formed, its proposer
-/// exists, and it extends its document's tree; under `strict` it may make no conflict, nor where the revision says so.
+/// exists, it extends its document's tree, and the program accepts it; under `strict` it may make no conflict, nor where the
+/// revision says so.
 pub fn propose_to(
     alloc: Global,
     board: &mut Board,
+    program: &Resolved,
     by: Option<&Name>,
     strict: bool,
     revision: Revision,
 ) -> Outcome
     requires { board.old.rooms ≡ [] }
-    ensures outcome { IsOutcome (strict || revision.noconflicts) (option_copied by.entry) revision
-        (board_of board.old) result }
-    ensures board { IsBoardAfter board.old board.new (option_copied by.entry) revision result }
+    ensures outcome { IsOutcome program.now (strict || revision.noconflicts)
+        (option_copied by.entry) revision (board_of board.old) result }
+    ensures board { IsBoardAfter board.old board.new program.now (option_copied by.entry)
+        revision result }
 {
     let strict = strict || revision.noconflicts;
-    match refusal_of(alloc, &revision) {
-        Err(_) => Outcome::Memory507,
-        Ok(Some(refusal)) => refusal,
-        Ok(None) => judge(alloc, board, by, strict, revision),
+    match document_of(alloc, &revision) {
+        Ok(doc) => judge(alloc, board, program, by, strict, revision, doc),
+        Err(refusal) => refusal,
     }
 }

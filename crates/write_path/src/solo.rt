@@ -21,6 +21,7 @@ use sg_history::{Key, Name, Options, Row, entry_at};
 use sg_outside::Memory;
 use std::alloc::Global;
 use std::marker::Model;
+use sync_resolve::Resolved;
 
 /// A ground that owns its shelf and waits for nobody. No room is outstanding between its calls. An index of the log
 /// is brought up to it by each look for bodies.
@@ -136,25 +137,26 @@ impl Ground for SoloGround {
     fn propose(
         &mut self,
         alloc: Global,
+        program: &Resolved,
         by: Option<&Name>,
         strict: bool,
         revision: Revision,
     ) -> Outcome
         ensures stores { Stores self.old.read self.new.read (length self.old.board.log)
             (length self.new.board.log) self.old.own self.new.own
-            (Some (length self.old.board.log)) (strict || revision.noconflicts)
+            (Some (length self.old.board.log)) program.now (strict || revision.noconflicts)
             (option_copied by.entry) revision result }
         ensures recorded { Some (length self.new.board.log)
             ≡ recorded_after (Some (length self.old.board.log)) result }
-        // The board is as before at every answer other than Stored.
-        ensures board { IsBoardAfter self.old.board self.new.board (option_copied by.entry)
-            revision result }
+        // The log and the rooms are as before at every answer other than Stored.
+        ensures board { IsBoardAfter self.old.board self.new.board program.now
+            (option_copied by.entry) revision result }
     {
         sg_history::laws::boards();
         sg_history::laws::later();
         log_index::laws::behind();
         self.read.add(&self.shelf.board);
-        let outcome = propose_to(alloc, &mut self.shelf.board, by, strict, revision);
+        let outcome = propose_to(alloc, &mut self.shelf.board, program, by, strict, revision);
         self.read.add(&self.shelf.board);
         record_own(&mut self.own, &self.shelf.board, &outcome);
         outcome

@@ -13,7 +13,8 @@ returns-clause-entry c = λ winner.
     (c.as_str.ensures.grammar, subst (λ (t : List ℕ). IsUtf8 t) c.as_str.ensures.value c.as_str.utf8)
     c.requires.formed.named.rev
     (subst (λ (rs : List RevId). IsTrue (is_revs rs)) (sym c.kept_of.ensures) (first_revs c.args.revision.ancestors c.args.kept c.requires.formed.named.history))
-    c.in_ok-body_of.ensures.bytes c.in_ok-copy_of.ensures.name (omega (arith, c.ranges.at.fits)) winner c.in_ok-everyone.ensures c.new.ensures c.new-2.ensures
+    c.in_ok-body_of.ensures.bytes c.in_ok-copy_of.ensures.name (omega (arith, c.ranges.at.fits)) winner c.requires.effects
+    (record { channels = c.pass_effects.ensures.channels; grants = c.pass_effects.ensures.grants; roles = c.pass_effects.ensures.roles })
 
 pub returns-clause-body : goal.returns-clause-body
 returns-clause-body c =

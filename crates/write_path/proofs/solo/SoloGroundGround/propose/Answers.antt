@@ -13,12 +13,12 @@ invariant_of-self c =
     let s : State = c.self.inside.shelf.board in
     let t : State = c.propose_to-outcome.new.board in
     let on : After (board_of s) (board_of t) =
-    after_answer c.later.ensures.extended c.boards.ensures.itself s t (c.args.strict || c.args.revision.noconflicts) (option_copied c.args.by) c.args.revision c.propose_to-outcome.result c.propose_to-outcome.ensures.outcome c.propose_to-outcome.ensures.board in
+    after_answer c.later.ensures.extended c.boards.ensures.itself s t c.args.program.now (c.args.strict || c.args.revision.noconflicts) (option_copied c.args.by) c.args.revision c.propose_to-outcome.result c.propose_to-outcome.ensures.outcome c.propose_to-outcome.ensures.board in
     let read : c.add-2.new.self ≡ board_of t ∷ board_of s ∷ c.self.inside.read =
     c.add-2.ensures ∙ ap (λ (before : List BoardState). board_of t ∷ before) c.add.ensures in
     let B : List Entry → Type 0 = λ es. IsBehind c.self.inside.index es in
     rw read
-    ((c.boards.ensures.itself (board_of t), (on, all_after c.boards.ensures.again c.self.inside.read (board_of s) (board_of t) c.self.invariant.0 on)), no_rooms s t (option_copied c.args.by) c.args.revision c.propose_to-outcome.result c.self.invariant.1 c.propose_to-outcome.ensures.board, subst B (sym on.log.1) (c.behind.ensures c.self.inside.index s.log on.log.0 c.self.invariant.2))
+    ((c.boards.ensures.itself (board_of t), (on, all_after c.boards.ensures.again c.self.inside.read (board_of s) (board_of t) c.self.invariant.0 on)), no_rooms s t c.args.program.now (option_copied c.args.by) c.args.revision c.propose_to-outcome.result c.self.invariant.1 c.propose_to-outcome.ensures.board, subst B (sym on.log.1) (c.behind.ensures c.self.inside.index s.log on.log.0 c.self.invariant.2))
 
 pub returns-clause-stores : goal.returns-clause-stores
 returns-clause-stores c =
@@ -27,9 +27,9 @@ returns-clause-stores c =
     let read : c.add-2.new.self ≡ board_of t ∷ board_of s ∷ c.self.inside.read =
     c.add-2.ensures ∙ ap (λ (before : List BoardState). board_of t ∷ before) c.add.ensures in
     rw (← c.self.view_is)
-    (stores c.later.ensures.extended c.boards.ensures.itself c.boards.ensures.again _ _ _ _ s t (c.args.strict || c.args.revision.noconflicts) (option_copied c.args.by) c.args.revision c.propose_to-outcome.result read c.record_own.ensures c.self.invariant.0 c.propose_to-outcome.ensures.outcome c.propose_to-outcome.ensures.board)
+    (stores c.later.ensures.extended c.boards.ensures.itself c.boards.ensures.again _ _ _ _ s t c.args.program.now (c.args.strict || c.args.revision.noconflicts) (option_copied c.args.by) c.args.revision c.propose_to-outcome.result read c.record_own.ensures c.self.invariant.0 c.propose_to-outcome.ensures.outcome c.propose_to-outcome.ensures.board)
 
 pub returns-clause-recorded : goal.returns-clause-recorded
 returns-clause-recorded c =
     rw (← c.self.view_is)
-    (recorded_then c.self.inside.shelf.board c.propose_to-outcome.new.board (option_copied c.args.by) c.args.revision c.propose_to-outcome.result c.propose_to-outcome.ensures.board)
+    (recorded_then c.self.inside.shelf.board c.propose_to-outcome.new.board c.args.program.now (option_copied c.args.by) c.args.revision c.propose_to-outcome.result c.propose_to-outcome.ensures.board)
