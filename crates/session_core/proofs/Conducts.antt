@@ -24,6 +24,7 @@ use Rattle.repl_messages.specs.Answers.{answers_payload}
 use Rattle.repl_messages.specs.Errors.{ok_payload, error_payload}
 use Rattle.repl_messages.specs.Looks.{front_of}
 use Rattle.repl_messages.specs.Wanted.{wanted_rows, reply_items}
+use Rattle.sync_meaning.specs.Texts.{rule_text}
 use Rattle.doc_board.specs.declared.outcome.Outcome.{Outcome}
 use Rattle.doc_board.specs.declared.outcome.Outcome.TheVariants as outcome
 use Rattle.session_core.specs.declared.act.Act.{Act}
@@ -293,6 +294,7 @@ outcome_is m asker (outcome.UserGone401 at) fronts = refusal m asker fronts erro
 outcome_is m asker (outcome.Known at) fronts = accepted m asker fronts
 outcome_is m asker (outcome.BadHistory400 at) fronts = refusal m asker fronts errors.BadHistory400
 outcome_is m asker (outcome.Conflict409 at leaf) fronts = refusal m asker fronts (errors.Conflict409 leaf)
+outcome_is m asker (outcome.Denied403 at rule) fronts = refusal m asker fronts (errors.Denied403 (rule_text rule))
 outcome_is m asker (outcome.Stored sequence at) fronts = accepted m asker fronts
 outcome_is m asker outcome.Memory507 fronts = refusal m asker fronts errors.Memory507
 

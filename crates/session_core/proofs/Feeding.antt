@@ -30,6 +30,7 @@ use Rattle.repl_messages.specs.declared.offers.Asked.{Asked}
 use Rattle.repl_messages.specs.Answers.{answers_payload}
 use Rattle.repl_messages.specs.Errors.{error_payload}
 use Rattle.repl_messages.specs.Looks.{front_of}
+use Rattle.sync_syntax.specs.declared.tree.Program.{Program}
 use Rattle.doc_board.specs.declared.outcome.Outcome.{Outcome}
 use Rattle.doc_board.specs.declared.outcome.Outcome.TheVariants as outcome
 use Rattle.session_core.specs.declared.act.Act.{Act}
@@ -345,29 +346,29 @@ feed_by h user front None = []
 feed_by h user front (Some r) = feed (past h front) user (next_since r) r.options
 
 by_look : (h : List Entry) (user : List ℕ) (r : Running) (front : ℕ) (rows : List Row) (feed_runs : Option Running) (wanted : Option Want) → feed_runs ≡ Some r → WantsFor feed_runs pending.More wanted
-    → (strict : Bool) → IsRight h user strict wanted (event.Fed (fed.Rows front rows)) → rows ≡ feed (past h front) user (plain r.front) r.options
-by_look h user r front rows None wanted e w strict right = absurd (none-some r e)
-by_look h user r front rows (Some s) None e w strict right = absurd w
-by_look h user r front rows (Some s) (Some (want.Feed since options)) e (since_is, options_is) strict (bound, rows_are) =
+    → (program : Program) (strict : Bool) → IsRight h user program strict wanted (event.Fed (fed.Rows front rows)) → rows ≡ feed (past h front) user (plain r.front) r.options
+by_look h user r front rows None wanted e w program strict right = absurd (none-some r e)
+by_look h user r front rows (Some s) None e w program strict right = absurd w
+by_look h user r front rows (Some s) (Some (want.Feed since options)) e (since_is, options_is) program strict (bound, rows_are) =
     rows_are ∙ ap (λ k. feed (past h front) user k options) since_is ∙ ap (feed (past h front) user (next_since s)) options_is
     ∙ ap (λ (o : Option Running). feed_by h user front o) e
-by_look h user r front rows (Some s) (Some (want.Bodies options wanted most)) e w strict right = absurd w
-by_look h user r front rows (Some s) (Some (want.Ask offers)) e w strict right = absurd w
-by_look h user r front rows (Some s) (Some (want.Propose revision)) e w strict right = absurd w
+by_look h user r front rows (Some s) (Some (want.Bodies options wanted most)) e w program strict right = absurd w
+by_look h user r front rows (Some s) (Some (want.Ask offers)) e w program strict right = absurd w
+by_look h user r front rows (Some s) (Some (want.Propose revision)) e w program strict right = absurd w
 
-fed_stay : (h : List Entry) (user : List ℕ) (version : Version) (strict : Bool) (asked : Subscription) (messages : List Message) (fronts : List ℕ) (m : Machine) (r : Running) (answer : Fed) (wanted : Option Want) (awaited : Pending)
-    → Offering h user version asked messages fronts m → m.feed ≡ Some r → m.pending ≡ awaited → AwaitsBy m.feed awaited (event.Fed answer) → WantsFor m.feed awaited wanted → IsRight h user strict wanted (event.Fed answer)
+fed_stay : (h : List Entry) (user : List ℕ) (version : Version) (program : Program) (strict : Bool) (asked : Subscription) (messages : List Message) (fronts : List ℕ) (m : Machine) (r : Running) (answer : Fed) (wanted : Option Want) (awaited : Pending)
+    → Offering h user version asked messages fronts m → m.feed ≡ Some r → m.pending ≡ awaited → AwaitsBy m.feed awaited (event.Fed answer) → WantsFor m.feed awaited wanted → IsRight h user program strict wanted (event.Fed answer)
     → After h user version asked messages (front_of answer ∷ fronts) m (on_fed m answer awaited)
-fed_stay h user version strict asked messages fronts m r answer wanted pending.Nothing so_far e awaited_is a w right = absurd a
-fed_stay h user version strict asked messages fronts m r answer wanted (pending.Feed other) so_far e awaited_is a w right =
+fed_stay h user version program strict asked messages fronts m r answer wanted pending.Nothing so_far e awaited_is a w right = absurd a
+fed_stay h user version program strict asked messages fronts m r answer wanted (pending.Feed other) so_far e awaited_is a w right =
     absurd (subst (Waits r) awaited_is (facts h user version asked messages fronts m r so_far e).2)
-fed_stay h user version strict asked messages fronts m r (fed.Future front) wanted pending.More so_far e awaited_is a w right = absurd a
-fed_stay h user version strict asked messages fronts m r (fed.Rows front rows) wanted pending.More so_far e awaited_is a w right =
+fed_stay h user version program strict asked messages fronts m r (fed.Future front) wanted pending.More so_far e awaited_is a w right = absurd a
+fed_stay h user version program strict asked messages fronts m r (fed.Rows front rows) wanted pending.More so_far e awaited_is a w right =
     subst (λ f. After h user version asked messages (front ∷ fronts) m (on_next_look m f (fed.Rows front rows))) (sym e)
-    (more_rows h user version asked messages fronts m r front rows so_far e awaited_is (by_look h user r front rows m.feed wanted e w strict right))
-fed_stay h user version strict asked messages fronts m r answer wanted (pending.Bodies rows) so_far e awaited_is a w right = absurd a
-fed_stay h user version strict asked messages fronts m r answer wanted (pending.Ask asker proposed) so_far e awaited_is a w right = absurd a
-fed_stay h user version strict asked messages fronts m r answer wanted (pending.Push asker) so_far e awaited_is a w right = absurd a
+    (more_rows h user version asked messages fronts m r front rows so_far e awaited_is (by_look h user r front rows m.feed wanted e w program strict right))
+fed_stay h user version program strict asked messages fronts m r answer wanted (pending.Bodies rows) so_far e awaited_is a w right = absurd a
+fed_stay h user version program strict asked messages fronts m r answer wanted (pending.Ask asker proposed) so_far e awaited_is a w right = absurd a
+fed_stay h user version program strict asked messages fronts m r answer wanted (pending.Push asker) so_far e awaited_is a w right = absurd a
 
 bodies_stay : (h : List Entry) (user : List ℕ) (version : Version) (asked : Subscription) (messages : List Message) (fronts : List ℕ) (m : Machine) (r : Running) (b : Bodies) (awaited : Pending)
     → Offering h user version asked messages fronts m → m.feed ≡ Some r → After h user version asked messages fronts m (on_bodies m b awaited)
@@ -397,6 +398,7 @@ outcome_none asker (outcome.UserGone401 at) = reply_none asker kinds.Err _ refl
 outcome_none asker (outcome.Known at) = reply_none asker kinds.Rpy _ refl
 outcome_none asker (outcome.BadHistory400 at) = reply_none asker kinds.Err _ refl
 outcome_none asker (outcome.Conflict409 at leaf) = reply_none asker kinds.Err _ refl
+outcome_none asker (outcome.Denied403 at rule) = reply_none asker kinds.Err _ refl
 outcome_none asker (outcome.Stored sequence at) = reply_none asker kinds.Rpy _ refl
 outcome_none asker outcome.Memory507 = reply_none asker kinds.Err _ refl
 
@@ -424,28 +426,28 @@ idle_waits feed_runs r (pending.Push asker) front e a = absurd a
 
 -- ---- each event
 
-event_stay : (h : List Entry) (user : List ℕ) (version : Version) (strict : Bool) (asked : Subscription) (messages : List Message) (fronts : List ℕ) (m : Machine) (r : Running) (x : Event) (done : Done) (wanted : Option Want)
-    → Offering h user version asked messages fronts m → m.feed ≡ Some r → Awaits m x → Does m x done → WantsFor m.feed m.pending wanted → IsRight h user strict wanted x
+event_stay : (h : List Entry) (user : List ℕ) (version : Version) (program : Program) (strict : Bool) (asked : Subscription) (messages : List Message) (fronts : List ℕ) (m : Machine) (r : Running) (x : Event) (done : Done) (wanted : Option Want)
+    → Offering h user version asked messages fronts m → m.feed ≡ Some r → Awaits m x → Does m x done → WantsFor m.feed m.pending wanted → IsRight h user program strict wanted x
     → After h user version asked messages (feed_look x ++ fronts) m done
-event_stay h user version strict asked messages fronts m r (event.Whole message) done wanted so_far e a does w right = message_stay h user version asked messages fronts m r message done (is_request message.kind) so_far e does
-event_stay h user version strict asked messages fronts m r (event.Idle front) done wanted so_far e a does w right =
+event_stay h user version program strict asked messages fronts m r (event.Whole message) done wanted so_far e a does w right = message_stay h user version asked messages fronts m r message done (is_request message.kind) so_far e does
+event_stay h user version program strict asked messages fronts m r (event.Idle front) done wanted so_far e a does w right =
     subst (After h user version asked messages fronts m) (sym (does ∙ ap (on_idle m front) e)) (idle_with h user version asked messages fronts m r (nat_lt r.front front) so_far e (idle_waits m.feed r m.pending front e a))
-event_stay h user version strict asked messages fronts m r (event.Fed answer) done wanted so_far e a does w right =
-    subst (After h user version asked messages (front_of answer ∷ fronts) m) (sym does) (fed_stay h user version strict asked messages fronts m r answer wanted m.pending so_far e refl a w right)
-event_stay h user version strict asked messages fronts m r (event.Bodies b) done wanted so_far e a does w right =
+event_stay h user version program strict asked messages fronts m r (event.Fed answer) done wanted so_far e a does w right =
+    subst (After h user version asked messages (front_of answer ∷ fronts) m) (sym does) (fed_stay h user version program strict asked messages fronts m r answer wanted m.pending so_far e refl a w right)
+event_stay h user version program strict asked messages fronts m r (event.Bodies b) done wanted so_far e a does w right =
     subst (After h user version asked messages fronts m) (sym does) (bodies_stay h user version asked messages fronts m r b m.pending so_far e)
-event_stay h user version strict asked messages fronts m r (event.Asked answer) done wanted so_far e a does w right =
+event_stay h user version program strict asked messages fronts m r (event.Asked answer) done wanted so_far e a does w right =
     subst (After h user version asked messages fronts m) (sym does) (asked_stay h user version asked messages fronts m r answer m.pending so_far e)
-event_stay h user version strict asked messages fronts m r (event.Judged o) done wanted so_far e a does w right =
+event_stay h user version program strict asked messages fronts m r (event.Judged o) done wanted so_far e a does w right =
     subst (After h user version asked messages fronts m) (sym does) (judged_stay h user version asked messages fronts m r o m.pending so_far e)
 
-step_stay : (h : List Entry) (user : List ℕ) (version : Version) (strict : Bool) (asked : Subscription) (messages : List Message) (fronts : List ℕ) (m : Machine) (r : Running) (s : Step) (after : Machine) (wanted : Option Want)
-    → Offering h user version asked messages fronts m → m.feed ≡ Some r → Steps m s after → WantsFor m.feed m.pending wanted → IsRight h user strict wanted s.event
+step_stay : (h : List Entry) (user : List ℕ) (version : Version) (program : Program) (strict : Bool) (asked : Subscription) (messages : List Message) (fronts : List ℕ) (m : Machine) (r : Running) (s : Step) (after : Machine) (wanted : Option Want)
+    → Offering h user version asked messages fronts m → m.feed ≡ Some r → Steps m s after → WantsFor m.feed m.pending wanted → IsRight h user program strict wanted s.event
     → Offering h user version asked (messages ++ s.puts) (feed_look s.event ++ fronts) after
-step_stay h user version strict asked messages fronts m r s after wanted so_far e made w right =
+step_stay h user version program strict asked messages fronts m r s after wanted so_far e made w right =
     subst (λ ms. Offering h user version asked (messages ++ ms) (feed_look s.event ++ fronts) after) (sym made.puts)
     (subst (Offering h user version asked (messages ++ messages_from (m.requests + 1) made.done.acts) (feed_look s.event ++ fronts)) (sym made.leads)
-    (event_stay h user version strict asked messages fronts m r s.event made.done wanted so_far e made.awaited made.does w right))
+    (event_stay h user version program strict asked messages fronts m r s.event made.done wanted so_far e made.awaited made.does w right))
 
 -- ---- all steps
 
@@ -468,24 +470,24 @@ leads_on start first earlier leads [] m e = subst (Leads start earlier) (sym e) 
 leads_on start first earlier leads (s ∷ more) m (before, feeds, runs, made) = (before, leads_on start first earlier leads more before feeds, made)
 
 -- a feed begins
-rows_of_first : (h : List Entry) (user : List ℕ) (strict : Bool) (asked : Subscription) (front : ℕ) (rows : List Row) (feed_runs : Option Running) (wanted : Option Want)
-    → WantsFor feed_runs (pending.Feed asked) wanted → IsRight h user strict wanted (event.Fed (fed.Rows front rows)) → rows ≡ feed (past h front) user asked.since asked.options
-rows_of_first h user strict asked front rows feed_runs None w right = absurd w
-rows_of_first h user strict asked front rows feed_runs (Some (want.Feed since options)) (since_is, options_is) (bound, rows_are) =
+rows_of_first : (h : List Entry) (user : List ℕ) (program : Program) (strict : Bool) (asked : Subscription) (front : ℕ) (rows : List Row) (feed_runs : Option Running) (wanted : Option Want)
+    → WantsFor feed_runs (pending.Feed asked) wanted → IsRight h user program strict wanted (event.Fed (fed.Rows front rows)) → rows ≡ feed (past h front) user asked.since asked.options
+rows_of_first h user program strict asked front rows feed_runs None w right = absurd w
+rows_of_first h user program strict asked front rows feed_runs (Some (want.Feed since options)) (since_is, options_is) (bound, rows_are) =
     rows_are ∙ ap (λ k. feed (past h front) user k options) since_is ∙ ap (feed (past h front) user asked.since) options_is
-rows_of_first h user strict asked front rows feed_runs (Some (want.Bodies options wanted most)) w right = absurd w
-rows_of_first h user strict asked front rows feed_runs (Some (want.Ask offers)) w right = absurd w
-rows_of_first h user strict asked front rows feed_runs (Some (want.Propose revision)) w right = absurd w
+rows_of_first h user program strict asked front rows feed_runs (Some (want.Bodies options wanted most)) w right = absurd w
+rows_of_first h user program strict asked front rows feed_runs (Some (want.Ask offers)) w right = absurd w
+rows_of_first h user program strict asked front rows feed_runs (Some (want.Propose revision)) w right = absurd w
 
-first_offer : (h : List Entry) (user : List ℕ) (version : Version) (strict : Bool) (asked : Subscription) (front : ℕ) (rows : List Row) (before : Machine) (s : Step) (first : Machine) (wanted : Option Want)
+first_offer : (h : List Entry) (user : List ℕ) (version : Version) (program : Program) (strict : Bool) (asked : Subscription) (front : ℕ) (rows : List Row) (before : Machine) (s : Step) (first : Machine) (wanted : Option Want)
     → before.user ≡ user → before.version ≡ version → before.pending ≡ pending.Feed asked → s.event ≡ event.Fed (fed.Rows front rows) → Steps before s first
-    → WantsFor before.feed before.pending wanted → IsRight h user strict wanted s.event
+    → WantsFor before.feed before.pending wanted → IsRight h user program strict wanted s.event
     → Offering h user version asked s.puts (front ∷ []) first
-first_offer h user version strict asked front rows before s first wanted user_is version_is awaited came made w right =
+first_offer h user version program strict asked front rows before s first wanted user_is version_is awaited came made w right =
     let does : made.done ≡ on_first_look before asked (fed.Rows front rows) =
     subst (λ p. made.done ≡ on_fed before (fed.Rows front rows) p) awaited (subst (λ x. Does before x made.done) came made.does) in
     let are : rows ≡ feed (past h front) user asked.since asked.options =
-    rows_of_first h user strict asked front rows before.feed wanted (subst (λ p. WantsFor before.feed p wanted) awaited w) (subst (IsRight h user strict wanted) came right) in
+    rows_of_first h user program strict asked front rows before.feed wanted (subst (λ p. WantsFor before.feed p wanted) awaited w) (subst (IsRight h user program strict wanted) came right) in
     subst (λ ms. Offering h user version asked ms (front ∷ []) first) (sym made.puts)
     (subst (Offering h user version asked (messages_from (before.requests + 1) made.done.acts) (front ∷ [])) (sym made.leads)
     (subst (After h user version asked [] (front ∷ []) before) (sym does)
@@ -493,43 +495,43 @@ first_offer h user version strict asked front rows before s first wanted user_is
     (reply_none asked.asker kinds.Rpy _ refl))))
 
 -- one step more
-one_more : (h : List Entry) (user : List ℕ) (version : Version) (strict : Bool) (asked : Subscription) (messages : List Message) (fronts : List ℕ) (before : Machine) (s : Step) (after : Machine) (wanted : Option Want) (f : Option Running)
-    → before.feed ≡ f → IsSome f → Offering h user version asked messages fronts before → Steps before s after → WantsFor before.feed before.pending wanted → IsRight h user strict wanted s.event
+one_more : (h : List Entry) (user : List ℕ) (version : Version) (program : Program) (strict : Bool) (asked : Subscription) (messages : List Message) (fronts : List ℕ) (before : Machine) (s : Step) (after : Machine) (wanted : Option Want) (f : Option Running)
+    → before.feed ≡ f → IsSome f → Offering h user version asked messages fronts before → Steps before s after → WantsFor before.feed before.pending wanted → IsRight h user program strict wanted s.event
     → Offering h user version asked (messages ++ s.puts) (feed_look s.event ++ fronts) after
-one_more h user version strict asked messages fronts before s after wanted None e runs so_far made w right = absurd (false≢true runs)
-one_more h user version strict asked messages fronts before s after wanted (Some r) e runs so_far made w right =
-    step_stay h user version strict asked messages fronts before r s after wanted so_far e made w right
+one_more h user version program strict asked messages fronts before s after wanted None e runs so_far made w right = absurd (false≢true runs)
+one_more h user version program strict asked messages fronts before s after wanted (Some r) e runs so_far made w right =
+    step_stay h user version program strict asked messages fronts before r s after wanted so_far e made w right
 
 -- and goes on
-feed_goes : (h : List Entry) (user : List ℕ) (version : Version) (strict : Bool) (asked : Subscription) (earlier : List Step) (s : Step) (first : Machine)
+feed_goes : (h : List Entry) (user : List ℕ) (version : Version) (program : Program) (strict : Bool) (asked : Subscription) (earlier : List Step) (s : Step) (first : Machine)
     → Leads (new_machine user version strict) (s ∷ earlier) first → Offering h user version asked (put_by (s ∷ [])) (feed_looks (s ∷ [])) first
-    → (more : List Step) (m : Machine) → LeadsFeed first more m → AreRight h user strict (more ++ s ∷ earlier)
+    → (more : List Step) (m : Machine) → LeadsFeed first more m → AreRight h user program strict (more ++ s ∷ earlier)
     → Offering h user version asked (put_by (more ++ s ∷ [])) (feed_looks (more ++ s ∷ [])) m
-feed_goes h user version strict asked earlier s first leads begun [] m e right = subst (Offering h user version asked (put_by (s ∷ [])) (feed_looks (s ∷ []))) (sym e) begun
-feed_goes h user version strict asked earlier s first leads begun (t ∷ more) m (before, feeds, runs, made) right =
-    one_more h user version strict asked (put_by (more ++ s ∷ [])) (feed_looks (more ++ s ∷ [])) before t m (wanted_after (more ++ s ∷ earlier)) before.feed refl runs
-    (feed_goes h user version strict asked earlier s first leads begun more before feeds right.1) made
+feed_goes h user version program strict asked earlier s first leads begun [] m e right = subst (Offering h user version asked (put_by (s ∷ [])) (feed_looks (s ∷ []))) (sym e) begun
+feed_goes h user version program strict asked earlier s first leads begun (t ∷ more) m (before, feeds, runs, made) right =
+    one_more h user version program strict asked (put_by (more ++ s ∷ [])) (feed_looks (more ++ s ∷ [])) before t m (wanted_after (more ++ s ∷ earlier)) before.feed refl runs
+    (feed_goes h user version program strict asked earlier s first leads begun more before feeds right.1) made
     (wants_after user version strict (more ++ s ∷ earlier) before (leads_on (new_machine user version strict) first (s ∷ earlier) leads more before feeds)) right.0
 
-begins : (h : List Entry) (user : List ℕ) (version : Version) (strict : Bool) (asked : Subscription) (front : ℕ) (rows : List Row) (earlier : List Step) (before : Machine) (s : Step) (first : Machine)
-    → Leads (new_machine user version strict) earlier before → before.pending ≡ pending.Feed asked → s.event ≡ event.Fed (fed.Rows front rows) → Steps before s first → AreRight h user strict (s ∷ earlier)
+begins : (h : List Entry) (user : List ℕ) (version : Version) (program : Program) (strict : Bool) (asked : Subscription) (front : ℕ) (rows : List Row) (earlier : List Step) (before : Machine) (s : Step) (first : Machine)
+    → Leads (new_machine user version strict) earlier before → before.pending ≡ pending.Feed asked → s.event ≡ event.Fed (fed.Rows front rows) → Steps before s first → AreRight h user program strict (s ∷ earlier)
     → Offering h user version asked (put_by (s ∷ [])) (feed_looks (s ∷ [])) first
-begins h user version strict asked front rows earlier before s first leads awaited came made right =
+begins h user version program strict asked front rows earlier before s first leads awaited came made right =
     subst (λ fs. Offering h user version asked s.puts fs first) (ap (λ x. feed_look x ++ []) (sym came))
-    (first_offer h user version strict asked front rows before s first (wanted_after earlier) (same_user user version strict earlier before leads).0 (same_user user version strict earlier before leads).1
+    (first_offer h user version program strict asked front rows before s first (wanted_after earlier) (same_user user version strict earlier before leads).0 (same_user user version strict earlier before leads).1
     awaited came made (wants_after user version strict earlier before leads) right.0)
 
-right_before : (h : List Entry) (user : List ℕ) (strict : Bool) (more earlier : List Step) → AreRight h user strict (more ++ earlier) → AreRight h user strict earlier
-right_before h user strict [] earlier right = right
-right_before h user strict (s ∷ more) earlier (one, right) = right_before h user strict more earlier right
+right_before : (h : List Entry) (user : List ℕ) (program : Program) (strict : Bool) (more earlier : List Step) → AreRight h user program strict (more ++ earlier) → AreRight h user program strict earlier
+right_before h user program strict [] earlier right = right
+right_before h user program strict (s ∷ more) earlier (one, right) = right_before h user program strict more earlier right
 
-pub offers_are_rows : (h : List Entry) (user : List ℕ) (version : Version) (strict : Bool) (asked : Subscription) (front : ℕ) (rows : List Row) (earlier more : List Step) (before first after : Machine) (s : Step)
+pub offers_are_rows : (h : List Entry) (user : List ℕ) (version : Version) (program : Program) (strict : Bool) (asked : Subscription) (front : ℕ) (rows : List Row) (earlier more : List Step) (before first after : Machine) (s : Step)
     → Leads (new_machine user version strict) earlier before → before.pending ≡ pending.Feed asked → s.event ≡ event.Fed (fed.Rows front rows) → Steps before s first
-    → LeadsFeed first more after → AreRight h user strict (more ++ s ∷ earlier)
+    → LeadsFeed first more after → AreRight h user program strict (more ++ s ∷ earlier)
     → (offered : List Row) × AreOffered version (put_by (more ++ s ∷ [])) offered
     × (offered ++ not_offered after.feed ≡ rows_at h user asked.since asked.options (feed_looks (more ++ s ∷ [])))
-offers_are_rows h user version strict asked front rows earlier more before first after s leads awaited came made feeds right =
+offers_are_rows h user version program strict asked front rows earlier more before first after s leads awaited came made feeds right =
     let all : Offering h user version asked (put_by (more ++ s ∷ [])) (feed_looks (more ++ s ∷ [])) after =
-    feed_goes h user version strict asked earlier s first (before, leads, made)
-    (begins h user version strict asked front rows earlier before s first leads awaited came made (right_before h user strict more (s ∷ earlier) right)) more after feeds right in
+    feed_goes h user version program strict asked earlier s first (before, leads, made)
+    (begins h user version program strict asked front rows earlier before s first leads awaited came made (right_before h user program strict more (s ∷ earlier) right)) more after feeds right in
     (all.offered, all.are, all.sum)

@@ -15,6 +15,7 @@ use Rattle.repl_messages.specs.declared.looks.Body.TheVariants as bodies
 use Rattle.repl_messages.specs.Changes.{changes_payload}
 use Rattle.repl_messages.specs.Rev.{rev_payload, norev_payload}
 use Rattle.repl_messages.specs.Errors.{ok_payload, error_payload}
+use Rattle.sync_meaning.specs.Texts.{rule_text}
 use Rattle.doc_board.specs.declared.outcome.Outcome.{Outcome}
 use Rattle.doc_board.specs.declared.outcome.Outcome.TheVariants as outcome
 use Rattle.session_core.specs.declared.act.Act.{Act}
@@ -75,6 +76,7 @@ outcome_act asker (outcome.UserGone401 at) = refusal_act asker errors.UserGone40
 outcome_act asker (outcome.Known at) = acceptance_act asker
 outcome_act asker (outcome.BadHistory400 at) = refusal_act asker errors.BadHistory400
 outcome_act asker (outcome.Conflict409 at leaf) = refusal_act asker (errors.Conflict409 leaf)
+outcome_act asker (outcome.Denied403 at rule) = refusal_act asker (errors.Denied403 (rule_text rule))
 outcome_act asker (outcome.Stored sequence at) = acceptance_act asker
 outcome_act asker outcome.Memory507 = refusal_act asker errors.Memory507
 

@@ -17,6 +17,7 @@ judged_at (outcome.UserGone401 at) = at ∷ []
 judged_at (outcome.Known at) = at ∷ []
 judged_at (outcome.BadHistory400 at) = at ∷ []
 judged_at (outcome.Conflict409 at leaf) = at ∷ []
+judged_at (outcome.Denied403 at rule) = at ∷ []
 judged_at (outcome.Stored sequence at) = at ∷ []
 judged_at outcome.Memory507 = []
 

@@ -7,6 +7,7 @@ use Rattle.sg_history.specs.History.{past}
 use Rattle.sg_history.specs.Board.{BoardState, board_book}
 use Rattle.sg_history.specs.Book.{book_of, Later}
 use Rattle.rev_tree.specs.Documents.{trees_up_to}
+use Rattle.sync_syntax.specs.declared.tree.Program.{Program}
 use Rattle.repl_messages.specs.declared.offers.Asked.{Asked}
 use Rattle.repl_messages.specs.declared.offers.Offer.{Offer}
 use Rattle.repl_messages.specs.declared.revision.Revision.{Revision}
@@ -28,39 +29,40 @@ pub record AreAsked (h : List Entry) (offers : List Offer) (asked : Asked) : Typ
   pub answers : asked.answers ≡ map (λ (offer : Offer). answer_to (trees_up_to (book_of h) numbers offer.doc) offer) offers
 
 -- the outcome of a revision is that by a board than which the history is later
-pub record IsJudgedIn (h : List Entry) (strict : Bool) (by : Option (List ℕ)) (r : Revision) (answer : Outcome) : Type 0 where
+pub record IsJudgedIn (h : List Entry) (program : Program) (strict : Bool) (by : Option (List ℕ)) (r : Revision) (answer : Outcome) : Type 0 where
   pub board : BoardState
   pub later : Later (board_book board) (book_of h)
-  pub outcome : IsOutcome strict by r board answer
+  pub outcome : IsOutcome program strict by r board answer
 
 -- besides, the history has the write of the revision at its sequence
-pub record IsStoredIn (h : List Entry) (strict : Bool) (by : Option (List ℕ)) (r : Revision) (sequence at : ℕ) : Type 0 where
-  pub judged : IsJudgedIn h strict by r (outcome.Stored sequence at)
+pub record IsStoredIn (h : List Entry) (program : Program) (strict : Bool) (by : Option (List ℕ)) (r : Revision) (sequence at : ℕ) : Type 0 where
+  pub judged : IsJudgedIn h program strict by r (outcome.Stored sequence at)
   pub write : Write
-  pub is_write : IsWriteOf by r judged.board write
+  pub is_write : IsWriteOf program by r judged.board write
   pub there : book_of h sequence ≡ Some (entry.Write write)
 
 -- the outcome of a revision that was proposed: by the revision itself where that is refused, else by a board; out of memory none
-abbrev pub IsProposedIn : List Entry → Bool → Option (List ℕ) → Revision → Outcome → Type 0
-IsProposedIn h strict by r (outcome.Bad400 field) = IsBadField r field
-IsProposedIn h strict by r (outcome.TooLarge413 bytes) = IsTooLarge r bytes
-IsProposedIn h strict by r (outcome.UserGone401 at) = IsJudgedIn h strict by r (outcome.UserGone401 at)
-IsProposedIn h strict by r (outcome.Known at) = IsJudgedIn h strict by r (outcome.Known at)
-IsProposedIn h strict by r (outcome.BadHistory400 at) = IsJudgedIn h strict by r (outcome.BadHistory400 at)
-IsProposedIn h strict by r (outcome.Conflict409 at leaf) = IsJudgedIn h strict by r (outcome.Conflict409 at leaf)
-IsProposedIn h strict by r (outcome.Stored sequence at) = IsStoredIn h strict by r sequence at
-IsProposedIn h strict by r outcome.Memory507 = Unit {0}
+abbrev pub IsProposedIn : List Entry → Program → Bool → Option (List ℕ) → Revision → Outcome → Type 0
+IsProposedIn h program strict by r (outcome.Bad400 field) = IsBadField r field
+IsProposedIn h program strict by r (outcome.TooLarge413 bytes) = IsTooLarge r bytes
+IsProposedIn h program strict by r (outcome.UserGone401 at) = IsJudgedIn h program strict by r (outcome.UserGone401 at)
+IsProposedIn h program strict by r (outcome.Known at) = IsJudgedIn h program strict by r (outcome.Known at)
+IsProposedIn h program strict by r (outcome.BadHistory400 at) = IsJudgedIn h program strict by r (outcome.BadHistory400 at)
+IsProposedIn h program strict by r (outcome.Conflict409 at leaf) = IsJudgedIn h program strict by r (outcome.Conflict409 at leaf)
+IsProposedIn h program strict by r (outcome.Denied403 at rule) = IsJudgedIn h program strict by r (outcome.Denied403 at rule)
+IsProposedIn h program strict by r (outcome.Stored sequence at) = IsStoredIn h program strict by r sequence at
+IsProposedIn h program strict by r outcome.Memory507 = Unit {0}
 
--- the event is the history's answer to what was wanted, for a session of this user
-abbrev pub IsRight : List Entry → List ℕ → Bool → Option Want → Event → Type 0
-IsRight h user strict None event = Unit {0}
-IsRight h user strict (Some (want.Feed since options)) (event.Fed answer) = IsFed h user since options answer
-IsRight h user strict (Some (want.Bodies options rows most)) (event.Bodies b) = AreBodies h user options rows most b
-IsRight h user strict (Some (want.Ask offers)) (event.Asked answer) = AreAsked h offers answer
-IsRight h user strict (Some (want.Propose r)) (event.Judged answer) = IsProposedIn h (strict || r.noconflicts) (Some user) r answer
-IsRight h user strict (Some wanted) event = ⊥
+-- the event is the history's answer to what was wanted, for a session of this user whose revisions are judged by this program
+abbrev pub IsRight : List Entry → List ℕ → Program → Bool → Option Want → Event → Type 0
+IsRight h user program strict None event = Unit {0}
+IsRight h user program strict (Some (want.Feed since options)) (event.Fed answer) = IsFed h user since options answer
+IsRight h user program strict (Some (want.Bodies options rows most)) (event.Bodies b) = AreBodies h user options rows most b
+IsRight h user program strict (Some (want.Ask offers)) (event.Asked answer) = AreAsked h offers answer
+IsRight h user program strict (Some (want.Propose r)) (event.Judged answer) = IsProposedIn h program (strict || r.noconflicts) (Some user) r answer
+IsRight h user program strict (Some wanted) event = ⊥
 
 -- the same of all steps, the last of which is the first of the list
-abbrev pub AreRight : List Entry → List ℕ → Bool → List Step → Type 0
-AreRight h user strict [] = Unit {0}
-AreRight h user strict (s ∷ earlier) = IsRight h user strict (wanted_after earlier) s.event × AreRight h user strict earlier
+abbrev pub AreRight : List Entry → List ℕ → Program → Bool → List Step → Type 0
+AreRight h user program strict [] = Unit {0}
+AreRight h user program strict (s ∷ earlier) = IsRight h user program strict (wanted_after earlier) s.event × AreRight h user program strict earlier

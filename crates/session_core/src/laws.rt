@@ -5,6 +5,7 @@ ghost use Rattle.sg_history.specs.declared.entries.Entry.{Entry};
 ghost use Rattle.sg_history.specs.declared.row.Row.{Row};
 ghost use Rattle.repl_messages.specs.declared.looks.Fed.{Fed};
 ghost use Rattle.repl_messages.specs.declared.request.Version.{Version};
+ghost use Rattle.sync_syntax.specs.declared.tree.Program.{Program};
 ghost use Rattle.session_core.specs.declared.machine.Pending.{Pending};
 ghost use Rattle.session_core.specs.declared.machine.Subscription.{Subscription};
 ghost use Rattle.session_core.specs.Feeds.{AreOffered, not_offered, rows_at, feed_looks, LeadsFeed};
@@ -36,13 +37,13 @@ pub fn conduct()
 /// the feed at its first look's front from its since key, then at each later look's front from the plain key of the front before,
 /// in order, each once.
 pub fn feeds()
-    ensures { (h : List Entry) (user : List ℕ) (version : Version) (strict : Bool)
+    ensures { (h : List Entry) (user : List ℕ) (version : Version) (program : Program) (strict : Bool)
         (asked : Subscription) (front : ℕ) (rows : List Row)
         (earlier more : List Step) (before first after : Machine) (s : Step)
         → Leads (new_machine user version strict) earlier before
         → before.pending ≡ Pending.Feed asked
         → s.event ≡ Event.Fed (Fed.Rows front rows) → Steps before s first
-        → LeadsFeed first more after → AreRight h user strict (more ++ s ∷ earlier)
+        → LeadsFeed first more after → AreRight h user program strict (more ++ s ∷ earlier)
         → (offered : List Row) × AreOffered version (put_by (more ++ s ∷ [])) offered
         × (offered ++ not_offered after.feed
         ≡ rows_at h user asked.since asked.options (feed_looks (more ++ s ∷ []))) }

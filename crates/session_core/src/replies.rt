@@ -2,11 +2,13 @@
 
 ghost use Rattle.std.specs.Prelude.{◌≡◌, ◌≢◌, ◌++◌, ◌∷◌, [], IfOk, OnOk, if◌then◌else◌};
 ghost use Rattle.repl_messages.specs.Answers.{answers_payload};
+ghost use Rattle.repl_messages.specs.declared.error.ErrorKind.TheVariants as errors;
+ghost use Rattle.sync_meaning.specs.Texts.{rule_text};
 ghost use Rattle.session_core.specs.Acts.{error_of, reply_act, refusal_act, acceptance_act, outcome_act, offer_act};
 
 use crate::act::Act;
 use blip_frame::{Kind, Payload};
-use doc_board::Outcome;
+use doc_board::{Outcome, Rule};
 use repl_messages::{
     Asked, ErrorKind, RequestFault, Version, write_answers, write_changes, write_error, write_ok,
 };
@@ -79,6 +81,15 @@ pub(crate) fn answer_offers(
     reply(alloc, asker, Kind::Rpy, payload)
 }
 
+/// The reply that a revision is denied, with the text of the rule that denies it.
+fn deny(alloc: Global, asker: Asker, rule: &Rule) -> Result<Vec<Act>, Memory>
+    ensures { IfOk result (λ acts. acts.items
+        ≡ refusal_act asker (errors.Denied403 (rule_text rule.now))) }
+{
+    let rule = rule.text(alloc)?;
+    refuse(alloc, asker, ErrorKind::Denied403 { rule })
+}
+
 /// The reply to a revision that was proposed.
 pub(crate) fn answer_outcome(
     alloc: Global,
@@ -94,6 +105,7 @@ pub(crate) fn answer_outcome(
         Outcome::UserGone401 { .. } => refuse(alloc, asker, ErrorKind::UserGone401),
         Outcome::BadHistory400 { .. } => refuse(alloc, asker, ErrorKind::BadHistory400),
         Outcome::Conflict409 { leaf, .. } => refuse(alloc, asker, ErrorKind::Conflict409 { leaf }),
+        Outcome::Denied403 { rule, .. } => deny(alloc, asker, &rule),
         Outcome::Memory507 => refuse(alloc, asker, ErrorKind::Memory507),
     }
 }
