@@ -21,13 +21,13 @@ pub record Follows (before : List Node) (w : Write) : Type 0 where
   pub winner : option_map (λ l. l.rev) (winner_of (with_write before (recorded w))) ≡ Some w.winner
 
 -- besides, its body is a document
-abbrev pub IsNext : List Node → Write → Type 0
-IsNext before w = HasDocument w.body × Follows before w
+abbrev pub IsNextWrite : List Node → Write → Type 0
+IsNextWrite before w = HasDocument w.body × Follows before w
 
 -- a write that a board may have after these, where there is one
 abbrev pub WriteMayFollow : List Entry → Option Write → Type 0
 WriteMayFollow older None = Unit {0}
-WriteMayFollow older (Some w) = IsNext (tree_at older w.doc) w
+WriteMayFollow older (Some w) = IsNextWrite (tree_at older w.doc) w
 
 -- an entry that a board may have after these, the newest first
 abbrev pub MayFollow : List Entry → Entry → Type 0

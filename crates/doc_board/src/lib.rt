@@ -1,16 +1,16 @@
 //! The documents of the gateway: the log, and the tree of revisions of each document.
 #![tactic(auto)]
 
-pub mod board;
-pub mod candidate;
-pub mod document;
+mod board;
+mod candidate;
+mod document;
 mod granted;
 pub mod laws;
-pub mod offers;
-pub mod open;
+mod offers;
+mod open;
 pub mod outcome;
-pub mod room;
-pub mod snapshot;
+mod room;
+mod snapshot;
 
 pub use board::Board;
 pub use candidate::{Candidate, Commit, NoRoom};

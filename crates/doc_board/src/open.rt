@@ -7,7 +7,7 @@ ghost use Rattle.rev_tree.specs.Tree.{winner_of};
 ghost use Rattle.rev_tree.specs.Writes.{AreAccepted};
 ghost use Rattle.doc_board.specs.Candidates.{ExtendsTree};
 ghost use Rattle.doc_board.specs.Kept.{AreKept, kept_nodes};
-ghost use Rattle.doc_board.specs.Recorded.{HasDocument, IsNext, MayFollow, Follows, AreFollowing, IsFirstBad};
+ghost use Rattle.doc_board.specs.Recorded.{HasDocument, IsNextWrite, MayFollow, Follows, AreFollowing, IsFirstBad};
 ghost use Rattle.rev_tree.specs.Documents.{writes_of, tree_at};
 
 use crate::document::{self, Document, Documents};
@@ -92,9 +92,9 @@ fn tree_after(
         (λ after. ExtendsTree (kept_nodes
         (get_by_text documents.now write.now.doc)) write.now after)) }
     ensures next { IfOk result (λ found. IfSome found
-        (λ after. IsNext (kept_nodes (get_by_text documents.now write.now.doc)) write.now)) }
+        (λ after. IsNextWrite (kept_nodes (get_by_text documents.now write.now.doc)) write.now)) }
     ensures none { IfOk result (λ found. IfNone found
-        (¬ IsNext (kept_nodes (get_by_text documents.now write.now.doc)) write.now)) }
+        (¬ IsNextWrite (kept_nodes (get_by_text documents.now write.now.doc)) write.now)) }
 {
     if !is_document(alloc, write.body.as_slice())? {
         return Ok(None);
@@ -120,9 +120,9 @@ fn take_write(
         (kinds.Write write.now ∷ reverse older.now) documents.new) }
     ensures accepted { IfOk result (λ follows. follows ≡ true → (doc : List ℕ) → AreAccepted
         (writes_of (kinds.Write write.now ∷ reverse older.now) doc)) }
-    ensures yes { IfOk result (λ follows. follows ≡ true → IsNext
+    ensures yes { IfOk result (λ follows. follows ≡ true → IsNextWrite
         (tree_at (reverse older.now) write.now.doc) write.now) }
-    ensures no { IfOk result (λ follows. follows ≡ false → ¬ IsNext
+    ensures no { IfOk result (λ follows. follows ≡ false → ¬ IsNextWrite
         (tree_at (reverse older.now) write.now.doc) write.now) }
 {
     let Some(tree) = tree_after(alloc, documents, write)? else {

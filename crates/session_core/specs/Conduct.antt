@@ -68,9 +68,9 @@ feed_front None = 0
 feed_front (Some r) = r.front
 
 -- the next look of a feed is from the front of its last one, by the feed's own options
-abbrev pub IsNext : Option Running → Key → Options → Type 0
-IsNext None since options = ⊥
-IsNext (Some r) since options = (since ≡ next_since r) × (options ≡ r.options)
+abbrev pub IsNextLook : Option Running → Key → Options → Type 0
+IsNextLook None since options = ⊥
+IsNextLook (Some r) since options = (since ≡ next_since r) × (options ≡ r.options)
 
 -- these rows are some of those that a feed has on offer, and these are its options
 abbrev pub AreOnOffer : Option Running → Options → List Row → Type 0
@@ -81,7 +81,7 @@ AreOnOffer (Some r) options rows = (options ≡ r.options) × ((flags : List Boo
 abbrev pub WantsFor : Option Running → Pending → Option Want → Type 0
 WantsFor feed pending.Nothing None = Unit {0}
 WantsFor feed (pending.Feed asked) (Some (want.Feed since options)) = (since ≡ asked.since) × (options ≡ asked.options)
-WantsFor feed pending.More (Some (want.Feed since options)) = IsNext feed since options
+WantsFor feed pending.More (Some (want.Feed since options)) = IsNextLook feed since options
 WantsFor feed (pending.Bodies rows) (Some (want.Bodies options wanted most)) = (wanted ≡ rows) × AreOnOffer feed options rows
 WantsFor feed (pending.Ask asker proposed) (Some (want.Ask offers)) = Unit {0}
 WantsFor feed (pending.Push asker) (Some (want.Propose revision)) = Unit {0}

@@ -37,8 +37,8 @@ pub fn conduct()
 /// the feed at its first look's front from its since key, then at each later look's front from the plain key of the front before,
 /// in order, each once.
 pub fn feeds()
-    ensures { (h : List Entry) (user : List ℕ) (version : Version) (program : Program) (strict : Bool)
-        (asked : Subscription) (front : ℕ) (rows : List Row)
+    ensures { (h : List Entry) (user : List ℕ) (version : Version) (program : Program)
+        (strict : Bool) (asked : Subscription) (front : ℕ) (rows : List Row)
         (earlier more : List Step) (before first after : Machine) (s : Step)
         → Leads (new_machine user version strict) earlier before
         → before.pending ≡ Pending.Feed asked

@@ -1,4 +1,4 @@
--- What is answered for a row, by what is looked up of its document.
+-- What is answered for a row, by what is looked up of its document. Only proofs need this.
 use Rattle.std.specs.Prelude.{ℕ, ◌&&◌, nat_eq, is_none, List, reverse, Option, Some, if◌then◌else◌}
 use Rattle.sg_history.specs.declared.entries.Write.{Write}
 use Rattle.sg_history.specs.declared.row.Row.{Row}

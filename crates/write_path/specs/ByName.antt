@@ -1,4 +1,4 @@
--- What is found of documents by their names, for the answers to many rows at once.
+-- What is found of documents by their names, for the answers to many rows at once. Only proofs need this.
 use Rattle.std.specs.Prelude.{ℕ, true, false, List, [], ◌∷◌, Option, Some, None, if◌then◌else◌}
 use Rattle.std.specs.Option.{option_copied}
 use Rattle.std.specs.Borrow.{Bor}

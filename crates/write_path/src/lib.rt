@@ -1,18 +1,18 @@
 //! Grounds: where a session looks at the history.
 #![tactic(auto)]
 
-pub mod ask;
-pub mod bodies;
-pub mod by_name;
-pub mod feed;
-pub mod ground;
+mod ask;
+mod bodies;
+mod by_name;
+mod feed;
+mod ground;
 mod judging;
 pub mod laws;
-pub mod propose;
-pub mod shelf;
-pub mod solo;
+mod propose;
+mod shelf;
+mod solo;
 mod texts;
-pub mod trail;
+mod trail;
 
 pub use doc_board::Outcome;
 pub use ground::Ground;
