@@ -1,6 +1,6 @@
 -- the write of a revision in its grammar is an entry in its grammar
-use Rattle.std.proofs.Common.{◌≡◌, ◌<◌, ◌^◌, ℕ, Bool, true, false, ◌&&◌, List, [], ◌∷◌, map, length, take, zero, suc, Option, Some, None, Ok, refl, sym, ap, ◌∙◌, subst, arith, IsTrue, decimal}
-use Rattle.std.specs.Prelude.{IsUtf8, nat_le, nat_lt, nat_eq, not, option_map, IfSome}
+use Rattle.std.proofs.Common.{◌≡◌, ◌<◌, ◌^◌, ℕ, Bool, true, false, ◌&&◌, List, [], ◌∷◌, map, length, take, zero, suc, Option, Some, None, refl, sym, ap, ◌∙◌, subst, arith, IsTrue, decimal}
+use Rattle.std.specs.Prelude.{IsUtf8, nat_le, nat_lt, nat_eq, not, IfSome}
 use Rattle.std.specs.List.{list_all, join_with_byte}
 use Rattle.std.specs.Str.{IsAscii}
 use Rattle.std.proofs.lemmas.Bool.{and_parts, and_from, ltb-true, leb-true, lt-ltb, eqb-false, not-true}
@@ -20,18 +20,16 @@ use Rattle.sg_history.specs.Journal.{IsWrite, is_body, is_by, by_text}
 use Rattle.std.proofs.Common.{Fits, w8, slice_index_or}
 use Rattle.sg_names.specs.Hex.{are_bytes}
 use Rattle.rev_tree.specs.declared.tree.Node.{Node}
-use Rattle.rev_tree.specs.Tree.{winner_of}
 use Rattle.rev_tree.specs.Extension.{Recorded, with_write}
 use Rattle.rev_tree.specs.Writes.{is_accepted}
 use Rattle.repl_messages.specs.declared.revision.Revision.{Revision}
 use Rattle.doc_board.specs.Answers.{IsNewTree, recorded_with}
 use Rattle.doc_board.specs.Candidates.{ExtendsTree}
 use Rattle.doc_board.specs.Boards.{board_of, board_tree}
-use Rattle.sync_syntax.specs.declared.tree.Program.{Program}
 use Rattle.sync_meaning.specs.declared.effects.Effects.{Effects}
 use Rattle.sync_meaning.specs.Laws.{AreEffects}
-use Rattle.doc_board.specs.Judging.{IsSaid, body_or_empty}
-use Rattle.doc_board.specs.Outcomes.{IsWriteOf, effects_in}
+use Rattle.doc_board.specs.Judging.{body_or_empty}
+use Rattle.doc_board.specs.Outcomes.{effects_in}
 use Rattle.doc_board.specs.Recorded.{HasDocument}
 use Rattle.doc_board.specs.State.{State, tree_on}
 use Rattle.rev_tree.specs.Documents.{recorded}
@@ -145,22 +143,6 @@ extends_on s author r front tree kept effects w same new is =
     let on : ExtendsTree (tree_on s r.doc) w tree =
     subst (λ (t : List Node). ExtendsTree t w tree) same (extends_new (board_tree (board_of s) r.doc) author r front tree kept effects w new is) in
     subst (λ (doc : List ℕ). ExtendsTree (tree_on s doc) w tree) (sym is.doc) on
-
--- it is the write of the revision by the board, under a program that accepts it with its effects
-pub write_by : (s : State) (program : Program) (author : Option (List ℕ)) (r : Revision) (tree : List Node) (kept : ℕ) (effects : Effects) (w : Write) → IsNewTree (board_tree (board_of s) r.doc) r tree kept → IsWritten author r (length s.log) tree kept effects w → IsSaid program author r (board_of s) (Ok effects) → IsWriteOf program author r (board_of s) w
-write_by s program author r tree kept effects w new is said =
-    let before : List Node = board_tree (board_of s) r.doc in
-    record {
-      doc = is.doc;
-      rev = is.rev;
-      ancestors = is.ancestors ∙ ap (λ (k : ℕ). take k r.ancestors) new.ancestors;
-      deleted = is.deleted;
-      body = is.body;
-      by = is.by;
-      at = is.at;
-      winner = ap (λ (t : List Node). option_map (λ l. l.rev) (winner_of t)) (sym (extends_new before author r (length s.log) tree kept effects w new is).tree) ∙ is.winner;
-      accepted = subst (λ (e : Effects). IsSaid program author r (board_of s) (Ok e)) (sym is.has_effects) said;
-    }
 
 positive : (n : ℕ) → nat_eq n 0 ≡ false → 0 < n
 positive zero h = absurd (eqb-false 0 0 h refl)
