@@ -15,7 +15,7 @@ mod snapshot;
 pub use board::Board;
 pub use candidate::{Candidate, Commit, NoRoom};
 pub use offers::answer_offer;
-pub use open::{OpenFault, is_document};
+pub use open::OpenFault;
 pub use outcome::{MOST_BODY_BYTES, Outcome};
 pub use room::Room;
 pub use sg_history::RoomFor;

@@ -27,7 +27,7 @@ pub enum OpenFault {
 }
 
 /// Whether a body is a document.
-pub fn is_document(alloc: Global, body: &[u8]) -> Result<bool, AllocError>
+fn is_document(alloc: Global, body: &[u8]) -> Result<bool, AllocError>
     ensures yes { IfOk result (λ found. found ≡ true → HasDocument body.now) }
     ensures no { IfOk result (λ found. found ≡ false → ¬ HasDocument body.now) }
 {
