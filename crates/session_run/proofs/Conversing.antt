@@ -17,6 +17,7 @@ use Rattle.session_core.specs.Fronts.{look_of, stored_by, front_by, looks_of, st
 use Rattle.session_core.specs.Running.{Running}
 use Rattle.session_core.specs.State.{Machine}
 use Rattle.session_core.specs.Steps.{Step, Steps, Leads, put_by, wanted_after}
+use Rattle.sync_syntax.specs.declared.tree.Program.{Program}
 use Rattle.session_mux.specs.declared.mux.Mux.{Mux}
 use Rattle.session_mux.specs.Sent.{expecting_by, expecting_all}
 use Rattle.session_run.specs.declared.session.Session.{Session}
@@ -75,27 +76,27 @@ at_most_two (pending.Ask asker proposed) = omega arith
 at_most_two (pending.Push asker) = omega arith
 
 -- the one step by the first event
-first_step : (old new : Session) (first : Event) (before now : Moment) (s : Step) (user : List ℕ) (strict : Bool) → is_answer first ≡ false → s.event ≡ first → Leads old.core (s ∷ []) new.core
+first_step : (program : Program) (old new : Session) (first : Event) (before now : Moment) (s : Step) (user : List ℕ) (strict : Bool) → is_answer first ≡ false → s.event ≡ first → Leads old.core (s ∷ []) new.core
     → new.listing.looks ≡ old.listing.looks → new.listing.stored ≡ old.listing.stored
-    → IsAnswered before old.core.user old.core.strict None first now
-    → Conversed old new first before now (s ∷ []) None
-first_step old new first before now s user strict is event_is leads looks stored answered = record {
+    → IsAnswered before old.core.user program old.core.strict None first now
+    → Conversed program old new first before now (s ∷ []) None
+first_step program old new first before now s user strict is event_is leads looks stored answered = record {
   leads = leads;
   exchange = event_is;
-  answered = (before, refl, subst (λ e. IsAnswered before old.core.user old.core.strict None e now) (sym event_is) answered);
+  answered = (before, refl, subst (λ e. IsAnswered before old.core.user program old.core.strict None e now) (sym event_is) answered);
   looks = same_looks first old.listing.looks new.listing.looks is looks ∙ ap (λ e. old.listing.looks ++ look_of e) (sym event_is);
   stored = same_stored first old.listing.stored new.listing.stored is stored ∙ ap (λ e. old.listing.stored ++ stored_by e) (sym event_is);
 }
 
-pub begun : (old new : Session) (first : Event) (before now : Moment) (want : Option Want) → is_answer first ≡ false
+pub begun : (program : Program) (old new : Session) (first : Event) (before now : Moment) (want : Option Want) → is_answer first ≡ false
     → (made : Makes old new first want) → new.listing.looks ≡ old.listing.looks → new.listing.stored ≡ old.listing.stored
-    → IsAnswered before old.core.user old.core.strict None first now
+    → IsAnswered before old.core.user program old.core.strict None first now
     → WantsFor new.core.feed new.core.pending want → IsReady new → MayReply new.mux (due_with new.core.pending)
     → feed_front old.core.feed ≤ now.lowest → AreWithin now.lowest (front_by first)
     → new.core.requests ≤ old.core.requests + 10001
-    → Conversing old new first before now want (made.step ∷ [])
-begun old new first before now want is made looks stored answered wants ready may front within few = record {
-  conversed = first_step old new first before now made.step old.core.user old.core.strict is made.event_is (old.core, refl, made.steps) looks stored answered;
+    → Conversing program old new first before now want (made.step ∷ [])
+begun program old new first before now want is made looks stored answered wants ready may front within few = record {
+  conversed = first_step program old new first before now made.step old.core.user old.core.strict is made.event_is (old.core, refl, made.steps) looks stored answered;
   user = made.user;
   strict = made.strict;
   want_is = made.want_is;
@@ -120,16 +121,16 @@ stored_on : (old middle new more : List ℕ) (one : List ℕ) → middle ≡ old
 stored_on old middle new more one a b = b ∙ ap (λ l. l ++ one) a ∙ append_assoc old more one
 
 -- one step more, by an answer
-next_step : (old middle new : Session) (first : Event) (before now after : Moment) (steps : List Step) (s : Step) (answer : Event) (wanted : Want)
-    → Conversed old middle first before now steps None → wanted_after steps ≡ Some wanted
-    → s.event ≡ answer → is_answer answer ≡ true → IsAnswered now old.core.user old.core.strict (Some wanted) answer after
+next_step : (program : Program) (old middle new : Session) (first : Event) (before now after : Moment) (steps : List Step) (s : Step) (answer : Event) (wanted : Want)
+    → Conversed program old middle first before now steps None → wanted_after steps ≡ Some wanted
+    → s.event ≡ answer → is_answer answer ≡ true → IsAnswered now old.core.user program old.core.strict (Some wanted) answer after
     → Steps middle.core s new.core
     → new.listing.looks ≡ middle.listing.looks ++ look_of answer → new.listing.stored ≡ middle.listing.stored ++ stored_by answer
-    → Conversed old new first before after (s ∷ steps) None
-next_step old middle new first before now after steps s answer wanted so_far want_is event_is is answered made looks stored = record {
+    → Conversed program old new first before after (s ∷ steps) None
+next_step program old middle new first before now after steps s answer wanted so_far want_is event_is is answered made looks stored = record {
   leads = (middle.core, so_far.leads, made);
   exchange = exchange_on first s steps (ap is_answer event_is ∙ is) so_far.exchange;
-  answered = (now, so_far.answered, subst (λ w. IsAnswered now old.core.user old.core.strict w s.event after) (sym want_is) (subst (λ e. IsAnswered now old.core.user old.core.strict (Some wanted) e after) (sym event_is) answered));
+  answered = (now, so_far.answered, subst (λ w. IsAnswered now old.core.user program old.core.strict w s.event after) (sym want_is) (subst (λ e. IsAnswered now old.core.user program old.core.strict (Some wanted) e after) (sym event_is) answered));
   looks = looks_on old.listing.looks middle.listing.looks new.listing.looks (looks_of steps) (look_of s.event) so_far.looks (looks ∙ ap (λ e. middle.listing.looks ++ look_of e) (sym event_is));
   stored = stored_on old.listing.stored middle.listing.stored new.listing.stored (stored_of steps) (stored_by s.event) so_far.stored (stored ∙ ap (λ e. middle.listing.stored ++ stored_by e) (sym event_is));
 }
@@ -138,16 +139,16 @@ next_step old middle new first before now after steps s answer wanted so_far wan
 abbrev unmade : Event → Step
 unmade e = record { event = e; puts = []; want = None }
 
-halted_step : (old middle new : Session) (first : Event) (before now after : Moment) (steps : List Step) (answer : Event) (wanted : Want)
-    → Conversed old middle first before now steps None → wanted_after steps ≡ Some wanted
-    → is_answer answer ≡ true → IsAnswered now old.core.user old.core.strict (Some wanted) answer after
+halted_step : (program : Program) (old middle new : Session) (first : Event) (before now after : Moment) (steps : List Step) (answer : Event) (wanted : Want)
+    → Conversed program old middle first before now steps None → wanted_after steps ≡ Some wanted
+    → is_answer answer ≡ true → IsAnswered now old.core.user program old.core.strict (Some wanted) answer after
     → new.core ≡ middle.core
     → new.listing.looks ≡ middle.listing.looks ++ look_of answer → new.listing.stored ≡ middle.listing.stored ++ stored_by answer
-    → Conversed old new first before after steps (Some answer)
-halted_step old middle new first before now after steps answer wanted so_far want_is is answered same looks stored = record {
+    → Conversed program old new first before after steps (Some answer)
+halted_step program old middle new first before now after steps answer wanted so_far want_is is answered same looks stored = record {
   leads = subst (Leads old.core steps) (sym same) so_far.leads;
   exchange = exchange_on first (unmade answer) steps is so_far.exchange;
-  answered = (now, so_far.answered, subst (λ w. IsAnswered now old.core.user old.core.strict w answer after) (sym want_is) answered);
+  answered = (now, so_far.answered, subst (λ w. IsAnswered now old.core.user program old.core.strict w answer after) (sym want_is) answered);
   looks = looks_on old.listing.looks middle.listing.looks new.listing.looks (looks_of steps) (look_of answer) so_far.looks looks;
   stored = stored_on old.listing.stored middle.listing.stored new.listing.stored (stored_of steps) (stored_by answer) so_far.stored stored;
 }
@@ -155,31 +156,31 @@ halted_step old middle new first before now after steps answer wanted so_far wan
 -- ---- from want to want
 
 -- what the session read and listed for what was wanted
-pub record Answers (middle asked : Session) (user : List ℕ) (strict : Bool) (now after : Moment) (wanted : Want) (answer : Event) : Type 0 where
-  pub answered : IsAnswered now user strict (Some wanted) answer after
+pub record Answers (middle asked : Session) (user : List ℕ) (program : Program) (strict : Bool) (now after : Moment) (wanted : Want) (answer : Event) : Type 0 where
+  pub answered : IsAnswered now user program strict (Some wanted) answer after
   pub is : is_answer answer ≡ true
   pub core : asked.core ≡ middle.core
   pub mux : asked.mux ≡ middle.mux
   pub looks : asked.listing.looks ≡ middle.listing.looks ++ look_of answer
   pub stored : asked.listing.stored ≡ middle.listing.stored ++ stored_by answer
 
-by_user : (old middle asked : Session) (now after : Moment) (wanted : Want) (answer : Event) → middle.core.user ≡ old.core.user → middle.core.strict ≡ old.core.strict
-    → Answers middle asked middle.core.user middle.core.strict now after wanted answer → IsAnswered now old.core.user old.core.strict (Some wanted) answer after
-by_user old middle asked now after wanted answer user strict got =
-    subst (λ s. IsAnswered now old.core.user s (Some wanted) answer after) strict (subst (λ u. IsAnswered now u middle.core.strict (Some wanted) answer after) user got.answered)
+by_user : (program : Program) (old middle asked : Session) (now after : Moment) (wanted : Want) (answer : Event) → middle.core.user ≡ old.core.user → middle.core.strict ≡ old.core.strict
+    → Answers middle asked middle.core.user program middle.core.strict now after wanted answer → IsAnswered now old.core.user program old.core.strict (Some wanted) answer after
+by_user program old middle asked now after wanted answer user strict got =
+    subst (λ s. IsAnswered now old.core.user program s (Some wanted) answer after) strict (subst (λ u. IsAnswered now u program middle.core.strict (Some wanted) answer after) user got.answered)
 
 -- the answer was taken
-pub went_on : (old middle asked new : Session) (first : Event) (before now after : Moment) (steps : List Step) (answer : Event) (wanted : Want) (want : Option Want)
-    → Conversing old middle first before now (Some wanted) steps
-    → Answers middle asked middle.core.user middle.core.strict now after wanted answer
+pub went_on : (program : Program) (old middle asked new : Session) (first : Event) (before now after : Moment) (steps : List Step) (answer : Event) (wanted : Want) (want : Option Want)
+    → Conversing program old middle first before now (Some wanted) steps
+    → Answers middle asked middle.core.user program middle.core.strict now after wanted answer
     → (made : Makes asked new answer want) → new.listing ≡ asked.listing
     → WantsFor new.core.feed new.core.pending want → IsReady new → MayReply new.mux (due_with new.core.pending)
     → now.lowest ≤ after.lowest → AreWithin after.lowest (front_by answer)
     → new.core.requests ≤ asked.core.requests + 10001 → most_answers new.core.pending < most_answers asked.core.pending
-    → Conversing old new first before after want (made.step ∷ steps)
-went_on old middle asked new first before now after steps answer wanted want so_far got made listing wants ready may rises within few fewer = record {
-  conversed = next_step old middle new first before now after steps made.step answer wanted so_far.conversed so_far.want_is made.event_is got.is
-      (by_user old middle asked now after wanted answer so_far.user so_far.strict got)
+    → Conversing program old new first before after want (made.step ∷ steps)
+went_on program old middle asked new first before now after steps answer wanted want so_far got made listing wants ready may rises within few fewer = record {
+  conversed = next_step program old middle new first before now after steps made.step answer wanted so_far.conversed so_far.want_is made.event_is got.is
+      (by_user program old middle asked now after wanted answer so_far.user so_far.strict got)
       (subst (λ (m : Machine). Steps m made.step new.core) got.core made.steps)
       (ap (λ l. l.looks) listing ∙ got.looks) (ap (λ l. l.stored) listing ∙ got.stored);
   user = made.user ∙ ap (λ (m : Machine). m.user) got.core ∙ so_far.user;
@@ -194,35 +195,35 @@ went_on old middle asked new first before now after steps answer wanted want so_
 }
 
 -- memory ran out as the answer was taken
-pub halted_at : (old middle asked new : Session) (first : Event) (before now after : Moment) (steps : List Step) (answer : Event) (wanted : Want)
-    → Conversing old middle first before now (Some wanted) steps
-    → Answers middle asked middle.core.user middle.core.strict now after wanted answer
+pub halted_at : (program : Program) (old middle asked new : Session) (first : Event) (before now after : Moment) (steps : List Step) (answer : Event) (wanted : Want)
+    → Conversing program old middle first before now (Some wanted) steps
+    → Answers middle asked middle.core.user program middle.core.strict now after wanted answer
     → Halts asked new answer → new.listing ≡ asked.listing → HasRead after after
-    → (made : List Step) × (halted : Option Event) × (last : Moment) × Conversed old new first before last made halted × HasRead last after
-halted_at old middle asked new first before now after steps answer wanted so_far got (inl same) listing read = (
+    → (made : List Step) × (halted : Option Event) × (last : Moment) × Conversed program old new first before last made halted × HasRead last after
+halted_at program old middle asked new first before now after steps answer wanted so_far got (inl same) listing read = (
   steps,
   Some answer,
   after,
-  halted_step old middle new first before now after steps answer wanted so_far.conversed so_far.want_is got.is
-      (by_user old middle asked now after wanted answer so_far.user so_far.strict got) (same ∙ got.core) (ap (λ l. l.looks) listing ∙ got.looks) (ap (λ l. l.stored) listing ∙ got.stored),
+  halted_step program old middle new first before now after steps answer wanted so_far.conversed so_far.want_is got.is
+      (by_user program old middle asked now after wanted answer so_far.user so_far.strict got) (same ∙ got.core) (ap (λ l. l.looks) listing ∙ got.looks) (ap (λ l. l.stored) listing ∙ got.stored),
   read,
 )
-halted_at old middle asked new first before now after steps answer wanted so_far got (inr (s, made, event_is)) listing read = (
+halted_at program old middle asked new first before now after steps answer wanted so_far got (inr (s, made, event_is)) listing read = (
   s ∷ steps,
   None,
   after,
-  next_step old middle new first before now after steps s answer wanted so_far.conversed so_far.want_is event_is got.is
-      (by_user old middle asked now after wanted answer so_far.user so_far.strict got)
+  next_step program old middle new first before now after steps s answer wanted so_far.conversed so_far.want_is event_is got.is
+      (by_user program old middle asked now after wanted answer so_far.user so_far.strict got)
       (subst (λ (m : Machine). Steps m s new.core) got.core made) (ap (λ l. l.looks) listing ∙ got.looks) (ap (λ l. l.stored) listing ∙ got.stored),
   read,
 )
 
 -- memory ran out as the first event was taken
-pub halted_first : (old new : Session) (first : Event) (before now : Moment) → is_answer first ≡ false
+pub halted_first : (program : Program) (old new : Session) (first : Event) (before now : Moment) → is_answer first ≡ false
     → Halts old new first → new.listing.looks ≡ old.listing.looks → new.listing.stored ≡ old.listing.stored
-    → IsAnswered before old.core.user old.core.strict None first now → HasRead now now
-    → (steps : List Step) × (halted : Option Event) × (last : Moment) × Conversed old new first before last steps halted × HasRead last now
-halted_first old new first before now is (inl same) looks stored answered read = (
+    → IsAnswered before old.core.user program old.core.strict None first now → HasRead now now
+    → (steps : List Step) × (halted : Option Event) × (last : Moment) × Conversed program old new first before last steps halted × HasRead last now
+halted_first program old new first before now is (inl same) looks stored answered read = (
   [],
   Some first,
   now,
@@ -235,15 +236,15 @@ halted_first old new first before now is (inl same) looks stored answered read =
   },
   read,
 )
-halted_first old new first before now is (inr (s, made, event_is)) looks stored answered read =
-    (s ∷ [], None, now, first_step old new first before now s old.core.user old.core.strict is event_is (old.core, refl, made) looks stored answered, read)
+halted_first program old new first before now is (inr (s, made, event_is)) looks stored answered read =
+    (s ∷ [], None, now, first_step program old new first before now s old.core.user old.core.strict is event_is (old.core, refl, made) looks stored answered, read)
 
 -- memory ran out as the history was read
-pub halted_read : (old middle new : Session) (first : Event) (before now after : Moment) (want : Option Want) (steps : List Step)
-    → Conversing old middle first before now want steps → new.core ≡ middle.core → new.listing.looks ≡ middle.listing.looks → new.listing.stored ≡ middle.listing.stored
+pub halted_read : (program : Program) (old middle new : Session) (first : Event) (before now after : Moment) (want : Option Want) (steps : List Step)
+    → Conversing program old middle first before now want steps → new.core ≡ middle.core → new.listing.looks ≡ middle.listing.looks → new.listing.stored ≡ middle.listing.stored
     → HasRead now after
-    → (made : List Step) × (halted : Option Event) × (last : Moment) × Conversed old new first before last made halted × HasRead last after
-halted_read old middle new first before now after want steps so_far core looks stored read = (
+    → (made : List Step) × (halted : Option Event) × (last : Moment) × Conversed program old new first before last made halted × HasRead last after
+halted_read program old middle new first before now after want steps so_far core looks stored read = (
   steps,
   None,
   now,

@@ -2,6 +2,8 @@
 use Rattle.std.proofs.Common.{◌≡◌, inl, inr, ◌≤◌, ◌<◌, ℕ, ◌+◌, Bool, true, false, List, [], ◌∷◌, ◌++◌, length, Option, Some, None, Result, Ok, Err, refl, sym, ◌∙◌, ap, subst, arith, append-nil}
 use Rattle.std.proofs.lemmas.Bool.{false≢true}
 use Rattle.std.proofs.lemmas.List.{length-append, append_assoc}
+use Rattle.std.specs.Arc.{arc_value}
+use Rattle.sync_syntax.specs.declared.tree.Program.{Program}
 use Rattle.sg_outside.specs.Wire.{Traffic}
 use Rattle.sg_outside.specs.declared.sink.Gave.{Gave}
 use Rattle.sg_outside.specs.declared.sink.Gave.TheVariants as gave
@@ -131,7 +133,7 @@ run_ends law setup start now final traffic traffic_now traffic_after s new count
 -- a session that ends in a turn, of which this is left
 turn_session : Came → Joins → (setup : Setup) (start now final : Moment) (old new : Session) (turns : List SessionTurn) (frames : List FrameParts) (results : List Got) (sent : List (List ℕ)) (e : End)
     (result : Got) (traffic traffic_after : Option Traffic) (t : SessionTurn) (halted : Option Event) (left : Sending) (failed : List Gave)
-    → Holds setup start now old turns frames results sent → (did : Turned old new result now final traffic traffic_after t halted left failed)
+    → Holds setup start now old turns frames results sent → (did : Turned (arc_value setup.program) old new result now final traffic traffic_after t halted left failed)
     → length (results ++ result ∷ []) ≤ 1099511627776
     → IsClosedAt e new.core halted → IsSentAt e left → EndsBy (t ∷ turns) left e (results ++ result ∷ []) [] failed
     → IsSession setup start final (ended_as e new) (results ++ result ∷ []) (sent ++ did.sent) failed
@@ -154,7 +156,7 @@ turn_session came_law joins setup start now final old new turns frames results s
       joined = (got.joined, held.joined);
       led = (old.core, held.led, did.leads, did.called);
       closed = is_closed;
-      answered = subst (λ steps. AreAnswered start setup.user setup.strict steps did.now) (append_assoc (undone halted) t.steps (steps_of turns))
+      answered = subst (λ steps. AreAnswered start setup.user (arc_value setup.program) setup.strict steps did.now) (append_assoc (undone halted) t.steps (steps_of turns))
           (turn_answered setup start now did.now old turns (undone halted ++ t.steps) frames results sent held did.answered);
       reads = did.reads;
       looks = did.looks ∙ ap (λ l. l ++ looks_of (undone halted ++ t.steps)) held.looks ∙ sym (looks_after (undone halted ++ t.steps) (steps_of turns)) ∙ ap looks_of (append_assoc (undone halted) t.steps (steps_of turns));
@@ -188,7 +190,7 @@ bad_after joins setup start now s turns frames results sent bytes w held bad =
 -- all of whose turn went
 turn_runs : RecordsOn → Came → Expects → Joins → Kept → Wants → (setup : Setup) (start now final : Moment) (traffic traffic_now traffic_between traffic_after : Option Traffic) (old new : Session) (count : ℕ) (result : Got)
     → Records traffic_now (result ∷ []) [] [] traffic_between
-    → Takes old new result now final traffic_between traffic_after None
+    → Takes (arc_value setup.program) old new result now final traffic_between traffic_after None
     → Runs setup start now traffic old traffic_now count → Runs setup start final traffic new traffic_after (count + 1)
 turn_runs law came_law expects joins kept wants setup start now final traffic traffic_now traffic_between traffic_after old new count result records (t, did, value, rest, now_is, inbox, front, few) runs = record {
   turns = t ∷ runs.turns;
@@ -204,7 +206,7 @@ turn_runs law came_law expects joins kept wants setup start now final traffic tr
 turn_ends : RecordsOn → Came → Joins → (setup : Setup) (start now final : Moment) (traffic traffic_now traffic_between traffic_after : Option Traffic) (old new : Session) (count : ℕ) (result : Got) (e : End) (t : SessionTurn) (halted : Option Event) (left : Sending) (failed : List Gave)
     → count < 1099511627776
     → Records traffic_now (result ∷ []) [] [] traffic_between
-    → Turned old new result now final traffic_between traffic_after t halted left failed
+    → Turned (arc_value setup.program) old new result now final traffic_between traffic_after t halted left failed
     → IsClosedAt e new.core halted → IsSentAt e left → ((turns : List SessionTurn) (results : List Got) → EndsBy turns left e results [] failed)
     → Runs setup start now traffic old traffic_now count → IsServed setup start final traffic (ended_as e new) traffic_after
 turn_ends law came_law joins setup start now final traffic traffic_now traffic_between traffic_after old new count result e t halted left failed below records did is_closed whole by runs = record {
@@ -230,7 +232,7 @@ leaves_ends law setup start now final traffic traffic_now traffic_between traffi
 memory_ends : RecordsOn → Came → Joins → (setup : Setup) (start now final : Moment) (traffic traffic_now traffic_between traffic_after : Option Traffic) (old new : Session) (count : ℕ) (result : Got)
     → count < 1099511627776 → HasRead now now
     → Records traffic_now (result ∷ []) [] [] traffic_between
-    → Takes old new result now final traffic_between traffic_after (Some end.Memory)
+    → Takes (arc_value setup.program) old new result now final traffic_between traffic_after (Some end.Memory)
     → Runs setup start now traffic old traffic_now count → IsServed setup start final traffic (ended_as end.Memory new) traffic_after
 memory_ends law came_law joins setup start now final traffic traffic_now traffic_between traffic_after old new count result below read records (inl (t, halted, left, did)) runs =
     turn_ends law came_law joins setup start now final traffic traffic_now traffic_between traffic_after old new count result end.Memory t halted left [] below records did tt tt (λ turns results. (inr refl, refl)) runs
@@ -239,38 +241,47 @@ memory_ends law came_law joins setup start now final traffic traffic_now traffic
     (subst (λ r. Records traffic_now (r ∷ []) [] [] traffic_between) is records)
     (λ turns frames results sent held counted. (inl (bytes, refl), refl)) leaves runs
 
-pub result_taken : RecordsOn → Came → Expects → Joins → Kept → Wants → (setup : Setup) (start now final : Moment) (traffic traffic_now traffic_between traffic_after : Option Traffic) (old new : Session) (count : ℕ) (result : Got) (ends : Option End)
+taken_by : RecordsOn → Came → Expects → Joins → Kept → Wants → (setup : Setup) (start now final : Moment) (traffic traffic_now traffic_between traffic_after : Option Traffic) (old new : Session) (count : ℕ) (result : Got) (ends : Option End)
     → count < 1099511627776 → HasRead now now
     → Records traffic_now (result ∷ []) [] [] traffic_between
-    → Takes old new result now final traffic_between traffic_after ends
+    → Takes (arc_value setup.program) old new result now final traffic_between traffic_after ends
     → Runs setup start now traffic old traffic_now count → RunsOn setup start final traffic new traffic_after count ends
-result_taken law came_law expects joins kept wants setup start now final traffic traffic_now traffic_between traffic_after old new count result None below read records takes runs =
+taken_by law came_law expects joins kept wants setup start now final traffic traffic_now traffic_between traffic_after old new count result None below read records takes runs =
     turn_runs law came_law expects joins kept wants setup start now final traffic traffic_now traffic_between traffic_after old new count result records takes runs
-result_taken law came_law expects joins kept wants setup start now final traffic traffic_now traffic_between traffic_after old new count result (Some end.Closed) below read records takes runs = absurd takes
-result_taken law came_law expects joins kept wants setup start now final traffic traffic_now traffic_between traffic_after old new count result (Some end.WireFault) below read records (t, left, did, rest) runs =
+taken_by law came_law expects joins kept wants setup start now final traffic traffic_now traffic_between traffic_after old new count result (Some end.Closed) below read records takes runs = absurd takes
+taken_by law came_law expects joins kept wants setup start now final traffic traffic_now traffic_between traffic_after old new count result (Some end.WireFault) below read records (t, left, did, rest) runs =
     turn_ends law came_law joins setup start now final traffic traffic_now traffic_between traffic_after old new count result end.WireFault t None left (gave.Failed ∷ []) below records did (rest, refl) tt (λ turns results. inr (refl, refl)) runs
-result_taken law came_law expects joins kept wants setup start now final traffic traffic_now traffic_between traffic_after old new count result (Some (end.BadFrame index w)) below read records (bytes, is, at, bad, leaves) runs =
+taken_by law came_law expects joins kept wants setup start now final traffic traffic_now traffic_between traffic_after old new count result (Some (end.BadFrame index w)) below read records (bytes, is, at, bad, leaves) runs =
     leaves_ends law setup start now final traffic traffic_now traffic_between traffic_after old new count bytes (end.BadFrame index w) below read
     (subst (λ r. Records traffic_now (r ∷ []) [] [] traffic_between) is records)
     (λ turns frames results sent held counted. (at ∙ ap (λ n. n + 1) held.count, got.Frame bytes, refl, bad_after joins setup start now old turns frames results sent bytes w held bad, refl))
     leaves runs
-result_taken law came_law expects joins kept wants setup start now final traffic traffic_now traffic_between traffic_after old new count result (Some end.TurnsFull) below read records takes runs = absurd takes
-result_taken law came_law expects joins kept wants setup start now final traffic traffic_now traffic_between traffic_after old new count result (Some end.Memory) below read records takes runs =
+taken_by law came_law expects joins kept wants setup start now final traffic traffic_now traffic_between traffic_after old new count result (Some end.TurnsFull) below read records takes runs = absurd takes
+taken_by law came_law expects joins kept wants setup start now final traffic traffic_now traffic_between traffic_after old new count result (Some end.Memory) below read records takes runs =
     memory_ends law came_law joins setup start now final traffic traffic_now traffic_between traffic_after old new count result below read records takes runs
+
+pub result_taken : (program : Program) → RecordsOn → Came → Expects → Joins → Kept → Wants → (setup : Setup) (start now final : Moment) (traffic traffic_now traffic_between traffic_after : Option Traffic) (old new : Session) (count : ℕ) (result : Got) (ends : Option End)
+    → arc_value setup.program ≡ program → count < 1099511627776 → HasRead now now
+    → Records traffic_now (result ∷ []) [] [] traffic_between
+    → Takes program old new result now final traffic_between traffic_after ends
+    → Runs setup start now traffic old traffic_now count → RunsOn setup start final traffic new traffic_after count ends
+result_taken program law came_law expects joins kept wants setup start now final traffic traffic_now traffic_between traffic_after old new count result ends same below read records takes runs =
+    taken_by law came_law expects joins kept wants setup start now final traffic traffic_now traffic_between traffic_after old new count result ends below read records
+    (subst (λ p. Takes p old new result now final traffic_between traffic_after ends) (sym same) takes) runs
 
 -- ---- after a step
 
-pub rest_after : (old new : Session) (result : Got) (now final : Moment) (traffic traffic_after : Option Traffic) (ends : Option End) → Takes old new result now final traffic traffic_after ends → ends ≡ None → IsAtRest new
-rest_after old new result now final traffic traffic_after None (t, did, value, rest, now_is, inbox, front, few) e = rest
-rest_after old new result now final traffic traffic_after (Some other) takes e = cc
+pub rest_after : (program : Program) (old new : Session) (result : Got) (now final : Moment) (traffic traffic_after : Option Traffic) (ends : Option End) → Takes program old new result now final traffic traffic_after ends → ends ≡ None → IsAtRest new
+rest_after program old new result now final traffic traffic_after None (t, did, value, rest, now_is, inbox, front, few) e = rest
+rest_after program old new result now final traffic traffic_after (Some other) takes e = cc
 
-pub front_after : (old new : Session) (result : Got) (now final : Moment) (traffic traffic_after : Option Traffic) (ends : Option End) → Takes old new result now final traffic traffic_after ends → ends ≡ None → feed_front new.core.feed ≤ final.lowest
-front_after old new result now final traffic traffic_after None (t, did, value, rest, now_is, inbox, front, few) e = front
-front_after old new result now final traffic traffic_after (Some other) takes e = cc
+pub front_after : (program : Program) (old new : Session) (result : Got) (now final : Moment) (traffic traffic_after : Option Traffic) (ends : Option End) → Takes program old new result now final traffic traffic_after ends → ends ≡ None → feed_front new.core.feed ≤ final.lowest
+front_after program old new result now final traffic traffic_after None (t, did, value, rest, now_is, inbox, front, few) e = front
+front_after program old new result now final traffic traffic_after (Some other) takes e = cc
 
-pub few_after : (old new : Session) (result : Got) (now final : Moment) (traffic traffic_after : Option Traffic) (ends : Option End) → Takes old new result now final traffic traffic_after ends → ends ≡ None → new.core.requests ≤ old.core.requests + 30003
-few_after old new result now final traffic traffic_after None (t, did, value, rest, now_is, inbox, front, few) e = few
-few_after old new result now final traffic traffic_after (Some other) takes e = cc
+pub few_after : (program : Program) (old new : Session) (result : Got) (now final : Moment) (traffic traffic_after : Option Traffic) (ends : Option End) → Takes program old new result now final traffic traffic_after ends → ends ≡ None → new.core.requests ≤ old.core.requests + 30003
+few_after program old new result now final traffic traffic_after None (t, did, value, rest, now_is, inbox, front, few) e = few
+few_after program old new result now final traffic traffic_after (Some other) takes e = cc
 
 -- ---- the beginning
 

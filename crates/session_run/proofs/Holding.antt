@@ -2,6 +2,7 @@
 use Rattle.std.proofs.Common.{◌≡◌, ℕ, ◌+◌, Bool, true, false, ◌&&◌, not, List, [], ◌∷◌, ◌++◌, length, Option, Some, None, Result, Ok, Err, refl, sym, ◌∙◌, ap, subst, if◌then◌else◌, arith, append-nil}
 use Rattle.std.proofs.lemmas.Bool.{false≢true}
 use Rattle.std.proofs.lemmas.List.{append_assoc, length-append}
+use Rattle.std.specs.Arc.{arc_value}
 use Rattle.sg_outside.specs.Wire.{Traffic}
 use Rattle.sg_outside.specs.declared.wire.Got.{Got}
 use Rattle.sg_outside.specs.declared.wire.Got.TheVariants as got
@@ -24,6 +25,7 @@ use Rattle.session_core.specs.Fronts.{look_of, stored_by, looks_of, stored_of}
 use Rattle.session_core.specs.Running.{Running}
 use Rattle.session_core.specs.State.{Machine, new_machine}
 use Rattle.session_core.specs.Steps.{Step, Steps, Leads, put_by, wanted_after}
+use Rattle.sync_syntax.specs.declared.tree.Program.{Program}
 use Rattle.session_mux.specs.Sent.{expecting_by, expecting_all}
 use Rattle.session_run.specs.declared.serve.Setup.{Setup}
 use Rattle.session_run.specs.declared.session.Session.{Session}
@@ -168,11 +170,11 @@ still_wanted : (steps earlier : List Step) → wanted_after earlier ≡ None →
 still_wanted [] earlier none = none
 still_wanted (s ∷ steps) earlier none = refl
 
-pub answered_after : (start between now : Moment) (user : List ℕ) (strict : Bool) (steps earlier : List Step) → wanted_after earlier ≡ None
-    → AreAnswered start user strict earlier between → AreAnswered between user strict steps now → AreAnswered start user strict (steps ++ earlier) now
-answered_after start between now user strict [] earlier none a b = subst (AreAnswered start user strict earlier) (sym b) a
-answered_after start between now user strict (s ∷ steps) earlier none a (middle, b, one) =
-    (middle, answered_after start between middle user strict steps earlier none a b, subst (λ w. IsAnswered middle user strict w s.event now) (sym (still_wanted steps earlier none)) one)
+pub answered_after : (start between now : Moment) (user : List ℕ) (program : Program) (strict : Bool) (steps earlier : List Step) → wanted_after earlier ≡ None
+    → AreAnswered start user program strict earlier between → AreAnswered between user program strict steps now → AreAnswered start user program strict (steps ++ earlier) now
+answered_after start between now user program strict [] earlier none a b = subst (AreAnswered start user program strict earlier) (sym b) a
+answered_after start between now user program strict (s ∷ steps) earlier none a (middle, b, one) =
+    (middle, answered_after start between middle user program strict steps earlier none a b, subst (λ w. IsAnswered middle user program strict w s.event now) (sym (still_wanted steps earlier none)) one)
 
 -- ---- where nothing is awaited
 
@@ -211,17 +213,17 @@ counted_on old new turns t more count = omega (arith, more, count, counted_frame
 
 -- a turn's steps were answered after all before it
 pub turn_answered : (setup : Setup) (start now final : Moment) (old : Session) (turns : List SessionTurn) (steps : List Step) (frames : List FrameParts) (results : List Got) (sent : List (List ℕ))
-    → Holds setup start now old turns frames results sent → AreAnswered now old.core.user old.core.strict steps final
-    → AreAnswered start setup.user setup.strict (steps ++ steps_of turns) final
+    → Holds setup start now old turns frames results sent → AreAnswered now old.core.user (arc_value setup.program) old.core.strict steps final
+    → AreAnswered start setup.user (arc_value setup.program) setup.strict (steps ++ steps_of turns) final
 turn_answered setup start now final old turns steps frames results sent held a =
-    answered_after start now final setup.user setup.strict steps (steps_of turns) held.wanted held.answered
-    (subst (λ s. AreAnswered now setup.user s steps final) held.strict (subst (λ u. AreAnswered now u old.core.strict steps final) held.user a))
+    answered_after start now final setup.user (arc_value setup.program) setup.strict steps (steps_of turns) held.wanted held.answered
+    (subst (λ s. AreAnswered now setup.user (arc_value setup.program) s steps final) held.strict (subst (λ u. AreAnswered now u (arc_value setup.program) old.core.strict steps final) held.user a))
 
 pub holds_on : Came → Expects → Joins → Kept → Wants
     → (setup : Setup) (start now final : Moment) (old new : Session) (turns : List SessionTurn) (frames : List FrameParts) (results : List Got) (sent : List (List ℕ))
     (result : Got) (traffic traffic_after : Option Traffic) (t : SessionTurn)
     → Holds setup start now old turns frames results sent
-    → (did : Turned old new result now final traffic traffic_after t None new.mux.outbox []) → did.value ≡ new.mux.sent.value → IsAtRest new → did.now ≡ final
+    → (did : Turned (arc_value setup.program) old new result now final traffic traffic_after t None new.mux.outbox []) → did.value ≡ new.mux.sent.value → IsAtRest new → did.now ≡ final
     → new.mux.inbox ≡ expecting_all (put_by t.steps) (inbox_after old.mux.inbox t.frame)
     → Holds setup start final new (t ∷ turns) (frames ++ did.frames) (results ++ result ∷ []) (sent ++ did.sent)
 holds_on came_law expects joins kept_law wants setup start now final old new turns frames results sent result traffic traffic_after t held did value rest now_is inbox =
@@ -234,7 +236,7 @@ holds_on came_law expects joins kept_law wants setup start now final old new tur
       led = (old.core, held.led, did.leads, did.called);
       rest = rest;
       wanted = nothing_wanted wants old.core t.steps (steps_of turns) new.core did.leads rest.pending held.wanted;
-      answered = turn_answered setup start now final old turns t.steps frames results sent held (subst (AreAnswered now old.core.user old.core.strict t.steps) now_is did.answered);
+      answered = turn_answered setup start now final old turns t.steps frames results sent held (subst (AreAnswered now old.core.user (arc_value setup.program) old.core.strict t.steps) now_is did.answered);
       joined = (got.joined, held.joined);
       inbox = subst (λ s. StandsFor s (events_of (t ∷ turns))) (sym inbox)
           (all_stand expects (put_by t.steps) (inbox_after old.mux.inbox t.frame) (came_after t.frame (events_of turns)) got.inbox);

@@ -34,6 +34,7 @@ use Rattle.repl_messages.specs.Answers.{answers_payload}
 use Rattle.repl_messages.specs.Errors.{ok_payload}
 use Rattle.repl_messages.specs.Looks.{AreBodies, winning_write, said_by, left_by_write, body_of}
 use Rattle.repl_messages.specs.Rev.{rev_payload}
+use Rattle.sync_syntax.specs.declared.tree.Program.{Program}
 use Rattle.doc_board.specs.declared.outcome.Outcome.{Outcome}
 use Rattle.doc_board.specs.declared.outcome.Outcome.TheVariants as outcome
 use Rattle.session_core.specs.declared.act.Act.{Act}
@@ -170,6 +171,7 @@ outcome_none asker (outcome.UserGone401 at) = reply_none asker kinds.Err _ refl
 outcome_none asker (outcome.Known at) = reply_none asker kinds.Rpy _ refl
 outcome_none asker (outcome.BadHistory400 at) = reply_none asker kinds.Err _ refl
 outcome_none asker (outcome.Conflict409 at leaf) = reply_none asker kinds.Err _ refl
+outcome_none asker (outcome.Denied403 at rule) = reply_none asker kinds.Err _ refl
 outcome_none asker (outcome.Stored sequence at) = reply_none asker kinds.Rpy _ refl
 outcome_none asker outcome.Memory507 = reply_none asker kinds.Err _ refl
 
@@ -288,49 +290,49 @@ bodies_put shows wins removes h user before s after b r rows options most runs c
           (by_answers shows wins removes es trees user before r rows b.answers most (before.requests + 1) (r.continuous && is_none (rest r).rows) answers_are all);
     }
 
-by_right : Shows → Wins → Removes → (h : List Entry) (user : List ℕ) (strict : Bool) (before : Machine) (s : Step) (after : Machine) (b : Bodies) (rows : List Row) (feed : Option Running) (wanted : Option Want)
+by_right : Shows → Wins → Removes → (h : List Entry) (user : List ℕ) (program : Program) (strict : Bool) (before : Machine) (s : Step) (after : Machine) (b : Bodies) (rows : List Row) (feed : Option Running) (wanted : Option Want)
     → before.feed ≡ feed → s.event ≡ event.Bodies b → (made : Steps before s after)
-    → made.done ≡ on_bodies_of before b rows feed → WantsFor feed (pending.Bodies rows) wanted → IsRight h user strict wanted (event.Bodies b)
+    → made.done ≡ on_bodies_of before b rows feed → WantsFor feed (pending.Bodies rows) wanted → IsRight h user program strict wanted (event.Bodies b)
     → HasOwnBodies h user before s
-by_right shows wins removes h user strict before s after b rows None wanted runs came made does w right =
+by_right shows wins removes h user program strict before s after b rows None wanted runs came made does w right =
     inl (subst CarryNone (sym (made.puts ∙ ap (λ (d : Done). messages_from (before.requests + 1) d.acts) does)) tt)
-by_right shows wins removes h user strict before s after b rows (Some r) None runs came made does w right = absurd w
-by_right shows wins removes h user strict before s after b rows (Some r) (Some (want.Feed since options)) runs came made does w right = absurd w
-by_right shows wins removes h user strict before s after b rows (Some r) (Some (want.Bodies options wanted most)) runs came made does (same, on_offer) right =
+by_right shows wins removes h user program strict before s after b rows (Some r) None runs came made does w right = absurd w
+by_right shows wins removes h user program strict before s after b rows (Some r) (Some (want.Feed since options)) runs came made does w right = absurd w
+by_right shows wins removes h user program strict before s after b rows (Some r) (Some (want.Bodies options wanted most)) runs came made does (same, on_offer) right =
     inr (bodies_put shows wins removes h user before s after b r rows options most runs came made does on_offer (subst (λ rs. AreBodies h user options rs most b) same right))
-by_right shows wins removes h user strict before s after b rows (Some r) (Some (want.Ask offers)) runs came made does w right = absurd w
-by_right shows wins removes h user strict before s after b rows (Some r) (Some (want.Propose revision)) runs came made does w right = absurd w
+by_right shows wins removes h user program strict before s after b rows (Some r) (Some (want.Ask offers)) runs came made does w right = absurd w
+by_right shows wins removes h user program strict before s after b rows (Some r) (Some (want.Propose revision)) runs came made does w right = absurd w
 
-by_bodies : Shows → Wins → Removes → (h : List Entry) (user : List ℕ) (strict : Bool) (before : Machine) (s : Step) (after : Machine) (b : Bodies) (awaited : Pending) (wanted : Option Want)
+by_bodies : Shows → Wins → Removes → (h : List Entry) (user : List ℕ) (program : Program) (strict : Bool) (before : Machine) (s : Step) (after : Machine) (b : Bodies) (awaited : Pending) (wanted : Option Want)
     → s.event ≡ event.Bodies b → (made : Steps before s after)
-    → AwaitsBy before.feed awaited (event.Bodies b) → made.done ≡ on_bodies before b awaited → WantsFor before.feed awaited wanted → IsRight h user strict wanted (event.Bodies b)
+    → AwaitsBy before.feed awaited (event.Bodies b) → made.done ≡ on_bodies before b awaited → WantsFor before.feed awaited wanted → IsRight h user program strict wanted (event.Bodies b)
     → HasOwnBodies h user before s
-by_bodies shows wins removes h user strict before s after b pending.Nothing wanted came made a does w right = absurd a
-by_bodies shows wins removes h user strict before s after b (pending.Feed asked) wanted came made a does w right = absurd a
-by_bodies shows wins removes h user strict before s after b pending.More wanted came made a does w right = absurd a
-by_bodies shows wins removes h user strict before s after b (pending.Bodies rows) wanted came made a does w right =
-    by_right shows wins removes h user strict before s after b rows before.feed wanted refl came made does w right
-by_bodies shows wins removes h user strict before s after b (pending.Ask asker proposed) wanted came made a does w right = absurd a
-by_bodies shows wins removes h user strict before s after b (pending.Push asker) wanted came made a does w right = absurd a
+by_bodies shows wins removes h user program strict before s after b pending.Nothing wanted came made a does w right = absurd a
+by_bodies shows wins removes h user program strict before s after b (pending.Feed asked) wanted came made a does w right = absurd a
+by_bodies shows wins removes h user program strict before s after b pending.More wanted came made a does w right = absurd a
+by_bodies shows wins removes h user program strict before s after b (pending.Bodies rows) wanted came made a does w right =
+    by_right shows wins removes h user program strict before s after b rows before.feed wanted refl came made does w right
+by_bodies shows wins removes h user program strict before s after b (pending.Ask asker proposed) wanted came made a does w right = absurd a
+by_bodies shows wins removes h user program strict before s after b (pending.Push asker) wanted came made a does w right = absurd a
 
 -- ---- each step
 
 none_put : (h : List Entry) (user : List ℕ) (before : Machine) (s : Step) (after : Machine) → (made : Steps before s after) → ActsCarryNone made.done.acts → HasOwnBodies h user before s
 none_put h user before s after made none = inl (subst CarryNone (sym made.puts) (carry_none (before.requests + 1) made.done.acts none))
 
-by_event : Shows → Wins → Removes → (h : List Entry) (user : List ℕ) (strict : Bool) (before : Machine) (s : Step) (after : Machine) (x : Event) (wanted : Option Want)
-    → s.event ≡ x → (made : Steps before s after) → AwaitsBy before.feed before.pending x → Does before x made.done → WantsFor before.feed before.pending wanted → IsRight h user strict wanted x
+by_event : Shows → Wins → Removes → (h : List Entry) (user : List ℕ) (program : Program) (strict : Bool) (before : Machine) (s : Step) (after : Machine) (x : Event) (wanted : Option Want)
+    → s.event ≡ x → (made : Steps before s after) → AwaitsBy before.feed before.pending x → Does before x made.done → WantsFor before.feed before.pending wanted → IsRight h user program strict wanted x
     → HasOwnBodies h user before s
-by_event shows wins removes h user strict before s after (event.Whole message) wanted came made a does w right = none_put h user before s after made (message_none before message (is_request message.kind) made.done does)
-by_event shows wins removes h user strict before s after (event.Idle front) wanted came made a does w right =
+by_event shows wins removes h user program strict before s after (event.Whole message) wanted came made a does w right = none_put h user before s after made (message_none before message (is_request message.kind) made.done does)
+by_event shows wins removes h user program strict before s after (event.Idle front) wanted came made a does w right =
     none_put h user before s after made (subst (λ (d : Done). ActsCarryNone d.acts) (sym does) (idle_none before front before.feed))
-by_event shows wins removes h user strict before s after (event.Fed answer) wanted came made a does w right =
+by_event shows wins removes h user program strict before s after (event.Fed answer) wanted came made a does w right =
     none_put h user before s after made (subst (λ (d : Done). ActsCarryNone d.acts) (sym does) (fed_none before answer before.pending))
-by_event shows wins removes h user strict before s after (event.Bodies b) wanted came made a does w right =
-    by_bodies shows wins removes h user strict before s after b before.pending wanted came made a does w right
-by_event shows wins removes h user strict before s after (event.Asked answer) wanted came made a does w right =
+by_event shows wins removes h user program strict before s after (event.Bodies b) wanted came made a does w right =
+    by_bodies shows wins removes h user program strict before s after b before.pending wanted came made a does w right
+by_event shows wins removes h user program strict before s after (event.Asked answer) wanted came made a does w right =
     none_put h user before s after made (subst (λ (d : Done). ActsCarryNone d.acts) (sym does) (asked_none before answer before.pending))
-by_event shows wins removes h user strict before s after (event.Judged o) wanted came made a does w right =
+by_event shows wins removes h user program strict before s after (event.Judged o) wanted came made a does w right =
     none_put h user before s after made (subst (λ (d : Done). ActsCarryNone d.acts) (sym does) (judged_none before o before.pending))
 
 wants_at : Wants → (user : List ℕ) (version : Version) (strict : Bool) (steps : List Step) (m : Machine) → Leads (new_machine user version strict) steps m → WantsFor m.feed m.pending (wanted_after steps)
@@ -339,7 +341,7 @@ wants_at law user version strict (s ∷ steps) m (before, leads, made) =
     subst (λ (m : Machine). WantsFor m.feed m.pending s.want) (sym made.leads)
     (subst (WantsFor made.done.after.feed made.done.after.pending) (sym made.want) (law before s.event made.done made.awaited made.does))
 
-pub own_bodies : Wants → Shows → Wins → Removes → (h : List Entry) (user : List ℕ) (version : Version) (strict : Bool) (earlier : List Step) (before : Machine) (s : Step) (after : Machine)
-    → Leads (new_machine user version strict) earlier before → Steps before s after → AreRight h user strict (s ∷ earlier) → HasOwnBodies h user before s
-own_bodies law shows wins removes h user version strict earlier before s after leads made right =
-    by_event shows wins removes h user strict before s after s.event (wanted_after earlier) refl made made.awaited made.does (wants_at law user version strict earlier before leads) right.0
+pub own_bodies : Wants → Shows → Wins → Removes → (h : List Entry) (user : List ℕ) (version : Version) (program : Program) (strict : Bool) (earlier : List Step) (before : Machine) (s : Step) (after : Machine)
+    → Leads (new_machine user version strict) earlier before → Steps before s after → AreRight h user program strict (s ∷ earlier) → HasOwnBodies h user before s
+own_bodies law shows wins removes h user version program strict earlier before s after leads made right =
+    by_event shows wins removes h user program strict before s after s.event (wanted_after earlier) refl made made.awaited made.does (wants_at law user version strict earlier before leads) right.0

@@ -26,6 +26,7 @@ use Rattle.session_core.specs.Fronts.{looks_of, stored_of}
 use Rattle.session_core.specs.Running.{waits}
 use Rattle.session_core.specs.State.{Machine}
 use Rattle.session_core.specs.Steps.{Step, Leads, put_by}
+use Rattle.sync_syntax.specs.declared.tree.Program.{Program}
 use Rattle.session_mux.specs.declared.mux.Mux.{Mux}
 use Rattle.session_mux.specs.Muxed.{Gives, IsPart, acknowledged_by, HaveGone}
 use Rattle.session_mux.specs.Sent.{AreWrittenFrom, Records, expecting_all}
@@ -49,15 +50,15 @@ none_written : (value : ℕ) → AreWrittenFrom value [] [] value
 none_written value sent e = (tt, e)
 
 -- what went is what may go after what was put
-abbrev went_with : (old middle new : Session) (first : Option Event) (before now final : Moment) (traffic traffic_after : Option Traffic) (steps : List Step) (halted : Option Event) (failed : List Gave)
-    → Leads old.core steps middle.core → IsCalled first (undone halted ++ steps) → AreAnswered before old.core.user old.core.strict (undone halted ++ steps) now → HasRead now final
+abbrev went_with : (program : Program) (old middle new : Session) (first : Option Event) (before now final : Moment) (traffic traffic_after : Option Traffic) (steps : List Step) (halted : Option Event) (failed : List Gave)
+    → Leads old.core steps middle.core → IsCalled first (undone halted ++ steps) → AreAnswered before old.core.user program old.core.strict (undone halted ++ steps) now → HasRead now final
     → middle.listing.looks ≡ old.listing.looks ++ looks_of (undone halted ++ steps) → middle.listing.stored ≡ old.listing.stored ++ stored_of (undone halted ++ steps)
     → new.core ≡ middle.core → new.listing ≡ middle.listing
     → (out : Sending) → out ≡ after_outbox_steps old.mux.outbox (puts_all (put_by steps)) → (crc : Crc) → crc ≡ old.mux.sent
     → (frames : List FrameParts) (texts : List (List ℕ)) (left : Sending) (value : ℕ)
     → ArePicked out frames left → AreWrittenFrom crc.value frames texts value → Records traffic [] texts failed traffic_after
-    → Went old new first before final traffic traffic_after steps halted left failed
-went_with old middle new first before now final traffic traffic_after steps halted failed leads called answered reads looks stored core listing out out_is crc crc_is frames texts left value go written records = record {
+    → Went program old new first before final traffic traffic_after steps halted left failed
+went_with program old middle new first before now final traffic traffic_after steps halted failed leads called answered reads looks stored core listing out out_is crc crc_is frames texts left value go written records = record {
   now = now;
   frames = frames;
   sent = texts;
@@ -86,10 +87,10 @@ rested law middle new frames left rest ready core inbox go idle left_is = record
 }
 
 -- what a session has before it sends
-record Puts (old middle : Session) (first : Option Event) (before final : Moment) (steps : List Step) : Type 0 where
+record Puts (program : Program) (old middle : Session) (first : Option Event) (before final : Moment) (steps : List Step) : Type 0 where
   pub leads : Leads old.core steps middle.core
   pub called : IsCalled first steps
-  pub answered : AreAnswered before old.core.user old.core.strict steps final
+  pub answered : AreAnswered before old.core.user program old.core.strict steps final
   pub looks : middle.listing.looks ≡ old.listing.looks ++ looks_of steps
   pub stored : middle.listing.stored ≡ old.listing.stored ++ stored_of steps
   pub mux : middle.mux ≡ put_as old.mux (put_by steps)
@@ -98,25 +99,25 @@ record Puts (old middle : Session) (first : Option Event) (before final : Moment
   pub front : feed_front middle.core.feed ≤ final.lowest
   pub few : middle.core.requests ≤ old.core.requests + 30003
 
-abbrev puts_went : (old middle new : Session) (first : Option Event) (before final : Moment) (traffic traffic_after : Option Traffic) (steps : List Step) (failed : List Gave)
-    → Puts old middle first before final steps → HasRead final final → new.core ≡ middle.core → new.listing ≡ middle.listing → middle.mux.sent ≡ old.mux.sent
+abbrev puts_went : (program : Program) (old middle new : Session) (first : Option Event) (before final : Moment) (traffic traffic_after : Option Traffic) (steps : List Step) (failed : List Gave)
+    → Puts program old middle first before final steps → HasRead final final → new.core ≡ middle.core → new.listing ≡ middle.listing → middle.mux.sent ≡ old.mux.sent
     → (frames : List FrameParts) (texts : List (List ℕ)) (left : Sending) (value : ℕ)
     → ArePicked middle.mux.outbox frames left → AreWrittenFrom middle.mux.sent.value frames texts value → Records traffic [] texts failed traffic_after
-    → Went old new first before final traffic traffic_after steps None left failed
-puts_went old middle new first before final traffic traffic_after steps failed put read core listing sent frames texts left value go written records =
-    went_with old middle new first before final final traffic traffic_after steps None failed put.leads put.called put.answered read put.looks put.stored core listing
+    → Went program old new first before final traffic traffic_after steps None left failed
+puts_went program old middle new first before final traffic traffic_after steps failed put read core listing sent frames texts left value go written records =
+    went_with program old middle new first before final final traffic traffic_after steps None failed put.leads put.called put.answered read put.looks put.stored core listing
     middle.mux.outbox (ap (λ (m : Mux). m.outbox) put.mux) middle.mux.sent sent frames texts left value go written records
 
-goes_by : PicksApart → (old middle new : Session) (first : Option Event) (before final : Moment) (traffic traffic_after : Option Traffic) (steps : List Step) (g : Gave) (result : Option End)
-    → Puts old middle first before final steps → HasRead final final → new.core ≡ middle.core → new.listing ≡ middle.listing → middle.mux.sent ≡ old.mux.sent
+goes_by : (program : Program) → PicksApart → (old middle new : Session) (first : Option Event) (before final : Moment) (traffic traffic_after : Option Traffic) (steps : List Step) (g : Gave) (result : Option End)
+    → Puts program old middle first before final steps → HasRead final final → new.core ≡ middle.core → new.listing ≡ middle.listing → middle.mux.sent ≡ old.mux.sent
     → new.mux.inbox ≡ middle.mux.inbox
     → HaveGone middle.mux.outbox middle.mux.sent.value traffic traffic_after g new.mux.outbox new.mux.sent.value → IsEndOf g result
-    → GoesOn old new first before final traffic traffic_after result
-goes_by law old middle new first before final traffic traffic_after steps gave.Done result put read core listing sent inbox (frames, texts, left, value, go, written, records, (idle, left_is, value_is)) e =
+    → GoesOn program old new first before final traffic traffic_after result
+goes_by program law old middle new first before final traffic traffic_after steps gave.Done result put read core listing sent inbox (frames, texts, left, value, go, written, records, (idle, left_is, value_is)) e =
     let gone : ArePicked middle.mux.outbox frames new.mux.outbox = subst (ArePicked middle.mux.outbox frames) left_is go in
-    subst (GoesOn old new first before final traffic traffic_after) (sym e) (
+    subst (GoesOn program old new first before final traffic traffic_after) (sym e) (
       steps,
-      puts_went old middle new first before final traffic traffic_after steps [] put read core listing sent frames texts new.mux.outbox value gone written records,
+      puts_went program old middle new first before final traffic traffic_after steps [] put read core listing sent frames texts new.mux.outbox value gone written records,
       value_is,
       rested law middle new frames left put.rest put.ready core inbox go idle left_is,
       refl,
@@ -124,21 +125,21 @@ goes_by law old middle new first before final traffic traffic_after steps gave.D
       subst (λ (m : Machine). feed_front m.feed ≤ final.lowest) (sym core) put.front,
       subst (λ (m : Machine). m.requests ≤ old.core.requests + 30003) (sym core) put.few,
     )
-goes_by law old middle new first before final traffic traffic_after steps gave.Failed result put read core listing sent inbox (frames, texts, left, value, go, written, records, is_left) e =
-    subst (GoesOn old new first before final traffic traffic_after) (sym e) (
+goes_by program law old middle new first before final traffic traffic_after steps gave.Failed result put read core listing sent inbox (frames, texts, left, value, go, written, records, is_left) e =
+    subst (GoesOn program old new first before final traffic traffic_after) (sym e) (
       steps,
       left,
-      puts_went old middle new first before final traffic traffic_after steps (gave.Failed ∷ []) put read core listing sent frames texts left value go written records,
+      puts_went program old middle new first before final traffic traffic_after steps (gave.Failed ∷ []) put read core listing sent frames texts left value go written records,
       ap (λ (m : Machine). m.pending) core ∙ put.rest,
     )
-goes_by law old middle new first before final traffic traffic_after steps gave.Memory result put read core listing sent inbox (frames, texts, left, value, go, written, records, is_left) e =
-    subst (GoesOn old new first before final traffic traffic_after) (sym e)
-    (steps, None, left, puts_went old middle new first before final traffic traffic_after steps [] put read core listing sent frames texts left value go written records)
+goes_by program law old middle new first before final traffic traffic_after steps gave.Memory result put read core listing sent inbox (frames, texts, left, value, go, written, records, is_left) e =
+    subst (GoesOn program old new first before final traffic traffic_after) (sym e)
+    (steps, None, left, puts_went program old middle new first before final traffic traffic_after steps [] put read core listing sent frames texts left value go written records)
 
 -- ---- an event
 
-conversing_puts : (old middle : Session) (first : Event) (before final : Moment) (steps : List Step) → Conversing old middle first before final None steps → Puts old middle (Some first) before final steps
-conversing_puts old middle first before final steps so_far = record {
+conversing_puts : (program : Program) (old middle : Session) (first : Event) (before final : Moment) (steps : List Step) → Conversing program old middle first before final None steps → Puts program old middle (Some first) before final steps
+conversing_puts program old middle first before final steps so_far = record {
   leads = so_far.conversed.leads;
   called = so_far.conversed.exchange;
   answered = so_far.conversed.answered;
@@ -151,35 +152,35 @@ conversing_puts old middle first before final steps so_far = record {
   few = omega (arith, so_far.room);
 }
 
-pub event_goes : PicksApart → (old middle new : Session) (first : Event) (before final : Moment) (traffic traffic_after : Option Traffic) (g : Gave) (result : Option End)
-    → ((steps : List Step) × Conversing old middle first before final None steps) → HasRead final final → new.core ≡ middle.core → new.listing ≡ middle.listing → middle.mux.sent ≡ old.mux.sent
+pub event_goes : (program : Program) → PicksApart → (old middle new : Session) (first : Event) (before final : Moment) (traffic traffic_after : Option Traffic) (g : Gave) (result : Option End)
+    → ((steps : List Step) × Conversing program old middle first before final None steps) → HasRead final final → new.core ≡ middle.core → new.listing ≡ middle.listing → middle.mux.sent ≡ old.mux.sent
     → new.mux.inbox ≡ middle.mux.inbox
     → HaveGone middle.mux.outbox middle.mux.sent.value traffic traffic_after g new.mux.outbox new.mux.sent.value → IsEndOf g result
-    → GoesOn old new (Some first) before final traffic traffic_after result
-event_goes law old middle new first before final traffic traffic_after g result (steps, so_far) read core listing sent inbox gone e =
-    goes_by law old middle new (Some first) before final traffic traffic_after steps g result (conversing_puts old middle first before final steps so_far) read core listing sent inbox gone e
+    → GoesOn program old new (Some first) before final traffic traffic_after result
+event_goes program law old middle new first before final traffic traffic_after g result (steps, so_far) read core listing sent inbox gone e =
+    goes_by program law old middle new (Some first) before final traffic traffic_after steps g result (conversing_puts program old middle first before final steps so_far) read core listing sent inbox gone e
 
 -- memory ran out
-pub event_halts : (old new : Session) (first : Event) (before final : Moment) (traffic : Option Traffic) → Records traffic [] [] [] traffic
-    → ((steps : List Step) × (halted : Option Event) × (now : Moment) × Conversed old new first before now steps halted × HasRead now final)
-    → GoesOn old new (Some first) before final traffic traffic (Some end.Memory)
-event_halts old new first before final traffic records (steps, halted, now, so_far, read) = (
+pub event_halts : (program : Program) (old new : Session) (first : Event) (before final : Moment) (traffic : Option Traffic) → Records traffic [] [] [] traffic
+    → ((steps : List Step) × (halted : Option Event) × (now : Moment) × Conversed program old new first before now steps halted × HasRead now final)
+    → GoesOn program old new (Some first) before final traffic traffic (Some end.Memory)
+event_halts program old new first before final traffic records (steps, halted, now, so_far, read) = (
   steps,
   halted,
   after_outbox_steps old.mux.outbox (puts_all (put_by steps)),
-  went_with old new new (Some first) before now final traffic traffic steps halted [] so_far.leads so_far.exchange so_far.answered read so_far.looks so_far.stored refl refl
+  went_with program old new new (Some first) before now final traffic traffic steps halted [] so_far.leads so_far.exchange so_far.answered read so_far.looks so_far.stored refl refl
       (after_outbox_steps old.mux.outbox (puts_all (put_by steps))) refl old.mux.sent refl [] [] (after_outbox_steps old.mux.outbox (puts_all (put_by steps))) old.mux.sent.value refl (none_written old.mux.sent.value) records,
 )
 
 -- no event
-pub nothing_goes : PicksApart → (old new : Session) (now : Moment) (traffic traffic_after : Option Traffic) (g : Gave) (result : Option End)
+pub nothing_goes : (program : Program) → PicksApart → (old new : Session) (now : Moment) (traffic traffic_after : Option Traffic) (g : Gave) (result : Option End)
     → old.core.pending ≡ pending.Nothing → IsReady old → feed_front old.core.feed ≤ now.lowest → HasRead now now → new.core ≡ old.core → new.listing ≡ old.listing
     → new.mux.inbox ≡ old.mux.inbox
     → old.listing.looks ≡ old.listing.looks ++ [] → old.listing.stored ≡ old.listing.stored ++ []
     → HaveGone old.mux.outbox old.mux.sent.value traffic traffic_after g new.mux.outbox new.mux.sent.value → IsEndOf g result
-    → GoesOn old new None now now traffic traffic_after result
-nothing_goes law old new now traffic traffic_after g result rest ready front read core listing inbox looks stored gone e =
-    goes_by law old old new None now now traffic traffic_after [] g result
+    → GoesOn program old new None now now traffic traffic_after result
+nothing_goes program law old new now traffic traffic_after g result rest ready front read core listing inbox looks stored gone e =
+    goes_by program law old old new None now now traffic traffic_after [] g result
     (record {
       leads = refl;
       called = refl;
@@ -253,12 +254,12 @@ whole_may law old bytes message after p gives ready =
 abbrev Calls : Taken → Option Event → Type 0
 Calls given first = (steps : List Step) → IsCalled first steps → IsForTaken given steps
 
-abbrev turn_of : (old middle new : Session) (bytes : List ℕ) (given : Taken) (first : Option Event) (before final : Moment) (traffic traffic_after : Option Traffic) (steps : List Step) (halted : Option Event) (left : Sending) (failed : List Gave)
+abbrev turn_of : (program : Program) (old middle new : Session) (bytes : List ℕ) (given : Taken) (first : Option Event) (before final : Moment) (traffic traffic_after : Option Traffic) (steps : List Step) (halted : Option Event) (left : Sending) (failed : List Gave)
     → (gives : Gives old.mux bytes given middle.mux) → Calls given first → middle.core ≡ old.core → middle.listing ≡ old.listing → middle.mux.sent ≡ old.mux.sent
     → new.mux.received ≡ middle.mux.received → new.frames ≡ old.frames + 1
-    → Went middle new first before final traffic traffic_after steps halted left failed
-    → Turned old new (got.Frame bytes) before final traffic traffic_after (record { frame = Some gives.frame; given = given; steps = steps }) halted left failed
-turn_of old middle new bytes given first before final traffic traffic_after steps halted left failed gives calls core listing sent received count went = record {
+    → Went program middle new first before final traffic traffic_after steps halted left failed
+    → Turned program old new (got.Frame bytes) before final traffic traffic_after (record { frame = Some gives.frame; given = given; steps = steps }) halted left failed
+turn_of program old middle new bytes given first before final traffic traffic_after steps halted left failed gives calls core listing sent received count went = record {
   now = went.now;
   frames = went.frames;
   sent = went.sent;
@@ -266,7 +267,7 @@ turn_of old middle new bytes given first before final traffic traffic_after step
   read = (subst (λ (c : Crc). frame_at old.mux.received.value bytes ≡ Ok (gives.frame, c.value)) (sym received) gives.read, gives.answer);
   leads = subst (λ (m : Machine). Leads m steps new.core) core went.leads;
   called = calls (undone halted ++ steps) went.called;
-  answered = subst (λ (m : Machine). AreAnswered before m.user m.strict (undone halted ++ steps) went.now) core went.answered;
+  answered = subst (λ (m : Machine). AreAnswered before m.user program m.strict (undone halted ++ steps) went.now) core went.answered;
   reads = went.reads;
   looks = went.looks ∙ ap (λ l. l.looks ++ looks_of (undone halted ++ steps)) listing;
   stored = went.stored ∙ ap (λ l. l.stored ++ stored_of (undone halted ++ steps)) listing;
@@ -277,14 +278,14 @@ turn_of old middle new bytes given first before final traffic traffic_after step
   records = went.records;
 }
 
-frame_goes : (old middle new : Session) (bytes : List ℕ) (given : Taken) (first : Option Event) (before final : Moment) (traffic traffic_after : Option Traffic) (result : Option End)
+frame_goes : (program : Program) (old middle new : Session) (bytes : List ℕ) (given : Taken) (first : Option Event) (before final : Moment) (traffic traffic_after : Option Traffic) (result : Option End)
     → (gives : Gives old.mux bytes given middle.mux) → Calls given first → middle.core ≡ old.core → middle.listing ≡ old.listing → middle.mux.sent ≡ old.mux.sent
     → new.mux.received ≡ middle.mux.received → new.frames ≡ old.frames + 1
-    → GoesOn middle new first before final traffic traffic_after result
-    → Takes old new (got.Frame bytes) before final traffic traffic_after result
-frame_goes old middle new bytes given first before final traffic traffic_after None gives calls core listing sent received count (steps, went, value, rest, now, inbox, front, few) = (
+    → GoesOn program middle new first before final traffic traffic_after result
+    → Takes program old new (got.Frame bytes) before final traffic traffic_after result
+frame_goes program old middle new bytes given first before final traffic traffic_after None gives calls core listing sent received count (steps, went, value, rest, now, inbox, front, few) = (
   record { frame = Some gives.frame; given = given; steps = steps },
-  turn_of old middle new bytes given first before final traffic traffic_after steps None new.mux.outbox [] gives calls core listing sent received count went,
+  turn_of program old middle new bytes given first before final traffic traffic_after steps None new.mux.outbox [] gives calls core listing sent received count went,
   value,
   rest,
   now,
@@ -292,31 +293,31 @@ frame_goes old middle new bytes given first before final traffic traffic_after N
   front,
   subst (λ (m : Machine). new.core.requests ≤ m.requests + 30003) core few,
 )
-frame_goes old middle new bytes given first before final traffic traffic_after (Some end.Closed) gives calls core listing sent received count goes = absurd goes
-frame_goes old middle new bytes given first before final traffic traffic_after (Some end.WireFault) gives calls core listing sent received count (steps, left, went, rest) = (
+frame_goes program old middle new bytes given first before final traffic traffic_after (Some end.Closed) gives calls core listing sent received count goes = absurd goes
+frame_goes program old middle new bytes given first before final traffic traffic_after (Some end.WireFault) gives calls core listing sent received count (steps, left, went, rest) = (
   record { frame = Some gives.frame; given = given; steps = steps },
   left,
-  turn_of old middle new bytes given first before final traffic traffic_after steps None left (gave.Failed ∷ []) gives calls core listing sent received count went,
+  turn_of program old middle new bytes given first before final traffic traffic_after steps None left (gave.Failed ∷ []) gives calls core listing sent received count went,
   rest,
 )
-frame_goes old middle new bytes given first before final traffic traffic_after (Some (end.BadFrame index w)) gives calls core listing sent received count goes = absurd goes
-frame_goes old middle new bytes given first before final traffic traffic_after (Some end.TurnsFull) gives calls core listing sent received count goes = absurd goes
-frame_goes old middle new bytes given first before final traffic traffic_after (Some end.Memory) gives calls core listing sent received count (steps, halted, left, went) =
+frame_goes program old middle new bytes given first before final traffic traffic_after (Some (end.BadFrame index w)) gives calls core listing sent received count goes = absurd goes
+frame_goes program old middle new bytes given first before final traffic traffic_after (Some end.TurnsFull) gives calls core listing sent received count goes = absurd goes
+frame_goes program old middle new bytes given first before final traffic traffic_after (Some end.Memory) gives calls core listing sent received count (steps, halted, left, went) =
     inl (
       record { frame = Some gives.frame; given = given; steps = steps },
       halted,
       left,
-      turn_of old middle new bytes given first before final traffic traffic_after steps halted left [] gives calls core listing sent received count went,
+      turn_of program old middle new bytes given first before final traffic traffic_after steps halted left [] gives calls core listing sent received count went,
     )
 
 -- a frame whose message was answered
-pub whole_takes : (old middle new : Session) (bytes : List ℕ) (message : Message) (before final : Moment) (traffic traffic_after : Option Traffic) (result : Option End)
+pub whole_takes : (program : Program) (old middle new : Session) (bytes : List ℕ) (message : Message) (before final : Moment) (traffic traffic_after : Option Traffic) (result : Option End)
     → Gives old.mux bytes (takens.Whole message) middle.mux → middle.core ≡ old.core → middle.listing ≡ old.listing → middle.mux.sent ≡ old.mux.sent
     → new.mux.received ≡ middle.mux.received → new.frames ≡ old.frames + 1
-    → GoesOn middle new (Some (event.Whole message)) before final traffic traffic_after result
-    → Takes old new (got.Frame bytes) before final traffic traffic_after result
-whole_takes old middle new bytes message before final traffic traffic_after result gives core listing sent received count goes =
-    frame_goes old middle new bytes (takens.Whole message) (Some (event.Whole message)) before final traffic traffic_after result gives (λ steps called. called) core listing sent received count goes
+    → GoesOn program middle new (Some (event.Whole message)) before final traffic traffic_after result
+    → Takes program old new (got.Frame bytes) before final traffic traffic_after result
+whole_takes program old middle new bytes message before final traffic traffic_after result gives core listing sent received count goes =
+    frame_goes program old middle new bytes (takens.Whole message) (Some (event.Whole message)) before final traffic traffic_after result gives (λ steps called. called) core listing sent received count goes
 
 part_calls : (given : Taken) → IsPart given → Calls given None
 part_calls takens.Nothing part steps called = called
@@ -325,21 +326,21 @@ part_calls (takens.Owed kind number bytes) part steps called = called
 part_calls (takens.Whole message) part steps called = absurd part
 
 -- a frame that gave none
-pub part_takes : (old middle new : Session) (bytes : List ℕ) (before final : Moment) (traffic traffic_after : Option Traffic) (result : Option End)
+pub part_takes : (program : Program) (old middle new : Session) (bytes : List ℕ) (before final : Moment) (traffic traffic_after : Option Traffic) (result : Option End)
     → ((given : Taken) × IsPart given × Gives old.mux bytes given middle.mux) → middle.core ≡ old.core → middle.listing ≡ old.listing → middle.mux.sent ≡ old.mux.sent
     → new.mux.received ≡ middle.mux.received → new.frames ≡ old.frames + 1
-    → GoesOn middle new None before final traffic traffic_after result
-    → Takes old new (got.Frame bytes) before final traffic traffic_after result
-part_takes old middle new bytes before final traffic traffic_after result (given, part, gives) core listing sent received count goes =
-    frame_goes old middle new bytes given None before final traffic traffic_after result gives (part_calls given part) core listing sent received count goes
+    → GoesOn program middle new None before final traffic traffic_after result
+    → Takes program old new (got.Frame bytes) before final traffic traffic_after result
+part_takes program old middle new bytes before final traffic traffic_after result (given, part, gives) core listing sent received count goes =
+    frame_goes program old middle new bytes given None before final traffic traffic_after result gives (part_calls given part) core listing sent received count goes
 
 -- ---- the turn of an idle moment
 
-abbrev idle_turn : (old new : Session) (front : ℕ) (before final : Moment) (traffic traffic_after : Option Traffic) (steps : List Step) (halted : Option Event) (left : Sending) (failed : List Gave)
+abbrev idle_turn : (program : Program) (old new : Session) (front : ℕ) (before final : Moment) (traffic traffic_after : Option Traffic) (steps : List Step) (halted : Option Event) (left : Sending) (failed : List Gave)
     → waits old.core.feed ≡ true → new.mux.received ≡ old.mux.received → new.frames ≡ old.frames
-    → Went old new (Some (event.Idle front)) before final traffic traffic_after steps halted left failed
-    → Turned old new got.Idle before final traffic traffic_after (record { frame = None; given = takens.Nothing; steps = steps }) halted left failed
-idle_turn old new front before final traffic traffic_after steps halted left failed waiting received count went = record {
+    → Went program old new (Some (event.Idle front)) before final traffic traffic_after steps halted left failed
+    → Turned program old new got.Idle before final traffic traffic_after (record { frame = None; given = takens.Nothing; steps = steps }) halted left failed
+idle_turn program old new front before final traffic traffic_after steps halted left failed waiting received count went = record {
   now = went.now;
   frames = went.frames;
   sent = went.sent;
@@ -359,13 +360,13 @@ idle_turn old new front before final traffic traffic_after steps halted left fai
 }
 
 -- a feed waits, and the front was loaded
-pub idle_takes : (old new : Session) (front : ℕ) (before final : Moment) (traffic traffic_after : Option Traffic) (result : Option End)
+pub idle_takes : (program : Program) (old new : Session) (front : ℕ) (before final : Moment) (traffic traffic_after : Option Traffic) (result : Option End)
     → waits old.core.feed ≡ true → new.mux.received ≡ old.mux.received → new.frames ≡ old.frames
-    → GoesOn old new (Some (event.Idle front)) before final traffic traffic_after result
-    → Takes old new got.Idle before final traffic traffic_after result
-idle_takes old new front before final traffic traffic_after None waiting received count (steps, went, value, rest, now, inbox, at, few) = (
+    → GoesOn program old new (Some (event.Idle front)) before final traffic traffic_after result
+    → Takes program old new got.Idle before final traffic traffic_after result
+idle_takes program old new front before final traffic traffic_after None waiting received count (steps, went, value, rest, now, inbox, at, few) = (
   record { frame = None; given = takens.Nothing; steps = steps },
-  idle_turn old new front before final traffic traffic_after steps None new.mux.outbox [] waiting received count went,
+  idle_turn program old new front before final traffic traffic_after steps None new.mux.outbox [] waiting received count went,
   value,
   rest,
   now,
@@ -373,28 +374,28 @@ idle_takes old new front before final traffic traffic_after None waiting receive
   at,
   few,
 )
-idle_takes old new front before final traffic traffic_after (Some end.Closed) waiting received count goes = absurd goes
-idle_takes old new front before final traffic traffic_after (Some end.WireFault) waiting received count (steps, left, went, rest) = (
+idle_takes program old new front before final traffic traffic_after (Some end.Closed) waiting received count goes = absurd goes
+idle_takes program old new front before final traffic traffic_after (Some end.WireFault) waiting received count (steps, left, went, rest) = (
   record { frame = None; given = takens.Nothing; steps = steps },
   left,
-  idle_turn old new front before final traffic traffic_after steps None left (gave.Failed ∷ []) waiting received count went,
+  idle_turn program old new front before final traffic traffic_after steps None left (gave.Failed ∷ []) waiting received count went,
   rest,
 )
-idle_takes old new front before final traffic traffic_after (Some (end.BadFrame index w)) waiting received count goes = absurd goes
-idle_takes old new front before final traffic traffic_after (Some end.TurnsFull) waiting received count goes = absurd goes
-idle_takes old new front before final traffic traffic_after (Some end.Memory) waiting received count (steps, halted, left, went) =
+idle_takes program old new front before final traffic traffic_after (Some (end.BadFrame index w)) waiting received count goes = absurd goes
+idle_takes program old new front before final traffic traffic_after (Some end.TurnsFull) waiting received count goes = absurd goes
+idle_takes program old new front before final traffic traffic_after (Some end.Memory) waiting received count (steps, halted, left, went) =
     inl (
       record { frame = None; given = takens.Nothing; steps = steps },
       halted,
       left,
-      idle_turn old new front before final traffic traffic_after steps halted left [] waiting received count went,
+      idle_turn program old new front before final traffic traffic_after steps halted left [] waiting received count went,
     )
 
 -- no feed waits
-pub idle_passes : (old : Session) (now : Moment) (traffic : Option Traffic) → waits old.core.feed ≡ false → IsAtRest old → feed_front old.core.feed ≤ now.lowest → HasRead now now → Records traffic [] [] [] traffic
+pub idle_passes : (program : Program) (old : Session) (now : Moment) (traffic : Option Traffic) → waits old.core.feed ≡ false → IsAtRest old → feed_front old.core.feed ≤ now.lowest → HasRead now now → Records traffic [] [] [] traffic
     → old.listing.looks ≡ old.listing.looks ++ [] → old.listing.stored ≡ old.listing.stored ++ []
-    → Takes old old got.Idle now now traffic traffic None
-idle_passes old now traffic waiting rest front read records looks stored = (
+    → Takes program old old got.Idle now now traffic traffic None
+idle_passes program old now traffic waiting rest front read records looks stored = (
   record { frame = None; given = takens.Nothing; steps = [] },
   record {
     now = now;

@@ -1,6 +1,8 @@
 -- What holds of whole sessions.
 use Rattle.std.proofs.Common.{◌≡◌, ◌≤◌, ℕ, Bool, List, [], ◌∷◌, ◌++◌, Option, Some, None, length, sym, ◌∙◌, ap, subst, append-nil, length-append, arith}
 use Rattle.std.proofs.lemmas.List.{append_assoc}
+use Rattle.std.specs.Arc.{arc_value}
+use Rattle.sync_syntax.specs.declared.tree.Program.{Program}
 use Rattle.sg_outside.specs.declared.sink.Gave.{Gave}
 use Rattle.sg_outside.specs.declared.wire.Got.{Got}
 use Rattle.sg_history.specs.declared.entries.Entry.{Entry}
@@ -10,7 +12,7 @@ use Rattle.repl_messages.specs.declared.request.Version.{Version}
 use Rattle.session_core.specs.declared.event.Event.{Event}
 use Rattle.session_core.specs.declared.look.Look.{Look}
 use Rattle.session_core.specs.Conduct.{AreWithin}
-use Rattle.session_core.specs.Fronts.{looks_of, RiseBetween}
+use Rattle.session_core.specs.Fronts.{looks_of, stored_of, RiseBetween}
 use Rattle.session_core.specs.Right.{AreRight}
 use Rattle.session_core.specs.State.{Machine, new_machine}
 use Rattle.session_core.specs.Steps.{Step, Steps, Leads}
@@ -21,7 +23,7 @@ use Rattle.session_run.specs.Answered.{Moment, AreAnswered, AreLooksAt, look_fro
 use Rattle.session_run.specs.Own.{HasOwnBodies, HaveOwnBodies}
 use Rattle.session_run.specs.Served.{IsSession}
 use Rattle.session_run.specs.Turns.{SessionTurn, undone, steps_of, AreLed}
-use Rattle.session_run.proofs.Answering.{looks_on, rise_on}
+use Rattle.session_run.proofs.Answering.{OwnSince, own_read, looks_on, rise_on}
 
 leads_on : (start middle after : Machine) (steps earlier : List Step) → Leads start earlier middle → Leads middle steps after → Leads start (steps ++ earlier) after
 leads_on start middle after [] earlier lead is = subst (Leads start earlier) (sym is) lead
@@ -35,42 +37,42 @@ all_lead start halted (t ∷ earlier) m (before, led, leads, calls) =
 -- ---- what was answered
 
 -- what holds of all steps holds of those that were made
-right_made : (h : List Entry) (user : List ℕ) (strict : Bool) (halted : Option Event) (steps : List Step) → AreRight h user strict (undone halted ++ steps) → AreRight h user strict steps
-right_made h user strict None steps right = right
-right_made h user strict (Some e) steps right = right.1
+right_made : (h : List Entry) (user : List ℕ) (program : Program) (strict : Bool) (halted : Option Event) (steps : List Step) → AreRight h user program strict (undone halted ++ steps) → AreRight h user program strict steps
+right_made h user program strict None steps right = right
+right_made h user program strict (Some e) steps right = right.1
 
 abbrev pub AnswersRight : Type 0
-AnswersRight = (start now : Moment) (user : List ℕ) (strict : Bool) (steps : List Step) (h : List Entry) → AreAnswered start user strict steps now → IsLaterThanAll now.read h → AreRight h user strict steps
+AnswersRight = (start now : Moment) (user : List ℕ) (program : Program) (strict : Bool) (steps : List Step) (h : List Entry) → AreAnswered start user program strict steps now → IsLaterThanAll now.read h → AreRight h user program strict steps
 
 abbrev pub ReadBefore : Type 0
 ReadBefore = (before after : List BoardState) (low high : ℕ) (h : List Entry) → Reads before after low high → IsLaterThanAll after h → IsLaterThanAll before h
 
 pub all_right : AnswersRight → ReadBefore → (setup : Setup) (start final : Moment) (ended : Ended) (results : List Got) (sent : List (List ℕ)) (failed : List Gave) (h : List Entry)
-    → (session : IsSession setup start final ended results sent failed) → IsLaterThanAll final.read h → AreRight h setup.user setup.strict (steps_of session.turns)
+    → (session : IsSession setup start final ended results sent failed) → IsLaterThanAll final.read h → AreRight h setup.user (arc_value setup.program) setup.strict (steps_of session.turns)
 all_right law read setup start final ended results sent failed h session later =
-    right_made h setup.user setup.strict session.halted (steps_of session.turns)
-    (law start session.now setup.user setup.strict (undone session.halted ++ steps_of session.turns) h session.answered
+    right_made h setup.user (arc_value setup.program) setup.strict session.halted (steps_of session.turns)
+    (law start session.now setup.user (arc_value setup.program) setup.strict (undone session.halted ++ steps_of session.turns) h session.answered
     (read session.now.read final.read session.now.lowest final.lowest h session.reads.reads later))
 
 -- ---- bodies
 
 abbrev pub OwnBodies : Type 0
-OwnBodies = (h : List Entry) (user : List ℕ) (version : Version) (strict : Bool) (earlier : List Step) (before : Machine) (s : Step) (after : Machine)
-    → Leads (new_machine user version strict) earlier before → Steps before s after → AreRight h user strict (s ∷ earlier) → HasOwnBodies h user before s
+OwnBodies = (h : List Entry) (user : List ℕ) (version : Version) (program : Program) (strict : Bool) (earlier : List Step) (before : Machine) (s : Step) (after : Machine)
+    → Leads (new_machine user version strict) earlier before → Steps before s after → AreRight h user program strict (s ∷ earlier) → HasOwnBodies h user before s
 
-have_own : OwnBodies → (h : List Entry) (user : List ℕ) (version : Version) (strict : Bool) (steps : List Step) (after : Machine)
-    → Leads (new_machine user version strict) steps after → AreRight h user strict steps → HaveOwnBodies h user (new_machine user version strict) steps
-have_own law h user version strict [] after leads right = tt
-have_own law h user version strict (s ∷ earlier) after (before, leads, made) right = (
-  (before, leads, law h user version strict earlier before s after leads made right),
-  have_own law h user version strict earlier before leads right.1,
+have_own : OwnBodies → (h : List Entry) (user : List ℕ) (version : Version) (program : Program) (strict : Bool) (steps : List Step) (after : Machine)
+    → Leads (new_machine user version strict) steps after → AreRight h user program strict steps → HaveOwnBodies h user (new_machine user version strict) steps
+have_own law h user version program strict [] after leads right = tt
+have_own law h user version program strict (s ∷ earlier) after (before, leads, made) right = (
+  (before, leads, law h user version program strict earlier before s after leads made right),
+  have_own law h user version program strict earlier before leads right.1,
 )
 
 pub all_own : OwnBodies → AnswersRight → ReadBefore → (setup : Setup) (start final : Moment) (ended : Ended) (results : List Got) (sent : List (List ℕ)) (failed : List Gave) (h : List Entry)
     → (session : IsSession setup start final ended results sent failed) → IsLaterThanAll final.read h
     → HaveOwnBodies h setup.user (new_machine setup.user setup.version setup.strict) (steps_of session.turns)
 all_own law right read setup start final ended results sent failed h session later =
-    have_own law h setup.user setup.version setup.strict (steps_of session.turns) session.machine
+    have_own law h setup.user setup.version (arc_value setup.program) setup.strict (steps_of session.turns) session.machine
     (all_lead (new_machine setup.user setup.version setup.strict) session.halted session.turns session.machine session.led)
     (all_right right read setup start final ended results sent failed h session later)
 
@@ -101,17 +103,17 @@ looks_within law before (l ∷ looks) after h (between, b, was, is, more) later 
     (subst (λ n. n ≤ length h) (sym is) (longer b.log h (law before between b h was still)), looks_within law between looks after h more later)
 
 abbrev pub AnswersLooks : Type 0
-AnswersLooks = (start now : Moment) (user : List ℕ) (strict : Bool) (steps : List Step) → AreAnswered start user strict steps now → AreLooksAt start.read (looks_of steps) now.read
+AnswersLooks = (start now : Moment) (user : List ℕ) (program : Program) (strict : Bool) (steps : List Step) → AreAnswered start user program strict steps now → AreLooksAt start.read (looks_of steps) now.read
 
 abbrev pub AnswersFronts : Type 0
-AnswersFronts = (start now : Moment) (user : List ℕ) (strict : Bool) (steps : List Step) → AreAnswered start user strict steps now → RiseBetween start.lowest (look_fronts (looks_of steps)) now.lowest
+AnswersFronts = (start now : Moment) (user : List ℕ) (program : Program) (strict : Bool) (steps : List Step) → AreAnswered start user program strict steps now → RiseBetween start.lowest (look_fronts (looks_of steps)) now.lowest
 
 pub all_looks : AnswersLooks → (setup : Setup) (start final : Moment) (ended : Ended) (results : List Got) (sent : List (List ℕ)) (failed : List Gave)
     → IsSession setup start final ended results sent failed → AreLooksAt start.read ended.looks final.read
 all_looks law setup start final ended results sent failed session =
     subst (λ looks. AreLooksAt start.read looks final.read) (append-nil _ ∙ sym session.looks)
     (looks_on start.read session.now.read final.read (looks_of (undone session.halted ++ steps_of session.turns)) []
-    (law start session.now setup.user setup.strict (undone session.halted ++ steps_of session.turns) session.answered)
+    (law start session.now setup.user (arc_value setup.program) setup.strict (undone session.halted ++ steps_of session.turns) session.answered)
     (session.reads.reads.added, session.reads.reads.read))
 
 pub all_fronts : AnswersFronts → (setup : Setup) (start final : Moment) (ended : Ended) (results : List Got) (sent : List (List ℕ)) (failed : List Gave)
@@ -120,5 +122,17 @@ all_fronts law setup start final ended results sent failed session =
     subst (λ looks. RiseBetween start.lowest (look_fronts looks) final.lowest) (sym session.looks)
     (subst (λ fronts. RiseBetween start.lowest fronts final.lowest) (append-nil _)
     (rise_on start.lowest session.now.lowest final.lowest (look_fronts (looks_of (undone session.halted ++ steps_of session.turns))) []
-    (law start session.now setup.user setup.strict (undone session.halted ++ steps_of session.turns) session.answered)
+    (law start session.now setup.user (arc_value setup.program) setup.strict (undone session.halted ++ steps_of session.turns) session.answered)
     session.reads.reads.rises))
+
+-- ---- own entries
+
+abbrev pub AnswersOwn : Type 0
+AnswersOwn = (start now : Moment) (user : List ℕ) (program : Program) (strict : Bool) (steps : List Step) → AreAnswered start user program strict steps now → OwnSince start user program (stored_of steps) now
+
+pub all_judged : AnswersOwn → (setup : Setup) (start final : Moment) (ended : Ended) (results : List Got) (sent : List (List ℕ)) (failed : List Gave)
+    → IsSession setup start final ended results sent failed → OwnSince start setup.user (arc_value setup.program) ended.stored final
+all_judged law setup start final ended results sent failed session =
+    subst (λ stored. OwnSince start setup.user (arc_value setup.program) stored final) (sym session.stored)
+    (own_read start session.now final setup.user (arc_value setup.program) (stored_of (undone session.halted ++ steps_of session.turns)) session.reads
+    (law start session.now setup.user (arc_value setup.program) setup.strict (undone session.halted ++ steps_of session.turns) session.answered))

@@ -3,6 +3,7 @@ use Rattle.std.specs.Prelude.{◌≡◌, ◌≤◌, ◌||◌, ℕ, Bool, List, [
 use Rattle.sg_history.specs.declared.book.Waiting.{Waiting}
 use Rattle.sg_history.specs.Board.{BoardState}
 use Rattle.repl_messages.specs.declared.revision.Revision.{Revision}
+use Rattle.sync_syntax.specs.declared.tree.Program.{Program}
 use Rattle.doc_board.specs.declared.outcome.Outcome.{Outcome}
 use Rattle.session_core.specs.declared.act.Want.{Want}
 use Rattle.session_core.specs.declared.act.Want.TheVariants as want
@@ -48,30 +49,31 @@ pub record IsLoaded (before : Moment) (front : ℕ) (after : Moment) : Type 0 wh
   pub own : after.own ≡ before.own
   pub length : IfSome before.recorded (λ n. front ≡ n)
 
--- a revision was proposed
-pub record IsProposed (before : Moment) (user : List ℕ) (strict : Bool) (r : Revision) (answer : Outcome) (after : Moment) : Type 0 where
-  pub stores : Stores before.read after.read before.lowest after.lowest before.own after.own before.recorded strict (Some user) r answer
+-- a revision was proposed, to be judged by this program
+pub record IsProposed (before : Moment) (user : List ℕ) (program : Program) (strict : Bool) (r : Revision) (answer : Outcome) (after : Moment) : Type 0 where
+  pub stores : Stores before.read after.read before.lowest after.lowest before.own after.own before.recorded program strict (Some user) r answer
   pub recorded : after.recorded ≡ recorded_after before.recorded answer
 
 -- What was wanted is answered by this event: by a board that was read for it, and for nothing else. Where nothing was wanted the event
 -- is a message, or an idle moment at which the length of the log was loaded.
-abbrev pub IsAnswered : Moment → List ℕ → Bool → Option Want → Event → Moment → Type 0
-IsAnswered before user strict None (event.Whole message) after = after ≡ before
-IsAnswered before user strict None (event.Idle front) after = IsLoaded before front after
-IsAnswered before user strict (Some (want.Feed since options)) (event.Fed answer) after =
+abbrev pub IsAnswered : Moment → List ℕ → Program → Bool → Option Want → Event → Moment → Type 0
+IsAnswered before user program strict None (event.Whole message) after = after ≡ before
+IsAnswered before user program strict None (event.Idle front) after = IsLoaded before front after
+IsAnswered before user program strict (Some (want.Feed since options)) (event.Fed answer) after =
     HasRead before after × Saw before after (λ b. FeedAt b.log user since options answer)
-IsAnswered before user strict (Some (want.Bodies options rows most)) (event.Bodies answer) after =
+IsAnswered before user program strict (Some (want.Bodies options rows most)) (event.Bodies answer) after =
     HasRead before after × Saw before after (λ b. BodiesAt b user options rows most answer)
-IsAnswered before user strict (Some (want.Ask offers)) (event.Asked answer) after =
+IsAnswered before user program strict (Some (want.Ask offers)) (event.Asked answer) after =
     HasRead before after × Saw before after (λ b. AskedAt b offers answer)
-IsAnswered before user strict (Some (want.Propose r)) (event.Judged answer) after = IsProposed before user (strict || r.noconflicts) r answer after
-IsAnswered before user strict wanted other after = ⊥
+IsAnswered before user program strict (Some (want.Propose r)) (event.Judged answer) after =
+    IsProposed before user program (strict || r.noconflicts) r answer after
+IsAnswered before user program strict wanted other after = ⊥
 
 -- the events of steps were answered one after another, from one moment to another; the last step is the first of the list
-abbrev pub AreAnswered : Moment → List ℕ → Bool → List Step → Moment → Type 0
-AreAnswered start user strict [] now = now ≡ start
-AreAnswered start user strict (s ∷ earlier) now =
-    (between : Moment) × AreAnswered start user strict earlier between × IsAnswered between user strict (wanted_after earlier) s.event now
+abbrev pub AreAnswered : Moment → List ℕ → Program → Bool → List Step → Moment → Type 0
+AreAnswered start user program strict [] now = now ≡ start
+AreAnswered start user program strict (s ∷ earlier) now =
+    (between : Moment) × AreAnswered start user program strict earlier between × IsAnswered between user program strict (wanted_after earlier) s.event now
 
 -- ---- the looks
 

@@ -14,6 +14,8 @@ use Rattle.blip_mux.specs.Cutting.{ArePicked, after_outbox_steps}
 use Rattle.blip_mux.specs.Remembered.{InboxState}
 use Rattle.blip_mux.specs.InboxStates.{answer_at, taken_after, StandsFor}
 use Rattle.blip_mux.specs.Sending.{Sending, picked}
+use Rattle.std.specs.Arc.{arc_value}
+use Rattle.sync_syntax.specs.declared.tree.Program.{Program}
 use Rattle.session_core.specs.declared.act.Want.{Want}
 use Rattle.session_core.specs.declared.event.Event.{Event}
 use Rattle.session_core.specs.declared.machine.Pending.TheVariants as pending
@@ -57,16 +59,16 @@ abbrev pub Halts : Session → Session → Event → Type 0
 Halts old new event = (new.core ≡ old.core) ⊎ ((s : Step) × Steps old.core s new.core × (s.event ≡ event))
 
 -- steps were made for an event; in the last one, where memory ran out, nothing more was done
-pub record Conversed (old new : Session) (first : Event) (before now : Moment) (steps : List Step) (halted : Option Event) : Type 0 where
+pub record Conversed (program : Program) (old new : Session) (first : Event) (before now : Moment) (steps : List Step) (halted : Option Event) : Type 0 where
   pub leads : Leads old.core steps new.core
   pub exchange : IsExchange first (undone halted ++ steps)
-  pub answered : AreAnswered before old.core.user old.core.strict (undone halted ++ steps) now
+  pub answered : AreAnswered before old.core.user program old.core.strict (undone halted ++ steps) now
   pub looks : new.listing.looks ≡ old.listing.looks ++ looks_of (undone halted ++ steps)
   pub stored : new.listing.stored ≡ old.listing.stored ++ stored_of (undone halted ++ steps)
 
 -- so far all went well, and this is wanted
-pub record Conversing (old new : Session) (first : Event) (before now : Moment) (want : Option Want) (steps : List Step) : Type 0 where
-  pub conversed : Conversed old new first before now steps None
+pub record Conversing (program : Program) (old new : Session) (first : Event) (before now : Moment) (want : Option Want) (steps : List Step) : Type 0 where
+  pub conversed : Conversed program old new first before now steps None
   pub user : new.core.user ≡ old.core.user
   pub strict : new.core.strict ≡ old.core.strict
   pub want_is : wanted_after steps ≡ want
@@ -90,14 +92,14 @@ IsCalled None steps = steps ≡ []
 IsCalled (Some first) steps = IsExchange first steps
 
 -- steps were made for an event, if there was one, and frames were sent, until this was left
-pub record Went (old new : Session) (first : Option Event) (before final : Moment) (traffic traffic_after : Option Traffic) (steps : List Step) (halted : Option Event) (left : Sending) (failed : List Gave) : Type 0 where
+pub record Went (program : Program) (old new : Session) (first : Option Event) (before final : Moment) (traffic traffic_after : Option Traffic) (steps : List Step) (halted : Option Event) (left : Sending) (failed : List Gave) : Type 0 where
   pub now : Moment
   pub frames : List FrameParts
   pub sent : List (List ℕ)
   pub value : ℕ
   pub leads : Leads old.core steps new.core
   pub called : IsCalled first (undone halted ++ steps)
-  pub answered : AreAnswered before old.core.user old.core.strict (undone halted ++ steps) now
+  pub answered : AreAnswered before old.core.user program old.core.strict (undone halted ++ steps) now
   pub reads : HasRead now final
   pub looks : new.listing.looks ≡ old.listing.looks ++ looks_of (undone halted ++ steps)
   pub stored : new.listing.stored ≡ old.listing.stored ++ stored_of (undone halted ++ steps)
@@ -106,16 +108,16 @@ pub record Went (old new : Session) (first : Option Event) (before final : Momen
   pub records : Records traffic [] sent failed traffic_after
 
 -- all was sent that may be sent, or the session ends
-abbrev pub GoesOn : Session → Session → Option Event → Moment → Moment → Option Traffic → Option Traffic → Option End → Type 0
-GoesOn old new first before final traffic traffic_after None =
-    (steps : List Step) × (went : Went old new first before final traffic traffic_after steps None new.mux.outbox []) × (went.value ≡ new.mux.sent.value) × IsAtRest new
+abbrev pub GoesOn : Program → Session → Session → Option Event → Moment → Moment → Option Traffic → Option Traffic → Option End → Type 0
+GoesOn program old new first before final traffic traffic_after None =
+    (steps : List Step) × (went : Went program old new first before final traffic traffic_after steps None new.mux.outbox []) × (went.value ≡ new.mux.sent.value) × IsAtRest new
     × (went.now ≡ final) × (new.mux.inbox ≡ expecting_all (put_by steps) old.mux.inbox) × (feed_front new.core.feed ≤ final.lowest)
     × (new.core.requests ≤ old.core.requests + 30003)
-GoesOn old new first before final traffic traffic_after (Some end.WireFault) =
-    (steps : List Step) × (left : Sending) × Went old new first before final traffic traffic_after steps None left (gave.Failed ∷ []) × (new.core.pending ≡ pending.Nothing)
-GoesOn old new first before final traffic traffic_after (Some end.Memory) =
-    (steps : List Step) × (halted : Option Event) × (left : Sending) × Went old new first before final traffic traffic_after steps halted left []
-GoesOn old new first before final traffic traffic_after (Some other) = ⊥
+GoesOn program old new first before final traffic traffic_after (Some end.WireFault) =
+    (steps : List Step) × (left : Sending) × Went program old new first before final traffic traffic_after steps None left (gave.Failed ∷ []) × (new.core.pending ≡ pending.Nothing)
+GoesOn program old new first before final traffic traffic_after (Some end.Memory) =
+    (steps : List Step) × (halted : Option Event) × (left : Sending) × Went program old new first before final traffic traffic_after steps halted left []
+GoesOn program old new first before final traffic traffic_after (Some other) = ⊥
 
 -- the frame was read and gave this, or the moment was idle
 abbrev pub IsRead : Got → Mux → Mux → Option FrameParts → Taken → Type 0
@@ -129,7 +131,7 @@ counted None = 0
 counted (Some f) = 1
 
 -- a result of the wire was taken in a turn, and this is left of what was to be sent
-pub record Turned (old new : Session) (result : Got) (before final : Moment) (traffic traffic_after : Option Traffic) (t : SessionTurn) (halted : Option Event) (left : Sending) (failed : List Gave) : Type 0 where
+pub record Turned (program : Program) (old new : Session) (result : Got) (before final : Moment) (traffic traffic_after : Option Traffic) (t : SessionTurn) (halted : Option Event) (left : Sending) (failed : List Gave) : Type 0 where
   pub now : Moment
   pub frames : List FrameParts
   pub sent : List (List ℕ)
@@ -137,7 +139,7 @@ pub record Turned (old new : Session) (result : Got) (before final : Moment) (tr
   pub read : IsRead result old.mux new.mux t.frame t.given
   pub leads : Leads old.core t.steps new.core
   pub called : IsFor old.core t.frame t.given (undone halted ++ t.steps)
-  pub answered : AreAnswered before old.core.user old.core.strict (undone halted ++ t.steps) now
+  pub answered : AreAnswered before old.core.user program old.core.strict (undone halted ++ t.steps) now
   pub reads : HasRead now final
   pub looks : new.listing.looks ≡ old.listing.looks ++ looks_of (undone halted ++ t.steps)
   pub stored : new.listing.stored ≡ old.listing.stored ++ stored_of (undone halted ++ t.steps)
@@ -161,20 +163,20 @@ pub record Leaves (old new : Session) (before final : Moment) (traffic traffic_a
   pub records : Records traffic [] [] [] traffic_after
 
 -- a result was taken and all was sent that may be sent, or the session ends by it
-abbrev pub Takes : Session → Session → Got → Moment → Moment → Option Traffic → Option Traffic → Option End → Type 0
-Takes old new result before final traffic traffic_after None =
-    (t : SessionTurn) × (did : Turned old new result before final traffic traffic_after t None new.mux.outbox []) × (did.value ≡ new.mux.sent.value) × IsAtRest new
+abbrev pub Takes : Program → Session → Session → Got → Moment → Moment → Option Traffic → Option Traffic → Option End → Type 0
+Takes program old new result before final traffic traffic_after None =
+    (t : SessionTurn) × (did : Turned program old new result before final traffic traffic_after t None new.mux.outbox []) × (did.value ≡ new.mux.sent.value) × IsAtRest new
     × (did.now ≡ final) × (new.mux.inbox ≡ expecting_all (put_by t.steps) (inbox_after old.mux.inbox t.frame)) × (feed_front new.core.feed ≤ final.lowest)
     × (new.core.requests ≤ old.core.requests + 30003)
-Takes old new result before final traffic traffic_after (Some end.WireFault) =
-    (t : SessionTurn) × (left : Sending) × Turned old new result before final traffic traffic_after t None left (gave.Failed ∷ []) × (new.core.pending ≡ pending.Nothing)
-Takes old new result before final traffic traffic_after (Some (end.BadFrame index w)) =
+Takes program old new result before final traffic traffic_after (Some end.WireFault) =
+    (t : SessionTurn) × (left : Sending) × Turned program old new result before final traffic traffic_after t None left (gave.Failed ∷ []) × (new.core.pending ≡ pending.Nothing)
+Takes program old new result before final traffic traffic_after (Some (end.BadFrame index w)) =
     (bytes : List ℕ) × (result ≡ got.Frame bytes) × (index ≡ old.frames + 1)
     × IsBadFrame (frame_at old.mux.received.value bytes) (answer_at old.mux.inbox) old.mux.outbox w × Leaves old new before final traffic traffic_after
-Takes old new result before final traffic traffic_after (Some end.Memory) =
-    ((t : SessionTurn) × (halted : Option Event) × (left : Sending) × Turned old new result before final traffic traffic_after t halted left [])
+Takes program old new result before final traffic traffic_after (Some end.Memory) =
+    ((t : SessionTurn) × (halted : Option Event) × (left : Sending) × Turned program old new result before final traffic traffic_after t halted left [])
     ⊎ ((bytes : List ℕ) × (result ≡ got.Frame bytes) × Leaves old new before final traffic traffic_after)
-Takes old new result before final traffic traffic_after (Some other) = ⊥
+Takes program old new result before final traffic traffic_after (Some other) = ⊥
 
 -- ---- from the beginning
 
@@ -185,7 +187,7 @@ pub record Holds (setup : Setup) (start now : Moment) (s : Session) (turns : Lis
   pub led : AreLed (new_machine setup.user setup.version setup.strict) None turns s.core
   pub rest : IsAtRest s
   pub wanted : wanted_after (steps_of turns) ≡ None
-  pub answered : AreAnswered start setup.user setup.strict (steps_of turns) now
+  pub answered : AreAnswered start setup.user (arc_value setup.program) setup.strict (steps_of turns) now
   pub joined : AreJoined turns
   pub inbox : StandsFor s.mux.inbox (events_of turns)
   pub looks : s.listing.looks ≡ looks_of (steps_of turns)

@@ -1,5 +1,6 @@
 pub mod Answered
 pub mod Held
+pub mod Judged
 pub mod Listed
 pub mod Own
 pub mod Putting

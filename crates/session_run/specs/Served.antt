@@ -1,5 +1,6 @@
 -- What a session was, from the first result of the wire to its end.
 use Rattle.std.specs.Prelude.{◌≡◌, ◌⊎◌, ◌≤◌, ℕ, ◌+◌, Bool, true, false, List, [], ◌∷◌, ◌++◌, length, Option, None, Result, Ok, Err}
+use Rattle.std.specs.Arc.{arc_value}
 use Rattle.sg_outside.specs.Wire.{Traffic}
 use Rattle.sg_outside.specs.declared.sink.Gave.{Gave}
 use Rattle.sg_outside.specs.declared.sink.Gave.TheVariants as gave
@@ -114,7 +115,7 @@ pub record IsSession (setup : Setup) (start final : Moment) (ended : Ended) (res
   pub joined : AreJoined turns
   pub led : AreLed (new_machine setup.user setup.version setup.strict) halted turns machine
   pub closed : IsClosedAt ended.end machine halted
-  pub answered : AreAnswered start setup.user setup.strict (undone halted ++ steps_of turns) now
+  pub answered : AreAnswered start setup.user (arc_value setup.program) setup.strict (undone halted ++ steps_of turns) now
   pub reads : HasRead now final
   pub looks : ended.looks ≡ looks_of (undone halted ++ steps_of turns)
   pub stored : ended.stored ≡ stored_of (undone halted ++ steps_of turns)

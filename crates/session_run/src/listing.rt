@@ -93,7 +93,8 @@ fn judged_at(outcome: &Outcome) -> Option<u64>
         | Outcome::Known { at }
         | Outcome::UserGone401 { at }
         | Outcome::BadHistory400 { at }
-        | Outcome::Conflict409 { at, .. } => Some(*at),
+        | Outcome::Conflict409 { at, .. }
+        | Outcome::Denied403 { at, .. } => Some(*at),
         Outcome::Bad400 { .. } | Outcome::TooLarge413 { .. } | Outcome::Memory507 => None,
     }
 }

@@ -11,13 +11,14 @@ use session_core::{Core, Event, Want};
 use sg_history::{Key, Options, Rows};
 use sg_outside::Memory;
 use std::alloc::Global;
-use write_path::Ground;
+use write_path::{Ground, Resolved};
 
-/// Reads the history for what is wanted. Out of memory it may have read, or not.
+/// Reads the history for what is wanted; a revision is judged by the program. Out of memory it may have read, or not.
 pub(crate) fn read<G: Ground>(
     alloc: Global,
     ground: &mut G,
     core: &Core,
+    program: &Resolved,
     want: Want,
 ) -> Result<Event, Memory>
     requires wants { WantsFor core.now.feed core.now.pending (Some want) }
@@ -25,7 +26,7 @@ pub(crate) fn read<G: Ground>(
     ensures answered { IfOk result (λ event. IsAnswered
         (moment (G.read ground.old) (G.lowest_front ground.old) (G.recorded ground.old)
         (G.own ground.old))
-        core.now.user core.now.strict (Some want) event
+        core.now.user program.now core.now.strict (Some want) event
         (moment (G.read ground.new) (G.lowest_front ground.new) (G.recorded ground.new)
         (G.own ground.new))) }
     ensures awaited { IfOk result (λ event. Awaits core.now event) }
@@ -51,7 +52,8 @@ pub(crate) fn read<G: Ground>(
         }
         Want::Ask { offers } => Ok(Event::Asked(ground.ask(alloc, offers.as_slice())?)),
         Want::Propose { revision } => {
-            let outcome = ground.propose(alloc, Some(core.user()), core.strict(), revision);
+            let user = Some(core.user());
+            let outcome = ground.propose(alloc, program, user, core.strict(), revision);
             Ok(Event::Judged(outcome))
         }
     }

@@ -11,14 +11,17 @@ use repl_messages::Version;
 use sg_history::Name;
 use sg_outside::Wire;
 use std::alloc::Global;
-use write_path::Ground;
+use std::sync::Arc;
+use write_path::{Ground, Resolved};
 
-/// Whose device it is, the version of the protocol that it speaks, and whether conflicts are off.
+/// Whose device it is, the version of the protocol that it speaks, whether conflicts are off, and the sync function by which what it
+/// proposes is judged.
 #[derive(Drop)]
 pub struct Setup {
     pub user: Name,
     pub version: Version,
     pub strict: bool,
+    pub program: Arc<Resolved>,
 }
 
 /// How many results a session receives at most.
@@ -43,14 +46,20 @@ pub fn serve_session<W: Wire, G: Ground>(
     ensures fault { result.1.end ≡ End.WireFault → W.faults wire.old < W.faults wire.new }
 {
     let mut ground = ground;
-    let mut session = Session::new(alloc, setup.user, setup.version, setup.strict);
+    let Setup {
+        user,
+        version,
+        strict,
+        program,
+    } = setup;
+    let mut session = Session::new(alloc, user, version, strict);
     write_path::laws::reads();
     session_mux::laws::traffic();
     if session.reserve().is_err() {
         return (ground, session.ended(End::Memory));
     }
     for received in 0..MOST_RESULTS {
-        if let Some(end) = session.step(alloc, &mut ground, wire) {
+        if let Some(end) = session.step(alloc, &mut ground, &program, wire) {
             return (ground, session.ended(end));
         }
     }

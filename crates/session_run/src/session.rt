@@ -1,9 +1,11 @@
 //! A session that runs: result by result.
 
 ghost use Rattle.std.specs.Prelude.{◌≡◌, ◌⊎◌, ◌≤◌, ◌<◌, ◌+◌, ◌++◌, [], true, false, List, ℕ, Option, None, Some, IfOk, OnOk, IfErr, OnErr};
+ghost use Rattle.std.specs.Arc.{arc_value};
 ghost use Rattle.blip_mux.specs.Apart.{AreApart};
 ghost use Rattle.blip_mux.specs.Sending.{picked};
 ghost use Rattle.sg_outside.specs.Wire.{Traffic};
+ghost use Rattle.sync_syntax.specs.declared.tree.Program.{Program};
 ghost use Rattle.session_core.specs.declared.event.Event.{Event};
 ghost use Rattle.session_core.specs.declared.machine.Pending.{Pending};
 ghost use Rattle.session_core.specs.Conduct.{feed_front, due_at, due_with, WantsFor, most_answers, is_answer, AreWithin};
@@ -27,7 +29,7 @@ use session_mux::{FrameWhy, Mux, Took};
 use sg_history::Name;
 use sg_outside::{Gave, Got, Memory, Wire};
 use std::alloc::Global;
-use write_path::Ground;
+use write_path::{Ground, Resolved};
 
 /// The session's machine, the wire's two directions, the looks and stored sequences, and how many frames were taken.
 #[derive(Drop)]
@@ -41,9 +43,9 @@ pub(crate) struct Session {
 impl Session {
     /// A session to which nothing has come. Allocates nothing.
     pub(crate) fn new(alloc: Global, user: Name, version: Version, strict: bool) -> Session
-        ensures holds { (now : Moment) → Holds
-            (record { user = user; version = version; strict = strict }) now now result [] [] []
-            [] }
+        ensures holds { (setup : Setup) (now : Moment)
+            → result.core ≡ new_machine setup.user setup.version setup.strict
+            → Holds setup now now result [] [] [] [] }
         ensures core { result.core ≡ new_machine user version strict }
         ensures frames { result.frames ≡ 0 }
     {
@@ -109,6 +111,7 @@ impl Session {
         &mut self,
         alloc: Global,
         ground: &mut G,
+        program: &Resolved,
         want: Want,
     ) -> Result<Event, Memory>
         requires wants { WantsFor self.old.core.feed self.old.core.pending (Some want) }
@@ -116,7 +119,7 @@ impl Session {
         ensures answered { IfOk result (λ event. IsAnswered
             (moment (G.read ground.old) (G.lowest_front ground.old)
             (G.recorded ground.old) (G.own ground.old)) self.old.core.user
-            self.old.core.strict (Some want) event
+            program.now self.old.core.strict (Some want) event
             (moment (G.read ground.new) (G.lowest_front ground.new)
             (G.recorded ground.new) (G.own ground.new))) }
         ensures awaited { IfOk result (λ event. Awaits self.old.core event) }
@@ -137,7 +140,7 @@ impl Session {
         ensures frames { self.new.frames ≡ self.old.frames }
     {
         self.listing.reserve()?;
-        let event = read(alloc, ground, &self.core, want)?;
+        let event = read(alloc, ground, &self.core, program, want)?;
         self.listing.list(&event);
         Ok(event)
     }
@@ -147,6 +150,7 @@ impl Session {
         &mut self,
         alloc: Global,
         ground: &mut G,
+        program: &Resolved,
         event: Event,
     ) -> Result<(), Memory>
         requires awaited { Awaits self.old.core event }
@@ -157,19 +161,19 @@ impl Session {
         requires front { feed_front self.old.core.feed ≤ G.lowest_front ground.old }
         requires seen { AreWithin (G.lowest_front ground.old) (front_by event) }
         ensures ok { (before : Moment)
-            → IsAnswered before self.old.core.user self.old.core.strict None event
+            → IsAnswered before self.old.core.user program.now self.old.core.strict None event
             (moment (G.read ground.old) (G.lowest_front ground.old)
             (G.recorded ground.old) (G.own ground.old))
             → OnOk result ((steps : List Step)
-            × Conversing self.old self.new event before
+            × Conversing program.now self.old self.new event before
             (moment (G.read ground.new) (G.lowest_front ground.new)
             (G.recorded ground.new) (G.own ground.new)) None steps) }
         ensures halted { (before : Moment)
-            → IsAnswered before self.old.core.user self.old.core.strict None event
+            → IsAnswered before self.old.core.user program.now self.old.core.strict None event
             (moment (G.read ground.old) (G.lowest_front ground.old)
             (G.recorded ground.old) (G.own ground.old))
             → OnErr result ((steps : List Step) × (halted : Option Event) × (now : Moment)
-            × Conversed self.old self.new event before now steps halted
+            × Conversed program.now self.old self.new event before now steps halted
             × HasRead now
             (moment (G.read ground.new) (G.lowest_front ground.new)
             (G.recorded ground.new) (G.own ground.new))) }
@@ -184,7 +188,7 @@ impl Session {
         write_path::laws::was_read();
         let mut want = self.take_event(alloc, event)?;
         while let Some(wanted) = want {
-            let answer = self.answer(alloc, ground, wanted)?;
+            let answer = self.answer(alloc, ground, program, wanted)?;
             want = self.take_event(alloc, answer)?;
         }
         Ok(())
@@ -195,6 +199,7 @@ impl Session {
         &mut self,
         alloc: Global,
         ground: &mut G,
+        program: &Resolved,
         wire: &mut W,
         event: Event,
     ) -> Option<End>
@@ -206,10 +211,10 @@ impl Session {
         requires front { feed_front self.old.core.feed ≤ G.lowest_front ground.old }
         requires seen { AreWithin (G.lowest_front ground.old) (front_by event) }
         ensures goes { (before : Moment)
-            → IsAnswered before self.old.core.user self.old.core.strict None event
+            → IsAnswered before self.old.core.user program.now self.old.core.strict None event
             (moment (G.read ground.old) (G.lowest_front ground.old)
             (G.recorded ground.old) (G.own ground.old))
-            → GoesOn self.old self.new (Some event) before
+            → GoesOn program.now self.old self.new (Some event) before
             (moment (G.read ground.new) (G.lowest_front ground.new)
             (G.recorded ground.new) (G.own ground.new)) (W.recorded wire.old) (W.recorded
             wire.new) result }
@@ -220,7 +225,7 @@ impl Session {
     {
         blip_mux::laws::replies();
         session_mux::laws::traffic();
-        match self.converse(alloc, ground, event) {
+        match self.converse(alloc, ground, program, event) {
             Ok(()) => end_of(self.mux.send_all(wire)),
             Err(_) => Some(End::Memory),
         }
@@ -230,8 +235,10 @@ impl Session {
     fn go_on<W: Wire>(&mut self, wire: &mut W) -> Option<End>
         requires pending { self.old.core.pending ≡ Pending.Nothing }
         requires ready { IsReady self.old }
-        ensures goes { (now : Moment) → feed_front self.old.core.feed ≤ now.lowest
-            → GoesOn self.old self.new None now now (W.recorded wire.old) (W.recorded wire.new) result }
+        ensures goes { (program : Program) (now : Moment)
+            → feed_front self.old.core.feed ≤ now.lowest
+            → GoesOn program self.old self.new None now now (W.recorded wire.old)
+            (W.recorded wire.new) result }
         ensures faults { W.faults wire.old ≤ W.faults wire.new }
         ensures fault { result ≡ Some End.WireFault → W.faults wire.old < W.faults wire.new }
         ensures frames { self.new.frames ≡ self.old.frames }
@@ -247,6 +254,7 @@ impl Session {
         &mut self,
         alloc: Global,
         ground: &mut G,
+        program: &Resolved,
         wire: &mut W,
         bytes: &[u8],
     ) -> Option<End>
@@ -254,7 +262,7 @@ impl Session {
         requires room { self.old.core.requests ≤ 9223372036854745800 }
         requires count { self.old.frames < 18446744073709551615 }
         requires front { feed_front self.old.core.feed ≤ G.lowest_front ground.old }
-        ensures takes { Takes self.old self.new (Got.Frame bytes.now)
+        ensures takes { Takes program.now self.old self.new (Got.Frame bytes.now)
             (moment (G.read ground.old) (G.lowest_front ground.old)
             (G.recorded ground.old) (G.own ground.old))
             (moment (G.read ground.new) (G.lowest_front ground.new)
@@ -269,7 +277,7 @@ impl Session {
         match self.mux.take(bytes) {
             Took::Whole(message) => {
                 self.frames += 1;
-                self.exchange(alloc, ground, wire, Event::Whole(message))
+                self.exchange(alloc, ground, program, wire, Event::Whole(message))
             }
             Took::Part => {
                 self.frames += 1;
@@ -285,12 +293,13 @@ impl Session {
         &mut self,
         alloc: Global,
         ground: &mut G,
+        program: &Resolved,
         wire: &mut W,
     ) -> Option<End>
         requires rest { IsAtRest self.old }
         requires room { self.old.core.requests ≤ 9223372036854745800 }
         requires front { feed_front self.old.core.feed ≤ G.lowest_front ground.old }
-        ensures takes { Takes self.old self.new Got.Idle
+        ensures takes { Takes program.now self.old self.new Got.Idle
             (moment (G.read ground.old) (G.lowest_front ground.old)
             (G.recorded ground.old) (G.own ground.old))
             (moment (G.read ground.new) (G.lowest_front ground.new)
@@ -306,7 +315,7 @@ impl Session {
             return None;
         }
         let front = ground.front();
-        self.exchange(alloc, ground, wire, Event::Idle { front })
+        self.exchange(alloc, ground, program, wire, Event::Idle { front })
     }
 
     /// Receives one result and takes it. Answers how the session ends, where it ends by it.
@@ -314,6 +323,7 @@ impl Session {
         &mut self,
         alloc: Global,
         ground: &mut G,
+        program: &Resolved,
         wire: &mut W,
     ) -> Option<End>
         requires rest { IsAtRest self.old }
@@ -321,6 +331,7 @@ impl Session {
         requires count { self.old.frames < 18446744073709551615 }
         requires front { feed_front self.old.core.feed ≤ G.lowest_front ground.old }
         ensures runs { (setup : Setup) (start : Moment) (traffic : Option Traffic) (count : ℕ)
+            → arc_value setup.program ≡ program.now
             → Runs setup start
             (moment (G.read ground.old) (G.lowest_front ground.old)
             (G.recorded ground.old) (G.own ground.old)) traffic self.old (W.recorded
@@ -340,9 +351,9 @@ impl Session {
         session_mux::laws::traffic();
         session_core::laws::conduct();
         match wire.recv() {
-            Got::Frame(bytes) => self.take_frame(alloc, ground, wire, bytes.as_slice()),
+            Got::Frame(bytes) => self.take_frame(alloc, ground, program, wire, bytes.as_slice()),
             Got::Text => Some(self.bad_frame(FrameWhy::NotBinary)),
-            Got::Idle => self.take_idle(alloc, ground, wire),
+            Got::Idle => self.take_idle(alloc, ground, program, wire),
             Got::End => Some(End::Closed),
             Got::Failed => Some(End::WireFault),
             Got::Memory => Some(End::Memory),

@@ -3,37 +3,37 @@ use Rattle.session_run.proofs.Whole.{looks_within}
 use Rattle.session_run.proofs.laws.answers.Goals as goal
 
 pub returns-clause-right : goal.returns-clause-right
-returns-clause-right c start now user strict steps h a later =
-    (all_answers (laws_of c.was_read.ensures.since c.later.ensures.log c.later.ensures.fronts c.later_boards.ensures.trees c.later_boards.ensures.least c.later-2.ensures.feed c.later-2.ensures.bodies c.reads.ensures.before c.reads.ensures.reflexive c.reads.ensures.transitive c.was_read.ensures.lowest c.was_read.ensures.front) start now user strict steps a).right h later
+returns-clause-right c start now user program strict steps h a later =
+    (all_answers (laws_of c.was_read.ensures.since c.later.ensures.log c.later.ensures.fronts c.later_boards.ensures.trees c.later_boards.ensures.least c.later-2.ensures.feed c.later-2.ensures.bodies c.reads.ensures.before c.reads.ensures.reflexive c.reads.ensures.transitive c.was_read.ensures.lowest c.was_read.ensures.front) start now user program strict steps a).right h later
 
 pub returns-clause-reads : goal.returns-clause-reads
-returns-clause-reads c start now user strict steps a =
-    (all_answers (laws_of c.was_read.ensures.since c.later.ensures.log c.later.ensures.fronts c.later_boards.ensures.trees c.later_boards.ensures.least c.later-2.ensures.feed c.later-2.ensures.bodies c.reads.ensures.before c.reads.ensures.reflexive c.reads.ensures.transitive c.was_read.ensures.lowest c.was_read.ensures.front) start now user strict steps a).reads
+returns-clause-reads c start now user program strict steps a =
+    (all_answers (laws_of c.was_read.ensures.since c.later.ensures.log c.later.ensures.fronts c.later_boards.ensures.trees c.later_boards.ensures.least c.later-2.ensures.feed c.later-2.ensures.bodies c.reads.ensures.before c.reads.ensures.reflexive c.reads.ensures.transitive c.was_read.ensures.lowest c.was_read.ensures.front) start now user program strict steps a).reads
 
 pub returns-clause-rise : goal.returns-clause-rise
-returns-clause-rise c start now user strict steps a =
-    (all_answers (laws_of c.was_read.ensures.since c.later.ensures.log c.later.ensures.fronts c.later_boards.ensures.trees c.later_boards.ensures.least c.later-2.ensures.feed c.later-2.ensures.bodies c.reads.ensures.before c.reads.ensures.reflexive c.reads.ensures.transitive c.was_read.ensures.lowest c.was_read.ensures.front) start now user strict steps a).rise
+returns-clause-rise c start now user program strict steps a =
+    (all_answers (laws_of c.was_read.ensures.since c.later.ensures.log c.later.ensures.fronts c.later_boards.ensures.trees c.later_boards.ensures.least c.later-2.ensures.feed c.later-2.ensures.bodies c.reads.ensures.before c.reads.ensures.reflexive c.reads.ensures.transitive c.was_read.ensures.lowest c.was_read.ensures.front) start now user program strict steps a).rise
 
 pub returns-clause-recorded : goal.returns-clause-recorded
-returns-clause-recorded c start now user strict steps a =
-    (all_answers (laws_of c.was_read.ensures.since c.later.ensures.log c.later.ensures.fronts c.later_boards.ensures.trees c.later_boards.ensures.least c.later-2.ensures.feed c.later-2.ensures.bodies c.reads.ensures.before c.reads.ensures.reflexive c.reads.ensures.transitive c.was_read.ensures.lowest c.was_read.ensures.front) start now user strict steps a).recorded
+returns-clause-recorded c start now user program strict steps a =
+    (all_answers (laws_of c.was_read.ensures.since c.later.ensures.log c.later.ensures.fronts c.later_boards.ensures.trees c.later_boards.ensures.least c.later-2.ensures.feed c.later-2.ensures.bodies c.reads.ensures.before c.reads.ensures.reflexive c.reads.ensures.transitive c.was_read.ensures.lowest c.was_read.ensures.front) start now user program strict steps a).recorded
 
 pub returns-clause-at_length : goal.returns-clause-at_length
-returns-clause-at_length c start now user strict steps a =
-    (all_answers (laws_of c.was_read.ensures.since c.later.ensures.log c.later.ensures.fronts c.later_boards.ensures.trees c.later_boards.ensures.least c.later-2.ensures.feed c.later-2.ensures.bodies c.reads.ensures.before c.reads.ensures.reflexive c.reads.ensures.transitive c.was_read.ensures.lowest c.was_read.ensures.front) start now user strict steps a).at_length
+returns-clause-at_length c start now user program strict steps a =
+    (all_answers (laws_of c.was_read.ensures.since c.later.ensures.log c.later.ensures.fronts c.later_boards.ensures.trees c.later_boards.ensures.least c.later-2.ensures.feed c.later-2.ensures.bodies c.reads.ensures.before c.reads.ensures.reflexive c.reads.ensures.transitive c.was_read.ensures.lowest c.was_read.ensures.front) start now user program strict steps a).at_length
 
 pub returns-clause-own : goal.returns-clause-own
-returns-clause-own c start now user strict steps a =
-    (all_answers (laws_of c.was_read.ensures.since c.later.ensures.log c.later.ensures.fronts c.later_boards.ensures.trees c.later_boards.ensures.least c.later-2.ensures.feed c.later-2.ensures.bodies c.reads.ensures.before c.reads.ensures.reflexive c.reads.ensures.transitive c.was_read.ensures.lowest c.was_read.ensures.front) start now user strict steps a).own
+returns-clause-own c start now user program strict steps a =
+    (all_answers (laws_of c.was_read.ensures.since c.later.ensures.log c.later.ensures.fronts c.later_boards.ensures.trees c.later_boards.ensures.least c.later-2.ensures.feed c.later-2.ensures.bodies c.reads.ensures.before c.reads.ensures.reflexive c.reads.ensures.transitive c.was_read.ensures.lowest c.was_read.ensures.front) start now user program strict steps a).own
 
 pub returns-clause-looks : goal.returns-clause-looks
-returns-clause-looks c start now user strict steps a =
-    (all_answers (laws_of c.was_read.ensures.since c.later.ensures.log c.later.ensures.fronts c.later_boards.ensures.trees c.later_boards.ensures.least c.later-2.ensures.feed c.later-2.ensures.bodies c.reads.ensures.before c.reads.ensures.reflexive c.reads.ensures.transitive c.was_read.ensures.lowest c.was_read.ensures.front) start now user strict steps a).looks
+returns-clause-looks c start now user program strict steps a =
+    (all_answers (laws_of c.was_read.ensures.since c.later.ensures.log c.later.ensures.fronts c.later_boards.ensures.trees c.later_boards.ensures.least c.later-2.ensures.feed c.later-2.ensures.bodies c.reads.ensures.before c.reads.ensures.reflexive c.reads.ensures.transitive c.was_read.ensures.lowest c.was_read.ensures.front) start now user program strict steps a).looks
 
 pub returns-clause-fronts : goal.returns-clause-fronts
-returns-clause-fronts c start now user strict steps a =
-    (all_answers (laws_of c.was_read.ensures.since c.later.ensures.log c.later.ensures.fronts c.later_boards.ensures.trees c.later_boards.ensures.least c.later-2.ensures.feed c.later-2.ensures.bodies c.reads.ensures.before c.reads.ensures.reflexive c.reads.ensures.transitive c.was_read.ensures.lowest c.was_read.ensures.front) start now user strict steps a).looks_rise
+returns-clause-fronts c start now user program strict steps a =
+    (all_answers (laws_of c.was_read.ensures.since c.later.ensures.log c.later.ensures.fronts c.later_boards.ensures.trees c.later_boards.ensures.least c.later-2.ensures.feed c.later-2.ensures.bodies c.reads.ensures.before c.reads.ensures.reflexive c.reads.ensures.transitive c.was_read.ensures.lowest c.was_read.ensures.front) start now user program strict steps a).looks_rise
 
 pub returns-clause-within : goal.returns-clause-within
-returns-clause-within c start now user strict steps h a later =
-    looks_within c.was_read.ensures.extended start.read _ now.read h (all_answers (laws_of c.was_read.ensures.since c.later.ensures.log c.later.ensures.fronts c.later_boards.ensures.trees c.later_boards.ensures.least c.later-2.ensures.feed c.later-2.ensures.bodies c.reads.ensures.before c.reads.ensures.reflexive c.reads.ensures.transitive c.was_read.ensures.lowest c.was_read.ensures.front) start now user strict steps a).looks later
+returns-clause-within c start now user program strict steps h a later =
+    looks_within c.was_read.ensures.extended start.read _ now.read h (all_answers (laws_of c.was_read.ensures.since c.later.ensures.log c.later.ensures.fronts c.later_boards.ensures.trees c.later_boards.ensures.least c.later-2.ensures.feed c.later-2.ensures.bodies c.reads.ensures.before c.reads.ensures.reflexive c.reads.ensures.transitive c.was_read.ensures.lowest c.was_read.ensures.front) start now user program strict steps a).looks later

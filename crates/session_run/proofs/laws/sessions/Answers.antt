@@ -1,4 +1,4 @@
-use Rattle.session_run.proofs.Whole.{all_lead, all_right, all_own, all_looks, all_fronts}
+use Rattle.session_run.proofs.Whole.{all_lead, all_right, all_own, all_judged, all_looks, all_fronts}
 use Rattle.session_run.proofs.laws.sessions.Goals as goal
 
 pub returns-clause-leads : goal.returns-clause-leads
@@ -9,6 +9,9 @@ returns-clause-right c = all_right c.answers.ensures.right c.reads.ensures.befor
 
 pub returns-clause-own_bodies : goal.returns-clause-own_bodies
 returns-clause-own_bodies c = all_own c.own_bodies.ensures c.answers.ensures.right c.reads.ensures.before
+
+pub returns-clause-own : goal.returns-clause-own
+returns-clause-own c = all_judged c.answers.ensures.own
 
 pub returns-clause-looks : goal.returns-clause-looks
 returns-clause-looks c = all_looks c.answers.ensures.looks

@@ -16,9 +16,9 @@ invariant-loop-want g l = record {
   frames : l.self.frames ≡ l.fn.self.frames;
   received : l.self.mux.received ≡ l.fn.self.mux.received;
   sent : l.self.mux.sent ≡ l.fn.self.mux.sent;
-  run : (before : Moment) → IsAnswered before l.fn.self.core.user l.fn.self.core.strict None l.fn.event
+  run : (before : Moment) → IsAnswered before l.fn.self.core.user l.fn.program l.fn.self.core.strict None l.fn.event
       (record { read = g.G.Ground.read l.initial.ground; lowest = g.G.Ground.lowest_front l.initial.ground; recorded = g.G.Ground.recorded l.initial.ground; own = g.G.Ground.own l.initial.ground })
-      → (steps : List Step) × Conversing l.fn.self l.self l.fn.event before
+      → (steps : List Step) × Conversing l.fn.program l.fn.self l.self l.fn.event before
       (record { read = g.G.Ground.read l.ground; lowest = g.G.Ground.lowest_front l.ground; recorded = g.G.Ground.recorded l.ground; own = g.G.Ground.own l.ground }) l.want steps;
 }
 
