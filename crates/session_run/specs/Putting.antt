@@ -1,4 +1,4 @@
--- Messages that are put.
+-- Messages that are put. Only proofs need this.
 use Rattle.std.specs.Prelude.{◌≡◌, ℕ, ◌+◌, true, false, List, [], ◌∷◌, Option, Some, None}
 use Rattle.std.specs.List.{list_any}
 use Rattle.blip_mux.specs.declared.message.Message.{Message}

@@ -3,12 +3,12 @@
 //! frames.
 #![tactic(auto)]
 
-pub mod ended;
+mod ended;
 pub mod laws;
 pub(crate) mod listing;
 pub(crate) mod putting;
 pub(crate) mod reading;
-pub mod serve;
+mod serve;
 pub(crate) mod session;
 
 pub use ended::{End, Ended, Sequences};

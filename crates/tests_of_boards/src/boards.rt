@@ -1,7 +1,7 @@
 //! Snapshots, trees and channels of a board, and what it stores.
 
 use crate::journals::log_of;
-use doc_board::{Board, Candidate, Commit, Context, Snapshot};
+use doc_board::{Board, Candidate, Commit, Context, OpenFault, Snapshot};
 use repl_messages::Revision;
 use rev_tree::Extended;
 use sg_history::{DocId, Entry, Name, Number, RevId, Revs, TextFault};
@@ -56,6 +56,17 @@ fn snapshot_text(alloc: Global, snapshot: &Snapshot) -> Result<String, AllocErro
     )
 }
 
+/// A snapshot for a revision that ann proposes.
+fn snapshot_for_ann(
+    alloc: Global,
+    board: &mut Board,
+    revision: &Revision,
+    strict: bool,
+) -> Result<Snapshot, Fail> {
+    let ann = Name::parse(alloc, "ann")?;
+    Ok(board.snapshot(revision, strict, Some(&ann))?)
+}
+
 /// What a snapshot says of a revision that ann proposes.
 fn proposed_text(
     alloc: Global,
@@ -63,35 +74,42 @@ fn proposed_text(
     revision: &Revision,
     strict: bool,
 ) -> Result<String, Fail> {
-    let ann = Name::parse(alloc, "ann")?;
-    let snapshot = board.snapshot(revision, strict, Some(&ann))?;
+    let snapshot = snapshot_for_ann(alloc, board, revision, strict)?;
     Ok(snapshot_text(alloc, &snapshot)?)
 }
 
 /// The same, by the revision, its ancestors and `strict` where no conflict is allowed.
 fn proposed(alloc: Global, board: &mut Board, rev: &str, words: &str) -> Result<String, Fail> {
-    match words.strip_suffix(" strict") {
-        Some(ancestors) => {
-            proposed_text(alloc, board, &revision_of(alloc, rev, ancestors)?, true)
-        }
-        None => proposed_text(alloc, board, &revision_of(alloc, rev, words)?, false),
-    }
+    let (ancestors, strict) = match words.strip_suffix(" strict") {
+        Some(ancestors) => (ancestors, true),
+        None => (words, false),
+    };
+    let revision = revision_of(alloc, rev, ancestors)?;
+    proposed_text(alloc, board, &revision, strict)
 }
 
 /// How many channels a user has; none where the user does not exist.
-fn channels_text(alloc: Global, board: &mut Board, user: &str) -> Result<String, Fail> {
+fn channel_count(alloc: Global, board: &mut Board, user: &str) -> Result<Option<usize>, Fail> {
     let user = Name::parse(alloc, user)?;
     let channels = board.channels(&user)?;
-    let count = channels.as_ref().map(|channels| channels.as_slice().len());
+    Ok(channels.as_ref().map(|channels| channels.as_slice().len()))
+}
+
+fn channels_text(alloc: Global, board: &mut Board, user: &str) -> Result<String, Fail> {
+    let count = channel_count(alloc, board, user)?;
     Ok(format!(in alloc; "{count:?}")?)
 }
 
 /// The roles and channels of a context, as a journal has them.
-fn grants_text(alloc: Global, context: &Context) -> Result<Bytes, Fail> {
-    let mut text = Bytes::new(alloc);
-    context.roles.write(&mut text)?;
+fn write_grants(context: &Context, text: &mut Bytes) -> Result<(), AllocError> {
+    context.roles.write(text)?;
     text.push(b' ')?;
-    context.channels.write(&mut text)?;
+    context.channels.write(text)
+}
+
+fn grants_text(alloc: Global, context: &Context) -> Result<Bytes, AllocError> {
+    let mut text = Bytes::new(alloc);
+    write_grants(context, &mut text)?;
     Ok(text)
 }
 
@@ -103,14 +121,23 @@ fn user_text(user: &Option<Name>) -> &str {
     }
 }
 
+/// Whether the one who proposes exists, and who that is, with the roles and channels.
+fn exists_text(alloc: Global, exists: bool, context: &Context) -> Result<String, AllocError> {
+    let grants = grants_text(alloc, context)?;
+    let grants = std::str::from_utf8(grants.as_slice()).unwrap_or("no text");
+    format!(in alloc; "{exists} {} {grants}", user_text(&context.user))
+}
+
+/// A snapshot for a revision that someone proposes.
+fn snapshot_for(alloc: Global, board: &mut Board, by: Option<&Name>) -> Result<Snapshot, Fail> {
+    let revision = revision_of(alloc, "2-d", "1-a")?;
+    Ok(board.snapshot(&revision, true, by)?)
+}
+
 /// Whether the one who proposes a revision exists, and who that is, with the roles and channels.
 fn proposer_exists(alloc: Global, board: &mut Board, by: Option<&Name>) -> Result<String, Fail> {
-    let revision = revision_of(alloc, "2-d", "1-a")?;
-    let snapshot = board.snapshot(&revision, true, by)?;
-    let grants = grants_text(alloc, &snapshot.context)?;
-    let grants = std::str::from_utf8(grants.as_slice()).unwrap_or("no text");
-    let exists = snapshot.user_exists;
-    Ok(format!(in alloc; "{exists} {} {grants}", user_text(&snapshot.context.user))?)
+    let snapshot = snapshot_for(alloc, board, by)?;
+    Ok(exists_text(alloc, snapshot.user_exists, &snapshot.context)?)
 }
 
 fn proposer_text(alloc: Global, board: &mut Board, name: &str) -> Result<String, Fail> {
@@ -160,10 +187,15 @@ fn parts_of(line: &str) -> Option<(&str, &str, &str)> {
     Some((call, input, want))
 }
 
+/// What the board of the branches answers to a call.
+fn answered(alloc: Global, call: &str, input: &str) -> Result<String, Fail> {
+    let mut board = board_of(alloc)?;
+    answer(alloc, &mut board, call, input)
+}
+
 fn is_answered_so(alloc: Global, line: &str) -> Result<bool, Fail> {
     let (call, input, want) = parts_of(line).ok_or("no line of the table")?;
-    let mut board = board_of(alloc)?;
-    Ok(answer(alloc, &mut board, call, input)?.as_str() == want)
+    Ok(answered(alloc, call, input)?.as_str() == want)
 }
 
 #[test]
@@ -174,9 +206,8 @@ fn what_a_board_answers(rt: HostRuntime) -> Result<(), Fail> {
     Ok(())
 }
 
-/// The sequence, the base and the front where an entry is stored on a new board.
-fn stored(alloc: Global) -> Option<(u64, u64, u64)> {
-    let mut board = Board::new(alloc).ok()?;
+/// The sequence, the base and the front where an entry is stored on a board.
+fn stored_on(board: &mut Board) -> Option<(u64, u64, u64)> {
     let room = board.room(None, 0).ok()?;
     match board.commit(room, Number::new(1), Candidate::Plain(Entry::Unused)) {
         Commit::Stored { sequence, at } => Some((sequence, at, board.front())),
@@ -192,12 +223,21 @@ fn stored(alloc: Global) -> Option<(u64, u64, u64)> {
     }
 }
 
-/// A new board that has given up the first sequence.
-fn given_up(alloc: Global, doc: &DocId) -> Option<Board> {
-    let mut board = Board::new(alloc).ok()?;
-    let room = board.room(Some(doc), 2).ok()?;
+/// The same on a new board.
+fn stored(alloc: Global) -> Option<(u64, u64, u64)> {
+    match Board::new(alloc) {
+        Ok(mut board) => stored_on(&mut board),
+        Err(_) => None,
+    }
+}
+
+/// Whether a board gives up its first sequence.
+fn gives_up_on(board: &mut Board, doc: &DocId) -> bool {
+    let Ok(room) = board.room(Some(doc), 2) else {
+        return false;
+    };
     board.void(room, Number::new(1));
-    Some(board)
+    has_given_up(board, doc)
 }
 
 fn has_given_up(board: &Board, doc: &DocId) -> bool {
@@ -206,13 +246,17 @@ fn has_given_up(board: &Board, doc: &DocId) -> bool {
         && board.tree(doc).is_none()
 }
 
+/// Whether a new board gives up its first sequence.
+fn new_gives_up(alloc: Global, doc: &DocId) -> bool {
+    match Board::new(alloc) {
+        Ok(mut board) => gives_up_on(&mut board, doc),
+        Err(_) => false,
+    }
+}
+
 fn gives_up(alloc: Global) -> Result<bool, TextFault> {
     let doc = DocId::parse(alloc, "d1")?;
-    let board = given_up(alloc, &doc);
-    match board {
-        Some(board) => Ok(has_given_up(&board, &doc)),
-        None => Ok(false),
-    }
+    Ok(new_gives_up(alloc, &doc))
 }
 
 #[test]
@@ -229,9 +273,15 @@ W|d1|1-a|-|0|5b5d|-|0|1-a|A|-|-;>Some(Bad { sequence: 1 })\n\
 W|d1|2-b|1-a|0|7b7d|-|0|2-b|A|-|-;W|d1|3-c|2-b,1-a|0|7b7d|-|0|3-c|A|-|-;>Some(Bad { sequence: 2 })\n\
 U|ann|A|-;W|d1|1-a|-|0|7b7d|-|0|1-a|A|-|-;W|d1|1-b|-|0|7b7d|-|0|1-a|A|-|-;>Some(Bad { sequence: 3 })";
 
+/// Why a journal is that of no board.
+fn fault_of(alloc: Global, lines: &str) -> Result<Option<OpenFault>, Fail> {
+    let log = log_of(alloc, lines)?;
+    Ok(Board::open(alloc, log).err())
+}
+
 fn is_no_board(alloc: Global, line: &str) -> Result<bool, Fail> {
     let (lines, want) = line.split_once('>').ok_or("no line of the table")?;
-    let fault = Board::open(alloc, log_of(alloc, lines)?).err();
+    let fault = fault_of(alloc, lines)?;
     Ok(format!(in alloc; "{fault:?}")?.as_str() == want)
 }
 

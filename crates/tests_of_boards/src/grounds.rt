@@ -9,10 +9,15 @@ use std::alloc::{AllocError, Global};
 use std::test::Fail;
 use write_path::{Ground, Shelf, SoloGround};
 
+fn board_of(alloc: Global, lines: &str) -> Result<Board, Fail> {
+    let log = log_of(alloc, lines)?;
+    Ok(Board::open(alloc, log)?)
+}
+
 /// A ground over the board of a journal.
 pub fn ground_of(alloc: Global, lines: &str) -> Result<SoloGround, Fail> {
-    let board = Board::open(alloc, log_of(alloc, lines)?)?;
-    Ok(SoloGround::new(Shelf::new(board)?))
+    let shelf = Shelf::new(board_of(alloc, lines)?)?;
+    Ok(SoloGround::new(shelf))
 }
 
 const EVERYTHING: Options = Options {
@@ -44,33 +49,36 @@ fn write_word(word: &[u8], text: &mut Bytes) -> Result<(), AllocError> {
     text.push(b' ')
 }
 
+fn write_front(front: u64, text: &mut Bytes) -> Result<(), AllocError> {
+    write_decimal(front, text)?;
+    text.push(b':')
+}
+
 /// What a look for a feed answered: `FRONT:` with the rows, or `future FRONT`.
-fn fed_text(alloc: Global, fed: &Fed) -> Result<Bytes, AllocError> {
-    let mut text = Bytes::new(alloc);
+fn write_fed(fed: &Fed, text: &mut Bytes) -> Result<(), AllocError> {
     match fed {
         Fed::Rows { front, rows } => {
-            write_decimal(*front, &mut text)?;
-            text.push(b':')?;
-            write_rows(rows, &mut text)?;
+            write_front(*front, text)?;
+            write_rows(rows, text)
         }
         Fed::Future { front } => {
             text.extend_from_slice(b"future ")?;
-            write_decimal(*front, &mut text)?;
+            write_decimal(*front, text)
         }
     }
+}
+
+fn fed_text(alloc: Global, fed: &Fed) -> Result<Bytes, AllocError> {
+    let mut text = Bytes::new(alloc);
+    write_fed(fed, &mut text)?;
     Ok(text)
 }
 
 /// What a look for ann's feed answers.
-fn feed<G: Ground>(alloc: Global, ground: &mut G, since: &str) -> Result<Fed, Fail> {
+fn feed(alloc: Global, ground: &mut SoloGround, since: &str) -> Result<Fed, Fail> {
     let user = Name::parse(alloc, "ann")?;
     let since = Key::parse(since)?;
     Ok(ground.feed(alloc, &user, &since, &EVERYTHING)?)
-}
-
-fn feed_text<G: Ground>(alloc: Global, ground: &mut G, since: &str) -> Result<Bytes, Fail> {
-    let fed = feed(alloc, ground, since)?;
-    Ok(fed_text(alloc, &fed)?)
 }
 
 /// Worked journals, one a line, each after its name. In that of the conflict the bodies are `{"a":1}`, `{"b":1}` and `{}`.
@@ -113,14 +121,25 @@ revocation 2>4:4:2 d1 1-a 2;\n\
 removal 3>5:4 d1 2-a 4;5 d2 2-b 5;";
 
 /// What a look for ann's feed answers of a worked journal.
+fn feed_of(alloc: Global, name: &str, since: &str) -> Result<Fed, Fail> {
+    let mut ground = worked(alloc, name)?;
+    feed(alloc, &mut ground, since)
+}
+
+/// The same in one line.
 fn fed(alloc: Global, asked: &str) -> Result<Bytes, Fail> {
     let (name, since) = asked.split_once(' ').ok_or("no line of the table")?;
-    feed_text(alloc, &mut worked(alloc, name)?, since)
+    let fed = feed_of(alloc, name, since)?;
+    Ok(fed_text(alloc, &fed)?)
 }
 
 fn is_fed_so(alloc: Global, line: &str) -> Result<bool, Fail> {
     let (asked, want) = line.split_once('>').ok_or("no line of the table")?;
     Ok(fed(alloc, asked)?.as_slice() == want.as_bytes())
+}
+
+fn front_of(alloc: Global, name: &str) -> Result<u64, Fail> {
+    Ok(worked(alloc, name)?.front())
 }
 
 /// The front of the board that a ground gives back once it was looked at.
@@ -136,14 +155,9 @@ fn feeds_of_worked_journals(rt: HostRuntime) -> Result<(), Fail> {
     for line in FEEDS.split('\n') {
         assert!(rt; is_fed_so(alloc, line)?, "{line}");
     }
-    assert!(rt; worked(alloc, "first")?.front() == 4);
+    assert!(rt; front_of(alloc, "first")? == 4);
     assert!(rt; front_given_back(alloc, "first")? == 4);
     Ok(())
-}
-
-fn feed_of(alloc: Global, name: &str, since: &str) -> Result<Fed, Fail> {
-    let mut ground = worked(alloc, name)?;
-    feed(alloc, &mut ground, since)
 }
 
 /// The rows of ann's feed after a since key.
@@ -171,27 +185,30 @@ fn write_rev(ancestors: &Revs, bytes: &Bytes, text: &mut Bytes) -> Result<(), Al
 }
 
 /// `FRONT:` with `rev ANCESTORS BYTES;`, `removed;` or `norev;` for each row.
+fn write_bodies(bodies: &Bodies, text: &mut Bytes) -> Result<(), AllocError> {
+    write_front(bodies.front, text)?;
+    for body in bodies.answers.as_slice() {
+        write_body(body, text)?;
+    }
+    Ok(())
+}
+
 fn bodies_text(alloc: Global, bodies: &Bodies) -> Result<Bytes, AllocError> {
     let mut text = Bytes::new(alloc);
-    write_decimal(bodies.front, &mut text)?;
-    text.push(b':')?;
-    for body in bodies.answers.as_slice() {
-        write_body(body, &mut text)?;
-    }
+    write_bodies(bodies, &mut text)?;
     Ok(text)
 }
 
 /// What a look for bodies answers to ann.
-fn bodies<G: Ground>(
+fn bodies(
     alloc: Global,
-    ground: &mut G,
+    ground: &mut SoloGround,
     options: &Options,
     rows: &Rows,
     most: u64,
-) -> Result<Bytes, Fail> {
+) -> Result<Bodies, Fail> {
     let user = Name::parse(alloc, "ann")?;
-    let bodies = ground.bodies(alloc, &user, options, rows.as_slice(), most)?;
-    Ok(bodies_text(alloc, &bodies)?)
+    Ok(ground.bodies(alloc, &user, options, rows.as_slice(), most)?)
 }
 
 fn options_of(alloc: Global, filter: &str) -> Result<Options, TextFault> {
@@ -233,16 +250,22 @@ fn bodies_of(
     options: &Options,
     rows: &Rows,
     most: u64,
-) -> Result<Bytes, Fail> {
+) -> Result<Bodies, Fail> {
     let mut ground = worked(alloc, name)?;
     bodies(alloc, &mut ground, options, rows, most)
 }
 
 /// What a look answers to words: a journal, the most ancestors, and a filter.
-fn looked(alloc: Global, rows: &Rows, words: &str) -> Result<Bytes, Fail> {
+fn looked(alloc: Global, rows: &Rows, words: &str) -> Result<Bodies, Fail> {
     let (name, most, filter) = three_words(words).ok_or("no line of the table")?;
     let options = options_of(alloc, filter)?;
     bodies_of(alloc, name, &options, rows, most.parse()?)
+}
+
+/// The same in one line.
+fn looked_text(alloc: Global, rows: &Rows, words: &str) -> Result<Bytes, Fail> {
+    let bodies = looked(alloc, rows, words)?;
+    Ok(bodies_text(alloc, &bodies)?)
 }
 
 /// Three words with blanks between.
@@ -256,7 +279,7 @@ fn are_bodies_so(alloc: Global, line: &str) -> Result<bool, Fail> {
     let (asked, want) = line.split_once('>').ok_or("no line of the table")?;
     let (name, since, words) = three_words(asked).ok_or("no line of the table")?;
     let rows = rows_of(alloc, name, since)?;
-    Ok(looked(alloc, &rows, words)?.as_slice() == want.as_bytes())
+    Ok(looked_text(alloc, &rows, words)?.as_slice() == want.as_bytes())
 }
 
 #[test]

@@ -8,4 +8,6 @@ mod grounds;
 #[cfg(test)]
 mod journals;
 #[cfg(test)]
+mod programs;
+#[cfg(test)]
 mod proposals;

@@ -1,12 +1,14 @@
 //! Revisions that are proposed to a ground, and offers that it is asked for.
 
 use crate::grounds::ground_of;
+use crate::programs::{ADMINISTRATOR_BEGINS, NAMED, OPEN, program_of};
+use doc_board::Rule;
 use repl_messages::{Offer, OfferAnswer, Revision};
 use sg_history::{ChannelName, Digest, DocId, Entry, Name, RevId, Revs, Write};
 use sg_outside::Bytes;
 use std::alloc::Global;
 use std::test::Fail;
-use write_path::{Ground, Outcome, SoloGround};
+use write_path::{Ground, Outcome, Resolved, SoloGround};
 
 /// A revision of a document on these ancestors, with this body.
 fn revision_of(
@@ -66,6 +68,11 @@ fn stored_text(alloc: Global, sequence: u64, at: u64) -> Result<String, Fail> {
     Ok(format!(in alloc; "stored {sequence} at {at}")?)
 }
 
+fn denied_text(alloc: Global, at: u64, rule: &Rule) -> Result<String, Fail> {
+    let rule = rule.text(alloc)?;
+    Ok(format!(in alloc; "denied at {at}: {}", rule.as_str())?)
+}
+
 fn outcome_text(alloc: Global, outcome: &Outcome) -> Result<String, Fail> {
     match outcome {
         Outcome::Bad400 { field } => worded(alloc, "bad", field.as_str()),
@@ -74,6 +81,7 @@ fn outcome_text(alloc: Global, outcome: &Outcome) -> Result<String, Fail> {
         Outcome::Known { at } => numbered(alloc, "known at", *at),
         Outcome::BadHistory400 { at } => numbered(alloc, "bad history at", *at),
         Outcome::Conflict409 { at, leaf } => conflict_text(alloc, *at, leaf),
+        Outcome::Denied403 { at, rule } => denied_text(alloc, *at, rule),
         Outcome::Stored { sequence, at } => stored_text(alloc, *sequence, *at),
         Outcome::Memory507 => worded(alloc, "out of", "memory"),
     }
@@ -88,20 +96,79 @@ fn proposer(alloc: Global, by: &str) -> Result<Option<Name>, Fail> {
 }
 
 /// The outcome of a revision that a user proposes, or the administrator under the name `-`.
+fn outcome_of(
+    alloc: Global,
+    ground: &mut SoloGround,
+    program: &Resolved,
+    by: &str,
+    strict: bool,
+    revision: Revision,
+) -> Result<Outcome, Fail> {
+    let by = proposer(alloc, by)?;
+    Ok(ground.propose(alloc, program, by.as_ref(), strict, revision))
+}
+
+/// The same in words.
 fn propose(
     alloc: Global,
     ground: &mut SoloGround,
+    program: &Resolved,
     by: &str,
     strict: bool,
     revision: Revision,
 ) -> Result<String, Fail> {
-    let by = proposer(alloc, by)?;
-    let outcome = ground.propose(alloc, by.as_ref(), strict, revision);
+    let outcome = outcome_of(alloc, ground, program, by, strict, revision)?;
     outcome_text(alloc, &outcome)
 }
 
-/// Proposals to one ground after one another: who, the document, the revision, its ancestors, its body, and the outcome;
-/// those of all but the last are strict.
+/// What a ground over a journal answers to proposals under a sync function, and to offers.
+fn on_ground(alloc: Global, lines: &str, function: &str, call: Call<'_>) -> Result<String, Fail> {
+    let program = program_of(alloc, function)?;
+    let mut ground = ground_of(alloc, lines)?;
+    answer(alloc, &mut ground, &program, call)
+}
+
+/// What is asked of a ground.
+#[derive(Clone, Copy)]
+enum Call<'a> {
+    /// The proposals of a table.
+    Table(&'a str),
+    /// A conflict that the revision itself doesn't allow, and then one that it does.
+    Conflicts,
+    /// A revision of too many ancestors.
+    Ancestors,
+    /// A body that is too large.
+    Large,
+    /// An offer, by its revision and its parent.
+    Offer(&'a str, &'a str),
+    /// An offer after so many leaves were stored.
+    Leaves(u32),
+}
+
+fn answer(
+    alloc: Global,
+    ground: &mut SoloGround,
+    program: &Resolved,
+    call: Call<'_>,
+) -> Result<String, Fail> {
+    match call {
+        Call::Table(table) => first_wrong(alloc, ground, program, table),
+        Call::Conflicts => conflicts(alloc, ground, program),
+        Call::Ancestors => with_ancestors(alloc, ground, program),
+        Call::Large => with_large_body(alloc, ground, program),
+        Call::Offer(rev, parent) => asked(alloc, ground, rev, parent),
+        Call::Leaves(count) => asked_of_leaves(alloc, ground, program, count),
+    }
+}
+
+/// An outcome, and the front after it.
+fn with_front(alloc: Global, ground: &mut SoloGround, text: &str) -> Result<String, Fail> {
+    let front = ground.front();
+    Ok(format!(in alloc; "{text}, front {front}")?)
+}
+
+/// Proposals to one ground after one another: who, the document, the revision, its ancestors, its body, and the outcome.
+/// All are strict.
 const PROPOSALS: &str = "\
 ann d1 1-a  {\"channels\":[\"A\"]}>stored 2 at 1\n\
 ann d1 1-a  {\"channels\":[\"A\"]}>known at 2\n\
@@ -117,16 +184,53 @@ zed d2 0-q  [1]>bad rev\n\
 ann d1 2-b  {}>known at 3\n\
 ann d1 3-d 2-b,1-a {}>conflict at 3 with 3-c";
 
+/// Whether the outcome is that of the line.
+fn is_so(line: &str, text: &str) -> bool {
+    match line.split_once('>') {
+        Some((_, want)) => text == want,
+        None => false,
+    }
+}
+
+/// The first line of a table whose outcome is another, with that, or the word `none`; and the front behind it.
+fn first_wrong(
+    alloc: Global,
+    ground: &mut SoloGround,
+    program: &Resolved,
+    table: &str,
+) -> Result<String, Fail> {
+    for line in table.split('\n') {
+        let text = proposed(alloc, ground, program, line)?;
+        if !is_so(line, text.as_str()) {
+            return worded(alloc, line, text.as_str());
+        }
+    }
+    with_front(alloc, ground, "none")
+}
+
 #[test]
 fn revisions_are_proposed(rt: HostRuntime) -> Result<(), Fail> {
-    let alloc = rt.alloc();
-    let mut ground = ground_of(alloc, "U|ann|A|-;")?;
-    for line in PROPOSALS.split('\n') {
-        let text = proposed(alloc, &mut ground, line)?;
-        let (_, want) = line.split_once('>').ok_or("no line of the table")?;
-        assert!(rt; text.as_bytes() == want.as_bytes(), "{line} {text}");
-    }
-    assert_eq!(rt; ground.front(), 3);
+    let wrong = on_ground(rt.alloc(), "U|ann|A|-;", NAMED, Call::Table(PROPOSALS))?;
+    assert!(rt; wrong.as_bytes() == b"none, front 3".as_slice(), "{wrong}");
+    Ok(())
+}
+
+/// Proposals under a function that lets the administrator alone write a new document: those on a revision that was written are
+/// judged with it as the old document, those on another with none.
+const JUDGED: &str = "\
+ann d1 1-a  {}>denied at 1: admin at 1:47\n\
+zed d1 1-a  {}>user gone at 1\n\
+- d1 1-a  {}>stored 2 at 1\n\
+ann d1 2-b 1-a {}>stored 3 at 2\n\
+ann d1 3-c 2-b,1-a {}>stored 4 at 3\n\
+ann d2 1-a  {}>denied at 4: admin at 1:47\n\
+ann d1 5-e 4-d,3-c {}>denied at 4: admin at 1:47";
+
+#[test]
+fn revisions_are_judged(rt: HostRuntime) -> Result<(), Fail> {
+    let function = ADMINISTRATOR_BEGINS;
+    let wrong = on_ground(rt.alloc(), "U|ann|A|-;", function, Call::Table(JUDGED))?;
+    assert!(rt; wrong.as_bytes() == b"none, front 4".as_slice(), "{wrong}");
     Ok(())
 }
 
@@ -160,25 +264,49 @@ fn revision_in(alloc: Global, line: &str) -> Result<Revision, Fail> {
 }
 
 /// The outcome of the proposal of a line of the table.
-fn proposed(alloc: Global, ground: &mut SoloGround, line: &str) -> Result<String, Fail> {
+fn proposed(
+    alloc: Global,
+    ground: &mut SoloGround,
+    program: &Resolved,
+    line: &str,
+) -> Result<String, Fail> {
     let (asked, _) = line.split_once('>').ok_or("no line of the table")?;
     let by = word(asked, 0)?;
     let revision = revision_in(alloc, asked)?;
-    propose(alloc, ground, by, true, revision)
+    propose(alloc, ground, program, by, true, revision)
+}
+
+/// A revision that conflicts, and may ask for none.
+fn conflicting_revision(alloc: Global, noconflicts: bool) -> Result<Revision, Fail> {
+    let rev = rev_of(alloc, "1-b")?;
+    let mut revision = revision_of(alloc, "d1", rev, Revs::new(alloc), Bytes::new(alloc))?;
+    revision.noconflicts = noconflicts;
+    Ok(revision)
+}
+
+fn conflicting(
+    alloc: Global,
+    ground: &mut SoloGround,
+    program: &Resolved,
+    noconflicts: bool,
+) -> Result<String, Fail> {
+    let revision = conflicting_revision(alloc, noconflicts)?;
+    propose(alloc, ground, program, "ann", false, revision)
+}
+
+fn conflicts(alloc: Global, ground: &mut SoloGround, program: &Resolved) -> Result<String, Fail> {
+    let first = conflicting(alloc, ground, program, true)?;
+    let then = conflicting(alloc, ground, program, false)?;
+    Ok(format!(in alloc; "{first}, {then}")?)
 }
 
 /// A conflict, where the configuration allows it: the revision is stored but where it asks itself for none.
 #[test]
 fn conflicts_that_are_allowed(rt: HostRuntime) -> Result<(), Fail> {
-    let alloc = rt.alloc();
-    let mut ground = ground_of(alloc, "U|ann|A|-;W|d1|1-a|-|0|7b7d|-|1|1-a|A|-|-;")?;
-    for (noconflicts, want) in [(true, "conflict at 2 with 1-a"), (false, "stored 3 at 2")] {
-        let rev = rev_of(alloc, "1-b")?;
-        let mut revision = revision_of(alloc, "d1", rev, Revs::new(alloc), Bytes::new(alloc))?;
-        revision.noconflicts = noconflicts;
-        let text = propose(alloc, &mut ground, "ann", false, revision)?;
-        assert!(rt; text.as_bytes() == want.as_bytes(), "{text}");
-    }
+    let lines = "U|ann|A|-;W|d1|1-a|-|0|7b7d|-|1|1-a|A|-|-;";
+    let text = on_ground(rt.alloc(), lines, OPEN, Call::Conflicts)?;
+    let want = b"conflict at 2 with 1-a, stored 3 at 2".as_slice();
+    assert!(rt; text.as_bytes() == want, "{text}");
     Ok(())
 }
 
@@ -193,8 +321,9 @@ fn a_write_is_stored(rt: HostRuntime) -> Result<(), Fail> {
 
 /// A ground at which the revision 4-d was stored.
 fn written(alloc: Global) -> Result<SoloGround, Fail> {
+    let program = program_of(alloc, OPEN)?;
     let mut ground = ground_of(alloc, "W|d1|2-b|1-a|0|7b7d|-|0|2-b|A|-|-;")?;
-    let text = proposed(alloc, &mut ground, "- d1 4-d 3-c,2-b,1-a >")?;
+    let text = proposed(alloc, &mut ground, &program, "- d1 4-d 3-c,2-b,1-a >")?;
     if text.as_str() != "stored 2 at 1" {
         return Err(Fail::from("not stored as the second"));
     }
@@ -238,31 +367,52 @@ fn falling(alloc: Global, count: u32) -> Result<Revs, Fail> {
     Ok(ancestors)
 }
 
+fn with_falling(alloc: Global) -> Result<Revision, Fail> {
+    let ancestors = falling(alloc, 1001)?;
+    let rev = rev_of(alloc, "3000-a")?;
+    revision_of(alloc, "d1", rev, ancestors, Bytes::new(alloc))
+}
+
+fn with_ancestors(
+    alloc: Global,
+    ground: &mut SoloGround,
+    program: &Resolved,
+) -> Result<String, Fail> {
+    let revision = with_falling(alloc)?;
+    propose(alloc, ground, program, "ann", false, revision)
+}
+
 /// A history of 1,001 ancestors, whose generations fall.
 #[test]
 fn too_many_ancestors(rt: HostRuntime) -> Result<(), Fail> {
-    let alloc = rt.alloc();
-    let mut ground = ground_of(alloc, "U|ann|A|-;")?;
-    let ancestors = falling(alloc, 1001)?;
-    let rev = rev_of(alloc, "3000-a")?;
-    let revision = revision_of(alloc, "d1", rev, ancestors, Bytes::new(alloc))?;
-    let text = propose(alloc, &mut ground, "ann", false, revision)?;
+    let text = on_ground(rt.alloc(), "U|ann|A|-;", OPEN, Call::Ancestors)?;
     assert!(rt; text.as_bytes() == b"bad history at 1".as_slice(), "{text}");
     Ok(())
 }
 
+fn large_revision(alloc: Global) -> Result<Revision, Fail> {
+    let rev = rev_of(alloc, "1-a")?;
+    let body = Bytes::from_vec(vec![in alloc; b' '; 20_971_521]?);
+    revision_of(alloc, "d1", rev, Revs::new(alloc), body)
+}
+
+fn with_large_body(
+    alloc: Global,
+    ground: &mut SoloGround,
+    program: &Resolved,
+) -> Result<String, Fail> {
+    let revision = large_revision(alloc)?;
+    let text = propose(alloc, ground, program, "zed", true, revision)?;
+    with_front(alloc, ground, text.as_str())
+}
+
 #[test]
 fn bodies_that_are_too_large(rt: HostRuntime) -> Result<(), Fail> {
-    let alloc = rt.alloc();
-    let mut ground = ground_of(alloc, "U|ann|A|-;")?;
-    let body = Bytes::from_vec(vec![in alloc; b' '; 20_971_521]?);
-    let revision = revision_of(alloc, "d1", rev_of(alloc, "1-a")?, Revs::new(alloc), body)?;
-    let text = propose(alloc, &mut ground, "zed", true, revision)?;
+    let text = on_ground(rt.alloc(), "U|ann|A|-;", OPEN, Call::Large)?;
     assert!(rt;
-        text.as_bytes() == b"too large 20971521".as_slice(),
+        text.as_bytes() == b"too large 20971521, front 1".as_slice(),
         "{text}"
     );
-    assert_eq!(rt; ground.front(), 1);
     Ok(())
 }
 
@@ -313,10 +463,17 @@ fn first_text(alloc: Global, answers: &[OfferAnswer]) -> Result<String, Fail> {
     }
 }
 
+/// One offer of d1; `-` stands for no parent.
+fn offers_of(alloc: Global, rev: &str, parent: &str) -> Result<Vec<Offer>, Fail> {
+    let offer = offer_of(alloc, rev, parent)?;
+    let mut offers = Vec::new(alloc);
+    offers.push(offer)?;
+    Ok(offers)
+}
+
 /// What a ground answers for one offer of d1; `-` stands for no parent.
 fn asked(alloc: Global, ground: &mut SoloGround, rev: &str, parent: &str) -> Result<String, Fail> {
-    let mut offers = Vec::new(alloc);
-    offers.push(offer_of(alloc, rev, parent)?)?;
+    let offers = offers_of(alloc, rev, parent)?;
     let asked = ground.ask(alloc, offers.as_slice())?;
     first_text(alloc, asked.answers.as_slice())
 }
@@ -328,8 +485,8 @@ fn is_answered_so(
     parent: &str,
     want: &str,
 ) -> Result<bool, Fail> {
-    let mut ground = ground_of(alloc, lines)?;
-    Ok(asked(alloc, &mut ground, rev, parent)?.as_str() == want)
+    let text = on_ground(alloc, lines, OPEN, Call::Offer(rev, parent))?;
+    Ok(text.as_str() == want)
 }
 
 /// Three leaves, of which one deletes.
@@ -353,24 +510,42 @@ fn offers_are_answered(rt: HostRuntime) -> Result<(), Fail> {
     Ok(())
 }
 
-/// Proposes a revision of d1 without ancestors, of this generation.
-fn propose_leaf(alloc: Global, ground: &mut SoloGround, generation: u32) -> Result<(), Fail> {
+/// A revision of d1 without ancestors, of this generation.
+fn leaf_of(alloc: Global, generation: u32) -> Result<Revision, Fail> {
     let digest = Digest::parse(alloc, "a")?;
     let rev = RevId { generation, digest };
-    let revision = revision_of(alloc, "d1", rev, Revs::new(alloc), Bytes::new(alloc))?;
-    propose(alloc, ground, "ann", false, revision)?;
+    revision_of(alloc, "d1", rev, Revs::new(alloc), Bytes::new(alloc))
+}
+
+/// Proposes such a revision.
+fn propose_leaf(
+    alloc: Global,
+    ground: &mut SoloGround,
+    program: &Resolved,
+    generation: u32,
+) -> Result<(), Fail> {
+    let leaf = leaf_of(alloc, generation)?;
+    propose(alloc, ground, program, "ann", false, leaf)?;
     Ok(())
+}
+
+/// What is answered for an offer, where so many leaves are stored before.
+fn asked_of_leaves(
+    alloc: Global,
+    ground: &mut SoloGround,
+    program: &Resolved,
+    count: u32,
+) -> Result<String, Fail> {
+    for i in 0..count {
+        propose_leaf(alloc, ground, program, i.saturating_add(1))?;
+    }
+    asked(alloc, ground, "22-b", "-")
 }
 
 /// Of 21 leaves the 20 greatest are answered.
 #[test]
 fn twenty_leaves_at_most(rt: HostRuntime) -> Result<(), Fail> {
-    let alloc = rt.alloc();
-    let mut ground = ground_of(alloc, "U|ann|A|-;")?;
-    for i in 0..21 {
-        propose_leaf(alloc, &mut ground, 1 + i)?;
-    }
-    let text = asked(alloc, &mut ground, "22-b", "-")?;
+    let text = on_ground(rt.alloc(), "U|ann|A|-;", OPEN, Call::Leaves(21))?;
     let want =
         "false false false 21-a: 21-a 20-a 19-a 18-a 17-a 16-a 15-a 14-a 13-a 12-a 11-a 10-a 9-a 8-a 7-a 6-a 5-a 4-a 3-a 2-a";
     assert!(rt; text.as_bytes() == want.as_bytes(), "{text}");
