@@ -10,13 +10,19 @@ use doc_board::laws::recorded;
 use doc_board::{Board, OpenFault, Outcome};
 use repl_messages::{Body, Fed, Revision};
 use sg_history::{
-    Digest, DocId, Key, Log, Name, Options, ReadLog, RevId, Revs, Row, TextFault, read_journal,
-    write_decimal,
+    Digest, DocId, Key, Log, Name, Options, ReadLog, RevId, Revs, Row, Rows, TextFault,
+    read_journal, write_decimal,
 };
 use sg_outside::Bytes;
 use std::alloc::{AllocError, Global};
 use std::{env, io};
+use sync_resolve::{Resolved, resolve};
+use sync_syntax::parse;
+use sync_syntax::tree::Program;
 use write_path::{Ground, Shelf, SoloGround};
+
+/// The sync function by which revisions are judged: the one that a gateway has where its configuration has none.
+const FUNCTION: &str = "function(doc, oldDoc) { channel(doc.channels); }";
 
 /// The most ancestors that a body is asked for with.
 const ANCESTORS: u64 = 100;
@@ -34,6 +40,7 @@ enum Stop {
     Text,
     Journal,
     Board,
+    Program,
 }
 
 impl From<AllocError> for Stop {
@@ -113,20 +120,26 @@ fn ground_of(alloc: Global, size: Size) -> Result<SoloGround, Stop> {
     Ok(SoloGround::new(Shelf::new(board)?))
 }
 
+/// The name of a document that no journal has.
+fn doc_of(alloc: Global, number: u64) -> Result<DocId, Stop> {
+    let name = format!(in alloc; "p{number}")?;
+    Ok(DocId::parse(alloc, name.as_str())?)
+}
+
+fn first_rev(alloc: Global) -> Result<RevId, Stop> {
+    Ok(RevId {
+        generation: 1,
+        digest: Digest::parse(alloc, "a")?,
+    })
+}
+
 /// The first revision of a document that no journal has.
 fn revision_of(alloc: Global, number: u64) -> Result<Revision, Stop> {
-    let mut name = Bytes::from_slice(alloc, b"p")?;
-    write_decimal(number, &mut name)?;
-    let name = name.as_slice().to_vec(alloc)?;
-    let Ok(name) = String::from_utf8(name) else {
-        return Err(Stop::Text);
-    };
+    let doc = doc_of(alloc, number)?;
+    let rev = first_rev(alloc)?;
     Ok(Revision {
-        doc: DocId::parse(alloc, name.as_str())?,
-        rev: RevId {
-            generation: 1,
-            digest: Digest::parse(alloc, "a")?,
-        },
+        doc,
+        rev,
         ancestors: Revs::new(alloc),
         deleted: false,
         noconflicts: true,
@@ -134,14 +147,44 @@ fn revision_of(alloc: Global, number: u64) -> Result<Revision, Stop> {
     })
 }
 
+fn parsed(alloc: Global) -> Result<Program, Stop> {
+    match parse(alloc, FUNCTION) {
+        Ok(program) => Ok(program),
+        Err(_) => Err(Stop::Program),
+    }
+}
+
+fn program_of(alloc: Global) -> Result<Resolved, Stop> {
+    match resolve(alloc, parsed(alloc)?) {
+        Ok(program) => Ok(program),
+        Err(_) => Err(Stop::Program),
+    }
+}
+
+/// Whether the revision of this number is stored.
+fn is_stored(
+    alloc: Global,
+    ground: &mut SoloGround,
+    program: &Resolved,
+    user: &Name,
+    number: u64,
+) -> Result<bool, Stop> {
+    let revision = revision_of(alloc, number)?;
+    let outcome = ground.propose(alloc, program, Some(user), true, revision);
+    Ok(matches!(outcome, Outcome::Stored { .. }))
+}
+
 /// Proposes so many revisions, and counts those that are stored.
-fn stored(alloc: Global, size: Size, proposals: u64) -> Result<u64, Stop> {
-    let mut ground = ground_of(alloc, size)?;
-    let user = Name::parse(alloc, "ann")?;
+fn stored(
+    alloc: Global,
+    ground: &mut SoloGround,
+    user: &Name,
+    proposals: u64,
+) -> Result<u64, Stop> {
+    let program = program_of(alloc)?;
     let mut count = 0u64;
     for number in 0..proposals {
-        let revision = revision_of(alloc, number)?;
-        if let Outcome::Stored { .. } = ground.propose(alloc, Some(&user), true, revision) {
+        if is_stored(alloc, ground, &program, user, number)? {
             count = count.saturating_add(1);
         }
     }
@@ -160,29 +203,51 @@ fn bodies(alloc: Global, ground: &mut SoloGround, user: &Name, rows: &[Row]) -> 
     Ok(count)
 }
 
-/// Pulls all documents: their rows, and the bodies of so many rows at a time, where that is not 0.
-fn pulled(alloc: Global, size: Size, batch: u64) -> Result<u64, Stop> {
-    let mut ground = ground_of(alloc, size)?;
-    let user = Name::parse(alloc, "ann")?;
+/// The rows of all documents.
+fn rows_of(alloc: Global, ground: &mut SoloGround, user: &Name) -> Result<Rows, Stop> {
     let since = Key { by: 0, seq: 0 };
-    let Fed::Rows { rows, .. } = ground.feed(alloc, &user, &since, &OPTIONS)? else {
-        return Ok(0);
-    };
+    match ground.feed(alloc, user, &since, &OPTIONS)? {
+        Fed::Rows { rows, .. } => Ok(rows),
+        Fed::Future { .. } => Ok(Rows::new(alloc)),
+    }
+}
+
+/// The rows, or of so many rows at a time the bodies, where that is not 0.
+fn counted(
+    alloc: Global,
+    ground: &mut SoloGround,
+    user: &Name,
+    rows: &[Row],
+    batch: u64,
+) -> Result<u64, Stop> {
     if batch == 0 {
-        return Ok(rows.as_slice().len() as u64);
+        return Ok(rows.len() as u64);
     }
     let mut count = 0u64;
-    for some in rows.as_slice().chunks(batch as usize) {
-        count = count.saturating_add(bodies(alloc, &mut ground, &user, some)?);
+    for some in rows.chunks(batch as usize) {
+        count = count.saturating_add(bodies(alloc, ground, user, some)?);
     }
     Ok(count)
 }
 
-fn job(alloc: Global, name: &str, size: Size, number: u64) -> Result<u64, Stop> {
+/// Pulls all documents: their rows, and the bodies of so many rows at a time, where that is not 0.
+fn pulled(alloc: Global, ground: &mut SoloGround, user: &Name, batch: u64) -> Result<u64, Stop> {
+    let rows = rows_of(alloc, ground, user)?;
+    counted(alloc, ground, user, rows.as_slice(), batch)
+}
+
+/// What is done with a ground.
+fn done(alloc: Global, ground: &mut SoloGround, name: &str, number: u64) -> Result<u64, Stop> {
+    let user = Name::parse(alloc, "ann")?;
     match name {
-        "propose" => stored(alloc, size, number),
-        _ => pulled(alloc, size, number),
+        "propose" => stored(alloc, ground, &user, number),
+        _ => pulled(alloc, ground, &user, number),
     }
+}
+
+fn job(alloc: Global, name: &str, size: Size, number: u64) -> Result<u64, Stop> {
+    let mut ground = ground_of(alloc, size)?;
+    done(alloc, &mut ground, name, number)
 }
 
 fn number_of(word: Option<String>) -> u64 {

@@ -10,7 +10,7 @@ use std::alloc::{AllocError, Global};
 use std::{env, io};
 
 /// How many messages go beside the large one, and the bytes of each of their bodies.
-const BESIDE: u32 = 8;
+const BESIDE: usize = 8;
 
 const SMALL: usize = 1 << 20;
 
@@ -65,6 +65,14 @@ impl Direction {
         Ok(())
     }
 
+    /// Puts so many messages of so many zeros.
+    fn put_zeros(&mut self, alloc: Global, size: usize, count: usize) -> Result<(), Memory> {
+        for _ in 0..count {
+            self.put(zeros(alloc, size)?)?;
+        }
+        Ok(())
+    }
+
     /// Sends the next frame, and answers what it gave where there was one.
     fn carry(&mut self) -> Result<Option<Taken>, Stop> {
         self.frame.truncate(0);
@@ -100,6 +108,21 @@ impl Direction {
             }
         }
         Ok(came)
+    }
+
+    /// Puts a message, where there is one, and so many others of so many zeros, and sends all.
+    fn carry_with(
+        &mut self,
+        alloc: Global,
+        first: Option<Payload>,
+        size: usize,
+        count: usize,
+    ) -> Result<Came, Stop> {
+        if let Some(payload) = first {
+            self.put(payload)?;
+        }
+        self.put_zeros(alloc, size, count)?;
+        self.carry_all()
     }
 
     fn acknowledge(&mut self, kind: Kind, number: u64, bytes: u64) -> Result<(), Stop> {
@@ -141,36 +164,29 @@ fn zeros(alloc: Global, size: usize) -> Result<Payload, AllocError> {
     })
 }
 
-/// Sends one message of so many bytes beside the others, and then once more, alone.
-fn large(alloc: Global, size: usize) -> Result<Came, Stop> {
-    let mut direction = Direction::new(alloc);
-    direction.put(zeros(alloc, size)?)?;
-    for _ in 0..BESIDE {
-        direction.put(zeros(alloc, SMALL)?)?;
-    }
-    let mut came = direction.carry_all()?;
-    if let Some(payload) = came.largest.take() {
-        let again = alone(alloc, payload)?;
-        came.frames = came.frames.saturating_add(again.frames);
-        came.messages = came.messages.saturating_add(again.messages);
-    }
-    Ok(came)
+/// Sends a message, where there is one, beside so many others of so many zeros.
+fn carried(alloc: Global, first: Option<Payload>, size: usize, count: usize) -> Result<Came, Stop> {
+    Direction::new(alloc).carry_with(alloc, first, size, count)
 }
 
-/// Sends a message alone.
-fn alone(alloc: Global, payload: Payload) -> Result<Came, Stop> {
-    let mut direction = Direction::new(alloc);
-    direction.put(payload)?;
-    direction.carry_all()
+/// Sends one message of so many bytes beside the others, and then once more, alone.
+fn large(alloc: Global, size: usize) -> Result<Came, Stop> {
+    let payload = zeros(alloc, size)?;
+    let came = carried(alloc, Some(payload), SMALL, BESIDE)?;
+    again(alloc, came)
+}
+
+/// Sends the largest message that came once more, alone.
+fn again(alloc: Global, first: Came) -> Result<Came, Stop> {
+    let mut came = carried(alloc, first.largest, 0, 0)?;
+    came.frames = came.frames.saturating_add(first.frames);
+    came.messages = came.messages.saturating_add(first.messages);
+    Ok(came)
 }
 
 /// Sends so many messages of a hundred bytes, which all wait before the first goes.
 fn small(alloc: Global, count: usize) -> Result<Came, Stop> {
-    let mut direction = Direction::new(alloc);
-    for _ in 0..count {
-        direction.put(zeros(alloc, 99)?)?;
-    }
-    direction.carry_all()
+    carried(alloc, None, 99, count)
 }
 
 /// A message whose property block is this text so many times.

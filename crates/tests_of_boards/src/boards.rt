@@ -1,6 +1,6 @@
 //! Snapshots, trees and channels of a board, and what it stores.
 
-use crate::journals::log_of;
+use crate::journals::{board_of, log_of};
 use doc_board::{Board, Candidate, Commit, Context, OpenFault, Snapshot};
 use repl_messages::Revision;
 use rev_tree::Extended;
@@ -12,10 +12,6 @@ use std::test::Fail;
 /// After a tombstone on one branch the leaf of the other branch wins again.
 const BRANCHES: &str =
     "U|ann|A|-;W|d1|1-a|-|0|7b2261223a317d|-|1|1-a|A|-|-;W|d1|1-b|-|0|7b7d|-|2|1-b|B|-|-;W|d1|2-c|1-b|1|7b7d|-|3|1-a|-|-|-;";
-
-fn board_of(alloc: Global) -> Result<Board, Fail> {
-    Ok(Board::open(alloc, log_of(alloc, BRANCHES)?)?)
-}
 
 fn revision_of(alloc: Global, rev: &str, ancestors: &str) -> Result<Revision, TextFault> {
     Ok(Revision {
@@ -189,7 +185,7 @@ fn parts_of(line: &str) -> Option<(&str, &str, &str)> {
 
 /// What the board of the branches answers to a call.
 fn answered(alloc: Global, call: &str, input: &str) -> Result<String, Fail> {
-    let mut board = board_of(alloc)?;
+    let mut board = board_of(alloc, BRANCHES)?;
     answer(alloc, &mut board, call, input)
 }
 
@@ -206,8 +202,9 @@ fn what_a_board_answers(rt: HostRuntime) -> Result<(), Fail> {
     Ok(())
 }
 
-/// The sequence, the base and the front where an entry is stored on a board.
-fn stored_on(board: &mut Board) -> Option<(u64, u64, u64)> {
+/// The sequence, the base and the front where an entry is stored on a new board.
+fn stored(alloc: Global) -> Option<(u64, u64, u64)> {
+    let mut board = Board::new(alloc).ok()?;
     let room = board.room(None, 0).ok()?;
     match board.commit(room, Number::new(1), Candidate::Plain(Entry::Unused)) {
         Commit::Stored { sequence, at } => Some((sequence, at, board.front())),
@@ -223,21 +220,12 @@ fn stored_on(board: &mut Board) -> Option<(u64, u64, u64)> {
     }
 }
 
-/// The same on a new board.
-fn stored(alloc: Global) -> Option<(u64, u64, u64)> {
-    match Board::new(alloc) {
-        Ok(mut board) => stored_on(&mut board),
-        Err(_) => None,
-    }
-}
-
-/// Whether a board gives up its first sequence.
-fn gives_up_on(board: &mut Board, doc: &DocId) -> bool {
-    let Ok(room) = board.room(Some(doc), 2) else {
-        return false;
-    };
+/// A new board that has given up the first sequence.
+fn given_up(alloc: Global, doc: &DocId) -> Option<Board> {
+    let mut board = Board::new(alloc).ok()?;
+    let room = board.room(Some(doc), 2).ok()?;
     board.void(room, Number::new(1));
-    has_given_up(board, doc)
+    Some(board)
 }
 
 fn has_given_up(board: &Board, doc: &DocId) -> bool {
@@ -246,17 +234,13 @@ fn has_given_up(board: &Board, doc: &DocId) -> bool {
         && board.tree(doc).is_none()
 }
 
-/// Whether a new board gives up its first sequence.
-fn new_gives_up(alloc: Global, doc: &DocId) -> bool {
-    match Board::new(alloc) {
-        Ok(mut board) => gives_up_on(&mut board, doc),
-        Err(_) => false,
-    }
-}
-
 fn gives_up(alloc: Global) -> Result<bool, TextFault> {
     let doc = DocId::parse(alloc, "d1")?;
-    Ok(new_gives_up(alloc, &doc))
+    let board = given_up(alloc, &doc);
+    match board {
+        Some(board) => Ok(has_given_up(&board, &doc)),
+        None => Ok(false),
+    }
 }
 
 #[test]

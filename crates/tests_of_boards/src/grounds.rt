@@ -1,7 +1,6 @@
 //! Worked journals, looked at through a ground.
 
-use crate::journals::log_of;
-use doc_board::Board;
+use crate::journals::board_of;
 use repl_messages::{Bodies, Body, Fed};
 use sg_history::{Channels, Key, Name, Options, Revs, Row, Rows, TextFault, write_decimal};
 use sg_outside::Bytes;
@@ -9,15 +8,10 @@ use std::alloc::{AllocError, Global};
 use std::test::Fail;
 use write_path::{Ground, Shelf, SoloGround};
 
-fn board_of(alloc: Global, lines: &str) -> Result<Board, Fail> {
-    let log = log_of(alloc, lines)?;
-    Ok(Board::open(alloc, log)?)
-}
-
 /// A ground over the board of a journal.
 pub fn ground_of(alloc: Global, lines: &str) -> Result<SoloGround, Fail> {
-    let shelf = Shelf::new(board_of(alloc, lines)?)?;
-    Ok(SoloGround::new(shelf))
+    let board = board_of(alloc, lines)?;
+    Ok(SoloGround::new(Shelf::new(board)?))
 }
 
 const EVERYTHING: Options = Options {

@@ -1,9 +1,10 @@
 //! Journals that the tests begin with.
 
-ghost use Rattle.std.specs.Prelude.{reverse, IfOk};
+ghost use Rattle.std.specs.Prelude.{◌≡◌, [], reverse, IfOk};
 ghost use Rattle.sg_history.specs.History.{entries_of};
 ghost use Rattle.doc_board.specs.Lawful.{AreLawful};
 
+use doc_board::Board;
 use doc_board::laws::recorded;
 use sg_history::{Log, read_journal};
 use sg_outside::Bytes;
@@ -24,4 +25,12 @@ pub fn log_of(alloc: Global, lines: &str) -> Result<Log, Fail>
     }
     recorded();
     Ok(read_journal(alloc, journal.as_slice())?)
+}
+
+/// The board of such a journal.
+pub fn board_of(alloc: Global, lines: &str) -> Result<Board, Fail>
+    ensures { IfOk result (λ board. board.rooms ≡ []) }
+{
+    let log = log_of(alloc, lines)?;
+    Ok(Board::open(alloc, log)?)
 }
