@@ -14,6 +14,7 @@ use Rattle.sg_history.specs.Feed.{feed}
 use Rattle.sg_history.specs.History.{past}
 use Rattle.repl_messages.specs.declared.request.Version.{Version}
 use Rattle.repl_messages.specs.declared.looks.Fed.TheVariants as fed
+use Rattle.sync_syntax.specs.declared.tree.Program.{Program}
 use Rattle.session_core.specs.declared.act.Act.{Act}
 use Rattle.session_core.specs.declared.act.Want.{Want}
 use Rattle.session_core.specs.declared.act.Want.TheVariants as want
@@ -204,14 +205,14 @@ drops_again : (size : ℕ) (rows : List Row) → is_none (drop size rows) ≡ tr
 drops_again size rows none = drop_none size (drop size rows) (none_left (drop size rows) none) ∙ sym (none_left (drop size rows) none)
 
 -- the rows of a later look
-by_look : (h : List Entry) (user : List ℕ) (strict : Bool) (r : Running) (front : ℕ) (rows : List Row) (wanted : Option Want)
-    → WantsFor (Some r) pending.More wanted → IsRight h user strict wanted (event.Fed (fed.Rows front rows)) → rows ≡ feed (past h front) user (plain r.front) r.options
-by_look h user strict r front rows None w right = absurd w
-by_look h user strict r front rows (Some (want.Feed since options)) (since_is, options_is) (bound, rows_are) =
+by_look : (h : List Entry) (user : List ℕ) (program : Program) (strict : Bool) (r : Running) (front : ℕ) (rows : List Row) (wanted : Option Want)
+    → WantsFor (Some r) pending.More wanted → IsRight h user program strict wanted (event.Fed (fed.Rows front rows)) → rows ≡ feed (past h front) user (plain r.front) r.options
+by_look h user program strict r front rows None w right = absurd w
+by_look h user program strict r front rows (Some (want.Feed since options)) (since_is, options_is) (bound, rows_are) =
     rows_are ∙ ap (λ k. feed (past h front) user k options) since_is ∙ ap (feed (past h front) user (next_since r)) options_is
-by_look h user strict r front rows (Some (want.Bodies options wanted most)) w right = absurd w
-by_look h user strict r front rows (Some (want.Ask offers)) w right = absurd w
-by_look h user strict r front rows (Some (want.Propose revision)) w right = absurd w
+by_look h user program strict r front rows (Some (want.Bodies options wanted most)) w right = absurd w
+by_look h user program strict r front rows (Some (want.Ask offers)) w right = absurd w
+by_look h user program strict r front rows (Some (want.Propose revision)) w right = absurd w
 
 more_rows : (h : List Entry) (user : List ℕ) (version : Version) (asked : Subscription) (messages : List Message) (fronts : List ℕ) (m : Machine) (r : Running) (front : ℕ) (rows : List Row)
     → Batched h user version asked messages fronts m → m.feed ≡ Some r → is_none r.rows ≡ true → rows ≡ feed (past h front) user (plain r.front) r.options
@@ -234,29 +235,29 @@ more_rows h user version asked messages fronts m r front rows so_far e left are 
 
 -- ---- one step
 
-event_batched : (h : List Entry) (user : List ℕ) (version : Version) (strict : Bool) (asked : Subscription) (messages : List Message) (fronts : List ℕ) (m : Machine) (x : Event) (done : Done) (wanted : Option Want)
-    → Batched h user version asked messages fronts m → IsSome m.feed → WantsFor m.feed m.pending wanted → IsRight h user strict wanted x → done.after.version ≡ m.version → Shape m.feed m.pending m x done
+event_batched : (h : List Entry) (user : List ℕ) (version : Version) (program : Program) (strict : Bool) (asked : Subscription) (messages : List Message) (fronts : List ℕ) (m : Machine) (x : Event) (done : Done) (wanted : Option Want)
+    → Batched h user version asked messages fronts m → IsSome m.feed → WantsFor m.feed m.pending wanted → IsRight h user program strict wanted x → done.after.version ≡ m.version → Shape m.feed m.pending m x done
     → After h user version asked messages (feed_look x ++ fronts) m done
-event_batched h user version strict asked messages fronts m x done wanted so_far some w right same (stays none feed_same fits sized look closed) =
+event_batched h user version program strict asked messages fronts m x done wanted so_far some w right same (stays none feed_same fits sized look closed) =
     subst (λ looks. After h user version asked messages (looks ++ fronts) m done) (sym (look some))
     (same_offers h user version asked messages fronts m done so_far none (ap not_offered feed_same) (subst (Runs asked fronts) (sym feed_same) so_far.runs)
     (subst (λ g. Fits g done.after.pending) (sym feed_same) fits) same)
-event_batched h user version strict asked messages fronts m x done wanted so_far some w right same (looks_next r acts requests is none left look closed e) =
+event_batched h user version program strict asked messages fronts m x done wanted so_far some w right same (looks_next r acts requests is none left look closed e) =
     subst (λ looks. After h user version asked messages (looks ++ fronts) m done) (sym look)
     (subst (After h user version asked messages fronts m) (sym e)
     (same_offers h user version asked messages fronts m (looks_again m acts requests (rest r)) so_far none (drops_again r.batch r.rows left ∙ ap not_offered (sym is))
     (subst (Runs asked fronts) is so_far.runs) left refl))
-event_batched h user version strict asked messages fronts m x done wanted so_far some w right same (answers_all r acts requests is none counted look closed e) =
+event_batched h user version program strict asked messages fronts m x done wanted so_far some w right same (answers_all r acts requests is none counted look closed e) =
     subst (λ looks. After h user version asked messages (looks ++ fronts) m done) (sym look)
     (subst (After h user version asked messages fronts m) (sym e)
     (goes h user version asked messages fronts m acts requests (rest r) so_far.offers so_far.are
     (ap (λ g. with_rows so_far.offers ++ batches asked.batch (not_offered g)) (sym is) ∙ so_far.sum) (subst (Runs asked fronts) is so_far.runs) so_far.version_is none))
-event_batched h user version strict asked messages fronts m x done wanted so_far some w right same (begins_first other front rows is awaited came e) = absurd (false≢true (subst IsSome is some))
-event_batched h user version strict asked messages fronts m x done wanted so_far some w right same (has_more r front rows is awaited left came e) =
+event_batched h user version program strict asked messages fronts m x done wanted so_far some w right same (begins_first other front rows is awaited came e) = absurd (false≢true (subst IsSome is some))
+event_batched h user version program strict asked messages fronts m x done wanted so_far some w right same (has_more r front rows is awaited left came e) =
     let wants : WantsFor (Some r) pending.More wanted = subst (λ p. WantsFor (Some r) p wanted) awaited (subst (λ g. WantsFor g m.pending wanted) is w) in
     subst (λ y. After h user version asked messages (feed_look y ++ fronts) m done) (sym came)
     (subst (After h user version asked messages (front ∷ fronts) m) (sym e)
-    (more_rows h user version asked messages fronts m r front rows so_far is left (by_look h user strict r front rows wanted wants (subst (IsRight h user strict wanted) came right))))
+    (more_rows h user version asked messages fronts m r front rows so_far is left (by_look h user program strict r front rows wanted wants (subst (IsRight h user program strict wanted) came right))))
 
 -- ---- all steps
 
@@ -275,25 +276,25 @@ leads_on start first earlier leads [] m e = subst (Leads start earlier) (sym e) 
 leads_on start first earlier leads (s ∷ more) m (before, feeds, runs, made) = (before, leads_on start first earlier leads more before feeds, made)
 
 -- the rows of the first look
-by_first : (h : List Entry) (user : List ℕ) (strict : Bool) (asked : Subscription) (front : ℕ) (rows : List Row) (f : Option Running) (wanted : Option Want)
-    → WantsFor f (pending.Feed asked) wanted → IsRight h user strict wanted (event.Fed (fed.Rows front rows)) → rows ≡ feed (past h front) user asked.since asked.options
-by_first h user strict asked front rows f None w right = absurd w
-by_first h user strict asked front rows f (Some (want.Feed since options)) (since_is, options_is) (bound, rows_are) =
+by_first : (h : List Entry) (user : List ℕ) (program : Program) (strict : Bool) (asked : Subscription) (front : ℕ) (rows : List Row) (f : Option Running) (wanted : Option Want)
+    → WantsFor f (pending.Feed asked) wanted → IsRight h user program strict wanted (event.Fed (fed.Rows front rows)) → rows ≡ feed (past h front) user asked.since asked.options
+by_first h user program strict asked front rows f None w right = absurd w
+by_first h user program strict asked front rows f (Some (want.Feed since options)) (since_is, options_is) (bound, rows_are) =
     rows_are ∙ ap (λ k. feed (past h front) user k options) since_is ∙ ap (feed (past h front) user asked.since) options_is
-by_first h user strict asked front rows f (Some (want.Bodies options wanted most)) w right = absurd w
-by_first h user strict asked front rows f (Some (want.Ask offers)) w right = absurd w
-by_first h user strict asked front rows f (Some (want.Propose revision)) w right = absurd w
+by_first h user program strict asked front rows f (Some (want.Bodies options wanted most)) w right = absurd w
+by_first h user program strict asked front rows f (Some (want.Ask offers)) w right = absurd w
+by_first h user program strict asked front rows f (Some (want.Propose revision)) w right = absurd w
 
 -- a feed begins
-begins : (h : List Entry) (user : List ℕ) (version : Version) (strict : Bool) (asked : Subscription) (front : ℕ) (rows : List Row) (before : Machine) (s : Step) (first : Machine) (wanted : Option Want)
+begins : (h : List Entry) (user : List ℕ) (version : Version) (program : Program) (strict : Bool) (asked : Subscription) (front : ℕ) (rows : List Row) (before : Machine) (s : Step) (first : Machine) (wanted : Option Want)
     → before.version ≡ version → before.pending ≡ pending.Feed asked → s.event ≡ event.Fed (fed.Rows front rows) → Steps before s first
-    → WantsFor before.feed before.pending wanted → IsRight h user strict wanted s.event
+    → WantsFor before.feed before.pending wanted → IsRight h user program strict wanted s.event
     → Batched h user version asked (put_by (s ∷ [])) (feed_looks (s ∷ [])) first
-begins h user version strict asked front rows before s first wanted version_is awaited came made w right =
+begins h user version program strict asked front rows before s first wanted version_is awaited came made w right =
     let does : made.done ≡ on_first_look before asked (fed.Rows front rows) =
     subst (λ p. made.done ≡ on_fed before (fed.Rows front rows) p) awaited (subst (λ x. Does before x made.done) came made.does) in
     let are : rows ≡ feed (past h front) user asked.since asked.options =
-    by_first h user strict asked front rows before.feed wanted (subst (λ p. WantsFor before.feed p wanted) awaited w) (subst (IsRight h user strict wanted) came right) in
+    by_first h user program strict asked front rows before.feed wanted (subst (λ p. WantsFor before.feed p wanted) awaited w) (subst (IsRight h user program strict wanted) came right) in
     subst (λ fs. Batched h user version asked (put_by (s ∷ [])) fs first) (ap (λ x. feed_look x ++ []) (sym came))
     (subst (λ ms. Batched h user version asked ms (front ∷ []) first) (sym made.puts)
     (subst (Batched h user version asked (messages_from (before.requests + 1) made.done.acts) (front ∷ [])) (sym made.leads)
@@ -302,37 +303,37 @@ begins h user version strict asked front rows before s first wanted version_is a
     (ap (batches asked.batch) are ∙ sym (append-nil (batches asked.batch (feed (past h front) user asked.since asked.options))))
     (refl, refl, ([], refl)) version_is (acceptance_none asked.asker)))))
 
-one_more : Keeps → (h : List Entry) (user : List ℕ) (version : Version) (strict : Bool) (asked : Subscription) (messages : List Message) (fronts : List ℕ) (before : Machine) (s : Step) (after : Machine) (wanted : Option Want)
-    → Batched h user version asked messages fronts before → IsSome before.feed → Steps before s after → WantsFor before.feed before.pending wanted → IsRight h user strict wanted s.event
+one_more : Keeps → (h : List Entry) (user : List ℕ) (version : Version) (program : Program) (strict : Bool) (asked : Subscription) (messages : List Message) (fronts : List ℕ) (before : Machine) (s : Step) (after : Machine) (wanted : Option Want)
+    → Batched h user version asked messages fronts before → IsSome before.feed → Steps before s after → WantsFor before.feed before.pending wanted → IsRight h user program strict wanted s.event
     → Batched h user version asked (messages ++ s.puts) (feed_look s.event ++ fronts) after
-one_more keeps h user version strict asked messages fronts before s after wanted so_far some made w right =
+one_more keeps h user version program strict asked messages fronts before s after wanted so_far some made w right =
     subst (λ ms. Batched h user version asked (messages ++ ms) (feed_look s.event ++ fronts) after) (sym made.puts)
     (subst (Batched h user version asked (messages ++ messages_from (before.requests + 1) made.done.acts) (feed_look s.event ++ fronts)) (sym made.leads)
-    (event_batched h user version strict asked messages fronts before s.event made.done wanted so_far some w right (keeps before s.event made.done made.awaited made.does).version
+    (event_batched h user version program strict asked messages fronts before s.event made.done wanted so_far some w right (keeps before s.event made.done made.awaited made.does).version
     (shape before s.event made.done made.awaited made.does so_far.fits)))
 
-feed_batched : Wants → Keeps → (h : List Entry) (user : List ℕ) (version : Version) (strict : Bool) (asked : Subscription) (earlier : List Step) (s : Step) (first : Machine)
+feed_batched : Wants → Keeps → (h : List Entry) (user : List ℕ) (version : Version) (program : Program) (strict : Bool) (asked : Subscription) (earlier : List Step) (s : Step) (first : Machine)
     → Leads (new_machine user version strict) (s ∷ earlier) first → Batched h user version asked (put_by (s ∷ [])) (feed_looks (s ∷ [])) first
-    → (more : List Step) (m : Machine) → LeadsFeed first more m → AreRight h user strict (more ++ s ∷ earlier)
+    → (more : List Step) (m : Machine) → LeadsFeed first more m → AreRight h user program strict (more ++ s ∷ earlier)
     → Batched h user version asked (put_by (more ++ s ∷ [])) (feed_looks (more ++ s ∷ [])) m
-feed_batched wants keeps h user version strict asked earlier s first leads begun [] m e right = subst (Batched h user version asked (put_by (s ∷ [])) (feed_looks (s ∷ []))) (sym e) begun
-feed_batched wants keeps h user version strict asked earlier s first leads begun (t ∷ more) m (before, feeds, runs, made) right =
-    one_more keeps h user version strict asked (put_by (more ++ s ∷ [])) (feed_looks (more ++ s ∷ [])) before t m (wanted_after (more ++ s ∷ earlier))
-    (feed_batched wants keeps h user version strict asked earlier s first leads begun more before feeds right.1) runs made
+feed_batched wants keeps h user version program strict asked earlier s first leads begun [] m e right = subst (Batched h user version asked (put_by (s ∷ [])) (feed_looks (s ∷ []))) (sym e) begun
+feed_batched wants keeps h user version program strict asked earlier s first leads begun (t ∷ more) m (before, feeds, runs, made) right =
+    one_more keeps h user version program strict asked (put_by (more ++ s ∷ [])) (feed_looks (more ++ s ∷ [])) before t m (wanted_after (more ++ s ∷ earlier))
+    (feed_batched wants keeps h user version program strict asked earlier s first leads begun more before feeds right.1) runs made
     (wants_after wants user version strict (more ++ s ∷ earlier) before (leads_on (new_machine user version strict) first (s ∷ earlier) leads more before feeds)) right.0
 
-right_before : (h : List Entry) (user : List ℕ) (strict : Bool) (more earlier : List Step) → AreRight h user strict (more ++ earlier) → AreRight h user strict earlier
-right_before h user strict [] earlier right = right
-right_before h user strict (s ∷ more) earlier (one, right) = right_before h user strict more earlier right
+right_before : (h : List Entry) (user : List ℕ) (program : Program) (strict : Bool) (more earlier : List Step) → AreRight h user program strict (more ++ earlier) → AreRight h user program strict earlier
+right_before h user program strict [] earlier right = right
+right_before h user program strict (s ∷ more) earlier (one, right) = right_before h user program strict more earlier right
 
-pub offers_are_batches : Wants → Keeps → (h : List Entry) (user : List ℕ) (version : Version) (strict : Bool) (asked : Subscription) (front : ℕ) (rows : List Row) (earlier more : List Step) (before first after : Machine) (s : Step)
+pub offers_are_batches : Wants → Keeps → (h : List Entry) (user : List ℕ) (version : Version) (program : Program) (strict : Bool) (asked : Subscription) (front : ℕ) (rows : List Row) (earlier more : List Step) (before first after : Machine) (s : Step)
     → Leads (new_machine user version strict) earlier before → before.pending ≡ pending.Feed asked → s.event ≡ event.Fed (fed.Rows front rows) → Steps before s first
-    → LeadsFeed first more after → AreRight h user strict (more ++ s ∷ earlier)
+    → LeadsFeed first more after → AreRight h user program strict (more ++ s ∷ earlier)
     → (offers : List (List Row)) × AreOffers version (put_by (more ++ s ∷ [])) offers
     × (with_rows offers ++ batches asked.batch (not_offered after.feed) ≡ flat_map (batches asked.batch) (looks_at h user asked.since asked.options (feed_looks (more ++ s ∷ []))))
-offers_are_batches wants keeps h user version strict asked front rows earlier more before first after s leads awaited came made feeds right =
+offers_are_batches wants keeps h user version program strict asked front rows earlier more before first after s leads awaited came made feeds right =
     let all : Batched h user version asked (put_by (more ++ s ∷ [])) (feed_looks (more ++ s ∷ [])) after =
-    feed_batched wants keeps h user version strict asked earlier s first (before, leads, made)
-    (begins h user version strict asked front rows before s first (wanted_after earlier) (same_version keeps user version strict earlier before leads) awaited came made
-    (wants_after wants user version strict earlier before leads) (right_before h user strict more (s ∷ earlier) right).0) more after feeds right in
+    feed_batched wants keeps h user version program strict asked earlier s first (before, leads, made)
+    (begins h user version program strict asked front rows before s first (wanted_after earlier) (same_version keeps user version strict earlier before leads) awaited came made
+    (wants_after wants user version strict earlier before leads) (right_before h user program strict more (s ∷ earlier) right).0) more after feeds right in
     (all.offers, all.are, all.sum)

@@ -85,6 +85,7 @@ outcome_none asker (outcome.UserGone401 at) = reply_none asker kinds.Err _ refl
 outcome_none asker (outcome.Known at) = reply_none asker kinds.Rpy _ refl
 outcome_none asker (outcome.BadHistory400 at) = reply_none asker kinds.Err _ refl
 outcome_none asker (outcome.Conflict409 at leaf) = reply_none asker kinds.Err _ refl
+outcome_none asker (outcome.Denied403 at rule) = reply_none asker kinds.Err _ refl
 outcome_none asker (outcome.Stored sequence at) = reply_none asker kinds.Rpy _ refl
 outcome_none asker outcome.Memory507 = reply_none asker kinds.Err _ refl
 

@@ -22,6 +22,7 @@ use Rattle.repl_messages.specs.declared.looks.Fed.TheVariants as fed
 use Rattle.repl_messages.specs.declared.offers.Asked.{Asked}
 use Rattle.repl_messages.specs.Answers.{answers_payload}
 use Rattle.repl_messages.specs.Errors.{ok_payload, error_payload}
+use Rattle.sync_meaning.specs.Texts.{rule_text}
 use Rattle.doc_board.specs.declared.outcome.Outcome.{Outcome}
 use Rattle.doc_board.specs.declared.outcome.Outcome.TheVariants as outcome
 use Rattle.session_core.specs.declared.act.Act.{Act}
@@ -191,6 +192,7 @@ outcome_is m asker (outcome.UserGone401 at) = refusal m asker errors.UserGone401
 outcome_is m asker (outcome.Known at) = accepted m asker
 outcome_is m asker (outcome.BadHistory400 at) = refusal m asker errors.BadHistory400
 outcome_is m asker (outcome.Conflict409 at leaf) = refusal m asker (errors.Conflict409 leaf)
+outcome_is m asker (outcome.Denied403 at rule) = refusal m asker (errors.Denied403 (rule_text rule))
 outcome_is m asker (outcome.Stored sequence at) = accepted m asker
 outcome_is m asker outcome.Memory507 = refusal m asker errors.Memory507
 

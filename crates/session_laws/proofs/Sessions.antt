@@ -9,6 +9,7 @@ use Rattle.sg_names.specs.declared.key.Key.{Key}
 use Rattle.repl_messages.specs.declared.looks.Fed.TheVariants as fed
 use Rattle.repl_messages.specs.declared.request.Version.{Version}
 use Rattle.feed_rows.specs.Laws.{HasRow, IsAhead, all_of}
+use Rattle.sync_syntax.specs.declared.tree.Program.{Program}
 use Rattle.session_core.specs.declared.act.Want.{Want}
 use Rattle.session_core.specs.declared.act.Want.TheVariants as want
 use Rattle.session_core.specs.declared.event.Event.{Event}
@@ -55,14 +56,14 @@ wanted_at law user version strict (s ∷ earlier) before asked (m, leads, made) 
 
 -- ---- the first look
 
-right_at : (h : List Entry) (user : List ℕ) (strict : Bool) (more : List Step) (s : Step) (earlier : List Step) → AreRight h user strict (more ++ s ∷ earlier) → IsRight h user strict (wanted_after earlier) s.event
-right_at h user strict [] s earlier right = right.0
-right_at h user strict (x ∷ more) s earlier right = right_at h user strict more s earlier right.1
+right_at : (h : List Entry) (user : List ℕ) (program : Program) (strict : Bool) (more : List Step) (s : Step) (earlier : List Step) → AreRight h user program strict (more ++ s ∷ earlier) → IsRight h user program strict (wanted_after earlier) s.event
+right_at h user program strict [] s earlier right = right.0
+right_at h user program strict (x ∷ more) s earlier right = right_at h user program strict more s earlier right.1
 
-first_within : (h : List Entry) (user : List ℕ) (strict : Bool) (asked : Subscription) (front : ℕ) (rows : List Row) (wanted : Option Want) (e : Event) → wanted ≡ Some (want.Feed asked.since asked.options)
-    → e ≡ event.Fed (fed.Rows front rows) → IsRight h user strict wanted e → asked.since.by ≤ front
-first_within h user strict asked front rows wanted e is came right =
-    (subst (λ (e : Event). IsRight h user strict (Some (want.Feed asked.since asked.options)) e) came (subst (λ (w : Option Want). IsRight h user strict w e) is right)).0
+first_within : (h : List Entry) (user : List ℕ) (program : Program) (strict : Bool) (asked : Subscription) (front : ℕ) (rows : List Row) (wanted : Option Want) (e : Event) → wanted ≡ Some (want.Feed asked.since asked.options)
+    → e ≡ event.Fed (fed.Rows front rows) → IsRight h user program strict wanted e → asked.since.by ≤ front
+first_within h user program strict asked front rows wanted e is came right =
+    (subst (λ (e : Event). IsRight h user program strict (Some (want.Feed asked.since asked.options)) e) came (subst (λ (w : Option Want). IsRight h user program strict w e) is right)).0
 
 within_on : (by : ℕ) (fronts : List ℕ) (front : ℕ) → by ≤ front → IsWithin by (fronts ++ front ∷ [])
 within_on by [] front within = within
@@ -116,46 +117,46 @@ feeds_within most (s ∷ earlier) within =
 -- ---- resuming
 
 abbrev pub AnswersRight : Type 0
-AnswersRight = (start now : Moment) (user : List ℕ) (strict : Bool) (steps : List Step) (h : List Entry) → AreAnswered start user strict steps now → IsLaterThanAll now.read h → AreRight h user strict steps
+AnswersRight = (start now : Moment) (user : List ℕ) (program : Program) (strict : Bool) (steps : List Step) (h : List Entry) → AreAnswered start user program strict steps now → IsLaterThanAll now.read h → AreRight h user program strict steps
 
 abbrev pub AnswersRise : Type 0
-AnswersRise = (start now : Moment) (user : List ℕ) (strict : Bool) (steps : List Step) → AreAnswered start user strict steps now → RiseBetween start.lowest (fronts_of steps) now.lowest
+AnswersRise = (start now : Moment) (user : List ℕ) (program : Program) (strict : Bool) (steps : List Step) → AreAnswered start user program strict steps now → RiseBetween start.lowest (fronts_of steps) now.lowest
 
 abbrev pub AnswersWithin : Type 0
-AnswersWithin = (start now : Moment) (user : List ℕ) (strict : Bool) (steps : List Step) (h : List Entry) → AreAnswered start user strict steps now → IsLaterThanAll now.read h
+AnswersWithin = (start now : Moment) (user : List ℕ) (program : Program) (strict : Bool) (steps : List Step) (h : List Entry) → AreAnswered start user program strict steps now → IsLaterThanAll now.read h
     → AreWithin (length h) (look_fronts (looks_of steps))
 
 abbrev pub Feeds : Type 0
-Feeds = (h : List Entry) (user : List ℕ) (version : Version) (strict : Bool) (asked : Subscription) (front : ℕ) (rows : List Row) (earlier more : List Step) (before first after : Machine) (s : Step)
+Feeds = (h : List Entry) (user : List ℕ) (version : Version) (program : Program) (strict : Bool) (asked : Subscription) (front : ℕ) (rows : List Row) (earlier more : List Step) (before first after : Machine) (s : Step)
     → Leads (new_machine user version strict) earlier before → before.pending ≡ pending.Feed asked → s.event ≡ event.Fed (fed.Rows front rows) → Steps before s first
-    → LeadsFeed first more after → AreRight h user strict (more ++ s ∷ earlier)
+    → LeadsFeed first more after → AreRight h user program strict (more ++ s ∷ earlier)
     → (offered : List Row) × AreOffered version (put_by (more ++ s ∷ [])) offered
     × (offered ++ not_offered after.feed ≡ rows_at h user asked.since asked.options (feed_looks (more ++ s ∷ [])))
 
 pub resume_sessions : Members → Ordered → Plainly → Wants → Feeds → AnswersRight → AnswersRise → AnswersWithin
-    → (start now : Moment) (h : List Entry) (user : List ℕ) (version : Version) (strict : Bool) (asked : Subscription) (front : ℕ) (rows : List Row) (earlier more : List Step) (before first after : Machine) (s : Step)
+    → (start now : Moment) (h : List Entry) (user : List ℕ) (version : Version) (program : Program) (strict : Bool) (asked : Subscription) (front : ℕ) (rows : List Row) (earlier more : List Step) (before first after : Machine) (s : Step)
     → Leads (new_machine user version strict) earlier before → before.pending ≡ pending.Feed asked → s.event ≡ event.Fed (fed.Rows front rows) → Steps before s first
-    → LeadsFeed first more after → AreAnswered start user strict (more ++ s ∷ earlier) now → IsLaterThanAll now.read h
+    → LeadsFeed first more after → AreAnswered start user program strict (more ++ s ∷ earlier) now → IsLaterThanAll now.read h
     → (offered : List Row) × AreOffered version (put_by (more ++ s ∷ [])) offered
     × ((sent row : Row) → HasRow offered sent → HasRow (feed (all_of h) user asked.since asked.options) row
     → HasRow offered row ⊎ IsAhead (feed (all_of h) user sent.key asked.options) sent.key row)
-resume_sessions members ordered plainly wants feeds rights rises within start now h user version strict asked front rows earlier more before first after s leads awaited came made feed answered later =
-    let right : AreRight h user strict (more ++ s ∷ earlier) = rights start now user strict (more ++ s ∷ earlier) h answered later in
+resume_sessions members ordered plainly wants feeds rights rises within start now h user version program strict asked front rows earlier more before first after s leads awaited came made feed answered later =
+    let right : AreRight h user program strict (more ++ s ∷ earlier) = rights start now user program strict (more ++ s ∷ earlier) h answered later in
     let by : asked.since.by ≤ front =
-    first_within h user strict asked front rows (wanted_after earlier) s.event (wanted_at wants user version strict earlier before asked leads awaited) came (right_at h user strict more s earlier right) in
+    first_within h user program strict asked front rows (wanted_after earlier) s.event (wanted_at wants user version strict earlier before asked leads awaited) came (right_at h user program strict more s earlier right) in
     let first_look : IsWithin asked.since.by (feed_looks (more ++ s ∷ [])) =
     subst (IsWithin asked.since.by) (sym (looks_append more (s ∷ []) ∙ ap (λ (e : Event). feed_looks more ++ (feed_look e ++ [])) came)) (within_on asked.since.by (feed_looks more) front by) in
     let all_rise : AreFronts start.lowest (feed_looks (more ++ s ∷ earlier)) now.lowest =
-    looks_rise (more ++ s ∷ earlier) start.lowest now.lowest (rises start now user strict (more ++ s ∷ earlier) answered) in
+    looks_rise (more ++ s ∷ earlier) start.lowest now.lowest (rises start now user program strict (more ++ s ∷ earlier) answered) in
     let rise : AreFronts 0 (feed_looks (more ++ s ∷ [])) now.lowest =
     drop_tail start.lowest (feed_looks (more ++ s ∷ [])) (feed_looks earlier) now.lowest (subst (λ fs. AreFronts start.lowest fs now.lowest) (looks_split more s earlier) all_rise) in
     let bounded : AreWithin (length h) (feed_looks (more ++ s ∷ [])) =
     (split_within (length h) (feed_looks (more ++ s ∷ [])) (feed_looks earlier) (subst (AreWithin (length h)) (looks_split more s earlier)
-    (feeds_within (length h) (more ++ s ∷ earlier) (within start now user strict (more ++ s ∷ earlier) h answered later)))).0 in
+    (feeds_within (length h) (more ++ s ∷ earlier) (within start now user program strict (more ++ s ∷ earlier) h answered later)))).0 in
     let fronts : AreFronts 0 (feed_looks (more ++ s ∷ [])) (length h) = capped (feed_looks (more ++ s ∷ [])) now.lowest (length h) rise bounded in
     let given : (offered : List Row) × AreOffered version (put_by (more ++ s ∷ [])) offered
     × (offered ++ not_offered after.feed ≡ rows_at h user asked.since asked.options (feed_looks (more ++ s ∷ []))) =
-    feeds h user version strict asked front rows earlier more before first after s leads awaited came made feed right in (
+    feeds h user version program strict asked front rows earlier more before first after s leads awaited came made feed right in (
       given.0,
       given.1,
       λ sent row has there.

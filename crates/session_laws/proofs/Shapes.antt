@@ -22,6 +22,7 @@ use Rattle.repl_messages.specs.declared.offers.Asked.{Asked}
 use Rattle.repl_messages.specs.Requests.{IsBounded}
 use Rattle.repl_messages.specs.Answers.{answers_payload}
 use Rattle.repl_messages.specs.Errors.{error_payload}
+use Rattle.sync_meaning.specs.Texts.{rule_text}
 use Rattle.doc_board.specs.declared.outcome.Outcome.{Outcome}
 use Rattle.doc_board.specs.declared.outcome.Outcome.TheVariants as outcome
 use Rattle.session_core.specs.declared.act.Act.{Act}
@@ -85,6 +86,7 @@ outcome_none asker (outcome.UserGone401 at) = refusal_none asker errors.UserGone
 outcome_none asker (outcome.Known at) = reply_none asker kinds.Rpy _ refl
 outcome_none asker (outcome.BadHistory400 at) = refusal_none asker errors.BadHistory400
 outcome_none asker (outcome.Conflict409 at leaf) = refusal_none asker (errors.Conflict409 leaf)
+outcome_none asker (outcome.Denied403 at rule) = refusal_none asker (errors.Denied403 (rule_text rule))
 outcome_none asker (outcome.Stored sequence at) = reply_none asker kinds.Rpy _ refl
 outcome_none asker outcome.Memory507 = refusal_none asker errors.Memory507
 

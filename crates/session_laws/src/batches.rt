@@ -8,6 +8,7 @@ ghost use Rattle.sg_history.specs.declared.row.Row.{Row};
 ghost use Rattle.sg_history.specs.declared.row.Options.{Options};
 ghost use Rattle.repl_messages.specs.declared.looks.Fed.{Fed};
 ghost use Rattle.repl_messages.specs.declared.request.Version.{Version};
+ghost use Rattle.sync_syntax.specs.declared.tree.Program.{Program};
 ghost use Rattle.session_core.specs.declared.event.Event.{Event};
 ghost use Rattle.session_core.specs.declared.machine.Pending.{Pending};
 ghost use Rattle.session_core.specs.declared.machine.Subscription.{Subscription};
@@ -21,13 +22,13 @@ ghost use Rattle.session_laws.specs.Batches.{batches, AreFull, looks_at, AreOffe
 /// the rows of its looks, look after look. The batches of rows are all of them, in order: each of as many rows as the feed's request
 /// says, from 1 to 10,000, but for the last batch of a look, which may have fewer.
 pub fn full()
-    ensures offers { (h : List Entry) (user : List ℕ) (version : Version) (strict : Bool)
-        (asked : Subscription) (front : ℕ) (rows : List Row)
+    ensures offers { (h : List Entry) (user : List ℕ) (version : Version) (program : Program)
+        (strict : Bool) (asked : Subscription) (front : ℕ) (rows : List Row)
         (earlier more : List Step) (before first after : Machine) (s : Step)
         → Leads (new_machine user version strict) earlier before
         → before.pending ≡ Pending.Feed asked
         → s.event ≡ Event.Fed (Fed.Rows front rows) → Steps before s first
-        → LeadsFeed first more after → AreRight h user strict (more ++ s ∷ earlier)
+        → LeadsFeed first more after → AreRight h user program strict (more ++ s ∷ earlier)
         → (offers : List (List Row)) × AreOffers version (put_by (more ++ s ∷ [])) offers
         × (with_rows offers ++ batches asked.batch (not_offered after.feed)
         ≡ flat_map (batches asked.batch)

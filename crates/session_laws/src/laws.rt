@@ -10,6 +10,7 @@ ghost use Rattle.sg_history.specs.Feed.{feed};
 ghost use Rattle.feed_rows.specs.Laws.{HasRow, Rising, IsAhead, all_of};
 ghost use Rattle.repl_messages.specs.declared.looks.Fed.{Fed};
 ghost use Rattle.repl_messages.specs.declared.request.Version.{Version};
+ghost use Rattle.sync_syntax.specs.declared.tree.Program.{Program};
 ghost use Rattle.session_core.specs.declared.event.Event.{Event};
 ghost use Rattle.session_core.specs.declared.machine.Pending.{Pending};
 ghost use Rattle.session_core.specs.declared.machine.Subscription.{Subscription};
@@ -40,13 +41,14 @@ pub fn order()
 /// stands in the feed from that.
 pub fn resume()
     ensures { (start now : Moment) (h : List Entry) (user : List ℕ) (version : Version)
-        (strict : Bool) (asked : Subscription) (front : ℕ) (rows : List Row)
+        (program : Program) (strict : Bool) (asked : Subscription) (front : ℕ) (rows : List Row)
         (earlier more : List Step) (before first after : Machine) (s : Step)
         → Leads (new_machine user version strict) earlier before
         → before.pending ≡ Pending.Feed asked
         → s.event ≡ Event.Fed (Fed.Rows front rows) → Steps before s first
         → LeadsFeed first more after
-        → AreAnswered start user strict (more ++ s ∷ earlier) now → IsLaterThanAll now.read h
+        → AreAnswered start user program strict (more ++ s ∷ earlier) now
+        → IsLaterThanAll now.read h
         → (offered : List Row) × AreOffered version (put_by (more ++ s ∷ [])) offered
         × ((sent row : Row) → HasRow offered sent
         → HasRow (feed (all_of h) user asked.since asked.options) row
