@@ -4,20 +4,22 @@ ghost use Rattle.std.specs.Prelude.{length};
 ghost use Rattle.write_path.specs.Reads.{Reads};
 
 use crate::journals::ground_of;
-use crate::sessions::{serve_on, served_text, wire_of_frames};
+use crate::programs::{OPEN, resolved};
+use crate::sessions::{FREE, serve_on, served_text, wire_of_frames};
 use repl_messages::{Asked, Bodies, Fed, Offer, Revision};
 use session_run::Ended;
 use sg_history::{DocId, Key, Name, Options, RevId, Revs, Row};
 use sg_outside::{Bytes, MemWire, Memory};
 use std::alloc::Global;
 use std::test::Fail;
-use write_path::{Ground, Outcome, SoloGround};
+use write_path::{Ground, Outcome, Resolved, SoloGround};
 
 /// A ground over one with one owner, to which an administrator proposes a revision once so many reads were answered. It takes no
 /// proposals itself.
 #[derive(Drop)]
 struct GrowingGround {
     ground: SoloGround,
+    program: Resolved,
     reads: u64,
     next: Option<Revision>,
 }
@@ -32,7 +34,8 @@ impl GrowingGround {
         if self.reads > 0 {
             self.reads -= 1;
         } else if let Some(revision) = self.next.take() {
-            self.ground.propose(alloc, None, false, revision);
+            self.ground
+                .propose(alloc, &self.program, None, false, revision);
         }
     }
 }
@@ -86,6 +89,7 @@ impl Ground for GrowingGround {
     fn propose(
         &mut self,
         _alloc: Global,
+        _program: &Resolved,
         _by: Option<&Name>,
         _strict: bool,
         _revision: Revision,
@@ -111,11 +115,18 @@ fn taking(alloc: Global) -> Result<Revision, Fail> {
     })
 }
 
+fn given_and_next(alloc: Global) -> Result<(SoloGround, Revision), Fail> {
+    let next = taking(alloc)?;
+    Ok((ground_of(alloc, GIVEN)?, next))
+}
+
 /// The history, which takes the channel away once one read was answered.
 fn growing(alloc: Global) -> Result<GrowingGround, Fail> {
-    let next = taking(alloc)?;
+    let program = resolved(alloc, OPEN)?;
+    let (ground, next) = given_and_next(alloc)?;
     Ok(GrowingGround {
-        ground: ground_of(alloc, GIVEN)?,
+        ground,
+        program,
         reads: 1,
         next: Some(next),
     })
@@ -131,7 +142,7 @@ const TAKEN_BACK: &str =
 
 fn serve(alloc: Global, wire: &mut MemWire) -> Result<Ended, Fail> {
     let ground = growing(alloc)?;
-    let (_ground, ended) = serve_on(alloc, ground, false, wire)?;
+    let (_ground, ended) = serve_on(alloc, ground, FREE, wire)?;
     Ok(ended)
 }
 

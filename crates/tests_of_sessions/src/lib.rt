@@ -6,6 +6,10 @@ mod growing;
 #[cfg(test)]
 mod journals;
 #[cfg(test)]
+mod judged;
+#[cfg(test)]
 mod machine;
+#[cfg(test)]
+mod programs;
 #[cfg(test)]
 mod sessions;

@@ -1,6 +1,7 @@
 //! Worked sessions, frame by frame. The frames were made by another program, with the CRC-32 of zlib.
 
 use crate::journals::ground_of;
+use crate::programs::{NAMED, OPEN, program_of};
 use repl_messages::Version;
 use session_core::Purpose;
 use session_run::{Ended, Setup, serve_session};
@@ -23,36 +24,62 @@ const ANN: &str = "U|ann|A|-;";
 /// A document that leaves the user's channel by its second write.
 const LEFT: &str = "U|ann|A|-;W|d1|1-a|-|0|7b7d|-|1|1-a|A|-|-;W|d1|2-b|1-a|0|7b7d|-|2|2-b|B|-|-;";
 
+/// A document of bob's.
+const BOBS: &str = "U|ann|A|-;W|d1|1-a|-|0|7b226f776e6572223a22626f62227d|-|1|1-a|!|-|-;";
+
+/// Two roles, and a user who has one of them.
+const EDITORS: &str = "R|editor|-;R|reader|-;U|ann|-|editor;";
+
 /// Seven entries.
 const SEVEN: &str = "U|ann|A|-;U|ann|A|-;U|ann|A|-;U|ann|A|-;U|ann|A|-;U|ann|A|-;U|ann|A|-;";
 
 /// subChanges with since 0, as request 1.
 const ASK: &str = "01001b50726f66696c65007375624368616e6765730073696e6365003000952c1fb6";
 
-/// Ann's device, by version 3, with conflicts off where it is strict.
-fn setup_of(alloc: Global, strict: bool) -> Result<Setup, Fail> {
+/// What is judged by which sync function, and whether conflicts are off.
+#[derive(Clone, Copy)]
+pub struct Rules<'a> {
+    pub program: &'a str,
+    pub strict: bool,
+}
+
+/// Every document goes to every user, and conflicts may be.
+pub const FREE: Rules<'static> = Rules {
+    program: OPEN,
+    strict: false,
+};
+
+/// Ann's device, by version 3.
+fn setup_of(alloc: Global, rules: Rules<'_>) -> Result<Setup, Fail> {
+    let user = Name::parse(alloc, "ann")?;
     Ok(Setup {
-        user: Name::parse(alloc, "ann")?,
+        user,
         version: Version::Three,
-        strict,
+        strict: rules.strict,
+        program: program_of(alloc, rules.program)?,
     })
 }
 
-/// Serves ann's device over a wire and a ground, with conflicts off where it is strict.
+/// Serves ann's device over a wire and a ground.
 pub fn serve_on<W: Wire, G: Ground>(
     alloc: Global,
     ground: G,
-    strict: bool,
+    rules: Rules<'_>,
     wire: &mut W,
 ) -> Result<(G, Ended), Fail> {
-    let setup = setup_of(alloc, strict)?;
+    let setup = setup_of(alloc, rules)?;
     Ok(serve_session(alloc, ground, setup, wire))
 }
 
 /// The same over a journal.
-fn serve<W: Wire>(alloc: Global, journal: &str, strict: bool, wire: &mut W) -> Result<Ended, Fail> {
+fn serve<W: Wire>(
+    alloc: Global,
+    journal: &str,
+    rules: Rules<'_>,
+    wire: &mut W,
+) -> Result<Ended, Fail> {
     let ground = ground_of(alloc, journal)?;
-    let (_ground, ended) = serve_on(alloc, ground, strict, wire)?;
+    let (_ground, ended) = serve_on(alloc, ground, rules, wire)?;
     Ok(ended)
 }
 
@@ -143,7 +170,8 @@ fn push_stored(alloc: Global, stored: &[u64], text: &mut String) -> Result<(), A
     Ok(())
 }
 
-/// Sessions, each of five lines: what it shows, its journal, what comes, what is sent, and how it ends with the looks that it takes.
+/// Sessions, each of five lines: what it shows, its journal, what comes, what is sent, and how it ends with the looks that it takes. In
+/// all of them each document that is stored goes to every user.
 const SESSIONS: &str = "\
 rows are offered, and the wanted body follows\n\
 three\n\
@@ -232,6 +260,8 @@ fn journal_of(name: &str) -> &'static str {
         "seven" => SEVEN,
         "left" => LEFT,
         "nobody" => NOBODY,
+        "bobs" => BOBS,
+        "editors" => EDITORS,
         "ann" | "strict" => ANN,
         _ => JOURNAL,
     }
@@ -245,13 +275,21 @@ pub fn served_text(alloc: Global, sent: &[Bytes], ended: &Ended) -> Result<Strin
     format!(in alloc; "sent {sent}\n{ended}")
 }
 
-fn session_text(alloc: Global, journal: &str, frames: &str) -> Result<String, Fail> {
+/// The journal's name and the sync function; where no function stands there, each document goes to every user.
+fn journal_and_rules(line: &str) -> (&str, Rules<'_>) {
+    let (journal, program) = line.split_once(' ').unwrap_or((line, OPEN));
+    let strict = journal == "strict";
+    (journal, Rules { program, strict })
+}
+
+fn session_text(alloc: Global, line: &str, frames: &str) -> Result<String, Fail> {
     let mut wire = wire_of_frames(alloc, frames)?;
-    let ended = serve(alloc, journal_of(journal), journal == "strict", &mut wire)?;
+    let (journal, rules) = journal_and_rules(line);
+    let ended = serve(alloc, journal_of(journal), rules, &mut wire)?;
     Ok(served_text(alloc, wire.sent.as_slice(), &ended)?)
 }
 
-/// The journal, what comes, and what is sent and looked at.
+/// The journal with the function, what comes, and what is sent and looked at.
 fn parts_of(session: &str) -> Option<(&str, &str, &str)> {
     let (_name, rest) = session.split_once('\n')?;
     let (journal, rest) = rest.split_once('\n')?;
@@ -259,7 +297,8 @@ fn parts_of(session: &str) -> Option<(&str, &str, &str)> {
     Some((journal, frames, want))
 }
 
-fn is_served_so(alloc: Global, session: &str) -> Result<bool, Fail> {
+/// Whether a session of a table goes as it says.
+pub fn is_served_so(alloc: Global, session: &str) -> Result<bool, Fail> {
     let (journal, frames, want) = parts_of(session).ok_or("no session of the table")?;
     Ok(session_text(alloc, journal, frames)?.as_str() == want)
 }
@@ -330,7 +369,7 @@ fn wire_of(alloc: Global, fails: u64, words: &str) -> Result<ScriptedWire, Fail>
 
 /// How a session ends, and how many frames are sent.
 fn end_text(alloc: Global, wire: &mut ScriptedWire) -> Result<String, Fail> {
-    let ended = serve(alloc, JOURNAL, false, wire)?;
+    let ended = serve(alloc, JOURNAL, FREE, wire)?;
     Ok(format!(in alloc; "{:?}, {}", ended.end, wire.sent.len())?)
 }
 
@@ -354,9 +393,10 @@ fn each_end_has_its_cause(rt: HostRuntime) -> Result<(), Fail> {
     Ok(())
 }
 
-/// What comes in a session that pulls 250 documents, takes one body, pushes three revisions and waits.
+/// What comes in a session that pulls 250 documents, takes one body, pushes three documents in the same channel and waits. Each document
+/// goes to the channels that it names.
 const AFTERNOON: &str =
-    "01002b50726f66696c65007375624368616e6765730073696e6365003000636f6e74696e756f7573007472756500c7854a86 0101005b5b5d5d0942d536 0301005b5df7aff809 02001a50726f66696c6500726576006964006e300072657600312d61007b7d6cbda11f 03001a50726f66696c6500726576006964006e310072657600312d61007b7d460efd65 04001a50726f66696c6500726576006964006e320072657600312d61007b7d020b2bdf idle 0501005b5dd4a3262a";
+    "01002b50726f66696c65007375624368616e6765730073696e6365003000636f6e74696e756f7573007472756500c7854a86 0101005b5b5d5d0942d536 0301005b5df7aff809 02001a50726f66696c6500726576006964006e300072657600312d61007b226368616e6e656c73223a5b2241225d7db5687ec3 03001a50726f66696c6500726576006964006e310072657600312d61007b226368616e6e656c73223a5b2241225d7dba3ab051 04001a50726f66696c6500726576006964006e320072657600312d61007b226368616e6e656c73223a5b2241225d7d032d9efa idle 0501005b5da19a7d20";
 
 /// The bytes and the checksum of each frame that is sent in it.
 const AFTERNOON_SENT: &str =
@@ -392,8 +432,19 @@ fn last_four(bytes: &[u8]) -> &[u8] {
     &bytes[bytes.len().saturating_sub(4)..]
 }
 
-fn how_it_ends(alloc: Global, journal: &str, wire: &mut MemWire) -> Result<String, Fail> {
-    let ended = serve(alloc, journal, false, wire)?;
+/// Documents go to the channels that they name.
+const BY_NAME: Rules<'static> = Rules {
+    program: NAMED,
+    strict: false,
+};
+
+fn how_it_ends(
+    alloc: Global,
+    journal: &str,
+    rules: Rules<'_>,
+    wire: &mut MemWire,
+) -> Result<String, Fail> {
+    let ended = serve(alloc, journal, rules, wire)?;
     Ok(ended_text(alloc, &ended)?)
 }
 
@@ -401,12 +452,13 @@ fn how_it_ends(alloc: Global, journal: &str, wire: &mut MemWire) -> Result<Strin
 fn goes_so(
     alloc: Global,
     journal: &str,
+    rules: Rules<'_>,
     frames: &str,
     sent: &str,
     ended: &str,
 ) -> Result<bool, Fail> {
     let mut wire = wire_of_frames(alloc, frames)?;
-    let how = how_it_ends(alloc, journal, &mut wire)?;
+    let how = how_it_ends(alloc, journal, rules, &mut wire)?;
     let ends = ends_of_frames(alloc, wire.sent.as_slice())?;
     Ok(how.as_str() == ended && ends.as_slice() == sent.as_bytes())
 }
@@ -422,7 +474,7 @@ const EVENING_TEXT: &str =
 fn left_by(alloc: Global, journal: &str, frames: &str) -> Result<SoloGround, Fail> {
     let mut wire = wire_of_frames(alloc, frames)?;
     let ground = ground_of(alloc, journal)?;
-    let (ground, _ended) = serve_on(alloc, ground, false, &mut wire)?;
+    let (ground, _ended) = serve_on(alloc, ground, BY_NAME, &mut wire)?;
     Ok(ground)
 }
 
@@ -430,7 +482,7 @@ fn left_by(alloc: Global, journal: &str, frames: &str) -> Result<SoloGround, Fai
 fn serve_again(alloc: Global, wire: &mut MemWire) -> Result<Ended, Fail> {
     let journal = many_documents(alloc)?;
     let ground = left_by(alloc, journal.as_str(), AFTERNOON)?;
-    let (_ground, ended) = serve_on(alloc, ground, false, wire)?;
+    let (_ground, ended) = serve_on(alloc, ground, BY_NAME, wire)?;
     Ok(ended)
 }
 
@@ -451,7 +503,16 @@ fn a_device_that_pulls_pushes_and_stays(rt: HostRuntime) -> Result<(), Fail> {
     let alloc = rt.alloc();
     let journal = many_documents(alloc)?;
     let journal = journal.as_str();
-    assert!(rt; goes_so(alloc, journal, AFTERNOON, AFTERNOON_SENT, AFTERNOON_ENDED)?);
+    assert!(rt;
+        goes_so(
+            alloc,
+            journal,
+            BY_NAME,
+            AFTERNOON,
+            AFTERNOON_SENT,
+            AFTERNOON_ENDED
+        )?
+    );
     Ok(())
 }
 
@@ -471,7 +532,7 @@ const PAUSED_SENT: &str =
 
 fn pauses(alloc: Global) -> Result<bool, Fail> {
     let (frames, _acknowledgement) = LONG.rsplit_once(' ').ok_or("one frame")?;
-    goes_so(alloc, ANN, frames, PAUSED_SENT, LONG_ENDED)
+    goes_so(alloc, ANN, FREE, frames, PAUSED_SENT, LONG_ENDED)
 }
 
 #[test]
@@ -482,6 +543,6 @@ fn a_long_body_pauses(rt: HostRuntime) -> Result<(), Fail> {
 
 #[test]
 fn a_long_body_goes_on_once_it_is_acknowledged(rt: HostRuntime) -> Result<(), Fail> {
-    assert!(rt; goes_so(rt.alloc(), ANN, LONG, LONG_SENT, LONG_ENDED)?);
+    assert!(rt; goes_so(rt.alloc(), ANN, FREE, LONG, LONG_SENT, LONG_ENDED)?);
     Ok(())
 }
