@@ -1,6 +1,6 @@
 //! Laws of the feeds of whole sessions, and of what a device and a session exchange.
 #![tactic(auto)]
 
-pub mod batches;
-pub mod exchanges;
+mod batches;
+mod exchanges;
 pub mod laws;
