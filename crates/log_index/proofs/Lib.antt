@@ -1,3 +1,4 @@
 pub mod RevisionKeys
 pub mod Firsts
 pub mod Pushes
+pub mod Befores

@@ -6,7 +6,7 @@ use Rattle.sg_names.specs.declared.rev_id.RevId.{RevId}
 use Rattle.sg_history.specs.declared.entries.Entry.{Entry}
 use Rattle.sg_history.specs.History.{past}
 use Rattle.log_index.specs.declared.index.LogIndex.{LogIndex}
-use Rattle.log_index.specs.Places.{first_seq, revision_seq, document_at, last_put, granting_seqs}
+use Rattle.log_index.specs.Places.{first_seq, revision_seq, document_at, last_put, granting_seqs, documents_before}
 use Rattle.log_index.specs.Representation.{seq_in, put_in}
 
 -- where documents, revisions, users and roles stand in the index is where they stand in these
@@ -24,6 +24,7 @@ pub record HasPlaces (index : LogIndex) (es : List Entry) : Type 0 where
 pub record Indexes (index : LogIndex) (es : List Entry) : Type 0 where
   pub places : HasPlaces index es
   pub granting : index.granting.items ≡ reverse (granting_seqs es)
+  pub before : index.before.items ≡ reverse (documents_before es)
 
 -- the index is that of the first of these entries, as many as it has
 pub record IsBehind (index : LogIndex) (entries : List Entry) : Type 0 where

@@ -1,6 +1,6 @@
 -- Where documents, revisions, users and roles stand in a history, given its entries, the newest
 -- first.
-use Rattle.std.specs.Prelude.{ℕ, ◌+◌, zero, suc, Bool, true, false, List, [], ◌∷◌, length, Option, Some, None, option_map, if◌then◌else◌}
+use Rattle.std.specs.Prelude.{ℕ, nat_eq, ◌+◌, zero, suc, Bool, true, false, List, [], ◌∷◌, length, Option, Some, None, option_map, if◌then◌else◌}
 use Rattle.sg_names.specs.declared.grants.Grantee.{Grantee}
 use Rattle.sg_names.specs.declared.grants.Grant.{Grant}
 use Rattle.sg_names.specs.declared.role_grants.RoleGrant.{RoleGrant}
@@ -82,3 +82,19 @@ granting_seqs [] = []
 granting_seqs (e ∷ older) =
     if grants_any (as_write e) then (length older + 1) ∷ granting_seqs older
     else granting_seqs older
+
+-- where the document of a write stands; none where there is no write, or its document was never written
+abbrev pub document_before : List Entry → Option Write → Option Document
+document_before older None = None
+document_before older (Some w) = document_at older w.doc
+
+-- where the document that each entry writes stood before it, that of the last entry first
+abbrev pub documents_before : List Entry → List (Option Document)
+documents_before [] = []
+documents_before (e ∷ older) = document_before older (as_write e) ∷ documents_before older
+
+-- where the document that the entry of a sequence writes stood before it
+abbrev pub before_at : List Entry → ℕ → Option Document
+before_at [] seq = None
+before_at (e ∷ older) seq =
+    if nat_eq seq (length older + 1) then document_before older (as_write e) else before_at older seq

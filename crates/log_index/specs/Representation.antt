@@ -1,5 +1,5 @@
 -- How an index keeps what it says. Only proofs and the index's own functions need it.
-use Rattle.std.specs.Prelude.{ℕ, Option, String, unwrap_or, if◌then◌else◌, string_bytes}
+use Rattle.std.specs.Prelude.{ℕ, Option, Some, None, String, unwrap_or, if◌then◌else◌, string_bytes}
 use Rattle.std.specs.BTreeMap.{BTreeMap, get_by, get_by_text}
 use Rattle.std.specs.Global.{Global}
 use Rattle.std.specs.Ordering.{nat_cmp, ordering_then}
@@ -9,6 +9,7 @@ use Rattle.sg_names.specs.declared.grants.Grantee.TheVariants.{User, Role}
 use Rattle.sg_names.specs.declared.rev_id.RevId.{RevId}
 use Rattle.sg_names.specs.RevId.{same_rev}
 use Rattle.sg_history.specs.declared.entries.Write.{Write}
+use Rattle.log_index.specs.declared.documents.Document.{Document}
 use Rattle.log_index.specs.declared.index.LogIndex.{LogIndex}
 
 -- the sequence that is kept of a revision, by the first write of its document
@@ -28,3 +29,8 @@ abbrev pub winning_seq : LogIndex → Write → ℕ → ℕ → ℕ
 winning_seq index w first seq =
     if same_rev w.rev w.winner then seq
     else unwrap_or (seq_in index.revisions first w.winner) seq
+
+-- what is kept of an entry, where it is there
+abbrev pub got : Option (Option Document) → Option Document
+got None = None
+got (Some d) = d

@@ -1,8 +1,9 @@
 //! Where documents stand, by their names.
 
-ghost use Rattle.std.specs.Prelude.{◌≡◌, ℕ, List, Some, if◌then◌else◌};
+ghost use Rattle.std.specs.Prelude.{◌≡◌, ℕ, List, Some, slice_get, if◌then◌else◌};
 ghost use Rattle.log_index.specs.declared.documents.Document.{Document};
 ghost use Rattle.log_index.specs.Places as places;
+ghost use Rattle.log_index.specs.Representation.{got};
 ghost use Rattle.std.specs.BTreeMap.{get_by_text};
 ghost use Rattle.std.specs.Str.{bytes_eq};
 
@@ -25,6 +26,16 @@ pub fn document_of(documents: &Documents, doc: &DocId) -> Option<Document>
     ensures { result ≡ get_by_text documents.now doc.now }
 {
     documents.get(doc.as_str()).copied()
+}
+
+/// Where a document stood by what is kept at a place of a list.
+pub fn document_in(list: &[Option<Document>], place: usize) -> Option<Document>
+    ensures { result ≡ got (slice_get list.now place) }
+{
+    match list.get(place) {
+        None => None,
+        Some(document) => *document,
+    }
 }
 
 /// The sequence of a document's first write, this one where it was never written.

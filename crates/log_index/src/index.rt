@@ -1,6 +1,7 @@
 //! The index.
 
-ghost use Rattle.std.specs.Prelude.{◌≡◌, ◌<◌, ◌+◌, List, [], ◌∷◌, length, reverse, Some, None, option_map, OnOk, OnErr, IfOk};
+ghost use Rattle.std.specs.Prelude.{◌≡◌, ◌<◌, ◌+◌, List, [], ◌∷◌, length, reverse, Some, None, option_map, vec_len, vec_capacity, OnOk, OnErr, IfOk};
+ghost use Rattle.std.specs.Option.{option_copied};
 ghost use Rattle.sg_history.specs.declared.entries.Entry.{Entry};
 ghost use Rattle.sg_history.specs.declared.entries.Entry.TheVariants as kinds;
 ghost use Rattle.sg_history.specs.History.{as_write};
@@ -8,11 +9,11 @@ ghost use Rattle.sg_history.specs.Puts.{grantee_in};
 ghost use Rattle.sg_names.specs.declared.grants.Grantee.TheVariants as grantee;
 ghost use Rattle.log_index.specs.Index.{HasPlaces, Indexes, IsBehind};
 ghost use Rattle.log_index.specs.Places as places;
-ghost use Rattle.log_index.specs.Places.{document_at, revision_seq, last_put, granting_seqs};
+ghost use Rattle.log_index.specs.Places.{document_at, revision_seq, last_put, granting_seqs, document_before, before_at};
 ghost use Rattle.log_index.specs.Representation.{winning_seq};
 
 use crate::by_name::put;
-use crate::documents::{Document, Documents, document_of, first_or, put_back};
+use crate::documents::{Document, Documents, document_in, document_of, first_or, put_back};
 use crate::granting::{grants_any, keep_if};
 use crate::principals::{Puts, put_by, put_of};
 use crate::revisions::{Revisions, put_revision, seq_of};
@@ -30,6 +31,19 @@ pub struct LogIndex {
     users: Puts,
     roles: Puts,
     granting: Vec<u64>,
+    before: Vec<Option<Document>>,
+}
+
+/// Makes room for one more in each list.
+fn make_room(granting: &mut Vec<u64>, before: &mut Vec<Option<Document>>) -> Result<(), AllocError>
+    ensures granting_room { OnOk result (vec_len granting.new < vec_capacity granting.new) }
+    ensures before_room { OnOk result (vec_len before.new < vec_capacity before.new) }
+    ensures granting { granting.new.items ≡ granting.old.items }
+    ensures before { before.new.items ≡ before.old.items }
+{
+    granting.reserve(1)?;
+    before.reserve(1)?;
+    Ok(())
 }
 
 impl LogIndex {
@@ -46,6 +60,7 @@ impl LogIndex {
             users: BTreeMap::new(alloc),
             roles: BTreeMap::new(alloc),
             granting: Vec::new(alloc),
+            before: Vec::new(alloc),
         }
     }
 
@@ -98,6 +113,28 @@ impl LogIndex {
         self.granting.as_slice()
     }
 
+    /// Where the document that the entry of a sequence writes stood before that entry: none where it
+    /// was never written before, and where the entry is no write. Allocates nothing.
+    pub fn before(&self, seq: u64) -> Option<Document>
+        ensures { (es : List Entry) → Indexes self.now es → result ≡ before_at es seq }
+    {
+        if seq == 0 {
+            return None;
+        }
+        document_in(self.before.as_slice(), (seq - 1) as usize)
+    }
+
+    /// Where the document of a write stands, if there is a write and its document was written.
+    fn place_of_write(&self, write: Option<&Write>) -> Option<Document>
+        ensures { (es : List Entry) → Indexes self.now es
+            → result ≡ document_before es (option_copied write.entry) }
+    {
+        match write {
+            None => None,
+            Some(write) => self.document(&write.doc),
+        }
+    }
+
     /// Takes the next entry. Out of memory leaves what the index says as it was.
     pub fn push(&mut self, entry: &Entry) -> Result<(), AllocError>
         requires { self.old.count < 18446744073709551615 }
@@ -106,10 +143,12 @@ impl LogIndex {
         ensures err { OnErr result ((es : List Entry) → Indexes self.old es → Indexes self.new es) }
     {
         let seq = self.count + 1;
-        self.granting.reserve(1)?;
+        let before = self.place_of_write(entry.as_write());
+        make_room(&mut self.granting, &mut self.before)?;
         self.keep(entry, seq)?;
         self.count = seq;
         keep_if(&mut self.granting, grants_any(entry.as_write()), seq);
+        self.before.push_reserved(before);
         Ok(())
     }
 
@@ -134,6 +173,7 @@ impl LogIndex {
             → HasPlaces self.new es) }
         ensures count { self.new.count ≡ self.old.count }
         ensures granting { self.new.granting ≡ self.old.granting }
+        ensures before { self.new.before ≡ self.old.before }
     {
         match entry.as_write() {
             Some(write) => self.keep_write(write, seq),
@@ -153,6 +193,7 @@ impl LogIndex {
             → HasPlaces self.new es) }
         ensures count { self.new.count ≡ self.old.count }
         ensures granting { self.new.granting ≡ self.old.granting }
+        ensures before { self.new.before ≡ self.old.before }
     {
         match principal {
             None => Ok(()),
@@ -180,6 +221,7 @@ impl LogIndex {
             → HasPlaces self.new es) }
         ensures count { self.new.count ≡ self.old.count }
         ensures granting { self.new.granting ≡ self.old.granting }
+        ensures before { self.new.before ≡ self.old.before }
     {
         let before = document_of(&self.documents, &write.doc);
         let first = first_or(before, seq);

@@ -8,5 +8,6 @@ mod documents;
 mod views;
 
 pub use access::{UserChannels, channels, user_exists};
+pub use at::write_at;
 pub use documents::{DocState, state, write_of_rev};
 pub use views::shown;

@@ -22,6 +22,7 @@ returns-else-is_err-clause-ok c =
       users = c.args.self.now.users;
       roles = c.args.self.now.roles;
       granting = c.args.self.now.granting;
+      before = c.args.self.now.before;
     } in
     IfOk-weaker c.put_revision-kept.result
     (λ _. (other : ℕ) (rev : RevId) → seq_in new.revisions other rev ≡ (if nat_eq c.first_or-first.result other && same_rev c.args.write.now.rev rev then Some c.args.seq else seq_in c.args.self.now.revisions other rev))
