@@ -3,6 +3,7 @@ pub mod Operators
 pub mod Expressions
 pub mod Nests
 pub mod Statements
+pub mod Tails
 pub mod Grammar
 pub mod Moved
 pub mod Depth

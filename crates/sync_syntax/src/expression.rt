@@ -101,6 +101,15 @@ impl<F: Fn(Global, &mut Tokens<'_>, usize, bool) -> Result<Expr, ParseFault>> Gr
         (self.nested)(self.alloc, tokens, self.room, is_operand)
     }
 
+    /// The same, in a block of its own.
+    fn boxed(&self, tokens: &mut Tokens<'_>, is_operand: bool) -> Result<Boxed<Expr>, ParseFault>
+        requires { Nests self.now.room (F.pre self.now.nested) (F.post self.now.nested) }
+        ensures { Reads (spec.nested self.now.room is_operand tokens.old) result tokens.new }
+    {
+        let found = self.nested(tokens, is_operand)?;
+        Ok(Boxed::new(self.alloc, found)?)
+    }
+
     /// One or more expressions with commas between.
     fn separated(&self, tokens: &mut Tokens<'_>) -> Result<Items<Expr>, ParseFault>
         requires { Nests self.now.room (F.pre self.now.nested) (F.post self.now.nested) }
@@ -284,7 +293,7 @@ impl<F: Fn(Global, &mut Tokens<'_>, usize, bool) -> Result<Expr, ParseFault>> Gr
             return Err(tokens.too_deep());
         }
         tokens.take();
-        let operand = Boxed::new(self.alloc, self.nested(tokens, true)?)?;
+        let operand = self.boxed(tokens, true)?;
         Ok(Expr::Prefix(place, op, operand))
     }
 
@@ -347,9 +356,9 @@ impl<F: Fn(Global, &mut Tokens<'_>, usize, bool) -> Result<Expr, ParseFault>> Gr
             return Ok(condition);
         }
         let condition = Boxed::new(self.alloc, condition)?;
-        let yes = Boxed::new(self.alloc, self.nested(tokens, false)?)?;
+        let yes = self.boxed(tokens, false)?;
         tokens.expect(Sign::Colon)?;
-        let no = Boxed::new(self.alloc, self.nested(tokens, false)?)?;
+        let no = self.boxed(tokens, false)?;
         Ok(Expr::Choice(condition, yes, no))
     }
 

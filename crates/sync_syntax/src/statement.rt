@@ -5,13 +5,14 @@ ghost use Rattle.std.specs.Prelude.{◌≡◌};
 ghost use Rattle.sync_syntax.specs.Reading.{Reads};
 ghost use Rattle.sync_syntax.specs.Statements as spec;
 ghost use Rattle.sync_syntax.specs.Nests.{NestsStatement};
+ghost use Rattle.sync_syntax.specs.Tails.{chosen};
 
 use crate::cursor::Tokens;
 use crate::fault::ParseFault;
 use crate::fitted::fitted;
 use crate::operator::declares_by;
 use crate::simple::{Parts, jump, named};
-use crate::tree::{Declares, Named, Start, Statement};
+use crate::tree::{Declares, Expr, Named, Start, Statement};
 use sqlite_items::{Boxed, Items};
 use std::alloc::Global;
 use sync_tokens::{Kind, Place, Sign, Word};
@@ -32,6 +33,15 @@ impl<F: Fn(Global, &mut Tokens<'_>, usize, bool) -> Result<Statement, ParseFault
         ensures { Reads (spec.statement self.now.room in_loop tokens.old) result tokens.new }
     {
         (self.inner)(self.alloc, tokens, self.room, in_loop)
+    }
+
+    /// The same, in a block of its own.
+    fn boxed(&self, tokens: &mut Tokens<'_>, in_loop: bool) -> Result<Boxed<Statement>, ParseFault>
+        requires { NestsStatement self.now.room (F.pre self.now.inner) (F.post self.now.inner) }
+        ensures { Reads (spec.statement self.now.room in_loop tokens.old) result tokens.new }
+    {
+        let found = self.inner(tokens, in_loop)?;
+        Ok(Boxed::new(self.alloc, found)?)
     }
 
     fn parts(&self) -> Parts
@@ -75,7 +85,25 @@ impl<F: Fn(Global, &mut Tokens<'_>, usize, bool) -> Result<Statement, ParseFault
         if !tokens.eat_word(Word::Else) {
             return Ok(None);
         }
-        Ok(Some(Boxed::new(self.alloc, self.inner(tokens, in_loop)?)?))
+        Ok(Some(self.boxed(tokens, in_loop)?))
+    }
+
+    /// An `if` behind its condition.
+    fn chosen(
+        &self,
+        tokens: &mut Tokens<'_>,
+        place: Place,
+        in_loop: bool,
+        condition: Boxed<Expr>,
+    ) -> Result<Statement, ParseFault>
+        requires { NestsStatement self.now.room (F.pre self.now.inner) (F.post self.now.inner) }
+        ensures { Reads (chosen self.now.room place in_loop condition tokens.old) result
+            tokens.new }
+    {
+        tokens.expect(Sign::ParenClose)?;
+        let first = self.boxed(tokens, in_loop)?;
+        let other = self.otherwise(tokens, in_loop)?;
+        Ok(Statement::If(place, condition, first, other))
     }
 
     #[tactic(auto, unfolding(crate::specs::Statements::choose))]
@@ -91,10 +119,7 @@ impl<F: Fn(Global, &mut Tokens<'_>, usize, bool) -> Result<Statement, ParseFault
         tokens.take();
         tokens.expect(Sign::ParenOpen)?;
         let condition = self.parts().boxed_expr(tokens)?;
-        tokens.expect(Sign::ParenClose)?;
-        let first = Boxed::new(self.alloc, self.inner(tokens, in_loop)?)?;
-        let other = self.otherwise(tokens, in_loop)?;
-        Ok(Statement::If(place, condition, first, other))
+        self.chosen(tokens, place, in_loop, condition)
     }
 
     /// A `for` behind what it begins with.
@@ -113,7 +138,7 @@ impl<F: Fn(Global, &mut Tokens<'_>, usize, bool) -> Result<Statement, ParseFault
         tokens.expect(Sign::Semicolon)?;
         let last = self.parts().simple_unless(tokens, Sign::ParenClose)?;
         tokens.expect(Sign::ParenClose)?;
-        let body = Boxed::new(self.alloc, self.inner(tokens, true)?)?;
+        let body = self.boxed(tokens, true)?;
         Ok(Statement::For(place, start, condition, last, body))
     }
 
@@ -132,7 +157,7 @@ impl<F: Fn(Global, &mut Tokens<'_>, usize, bool) -> Result<Statement, ParseFault
     {
         let items = self.parts().boxed_expr(tokens)?;
         tokens.expect(Sign::ParenClose)?;
-        let body = Boxed::new(self.alloc, self.inner(tokens, true)?)?;
+        let body = self.boxed(tokens, true)?;
         Ok(Statement::ForOf(place, declares, name, items, body))
     }
 
