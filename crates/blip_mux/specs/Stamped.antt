@@ -54,7 +54,7 @@ abbrev pub Keeps : Stamped → Type 0
 Keeps s = IsKept s.messages.entries s.next (λ c n. stamp_at c n s.index.requests s.index.replies) s.ready
 
 -- the message that sends next has this turn
-pub record IsNext (turn : ReadyMessage) (s : Stamped) : Type 0 where
+pub record IsNextReady (turn : ReadyMessage) (s : Stamped) : Type 0 where
   pub message : Waiting
   pub there : look s.messages.entries turn.stamp ≡ Some message
   pub mark : message.urgent ≡ turn.urgent

@@ -27,7 +27,7 @@ pub(crate) struct Stamped {
 
 impl Stamped {
     ghost use Rattle.blip_mux.specs.Class.{class_of};
-    ghost use Rattle.blip_mux.specs.Stamped.{listed, listed_without, message_at, stands, Keeps, IsNext, Writes};
+    ghost use Rattle.blip_mux.specs.Stamped.{listed, listed_without, message_at, stands, Keeps, IsNextReady, Writes};
 
     /// No messages. Allocates nothing.
     pub(crate) fn new(alloc: Global) -> Stamped
@@ -53,7 +53,7 @@ impl Stamped {
     /// The turn of the message that sends next.
     pub(crate) fn next_turn(&self) -> Option<ReadyMessage>
         requires { Keeps self.now }
-        ensures some { IfSome result (λ turn. IsNext turn self.now) }
+        ensures some { IfSome result (λ turn. IsNextReady turn self.now) }
         ensures none { IfNone result (chosen (listed self.now) ≡ None) }
     {
         self.ready.first()
@@ -103,7 +103,7 @@ impl Stamped {
 
     /// Whether more of a message is left than one frame carries.
     pub(crate) fn has_more(&self, turn: ReadyMessage) -> bool
-        requires { IsNext turn self.now }
+        requires { IsNextReady turn self.now }
         ensures { IfSome (message_at self.now turn.stamp) (λ w. result ≡ has_more w) }
     {
         self.messages[&turn.stamp].has_more()
@@ -128,7 +128,7 @@ impl Stamped {
         out: &mut Bytes,
     ) -> Result<(), Memory>
         requires keeps { Keeps self.old }
-        requires next { IsNext turn self.old }
+        requires next { IsNextReady turn self.old }
         ensures keeps { Keeps self.new }
         ensures after { OnOk result (listed self.new ≡ listed_without turn.stamp self.old) }
         ensures wrote { IfSome (message_at self.old turn.stamp)
@@ -153,7 +153,7 @@ impl Stamped {
         out: &mut Bytes,
     ) -> Result<(), Memory>
         requires keeps { Keeps self.old }
-        requires next { IsNext turn self.old }
+        requires next { IsNextReady turn self.old }
         requires more { IfSome (message_at self.old turn.stamp) (λ w. has_more w ≡ true) }
         ensures keeps { Keeps self.new }
         ensures after { IfSome (message_at self.old turn.stamp)

@@ -1,10 +1,10 @@
 //! The gateway's commands.
 #![tactic(auto)]
 
-pub mod feed_command;
+mod feed_command;
 pub mod status;
-pub mod text;
-pub mod words;
+mod text;
+mod words;
 
 pub use feed_command::run;
 pub use status::Status;

@@ -1,8 +1,8 @@
 //! The gateway's configuration: a JSON object, read whole, or refused at its first bad member.
 #![tactic(auto)]
 
-pub mod config;
-pub mod fault;
+mod config;
+mod fault;
 mod lists;
 mod object;
 mod program;

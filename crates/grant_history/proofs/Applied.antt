@@ -23,7 +23,7 @@ use Rattle.grant_history.specs.Facts.{document_facts}
 use Rattle.grant_history.specs.Holdings.{has_at}
 use Rattle.grant_history.specs.Sources.{is_held}
 use Rattle.grant_history.specs.Ledger.{facts_of_write, write_facts, IsLedger, Took}
-use Rattle.grant_history.specs.Stands.{IsIndexed, LedgerAt, StandsFor, IsNext}
+use Rattle.grant_history.specs.Stands.{IsIndexed, LedgerAt, StandsFor, IsNextApplied}
 use Rattle.grant_history.proofs.Keeping.{settled, later_store}
 
 take_next : (entries : List Entry) (n : ℕ) (e : Entry) → slice_get entries n ≡ Some e → take (suc n) entries ≡ take n entries ++ e ∷ []
@@ -72,7 +72,7 @@ module _ (entries : List Entry) (n : ℕ) (doc : List ℕ) (high : n ≤ length 
         ∙ f.at.there in
         ap facts_of_write there ∙ sym (ap (λ (o : Option Sequenced). document_facts (current_after (past entries n) doc o)) f.last_is)
 
-module _ (history : GrantHistory) (entries : List Entry) (e : Entry) (at : ℕ) (next : IsNext history entries e at) where
+module _ (history : GrantHistory) (entries : List Entry) (e : Entry) (at : ℕ) (next : IsNextApplied history entries e at) where
   pub next_place : at ≡ length (past entries history.applied) + 1
   next_place =
       let low : history.applied ≤ length entries = omega (arith, next.place, next.high) in

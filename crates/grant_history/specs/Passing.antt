@@ -1,4 +1,4 @@
--- Tests of what is held at a place.
+-- Tests of what is held at a place. Only proofs need this.
 use Rattle.std.specs.Prelude.{ℕ, Bool, false, ◌&&◌, nat_eq, nat_lt, List, Option, Some, None, slice_get}
 use Rattle.std.specs.List.{list_any}
 use Rattle.grant_history.specs.declared.held.Held.{Held}

@@ -29,7 +29,7 @@ pub record StandsFor (history : GrantHistory) (entries : List Entry) : Type 0 wh
   pub kept : LedgerAt history.ledger entries history.applied
 
 -- the entry at a place is to be applied, and the index has it
-pub record IsNext (history : GrantHistory) (entries : List Entry) (e : Entry) (at : ℕ) : Type 0 where
+pub record IsNextApplied (history : GrantHistory) (entries : List Entry) (e : Entry) (at : ℕ) : Type 0 where
   pub low : 1 ≤ at
   pub high : at ≤ length entries
   pub newest : past entries at ≡ e ∷ past entries history.applied

@@ -10,7 +10,7 @@ ghost use Rattle.grant_history.specs.Facts as facts;
 ghost use Rattle.grant_history.specs.Ledger.{Took};
 ghost use Rattle.grant_history.specs.Periods.{AreInOrder, ArePeriods};
 ghost use Rattle.grant_history.specs.Sorted.{AreSorted};
-ghost use Rattle.grant_history.specs.Stands.{LedgerAt, StandsFor, IsNext};
+ghost use Rattle.grant_history.specs.Stands.{LedgerAt, StandsFor, IsNextApplied};
 
 use crate::facts::Fact;
 use crate::given::of_entry;
@@ -95,7 +95,7 @@ impl GrantHistory {
 
     /// Applies the entry at the next place to what is kept.
     fn take_entry(&mut self, log: &mut LogReads<'_>, entry: &Entry, at: u64) -> Result<(), Memory>
-        requires { IsNext self.old log.old.entries entry.now at }
+        requires { IsNextApplied self.old log.old.entries entry.now at }
         ensures ok { OnOk result (LedgerAt self.new.ledger log.old.entries at) }
         ensures err { OnErr result (LedgerAt self.new.ledger log.old.entries self.old.applied) }
         ensures applied { self.new.applied ≡ self.old.applied }

@@ -2,10 +2,10 @@
 #![tactic(auto)]
 
 mod convert;
-pub mod doc;
+mod doc;
 pub mod node;
-pub mod system;
-pub mod text;
+mod system;
+mod text;
 
 pub use doc::{Doc, DocFault, read_doc};
 pub use node::{Members, Node, Nodes};

@@ -4,6 +4,6 @@
 
 mod by_number;
 pub mod laws;
-pub mod pending;
+mod pending;
 
 pub use pending::Pending;

@@ -2,14 +2,14 @@
 //! the administrator writes.
 #![tactic(auto)]
 
-pub mod admin_line;
-pub mod command;
+mod admin_line;
+mod command;
 mod doc_line;
 mod fields;
 mod kind;
 pub mod laws;
 mod line;
-pub mod script;
+mod script;
 
 pub use admin_line::{AdminLine, AdminLines};
 pub use command::Command;

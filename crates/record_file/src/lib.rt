@@ -2,11 +2,11 @@
 //! gives it again.
 #![tactic(auto)]
 
-pub mod item;
+mod item;
 pub mod laws;
 mod line;
 mod owner;
-pub mod record;
+mod record;
 
 pub use item::{Item, Items};
 pub use record::{Recorded, read_record};

@@ -1,11 +1,11 @@
 //! The texts of the replication protocol: requests of a device, and what the gateway answers and sends.
 #![tactic(auto)]
 
-pub mod answers;
-pub mod changes;
-pub mod checkpoint;
+mod answers;
+mod changes;
+mod checkpoint;
 pub mod error;
-pub mod flags;
+mod flags;
 mod json_body;
 pub mod laws;
 pub mod looks;
@@ -13,12 +13,12 @@ pub mod offers;
 pub mod profile;
 mod properties;
 pub mod request;
-pub mod rev;
+mod rev;
 pub mod revision;
 mod rows;
-pub mod sub_changes;
+mod sub_changes;
 mod texts;
-pub mod wanted;
+mod wanted;
 
 pub use answers::write_answers;
 pub use changes::write_changes;

@@ -1,23 +1,23 @@
 //! Names, keys and revisions, and lists of them, each with the grammar of its text.
 #![tactic(auto)]
 
-pub mod channel_name;
-pub mod channels;
-pub mod client;
-pub mod decimal;
-pub mod digest;
-pub mod doc_id;
-pub mod fault;
+mod channel_name;
+mod channels;
+mod client;
+mod decimal;
+mod digest;
+mod doc_id;
+mod fault;
 pub mod grammar;
 pub mod grants;
-pub mod hex;
-pub mod item_list;
+mod hex;
+mod item_list;
 pub mod key;
 pub mod laws;
-pub mod list;
-pub mod name;
-pub mod names;
-pub mod pieces;
+mod list;
+mod name;
+mod names;
+mod pieces;
 pub mod rev_id;
 pub mod role_grants;
 

@@ -2,15 +2,15 @@
 //! has a count of faults, and records what it holds or took where it can.
 #![tactic(auto)]
 
-pub mod bytes;
-pub mod files;
-pub mod mem_files;
+mod bytes;
+mod files;
+mod mem_files;
 pub mod mem_wire;
-pub mod real;
-pub mod scripted_sink;
-pub mod scripted_wire;
+mod real;
+mod scripted_sink;
+mod scripted_wire;
 pub mod sink;
-pub mod streams;
+mod streams;
 pub mod wire;
 
 pub use bytes::Bytes;

@@ -5,7 +5,7 @@ use Rattle.sg_history.specs.History.{past}
 use Rattle.log_index.specs.declared.index.LogIndex.{LogIndex}
 use Rattle.log_index.specs.Index.{Indexes}
 use Rattle.grant_history.specs.declared.history.GrantHistory.{GrantHistory}
-use Rattle.grant_history.specs.Stands.{IsIndexed, LedgerAt, IsNext}
+use Rattle.grant_history.specs.Stands.{IsIndexed, LedgerAt, IsNextApplied}
 use Rattle.grant_history.proofs.Applied.{past_next, past_count, to_either, from_either}
 use Rattle.grant_history.proofs.history.GrantHistory.step.Goals as goal
 
@@ -34,7 +34,7 @@ take_entry-requires c =
     let more : n < length entries = omega (arith, c.requires.more, c.requires.within) in
     let place : n + 1 ≡ length (past entries n) + 1 = omega (arith, past_count entries n (omega (arith, more))) in
     let history : GrantHistory = record { alloc = c.args.self.now.alloc; applied = n; index = c.index_entry.new.index; ledger = c.args.self.now.ledger } in
-    let next : IsNext history entries e (n + 1) = record {
+    let next : IsNextApplied history entries e (n + 1) = record {
       low = omega arith;
       high = omega (arith, more);
       newest = past_next entries n e is;
@@ -42,7 +42,7 @@ take_entry-requires c =
       index = subst (λ (es : List Entry). Indexes c.index_entry.new.index es) (sym (past_next entries n e is)) (c.in_ok-index_entry.ensures.ok (past entries n) place (to_either c.args.self.now.index entries n e is more c.requires.stands.index));
       kept = c.requires.stands.kept;
     } in
-    subst (λ (all : List Entry). IsNext history all e (n + 1)) (sym c.entry-entry.ensures.kept) next
+    subst (λ (all : List Entry). IsNextApplied history all e (n + 1)) (sym c.entry-entry.ensures.kept) next
 
 pub returns-in_err-take_entry-clause-stands : goal.returns-in_err-take_entry-clause-stands
 returns-in_err-take_entry-clause-stands c =
