@@ -140,10 +140,15 @@ fn characters_text(alloc: Global, value: &str) -> Result<String, DocFault> {
 
 /// An object that holds as many lists in one another, so that one construct more is open.
 fn nested(alloc: Global, lists: usize) -> Result<Doc, DocFault> {
+    let text = lists_text(alloc, lists)?;
+    with_member(alloc, text.as_str())
+}
+
+/// So many lists in one another.
+fn lists_text(alloc: Global, lists: usize) -> Result<String, AllocError> {
     let opened = "[".repeat(alloc, lists)?;
     let closed = "]".repeat(alloc, lists)?;
-    let text = format!(in alloc; "{opened}{closed}")?;
-    with_member(alloc, text.as_str())
+    format!(in alloc; "{opened}{closed}")
 }
 
 fn nested_text(alloc: Global, lists: &str) -> Result<String, Fail> {
@@ -200,20 +205,30 @@ fn ordered(alloc: Global) -> Result<Doc, DocFault> {
     read_doc(alloc, ORDERED.as_bytes())
 }
 
+/// A copy of that document.
+fn copied(alloc: Global) -> Result<Doc, DocFault> {
+    let doc = ordered(alloc)?;
+    Ok(doc.copy(alloc)?)
+}
+
 fn members_are_in_order(alloc: Global) -> Result<bool, DocFault> {
-    let doc = ordered(alloc)?.copy(alloc)?;
+    let doc = copied(alloc)?;
     let text = members_text(alloc, doc.members())?;
     Ok(text.as_str() == ":int B:bool a:list b:int ")
 }
 
-fn items_are_in_order(alloc: Global) -> Result<bool, DocFault> {
-    let doc = ordered(alloc)?.copy(alloc)?;
-    match doc.get("a") {
+fn are_in_order(alloc: Global, node: Option<&Node>) -> Result<bool, AllocError> {
+    match node {
         Some(Node::List(items)) => {
             Ok(items_text(alloc, items)?.as_str() == "null bool object text opaque ")
         }
         _ => Ok(false),
     }
+}
+
+fn items_are_in_order(alloc: Global) -> Result<bool, DocFault> {
+    let doc = copied(alloc)?;
+    Ok(are_in_order(alloc, doc.get("a"))?)
 }
 
 /// Of equal members the last one wins.
@@ -228,8 +243,9 @@ fn last_wins(alloc: Global) -> Result<bool, DocFault> {
 }
 
 fn deep_is_copied(alloc: Global) -> Result<bool, DocFault> {
-    let deep = nested(alloc, 126)?.copy(alloc)?;
-    Ok(kind(deep.get("a")) == "list")
+    let deep = nested(alloc, 126)?;
+    let copy = deep.copy(alloc)?;
+    Ok(kind(copy.get("a")) == "list")
 }
 
 #[test]
@@ -254,36 +270,74 @@ fn text_is_given_back(alloc: Global) -> Result<bool, AllocError> {
     Ok(DocText::from(text.into_string()).as_str() == "caf\u{e9}")
 }
 
+fn push_two(alloc: Global, nodes: &mut Nodes) -> Result<(), AllocError> {
+    let text = DocText::from_str(alloc, "x")?;
+    nodes.push(Node::Text(text))?;
+    nodes.push(Node::Int(4))
+}
+
 fn list(alloc: Global) -> Result<Nodes, AllocError> {
     let mut nodes = Nodes::new(alloc);
-    nodes.push(Node::Text(DocText::from_str(alloc, "x")?))?;
-    nodes.push(Node::Int(4))?;
+    push_two(alloc, &mut nodes)?;
     Ok(nodes)
 }
 
+/// A copy of that list.
+fn copied_list(alloc: Global) -> Result<Nodes, AllocError> {
+    let nodes = list(alloc)?;
+    nodes.copy(alloc)
+}
+
 fn list_is_made(alloc: Global) -> Result<bool, AllocError> {
-    let nodes = Nodes::from(list(alloc)?.copy(alloc)?.into_vec());
+    let nodes = Nodes::from(copied_list(alloc)?.into_vec());
     let last = int_of(nodes.as_slice().last());
     Ok(Nodes::new(alloc).is_empty() && nodes.len() == 2 && last == Some(4))
+}
+
+fn insert(alloc: Global, members: &mut Members, name: &str, node: Node) -> Result<(), AllocError> {
+    let name = String::from_str(alloc, name)?;
+    members.insert(name, node)?;
+    Ok(())
+}
+
+fn insert_list(alloc: Global, members: &mut Members) -> Result<(), AllocError> {
+    let nodes = list(alloc)?;
+    insert(alloc, members, "n", Node::List(nodes))
+}
+
+fn insert_three(alloc: Global, members: &mut Members) -> Result<(), AllocError> {
+    insert_list(alloc, members)?;
+    insert(alloc, members, "m", Node::Null)?;
+    insert(alloc, members, "n", Node::Bool(true))
 }
 
 /// Two members, of which the second is put twice.
 fn members(alloc: Global) -> Result<Members, AllocError> {
     let mut members = Members::new(alloc);
-    members.insert(String::from_str(alloc, "n")?, Node::List(list(alloc)?))?;
-    members.insert(String::from_str(alloc, "m")?, Node::Null)?;
-    members.insert(String::from_str(alloc, "n")?, Node::Bool(true))?;
+    insert_three(alloc, &mut members)?;
     Ok(members)
 }
 
+/// A copy of these members.
+fn copied_members(alloc: Global) -> Result<Members, AllocError> {
+    let members = members(alloc)?;
+    members.copy(alloc)
+}
+
 fn members_are_made(alloc: Global) -> Result<bool, AllocError> {
-    let map: BTreeMap<String, Node> = members(alloc)?.copy(alloc)?.into_map();
+    let map: BTreeMap<String, Node> = copied_members(alloc)?.into_map();
     let members = Members::from(map);
     Ok(Members::new(alloc).is_empty() && members.len() == 2)
 }
 
+/// A copy of an object with these members.
+fn copied_object(alloc: Global) -> Result<Node, AllocError> {
+    let object = Node::Object(members(alloc)?);
+    object.copy(alloc)
+}
+
 fn object_is_made(alloc: Global) -> Result<bool, AllocError> {
-    let object = Node::Object(members(alloc)?).copy(alloc)?;
+    let object = copied_object(alloc)?;
     Ok(
         kind(object.get("m")) == "null"
             && kind(object.get("n")) == "bool"

@@ -106,10 +106,14 @@ fn read_text(alloc: Global, crc: &mut Crc, bytes: &[u8]) -> Result<String, Alloc
 
 /// Reads a frame on a state, and adds what it is read as.
 fn add_read(alloc: Global, crc: &mut Crc, hex: &str, text: &mut String) -> Result<(), Fail> {
+    let read = read_hex(alloc, crc, hex)?;
+    text.push_str(read.as_str())?;
+    Ok(text.push_str(", ")?)
+}
+
+fn read_hex(alloc: Global, crc: &mut Crc, hex: &str) -> Result<String, Fail> {
     let bytes = bytes_of(alloc, hex)?;
-    let read = read_text(alloc, crc, bytes.as_slice())?;
-    text.push_str(format!(in alloc; "{read}, ")?.as_str())?;
-    Ok(())
+    Ok(read_text(alloc, crc, bytes.as_slice())?)
 }
 
 /// What frames are read as, one after another, and the checksum after them.
@@ -132,18 +136,30 @@ fn length_text(alloc: Global, bytes: &[u8]) -> Result<String, AllocError> {
 
 /// How long a payload of so many zeros is after it is read.
 fn largest_text(alloc: Global, count: &str) -> Result<String, Fail> {
-    let mut bytes = Bytes::from_slice(alloc, b"\x00\x04")?;
-    bytes.extend_from_slice(zeros_of(alloc, count)?.as_slice())?;
+    let bytes = largest_frame(alloc, count)?;
     Ok(length_text(alloc, bytes.as_slice())?)
 }
 
-fn written_payload(alloc: Global, props: &str) -> Result<String, Fail> {
+fn largest_frame(alloc: Global, count: &str) -> Result<Bytes, Fail> {
+    let zeros = zeros_of(alloc, count)?;
+    let mut bytes = Bytes::from_slice(alloc, b"\x00\x04")?;
+    bytes.extend_from_slice(zeros.as_slice())?;
+    Ok(bytes)
+}
+
+/// The bytes of a payload of these properties and no body.
+fn payload_bytes(alloc: Global, props: &str) -> Result<Bytes, AllocError> {
     let payload = Payload {
         props: props_of(alloc, props)?,
         body: Bytes::new(alloc),
     };
     let mut out = Bytes::new(alloc);
     write_payload(&payload, &mut out)?;
+    Ok(out)
+}
+
+fn written_payload(alloc: Global, props: &str) -> Result<String, Fail> {
+    let out = payload_bytes(alloc, props)?;
     Ok(hex_of(alloc, out.as_slice())?)
 }
 
@@ -178,11 +194,17 @@ fn buffered_text(alloc: Global, taken: &Payload, empty: bool) -> Result<String, 
     format!(in alloc; "{:?} {body} {empty}", taken.props.get("a"))
 }
 
-/// A value and the body of a payload that is taken from a buffer, and whether that is empty then.
-fn taken_text(alloc: Global, hex: &str) -> Result<String, Fail> {
+/// A payload that is taken from a buffer, and whether that is empty then.
+fn taken(alloc: Global, hex: &str) -> Result<(Payload, bool), Fail> {
     let mut buffer = bytes_of(alloc, hex)?;
     let taken = take_payload(alloc, &mut buffer)?;
-    Ok(buffered_text(alloc, &taken, buffer.is_empty())?)
+    Ok((taken, buffer.is_empty()))
+}
+
+/// A value and the body of that payload, and whether the buffer is empty then.
+fn taken_text(alloc: Global, hex: &str) -> Result<String, Fail> {
+    let (taken, empty) = taken(alloc, hex)?;
+    Ok(buffered_text(alloc, &taken, empty)?)
 }
 
 fn answer(alloc: Global, call: &str, input: &str) -> Result<String, Fail> {

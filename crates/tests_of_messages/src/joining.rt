@@ -65,12 +65,23 @@ fn ends_text(alloc: Global, frame: &[u8]) -> Result<String, AllocError> {
     format!(in alloc; "{first}..{last} ")
 }
 
-fn cut_text(alloc: Global, bytes: &str) -> Result<String, Fail> {
+fn all_ends_text(alloc: Global, frames: &[Bytes]) -> Result<String, AllocError> {
     let mut text = String::new(alloc);
-    for frame in &frames(alloc, &mut with_request(alloc, bytes.parse()?)?)? {
+    for frame in frames {
         text.push_str(ends_text(alloc, frame.as_slice())?.as_str())?;
     }
     Ok(text)
+}
+
+/// The frames of one request of so many bytes.
+fn frames_of(alloc: Global, bytes: usize) -> Result<Vec<Bytes>, AllocError> {
+    let mut outbox = with_request(alloc, bytes)?;
+    frames(alloc, &mut outbox)
+}
+
+fn cut_text(alloc: Global, bytes: &str) -> Result<String, Fail> {
+    let frames = frames_of(alloc, bytes.parse()?)?;
+    Ok(all_ends_text(alloc, frames.as_slice())?)
 }
 
 /// How many frames of an outbox go.
@@ -86,9 +97,14 @@ fn paused(alloc: Global, outbox: &mut Outbox) -> Result<String, AllocError> {
     format!(in alloc; "{first} {is_true} {then}")
 }
 
+/// The same of one request of so many bytes.
+fn paused_by(alloc: Global, bytes: usize) -> Result<String, AllocError> {
+    let mut outbox = with_request(alloc, bytes)?;
+    paused(alloc, &mut outbox)
+}
+
 fn paused_text(alloc: Global, bytes: &str) -> Result<String, Fail> {
-    let mut outbox = with_request(alloc, bytes.parse()?)?;
-    Ok(paused(alloc, &mut outbox)?)
+    Ok(paused_by(alloc, bytes.parse()?)?)
 }
 
 /// Puts a reply to request 9.
@@ -107,12 +123,21 @@ fn put_error(outbox: &mut Outbox, payload: Payload) -> Result<(), AllocError> {
     outbox.put_reply(5, Kind::Err, false, payload)
 }
 
-/// Three waiting: request 1 of two frames, the urgent reply 9 of two, and an acknowledgement of request 3.
-fn three(alloc: Global) -> Result<Outbox, AllocError> {
-    let mut outbox = with_request(alloc, 16_385)?;
+fn put_two(alloc: Global, outbox: &mut Outbox) -> Result<(), AllocError> {
     outbox.put_ack(Kind::AckMsg, 3, 65_536)?;
-    put_reply(&mut outbox, zeros(alloc, 16_384)?)?;
-    Ok(outbox)
+    let payload = zeros(alloc, 16_384)?;
+    put_reply(outbox, payload)
+}
+
+/// The frames of three waiting: request 1 of two frames, the urgent reply 9 of two, and an acknowledgement of request 3.
+fn three(alloc: Global) -> Result<Vec<Bytes>, AllocError> {
+    let mut outbox = with_request(alloc, 16_385)?;
+    sent_with_two(alloc, &mut outbox)
+}
+
+fn sent_with_two(alloc: Global, outbox: &mut Outbox) -> Result<Vec<Bytes>, AllocError> {
+    put_two(alloc, outbox)?;
+    frames(alloc, outbox)
 }
 
 /// The first byte of a frame, which is the number.
@@ -121,27 +146,39 @@ fn number_text(alloc: Global, frame: &[u8]) -> Result<String, AllocError> {
     format!(in alloc; "{number} ")
 }
 
-fn numbers_text(alloc: Global) -> Result<String, AllocError> {
+fn all_numbers_text(alloc: Global, frames: &[Bytes]) -> Result<String, AllocError> {
     let mut text = String::new(alloc);
-    for frame in &frames(alloc, &mut three(alloc)?)? {
+    for frame in frames {
         text.push_str(number_text(alloc, frame.as_slice())?.as_str())?;
     }
     Ok(text)
 }
 
+fn numbers_text(alloc: Global) -> Result<String, AllocError> {
+    let frames = three(alloc)?;
+    all_numbers_text(alloc, frames.as_slice())
+}
+
 fn first_text(alloc: Global) -> Result<String, AllocError> {
-    let sent = frames(alloc, &mut three(alloc)?)?;
+    let sent = three(alloc)?;
     match sent.as_slice().first() {
         Some(frame) => hex_of(alloc, frame.as_slice()),
         None => String::from_str(alloc, "none"),
     }
 }
 
+/// Puts the reply 5, and sends all frames that may go.
+fn send(alloc: Global, outbox: &mut Outbox) -> Result<(), AllocError> {
+    let payload = zeros(alloc, 0)?;
+    put_error(outbox, payload)?;
+    count(alloc, outbox)?;
+    Ok(())
+}
+
 /// Request 1 and the reply 5, of which all frames that may go are sent.
 fn sent(alloc: Global) -> Result<Outbox, AllocError> {
     let mut outbox = with_request(alloc, 131_073)?;
-    put_error(&mut outbox, zeros(alloc, 0)?)?;
-    let _sent = count(alloc, &mut outbox)?;
+    send(alloc, &mut outbox)?;
     Ok(outbox)
 }
 
@@ -183,19 +220,38 @@ fn ack_answer(alloc: Global, outbox: &mut Outbox, words: &str) -> Result<String,
     Ok(acked_text(alloc, outbox, kind_of(kind), number, bytes)?)
 }
 
+fn push_answer(
+    alloc: Global,
+    outbox: &mut Outbox,
+    words: &str,
+    text: &mut String,
+) -> Result<(), Fail> {
+    let answer = ack_answer(alloc, outbox, words)?;
+    text.push_str(answer.as_str())?;
+    Ok(text.push_str(" ")?)
+}
+
 /// What an outbox answers to acknowledgements that come one after another.
-fn all_acked(alloc: Global, list: &str) -> Result<String, Fail> {
-    let mut outbox = sent(alloc)?;
+fn each_acked(alloc: Global, outbox: &mut Outbox, list: &str) -> Result<String, Fail> {
     let mut text = String::new(alloc);
     for words in list.split(',') {
-        let answer = ack_answer(alloc, &mut outbox, words)?;
-        text.push_str(format!(in alloc; "{answer} ")?.as_str())?;
+        push_answer(alloc, outbox, words, &mut text)?;
     }
     Ok(text)
 }
 
+fn all_acked(alloc: Global, list: &str) -> Result<String, Fail> {
+    let mut outbox = sent(alloc)?;
+    each_acked(alloc, &mut outbox, list)
+}
+
+fn requests(alloc: Global) -> Result<u64, AllocError> {
+    Ok(sent(alloc)?.requests())
+}
+
 fn requests_text(alloc: Global) -> Result<String, AllocError> {
-    format!(in alloc; "{}", sent(alloc)?.requests())
+    let requests = requests(alloc)?;
+    format!(in alloc; "{requests}")
 }
 
 fn sent_text(alloc: Global, call: &str, input: &str) -> Result<String, Fail> {

@@ -156,6 +156,18 @@ fn write_fault(fault: RequestFault, text: &mut Bytes) -> Result<(), AllocError> 
     }
 }
 
+fn write_read(
+    alloc: Global,
+    message: &Message,
+    version: Version,
+    text: &mut Bytes,
+) -> Result<(), AllocError> {
+    match read_request(alloc, message, version) {
+        Ok(request) => write_request(&request, text),
+        Err(fault) => write_fault(fault, text),
+    }
+}
+
 /// What a message is read as, in words.
 fn answer_text(
     alloc: Global,
@@ -165,10 +177,7 @@ fn answer_text(
 ) -> Result<Bytes, AllocError> {
     let message = message_of(alloc, Kind::Msg, props, body)?;
     let mut text = Bytes::new(alloc);
-    match read_request(alloc, &message, version) {
-        Ok(request) => write_request(&request, &mut text)?,
-        Err(fault) => write_fault(fault, &mut text)?,
-    }
+    write_read(alloc, &message, version, &mut text)?;
     Ok(text)
 }
 
@@ -309,14 +318,18 @@ fn in_version_two(alloc: Global) -> Result<bool, AllocError> {
     Ok(text.as_slice() == b"since 0 200".as_slice())
 }
 
+fn write_rows(count: usize, body: &mut Bytes) -> Result<(), AllocError> {
+    for i in 0..count {
+        write_mark(i > 0, b",", body)?;
+        body.extend_from_slice(b"[1,\"a\",\"1-a\"]")?;
+    }
+    body.push(b']')
+}
+
 /// So many rows of the shortest names.
 fn rows_of(alloc: Global, count: usize) -> Result<Bytes, AllocError> {
     let mut body = Bytes::from_slice(alloc, b"[")?;
-    for i in 0..count {
-        write_mark(i > 0, b",", &mut body)?;
-        body.extend_from_slice(b"[1,\"a\",\"1-a\"]")?;
-    }
-    body.push(b']')?;
+    write_rows(count, &mut body)?;
     Ok(body)
 }
 
@@ -413,13 +426,16 @@ fn plain_error(name: &str) -> ErrorKind {
 fn row_of(alloc: Global, line: &str) -> Result<Row, Fail> {
     let mut parts = line.split(' ');
     let key = Key::parse(parts.next().unwrap_or(""))?;
-    let doc = DocId::parse(alloc, parts.next().unwrap_or(""))?;
-    let rev = RevId::parse(alloc, parts.next().unwrap_or(""))?;
+    let (doc, rev) = (parts.next().unwrap_or(""), parts.next().unwrap_or(""));
     let bits = parts.next().unwrap_or("").parse()?;
+    Ok(row_at(alloc, key, doc, rev, bits)?)
+}
+
+fn row_at(alloc: Global, key: Key, doc: &str, rev: &str, bits: u8) -> Result<Row, TextFault> {
     Ok(Row {
         key,
-        doc,
-        rev,
+        doc: DocId::parse(alloc, doc)?,
+        rev: RevId::parse(alloc, rev)?,
         bits,
     })
 }
@@ -444,8 +460,12 @@ fn changes_of(alloc: Global, rows: &str, version: Version) -> Result<Payload, Fa
 fn rev_of(alloc: Global, input: &str) -> Result<Payload, Fail> {
     let (row, ancestors) = input.split_once(';').ok_or("no revision")?;
     let row = row_of(alloc, row)?;
+    rev_on(alloc, &row, ancestors)
+}
+
+fn rev_on(alloc: Global, row: &Row, ancestors: &str) -> Result<Payload, Fail> {
     let ancestors = Revs::parse(alloc, ancestors)?;
-    Ok(write_rev(alloc, &row, ancestors.as_slice(), b"{}")?)
+    Ok(write_rev(alloc, row, ancestors.as_slice(), b"{}")?)
 }
 
 fn winner_of(alloc: Global, rev: &str, deleted: bool) -> Result<Option<Leaf>, TextFault> {
@@ -510,10 +530,14 @@ fn payload_text(alloc: Global, payload: &Payload) -> Result<Bytes, AllocError> {
     Ok(text)
 }
 
+fn written(alloc: Global, call: &str, input: &str) -> Result<Bytes, Fail> {
+    let payload = payload_of(alloc, call, input)?;
+    Ok(payload_text(alloc, &payload)?)
+}
+
 fn is_written_so(alloc: Global, line: &str) -> Result<bool, Fail> {
     let (call, input, want) = parts_of(line).ok_or("no line of the table")?;
-    let text = payload_text(alloc, &payload_of(alloc, call, input)?)?;
-    Ok(text.as_slice() == want.as_bytes())
+    Ok(written(alloc, call, input)?.as_slice() == want.as_bytes())
 }
 
 #[test]
@@ -552,9 +576,13 @@ fn reply_of(alloc: Global, head: &str, body: &str) -> Result<(Message, u64), Fai
     let (kind, rest) = head.split_once(' ').ok_or("no reply")?;
     let (count, props) = rest.split_once(' ').unwrap_or((rest, ""));
     let kind = if kind == "Err" { Kind::Err } else { Kind::Rpy };
+    let count = count.parse()?;
+    Ok((meant_message(alloc, kind, props, body)?, count))
+}
+
+fn meant_message(alloc: Global, kind: Kind, props: &str, body: &str) -> Result<Message, Fail> {
     let body = meant(alloc, body)?;
-    let message = message_of(alloc, kind, props, body.as_slice())?;
-    Ok((message, count.parse()?))
+    Ok(message_of(alloc, kind, props, body.as_slice())?)
 }
 
 /// Which rows are wanted, and how many ancestors at most.
@@ -566,10 +594,14 @@ fn wanted_text(alloc: Global, wanted: &Wanted) -> Result<String, AllocError> {
     format!(in alloc; "{text}{}", wanted.max_history)
 }
 
+fn read_reply(alloc: Global, head: &str, body: &str) -> Result<Wanted, Fail> {
+    let (message, rows) = reply_of(alloc, head, body)?;
+    Ok(read_wanted(alloc, &message, rows)?)
+}
+
 fn is_wanted_so(alloc: Global, line: &str) -> Result<bool, Fail> {
     let (head, body, want) = three_parts(line).ok_or("no line of the table")?;
-    let (message, rows) = reply_of(alloc, head, body)?;
-    let wanted = read_wanted(alloc, &message, rows)?;
+    let wanted = read_reply(alloc, head, body)?;
     Ok(wanted_text(alloc, &wanted)?.as_str() == want)
 }
 

@@ -89,11 +89,22 @@ fn grow(tree: &mut Tree, answer: Extended) {
     }
 }
 
-/// What an extension answers and the winner after it, with `|` between.
-fn grown_text(alloc: Global, tree: &mut Tree, step: &str) -> Result<String, Fail> {
-    let answer = extended(alloc, tree, step)?;
+/// What an answer says, whose new tree is put in place of the one there was.
+fn grown(alloc: Global, tree: &mut Tree, answer: Extended) -> Result<String, AllocError> {
     let answered = answer_text(alloc, &answer)?;
     grow(tree, answer);
+    Ok(answered)
+}
+
+/// What an extension answers.
+fn step_text(alloc: Global, tree: &mut Tree, step: &str) -> Result<String, Fail> {
+    let answer = extended(alloc, tree, step)?;
+    Ok(grown(alloc, tree, answer)?)
+}
+
+/// What an extension answers and the winner after it, with `|` between.
+fn grown_text(alloc: Global, tree: &mut Tree, step: &str) -> Result<String, Fail> {
+    let answered = step_text(alloc, tree, step)?;
     let winner = leaf_text(alloc, tree.winner())?;
     Ok(format!(in alloc; "{answered}|{winner}")?)
 }
@@ -116,16 +127,30 @@ fn knows_text(alloc: Global, tree: &Tree, rev: &str) -> Result<String, Fail> {
 }
 
 /// The ancestors that a tree answers of a revision, at most so many.
+fn ancestors(alloc: Global, tree: &Tree, rev: &str, most: &str) -> Result<Revs, Fail> {
+    let rev = RevId::parse(alloc, rev)?;
+    Ok(tree.ancestors_of(&rev, most.parse()?)?)
+}
+
 fn ancestors_text(alloc: Global, tree: &Tree, asked: &str) -> Result<String, Fail> {
     let (rev, most) = asked.split_once(' ').ok_or("no line of the table")?;
-    let found = tree.ancestors_of(&RevId::parse(alloc, rev)?, most.parse()?)?;
+    let found = ancestors(alloc, tree, rev, most)?;
     Ok(revs_text(alloc, found.as_slice())?)
 }
 
+fn last_copied(alloc: Global, leaves: &[Leaf]) -> Result<Leaf, Fail> {
+    let last = leaves.last().ok_or("no leaf")?;
+    Ok(last.copy(alloc)?)
+}
+
 /// The last of the leaves, copied out of a list that was made of them.
-fn copied_text(alloc: Global, tree: &Tree) -> Result<String, Fail> {
+fn copied(alloc: Global, tree: &Tree) -> Result<Leaf, Fail> {
     let leaves = Leaves::from_vec(tree.leaves()?.into_vec());
-    let last = leaves.as_slice().last().ok_or("no leaf")?.copy(alloc)?;
+    last_copied(alloc, leaves.as_slice())
+}
+
+fn copied_text(alloc: Global, tree: &Tree) -> Result<String, Fail> {
+    let last = copied(alloc, tree)?;
     Ok(leaf_text(alloc, Some(&last))?)
 }
 
@@ -229,18 +254,27 @@ fn extended_by(
 ) -> Result<String, Fail> {
     let ancestors = history(alloc, count)?;
     let answer = tree.extend(rev, false, ancestors.as_slice(), strict);
-    let answered = answer_text(alloc, &answer)?;
-    grow(tree, answer);
-    Ok(answered)
+    Ok(grown(alloc, tree, answer)?)
 }
 
-/// What a new tree answers to 1002-b with so many ancestors, and how many of them it has then.
-fn history_text(alloc: Global, count: u32, strict: bool) -> Result<String, Fail> {
-    let mut tree = Tree::new(alloc);
-    let rev = RevId::parse(alloc, "1002-b")?;
-    let answered = extended_by(alloc, &mut tree, &rev, count, strict)?;
-    let found = tree.ancestors_of(&rev, 2000)?;
+/// What a tree answers to a revision with so many ancestors, and how many of them it has then.
+fn history_in(
+    alloc: Global,
+    tree: &mut Tree,
+    rev: &RevId,
+    count: u32,
+    strict: bool,
+) -> Result<String, Fail> {
+    let answered = extended_by(alloc, tree, rev, count, strict)?;
+    let found = tree.ancestors_of(rev, 2000)?;
     Ok(format!(in alloc; "{answered}, {}", found.as_slice().len())?)
+}
+
+/// The same of 1002-b on a new tree.
+fn history_text(alloc: Global, count: u32, strict: bool) -> Result<String, Fail> {
+    let rev = RevId::parse(alloc, "1002-b")?;
+    let mut tree = Tree::new(alloc);
+    history_in(alloc, &mut tree, &rev, count, strict)
 }
 
 #[test]
