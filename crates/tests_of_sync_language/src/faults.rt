@@ -159,17 +159,25 @@ fn no_fault_is_reported_late(rt: HostRuntime) -> Result<(), Fail> {
     Ok(())
 }
 
+fn write_all(text: &mut String, sign: &str, count: usize) -> Result<(), AllocError> {
+    for _ in 0..count {
+        text.push_str(sign)?;
+    }
+    Ok(())
+}
+
+fn write_nested(text: &mut String, open: usize, close: usize) -> Result<(), AllocError> {
+    text.push_str("function(doc) { x = ")?;
+    write_all(text, "(", open)?;
+    text.push_str("1")?;
+    write_all(text, ")", close)?;
+    text.push_str(" }")
+}
+
 /// A program that opens so many parentheses around `1`, and closes so many.
 fn nested(rt: &HostRuntime, open: usize, close: usize) -> Result<String, Fail> {
-    let mut text = String::from_str(rt.alloc(), "function(doc) { x = ")?;
-    for _ in 0..open {
-        text.push_str("(")?;
-    }
-    text.push_str("1")?;
-    for _ in 0..close {
-        text.push_str(")")?;
-    }
-    text.push_str(" }")?;
+    let mut text = String::new(rt.alloc());
+    write_nested(&mut text, open, close)?;
     Ok(text)
 }
 

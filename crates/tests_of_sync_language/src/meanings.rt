@@ -181,7 +181,7 @@ function(doc, oldDoc) { if (oldDoc == null) { requireAdmin(); } }#{}#{}#a#- - -\
 function(a, a) { channel(a.c); }#{\"c\":\"x\"}#{\"c\":\"y\"}#a#y - -\n\
 function channel(doc) { channel(doc.c); };#{\"c\":\"x\"}#-#a#x - -";
 
-fn program(alloc: Global, text: &str) -> Result<Program, Fail> {
+pub(crate) fn program(alloc: Global, text: &str) -> Result<Program, Fail> {
     match parse(alloc, text) {
         Ok(program) => Ok(program),
         Err(_) => Err(Fail::from("no program")),
@@ -252,12 +252,16 @@ fn write_grants(out: &mut Bytes, effects: &Effects) -> Result<(), Fail> {
     Ok(out.push(b' ')?)
 }
 
+fn write_effects(out: &mut Bytes, effects: &Effects) -> Result<(), Fail> {
+    write_channels(out, effects)?;
+    write_grants(out, effects)?;
+    Ok(effects.roles.write(out)?)
+}
+
 /// The channels, the grants and the roles.
 fn effects_text(alloc: Global, effects: &Effects) -> Result<Bytes, Fail> {
     let mut out = Bytes::new(alloc);
-    write_channels(&mut out, effects)?;
-    write_grants(&mut out, effects)?;
-    effects.roles.write(&mut out)?;
+    write_effects(&mut out, effects)?;
     Ok(out)
 }
 
@@ -299,16 +303,21 @@ fn said(
     judged(alloc, program, &first, old.as_ref(), who)
 }
 
+/// What the function of a text says.
+fn said_by(alloc: Global, text: &str, first: &str, old: &str, who: &str) -> Result<Bytes, Fail> {
+    let program = resolved(alloc, text)?;
+    said(alloc, &program, first, old, who)
+}
+
 /// Whether a function says what is wanted, where the line gives the document, the one before, who writes, and what is
 /// wanted.
 fn says(alloc: Global, text: &str, line: &str) -> Result<bool, Fail> {
-    let program = resolved(alloc, text)?;
     let mut parts = line.split('#').skip(1);
     let first = parts.next().unwrap_or("");
     let old = parts.next().unwrap_or("");
     let who = parts.next().unwrap_or("");
     let want = parts.next().unwrap_or("");
-    Ok(said(alloc, &program, first, old, who)?.as_slice() == want.as_bytes())
+    Ok(said_by(alloc, text, first, old, who)?.as_slice() == want.as_bytes())
 }
 
 #[test]
@@ -394,13 +403,26 @@ fn found_text(alloc: Global, found: Result<Effects, Stop>) -> Result<Bytes, Fail
     }
 }
 
+/// What a program says of an empty document with so many visits.
+fn said_within(alloc: Global, program: &Program, visits: u32) -> Result<Bytes, Fail> {
+    let empty = doc(alloc, "{}")?;
+    let who = context(alloc, "a")?;
+    found_text(
+        alloc,
+        evaluate_within(alloc, visits, program, &empty, None, &who),
+    )
+}
+
+/// The same of the default function.
+fn default_within(alloc: Global, visits: u32) -> Result<Bytes, Fail> {
+    let default = program(alloc, "function(doc, oldDoc) { channel(doc.channels); }")?;
+    said_within(alloc, &default, visits)
+}
+
 /// The default function takes five visits, and where there are fewer the node denies that would be the next.
 #[test]
 fn visits_of_the_default_function(rt: HostRuntime) -> Result<(), Fail> {
     let alloc = rt.alloc();
-    let default = program(alloc, "function(doc, oldDoc) { channel(doc.channels); }")?;
-    let empty = doc(alloc, "{}")?;
-    let who = context(alloc, "a")?;
     let cases = [
         (0, "fuel at 1:23"),
         (1, "fuel at 1:25"),
@@ -410,9 +432,8 @@ fn visits_of_the_default_function(rt: HostRuntime) -> Result<(), Fail> {
         (5, "- - -"),
     ];
     for (visits, want) in cases {
-        let found = evaluate_within(alloc, visits, &default, &empty, None, &who);
         assert!(rt;
-            found_text(alloc, found)?.as_slice() == want.as_bytes(),
+            default_within(alloc, visits)?.as_slice() == want.as_bytes(),
             "at {visits}"
         );
     }

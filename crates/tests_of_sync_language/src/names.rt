@@ -1,8 +1,8 @@
+use crate::meanings::program;
 use std::alloc::{AllocError, Global};
 use std::test::Fail;
 use sync_resolve::{ResolveFault, Resolved, resolve};
-use sync_syntax::tree::Program;
-use sync_syntax::{Place, parse};
+use sync_syntax::Place;
 
 /// Bodies with the first fault of their names. A body stands on the second line of its function, whose parameters
 /// are `doc` and `old`.
@@ -146,13 +146,6 @@ fn found_text(alloc: Global, found: Result<Resolved, ResolveFault>) -> Result<St
     match found {
         Ok(_) => String::from_str(alloc, "resolved"),
         Err(fault) => fault_text(alloc, &fault),
-    }
-}
-
-fn program(alloc: Global, text: &str) -> Result<Program, Fail> {
-    match parse(alloc, text) {
-        Ok(program) => Ok(program),
-        Err(_) => Err(Fail::from("no program")),
     }
 }
 

@@ -1,18 +1,10 @@
 use crate::faults::PROGRAMS;
-use crate::meanings::BODIES;
+use crate::meanings::{BODIES, program};
 use json_doc::DocText;
 use std::alloc::{AllocError, Global};
 use std::test::Fail;
 use sync_print::print;
-use sync_syntax::parse;
 use sync_syntax::tree::Program;
-
-fn program(alloc: Global, text: &str) -> Result<Program, Fail> {
-    match parse(alloc, text) {
-        Ok(program) => Ok(program),
-        Err(_) => Err(Fail::from("no program")),
-    }
-}
 
 /// A program in words, its places apart.
 fn placeless(alloc: Global, program: &Program) -> Result<String, AllocError> {
@@ -28,11 +20,28 @@ fn placeless(alloc: Global, program: &Program) -> Result<String, AllocError> {
 
 /// Whether what is printed of a program is read as the same, its places apart.
 fn comes_back(alloc: Global, text: &str) -> Result<bool, Fail> {
-    let first = program(alloc, text)?;
-    let mut printed = DocText::new(alloc);
-    print(alloc, &first, &mut printed)?;
-    let again = program(alloc, printed.as_str())?;
-    Ok(placeless(alloc, &first)? == placeless(alloc, &again)?)
+    let printed = printed(alloc, text)?;
+    let first = placeless_of(alloc, text)?;
+    let again = placeless_of(alloc, printed.as_str())?;
+    Ok(first == again)
+}
+
+/// The program that a text is, in words without places.
+fn placeless_of(alloc: Global, text: &str) -> Result<String, Fail> {
+    let program = program(alloc, text)?;
+    Ok(placeless(alloc, &program)?)
+}
+
+/// The program that a text is, printed.
+fn printed(alloc: Global, text: &str) -> Result<DocText, Fail> {
+    let program = program(alloc, text)?;
+    print_new(alloc, &program)
+}
+
+fn print_new(alloc: Global, program: &Program) -> Result<DocText, Fail> {
+    let mut text = DocText::new(alloc);
+    print(alloc, program, &mut text)?;
+    Ok(text)
 }
 
 #[test]
