@@ -72,6 +72,19 @@ module _ (entries : List Entry) (n : ℕ) (doc : List ℕ) (high : n ≤ length 
         ∙ f.at.there in
         ap facts_of_write there ∙ sym (ap (λ (o : Option Sequenced). document_facts (current_after (past entries n) doc o)) f.last_is)
 
+-- a step of what is kept from a place to the next one
+module _ (old kept : Ledger) (entries : List Entry) (e : Entry) (n at : ℕ) (place : at ≡ n + 1) (newest : past entries at ≡ e ∷ past entries n) (was : LedgerAt old entries n) (before : (f : Fact) (k : ℕ) → k < at → has_at kept.store f k ≡ has_at old.store f k) where
+  pub advanced : Took kept at e (past entries n) → LedgerAt kept entries at
+  advanced took = record {
+    is_kept = subst (λ (es : List Entry). IsLedger kept es) (sym newest) took.is_kept;
+    held = λ k f le. elim (cases_lt k at) [
+      | inl below ↦ before f k below ∙ was.held k f (omega (arith, below, place))
+      | inr above ↦
+          let here : k ≡ at = omega (arith, above, le) in
+          ap (λ (m : ℕ). has_at kept.store f m) here ∙ took.now f ∙ ap (λ (es : List Entry). is_held es f) (sym newest) ∙ ap (λ (m : ℕ). is_held (past entries m) f) (sym here)
+    ];
+  }
+
 module _ (history : GrantHistory) (entries : List Entry) (e : Entry) (at : ℕ) (next : IsNextApplied history entries e at) where
   pub next_place : at ≡ length (past entries history.applied) + 1
   next_place =
@@ -80,15 +93,7 @@ module _ (history : GrantHistory) (entries : List Entry) (e : Entry) (at : ℕ) 
 
   module _ (kept : Ledger) (before : (f : Fact) (k : ℕ) → k < at → has_at kept.store f k ≡ has_at history.ledger.store f k) where
     pub taken : Took kept at e (past entries history.applied) → LedgerAt kept entries at
-    taken took = record {
-      is_kept = subst (λ (es : List Entry). IsLedger kept es) (sym next.newest) took.is_kept;
-      held = λ k f le. elim (cases_lt k at) [
-        | inl below ↦ before f k below ∙ next.kept.held k f (omega (arith, below, next.place))
-        | inr above ↦
-            let here : k ≡ at = omega (arith, above, le) in
-            ap (λ (m : ℕ). has_at kept.store f m) here ∙ took.now f ∙ ap (λ (es : List Entry). is_held es f) (sym next.newest) ∙ ap (λ (m : ℕ). is_held (past entries m) f) (sym here)
-      ];
-    }
+    taken took = advanced history.ledger kept entries e history.applied at next.place next.newest next.kept before took
 
     pub left : IsLedger kept (past entries history.applied) → LedgerAt kept entries history.applied
     left is = record {

@@ -1,7 +1,6 @@
 -- lists of what may be held at places
-use Rattle.std.proofs.Common.{◌≡◌, inl, inr, ◌<◌, ◌≤◌, ◌+◌, ℕ, zero, suc, refl, sym, ◌∙◌, ap, arith, Bool, true, false, ◌||◌, nat_lt, List, [], ◌∷◌, ◌++◌, length, cond, eqb, if◌then◌else◌}
-use Rattle.std.specs.Prelude.{nat_eq, slice_index_or, Vec}
-use Rattle.std.specs.Global.{Global}
+use Rattle.std.proofs.Common.{◌≡◌, inl, inr, ◌<◌, ◌≤◌, ℕ, zero, suc, refl, sym, ◌∙◌, ap, arith, Bool, true, false, ◌||◌, nat_lt, List, [], ◌∷◌, ◌++◌, length, cond, eqb, if◌then◌else◌}
+use Rattle.std.specs.Prelude.{nat_eq, slice_index_or}
 use Rattle.std.specs.List.{dedup, dedup_from}
 use Rattle.std.proofs.lemmas.Bool.{lt-leb, le-leb, false≢true, eqb-true, cases_lt}
 use Rattle.grant_history.specs.declared.blocks.Block.{Block}

@@ -9,6 +9,7 @@ pub mod Has
 pub mod Once
 pub mod Keeping
 pub mod Applied
+pub mod Winning
 pub mod Reading
 pub mod Sweeping
 pub mod Dividing

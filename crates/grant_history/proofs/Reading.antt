@@ -1,13 +1,10 @@
 -- what is read of a store that is kept right is what the history says
-use Rattle.std.proofs.Common.{◌≡◌, ◌⊎◌, inl, inr, ◌+◌, ℕ, refl, sym, ◌∙◌, ap, subst, Bool, true, false, ◌&&◌, ◌||◌, if◌then◌else◌, List, [], ◌∷◌, ◌++◌, Option, Some, None, Vec}
-use Rattle.std.specs.Prelude.{option_map}
+use Rattle.std.proofs.Common.{◌≡◌, ◌⊎◌, inl, inr, ℕ, refl, sym, ◌∙◌, ap, subst, Bool, true, false, ◌&&◌, ◌||◌, if◌then◌else◌, List, [], ◌∷◌, ◌++◌, Option, Some, None}
 use Rattle.std.specs.BTreeMap.{get_by_text}
-use Rattle.std.specs.Global.{Global}
 use Rattle.std.specs.List.{list_any}
 use Rattle.std.specs.Str.{bytes_eq}
 use Rattle.std.specs.Cmp.Lexicographic.{bytes_decides}
 use Rattle.std.proofs.lemmas.Bool.{false≢true}
-use Rattle.std.proofs.lemmas.Option.{none-some}
 use Rattle.sg_names.specs.declared.grants.Grantee.{Grantee}
 use Rattle.sg_names.specs.declared.grants.Grantee.TheVariants.{User, Role}
 use Rattle.sg_history.specs.declared.entries.Entry.{Entry}
@@ -20,12 +17,12 @@ use Rattle.grant_history.specs.declared.held.Held.{Held}
 use Rattle.grant_history.specs.declared.store.Store.{Store}
 use Rattle.grant_history.specs.Tracks.{held_at}
 use Rattle.grant_history.specs.Facts.{same_what, fact}
-use Rattle.grant_history.specs.Holdings.{place_of, held_in, AreUpTo, held_by_list, held_of, has_at, IsStore}
+use Rattle.grant_history.specs.Holdings.{held_in, held_by_list, held_of, has_at, IsStore}
 use Rattle.grant_history.specs.Sources.{is_held}
-use Rattle.grant_history.specs.Reads.{is_channel, channel_among, channel_by, role_channel, gives_channel, by_roles, list_channel, user_channel, is_existing, role_among, list_role, user_role}
+use Rattle.grant_history.specs.Reads.{channel_among, channel_by, role_channel, gives_channel, by_roles, list_channel, user_channel, is_existing, role_among, list_role, user_role}
 use Rattle.grant_history.proofs.Same.{whats, what_itself, text_itself, texts_swap}
 use Rattle.grant_history.proofs.Once.{once_of, any_of, channel_any}
-use Rattle.grant_history.proofs.Has.{channel_held, role_held, exists_held, any_same}
+use Rattle.grant_history.proofs.Has.{channel_held, role_held, exists_held}
 use Rattle.grant_history.specs.Things.{Things}
 
 and_swap : (a b : Bool) → (a && b) ≡ (b && a)

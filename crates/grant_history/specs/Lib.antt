@@ -12,6 +12,7 @@ pub mod Near
 pub mod Passing
 pub mod Ledger
 pub mod Stands
+pub mod Winners
 pub mod Reads
 pub mod Givers
 pub mod Cuts

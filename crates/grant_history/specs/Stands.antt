@@ -7,6 +7,7 @@ use Rattle.log_index.specs.Index.{Indexes}
 use Rattle.grant_history.specs.declared.facts.Fact.{Fact}
 use Rattle.grant_history.specs.declared.history.GrantHistory.{GrantHistory}
 use Rattle.grant_history.specs.declared.ledger.Ledger.{Ledger}
+use Rattle.grant_history.specs.declared.store.Store.{Store}
 use Rattle.grant_history.specs.Holdings.{has_at}
 use Rattle.grant_history.specs.Sources.{is_held}
 use Rattle.grant_history.specs.Ledger.{IsLedger}
@@ -42,3 +43,10 @@ pub record IsBefore (kept : Ledger) (at : ℕ) : Type 0 where
   pub es : List Entry
   pub place : at ≡ length es + 1
   pub is_kept : IsLedger kept es
+
+-- what is held at each place up to one is what is held after the entries up to it, and nothing that
+-- is kept is of a later place
+pub record StoreAt (store : Store) (entries : List Entry) (n : ℕ) : Type 0 where
+  pub kept : Ledger
+  pub same : kept.store ≡ store
+  pub at : LedgerAt kept entries n

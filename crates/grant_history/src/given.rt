@@ -105,7 +105,7 @@ fn add_gifts(alloc: Global, list: &mut Vec<Fact>, gifts: &[RoleGrant]) -> Result
 }
 
 /// What the document of a write gives where this is the write of its winner.
-fn of_write(alloc: Global, write: &Write) -> Result<Vec<Fact>, Memory>
+pub fn of_write(alloc: Global, write: &Write) -> Result<Vec<Fact>, Memory>
     ensures { IfOk result (λ list. list.items
         ≡ grant_facts write.now.grants ++ gift_facts write.now.roles) }
 {

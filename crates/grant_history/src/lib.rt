@@ -20,6 +20,9 @@ mod sorted;
 mod spells;
 mod store;
 mod track;
+mod whole;
+mod winners;
 
 pub use history::{GrantHistory, Periods};
 pub use periods::Period;
+pub use whole::periods_up_to;

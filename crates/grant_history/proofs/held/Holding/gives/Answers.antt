@@ -1,4 +1,4 @@
-use Rattle.std.proofs.Common.{◌≡◌, ◌<◌, ◌∙◌, sym, ap, arith, nat_lt, true, Some}
+use Rattle.std.proofs.Common.{◌≡◌, ◌∙◌, sym, ap, arith, nat_lt, true, Some}
 use Rattle.std.proofs.lemmas.Bool.{leb-true}
 use Rattle.grant_history.specs.Things.{Things}
 use Rattle.grant_history.specs.HeldLists.{place_of, count_in}

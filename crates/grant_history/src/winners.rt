@@ -1,0 +1,58 @@
+//! The writes of winners: of each entry the one that the document has after it.
+
+ghost use Rattle.std.specs.Prelude.{◌≡◌, ◌<◌, ◌++◌, ◌∷◌, [], List, length, OnOk, IfOk};
+ghost use Rattle.sg_history.specs.declared.entries.Entry.{Entry};
+ghost use Rattle.sg_history.specs.History.{as_write};
+ghost use Rattle.log_index.specs.Index.{Indexes};
+ghost use Rattle.grant_history.specs.Winners.{AreWinners, winning_by, winning_in};
+
+use log_index::{Document, LogIndex};
+use sg_history::Entry;
+use sg_outside::Memory;
+use std::alloc::Global;
+
+fn winning(document: Option<Document>) -> u64
+    ensures { result ≡ winning_in document }
+{
+    match document {
+        None => 0,
+        Some(document) => document.winning,
+    }
+}
+
+/// The sequence of the winner's write of the document that an entry writes, 0 where it writes none.
+fn winner_of(index: &LogIndex, entry: &Entry) -> u64
+    ensures { (es : List Entry) → Indexes index.now es
+        → result ≡ winning_by es (as_write entry.now) }
+{
+    match entry.as_write() {
+        None => 0,
+        Some(write) => winning(index.document(&write.doc)),
+    }
+}
+
+/// Puts the next entry into an index, and the winner after it behind the others.
+fn add_winner(index: &mut LogIndex, winners: &mut Vec<u64>, entry: &Entry) -> Result<(), Memory>
+    requires { index.old.count < 18446744073709551615 }
+    ensures index { OnOk result ((es : List Entry) → Indexes index.old es
+        → Indexes index.new (entry.now ∷ es)) }
+    ensures winners { OnOk result ((es : List Entry) → Indexes index.old es
+        → winners.new.items
+        ≡ winners.old.items ++ winning_by (entry.now ∷ es) (as_write entry.now) ∷ []) }
+{
+    index.push(entry)?;
+    winners.push(winner_of(index, entry))?;
+    Ok(())
+}
+
+/// The winners at these entries. What the index of the entries takes is given back.
+pub fn winners_of(alloc: Global, entries: &[Entry]) -> Result<Vec<u64>, Memory>
+    ensures { IfOk result (λ winners. AreWinners entries.now winners.items (length entries.now)) }
+{
+    let mut index = LogIndex::new(alloc);
+    let mut winners = Vec::with_capacity(alloc, entries.len())?;
+    for entry in entries {
+        add_winner(&mut index, &mut winners, entry)?;
+    }
+    Ok(winners)
+}
