@@ -14,3 +14,4 @@ mod Settled
 mod ShownRows
 mod Steps
 mod Switches
+mod LastChanges

@@ -23,7 +23,7 @@ take_more [] n h = absurd (omega (arith, h))
 take_more (x ∷ xs) zero h = (x, refl)
 take_more (x ∷ xs) (suc n) h = let rest = take_more xs n (omega (arith, h)) in (rest.0, ap (λ (l : List Entry). x ∷ l) rest.1)
 
-past_more : (xs : List Entry) (n : ℕ) → n < length xs → (e : Entry) × (past xs (suc n) ≡ e ∷ past xs n)
+pub past_more : (xs : List Entry) (n : ℕ) → n < length xs → (e : Entry) × (past xs (suc n) ≡ e ∷ past xs n)
 past_more xs n h =
     let more = take_more xs n h in
     (more.0, ap (λ (l : List Entry). reverse l) more.1 ∙ reverse-append (take n xs) (more.0 ∷ []))

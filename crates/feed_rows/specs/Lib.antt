@@ -6,3 +6,4 @@ pub mod Ordered
 pub mod PassAt
 pub mod Shown
 pub mod Spans
+pub mod LastChange

@@ -69,7 +69,7 @@ pub fn change_up_to<'a>(
 }
 
 /// Whether a document was shown at a place.
-fn was_shown(viewer: &Viewer<'_>, latest: Option<Latest<'_>>, k: u64) -> bool
+pub fn was_shown(viewer: &Viewer<'_>, latest: Option<Latest<'_>>, k: u64) -> bool
     requires { RiseAll viewer.now.spans }
     ensures { (es : List Entry) (doc : List ℕ) → k ≡ length es → IsViewer viewer.now es
         → current_in latest.entry ≡ current es doc

@@ -5,6 +5,7 @@ mod asked;
 mod document;
 mod granted;
 mod index;
+mod last_change;
 pub mod laws;
 mod pass;
 mod scan;
@@ -12,4 +13,6 @@ mod shown;
 mod spans;
 
 pub use granted::channels_of;
-pub use scan::rows;
+pub use last_change::changed_last_at;
+pub use scan::{rows, viewer_of};
+pub use shown::Viewer;

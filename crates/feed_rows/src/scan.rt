@@ -9,26 +9,14 @@ ghost use Rattle.grant_history.specs.Periods.{ArePeriods};
 ghost use Rattle.feed_rows.specs.PassAt.{IsViewer};
 
 use crate::asked::rows_of_pass;
-use crate::granted::history_of;
 use crate::shown::Viewer;
 use crate::spans::spans_in;
-use grant_history::{Period, Periods};
+use grant_history::{Period, periods_up_to};
 use sg_history::{Channels, Key, Log, Name, Options, Rows};
 use std::alloc::{AllocError, Global};
 
-/// The periods in which a user has channels, up to a place of a log.
-fn periods_of(alloc: Global, log: &Log, front: u64, user: &Name) -> Result<Periods, AllocError>
-    requires { front ≤ length (entries_of log.now) }
-    ensures { IfOk result (λ periods. ArePeriods periods
-        (λ c k. has_channel (past (entries_of log.now) k) user.now c) front) }
-{
-    let history = history_of(alloc, log, front)?;
-    let periods = history.periods(user)?;
-    Ok(periods)
-}
-
 /// A user with a filter, by the periods of the user's channels.
-fn viewer_of<'a>(
+pub fn viewer_of<'a>(
     alloc: Global,
     user: &'a Name,
     filter: &'a Option<Channels>,
@@ -63,7 +51,7 @@ pub fn rows(
     ensures { IfOk result (λ rows. rows ≡ feed.feed
         (past (entries_of log.now) front) user.now since.now options.now) }
 {
-    let periods = periods_of(alloc, log, front, user)?;
+    let periods = periods_up_to(alloc, log, front, user)?;
     let viewer = viewer_of(alloc, user, &options.filter, periods.as_slice())?;
     let entries = &log.entries.as_slice()[..front as usize];
     let rows = rows_of_pass(alloc, &viewer, entries, since, options)?;
