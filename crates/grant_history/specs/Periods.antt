@@ -6,6 +6,7 @@ use Rattle.std.specs.Ordering.{nat_cmp, ordering_then}
 use Rattle.std.specs.Cmp.Lexicographic.{slice_cmp}
 use Rattle.std.specs.declared.cmp.Ordering.{Ordering}
 use Rattle.sg_names.specs.ItemList.{rises}
+use Rattle.std.specs.Borrow.{Bor}
 use Rattle.std.specs.BTreeMap.{get_by_text}
 use Rattle.sg_history.specs.History.{among}
 use Rattle.sg_history.specs.Principals.{everyone}
@@ -61,6 +62,10 @@ ever_gives roles (what.Role r) x = ever_by (get_by_text roles r) x
 -- whether one of these is or was a role that ever had the channel
 abbrev pub ever_by_roles : Holders → List Held → List ℕ → Bool
 ever_by_roles roles all x = list_any (λ h. ever_gives roles h.what x) all
+
+-- the names of channels
+abbrev pub names_of : List (Bor (List ℕ)) → List (List ℕ)
+names_of channels = map (λ c. c.now) channels
 
 -- whether a user that has or had these may ever have had the channel
 abbrev pub may_have : Holders → List Held → List ℕ → Bool

@@ -16,7 +16,7 @@ mod lists;
 mod periods;
 mod places;
 mod reads;
-mod sorted;
+pub mod sorted;
 mod spells;
 mod store;
 mod track;

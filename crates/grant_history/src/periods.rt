@@ -2,7 +2,8 @@
 
 ghost use Rattle.std.specs.Prelude.{◌≡◌, ◌≤◌, ◌++◌, ℕ, List, map, max, IfOk, OnOk};
 ghost use Rattle.std.specs.BTreeMap.{get_by_text};
-ghost use Rattle.grant_history.specs.Periods.{period_of, Adds, AreAllPeriods, AreSoFar};
+ghost use Rattle.sg_history.specs.Principals as principals;
+ghost use Rattle.grant_history.specs.Periods.{period_of, names_of, Adds, AreAllPeriods, AreSoFar};
 ghost use Rattle.grant_history.specs.Cuts.{IsSteady, Rise};
 ghost use Rattle.grant_history.specs.Givers.{has_at_with};
 ghost use Rattle.grant_history.specs.Reads.{list_channel, user_channel};
@@ -14,6 +15,7 @@ use crate::cuts::cuts_of;
 use crate::evaluate::{Giver, givers_of, givers_with, has};
 use crate::held::Holding;
 use crate::holders::Holders;
+use crate::reads::everyone;
 use crate::spells::{Spell, Sweep};
 use sg_history::{ChannelName, Name};
 use sg_outside::Memory;
@@ -144,10 +146,10 @@ fn periods_for(
     alloc: Global,
     all: &Holding,
     givers: &[Giver<'_>],
-    channels: &[ChannelName],
+    channels: &[&ChannelName],
 ) -> Result<Vec<Period>, Memory>
-    requires { AreSorted channels.now }
-    ensures { IfOk result (λ list. AreSoFar channels.now list.items
+    requires { AreSorted (names_of channels.now) }
+    ensures { IfOk result (λ list. AreSoFar (names_of channels.now) list.items
         (has_at_with givers.now all.now.items)) }
 {
     let mut periods = Vec::new(alloc);
@@ -157,14 +159,29 @@ fn periods_for(
     Ok(periods)
 }
 
+/// The periods of a user that has or had these, given the channel that every user has.
+fn periods_with(
+    alloc: Global,
+    roles: &Holders,
+    all: &Holding,
+    everyone: &ChannelName,
+) -> Result<Vec<Period>, Memory>
+    requires { everyone.now ≡ principals.everyone }
+    ensures { IfOk result (λ list. AreAllPeriods list.items
+        (λ c k. list_channel roles.now all.now.items k c)) }
+{
+    let channels = channels_ever(alloc, roles, all.all(), everyone)?;
+    let givers = givers_of(alloc, roles, all.all())?;
+    periods_for(alloc, all, givers.as_slice(), channels.as_slice())
+}
+
 /// The periods of a user that has or had these.
 fn periods_in(alloc: Global, roles: &Holders, all: &Holding) -> Result<Vec<Period>, Memory>
     ensures { IfOk result (λ list. AreAllPeriods list.items
         (λ c k. list_channel roles.now all.now.items k c)) }
 {
-    let channels = channels_ever(alloc, roles, all.all())?;
-    let givers = givers_of(alloc, roles, all.all())?;
-    periods_for(alloc, all, givers.as_slice(), channels.as_slice())
+    let everyone = everyone(alloc)?;
+    periods_with(alloc, roles, all, &everyone)
 }
 
 /// The periods in which a user has channels.

@@ -40,7 +40,7 @@ fn add_channel(
     Ok(())
 }
 
-pub fn add_if_channel(alloc: Global, list: &mut Vec<ChannelName>, what: &What) -> Result<(), Memory>
+fn add_if_channel(alloc: Global, list: &mut Vec<ChannelName>, what: &What) -> Result<(), Memory>
     ensures among { OnOk result ((x : List ℕ) → among list.new.items x
         ≡ (reads.is_channel what.now x || among list.old.items x)) }
 {

@@ -25,6 +25,14 @@ impl Named for ChannelName {
     }
 }
 
+impl<'a> Named for &'a ChannelName {
+    ghost name = { λ n. n.now };
+
+    fn order(&self, other: &&'a ChannelName) -> Ordering {
+        ChannelName::order(self, other)
+    }
+}
+
 impl Named for Name {
     ghost name = { λ n. n };
 

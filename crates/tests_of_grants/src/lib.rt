@@ -3,3 +3,5 @@
 
 #[cfg(test)]
 mod grants;
+#[cfg(test)]
+mod sorted;
