@@ -1,5 +1,5 @@
-//! Makes a board of so many documents and users, and proposes revisions to it, or pulls all documents with their bodies, so that what it
-//! takes can be measured from outside.
+//! Makes a board of so many documents and users, and proposes revisions to it, or pulls all documents with their bodies, or all that
+//! left, so that what it takes can be measured from outside.
 #![tactic(auto)]
 
 ghost use Rattle.std.specs.Prelude.{reverse, IfOk};
@@ -26,6 +26,11 @@ const FUNCTION: &str = "function(doc, oldDoc) { channel(doc.channels); }";
 
 /// The most ancestors that a body is asked for with.
 const ANCESTORS: u64 = 100;
+
+const START: Key = Key { by: 0, seq: 0 };
+
+/// After the put of the user who pulls, so that what left since then is a row.
+const AFTER_START: Key = Key { by: 1, seq: 1 };
 
 const OPTIONS: Options = Options {
     filter: None,
@@ -75,6 +80,14 @@ fn write_line(journal: &mut Bytes, number: u64) -> Result<(), Stop> {
     Ok(())
 }
 
+/// The write that moves a document from channel A to B.
+fn leave_line(journal: &mut Bytes, number: u64) -> Result<(), Stop> {
+    journal.extend_from_slice(b"W\td")?;
+    write_decimal(number, journal)?;
+    journal.extend_from_slice(b"\t2-b\t1-a\t0\t7b7d\t-\t0\t2-b\tB\t-\t-\n")?;
+    Ok(())
+}
+
 /// The put of a user who has channel A.
 fn user_line(journal: &mut Bytes, number: u64) -> Result<(), Stop> {
     journal.extend_from_slice(b"U\tu")?;
@@ -90,20 +103,36 @@ fn user_lines(journal: &mut Bytes, users: u64) -> Result<(), Stop> {
     Ok(())
 }
 
-/// How many documents a board has, and how many users besides the one who proposes.
+/// How many documents a board has, how many of them left channel A, and how many users it has besides
+/// the one who proposes.
 #[derive(Clone, Copy)]
 struct Size {
     documents: u64,
+    left: u64,
     users: u64,
 }
 
-/// A journal: a put of a user who has channel A, so many others, and so many documents.
+fn write_lines(journal: &mut Bytes, documents: u64) -> Result<(), Stop> {
+    for number in 0..documents {
+        write_line(journal, number)?;
+    }
+    Ok(())
+}
+
+fn leave_lines(journal: &mut Bytes, documents: u64) -> Result<(), Stop> {
+    for number in 0..documents {
+        leave_line(journal, number)?;
+    }
+    Ok(())
+}
+
+/// A journal: a put of a user who has channel A, so many others, so many documents, and the writes by
+/// which some leave.
 fn journal_of(alloc: Global, size: Size) -> Result<Bytes, Stop> {
     let mut journal = Bytes::from_slice(alloc, b"sgjournal 1\nU\tann\tA\t-\n")?;
     user_lines(&mut journal, size.users)?;
-    for number in 0..size.documents {
-        write_line(&mut journal, number)?;
-    }
+    write_lines(&mut journal, size.documents)?;
+    leave_lines(&mut journal, size.left)?;
     Ok(journal)
 }
 
@@ -191,22 +220,21 @@ fn stored(
     Ok(count)
 }
 
-/// How many of these rows are answered with a body.
+/// How many of these rows are answered with a body, or as removed.
 fn bodies(alloc: Global, ground: &mut SoloGround, user: &Name, rows: &[Row]) -> Result<u64, Stop> {
     let found = ground.bodies(alloc, user, &OPTIONS, rows, ANCESTORS)?;
     let mut count = 0u64;
     for answer in found.answers.as_slice() {
-        if let Body::Rev { .. } = answer {
+        if !matches!(answer, Body::NoRev) {
             count = count.saturating_add(1);
         }
     }
     Ok(count)
 }
 
-/// The rows of all documents.
-fn rows_of(alloc: Global, ground: &mut SoloGround, user: &Name) -> Result<Rows, Stop> {
-    let since = Key { by: 0, seq: 0 };
-    match ground.feed(alloc, user, &since, &OPTIONS)? {
+/// The rows of all documents after a key.
+fn rows_of(alloc: Global, ground: &mut SoloGround, user: &Name, since: &Key) -> Result<Rows, Stop> {
+    match ground.feed(alloc, user, since, &OPTIONS)? {
         Fed::Rows { rows, .. } => Ok(rows),
         Fed::Future { .. } => Ok(Rows::new(alloc)),
     }
@@ -230,9 +258,16 @@ fn counted(
     Ok(count)
 }
 
-/// Pulls all documents: their rows, and the bodies of so many rows at a time, where that is not 0.
-fn pulled(alloc: Global, ground: &mut SoloGround, user: &Name, batch: u64) -> Result<u64, Stop> {
-    let rows = rows_of(alloc, ground, user)?;
+/// Pulls all documents after a key: their rows, and the bodies of so many rows at a time, where that is
+/// not 0.
+fn pulled(
+    alloc: Global,
+    ground: &mut SoloGround,
+    user: &Name,
+    since: &Key,
+    batch: u64,
+) -> Result<u64, Stop> {
+    let rows = rows_of(alloc, ground, user, since)?;
     counted(alloc, ground, user, rows.as_slice(), batch)
 }
 
@@ -241,13 +276,22 @@ fn done(alloc: Global, ground: &mut SoloGround, name: &str, number: u64) -> Resu
     let user = Name::parse(alloc, "ann")?;
     match name {
         "propose" => stored(alloc, ground, &user, number),
-        _ => pulled(alloc, ground, &user, number),
+        "lose" => pulled(alloc, ground, &user, &AFTER_START, number),
+        _ => pulled(alloc, ground, &user, &START, number),
     }
 }
 
 fn job(alloc: Global, name: &str, size: Size, number: u64) -> Result<u64, Stop> {
     let mut ground = ground_of(alloc, size)?;
     done(alloc, &mut ground, name, number)
+}
+
+/// How many documents leave: all of them, where they are pulled as lost.
+fn left_of(name: &str, documents: u64) -> u64 {
+    match name {
+        "lose" => documents,
+        _ => 0,
+    }
 }
 
 fn number_of(word: Option<String>) -> u64 {
@@ -263,7 +307,12 @@ fn main(rt: HostRuntime) -> io::Result<()> {
     let documents = number_of(words.next());
     let number = number_of(words.next());
     let users = number_of(words.next());
-    match job(rt.alloc(), name.as_str(), Size { documents, users }, number) {
+    let size = Size {
+        documents,
+        left: left_of(name.as_str(), documents),
+        users,
+    };
+    match job(rt.alloc(), name.as_str(), size, number) {
         Ok(count) => println!(rt; "{count} of {documents}, {number}"),
         Err(stop) => println!(rt; "{stop:?}"),
     }

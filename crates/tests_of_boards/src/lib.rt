@@ -4,6 +4,8 @@
 #[cfg(test)]
 mod boards;
 #[cfg(test)]
+mod commands;
+#[cfg(test)]
 mod grounds;
 #[cfg(test)]
 mod journals;

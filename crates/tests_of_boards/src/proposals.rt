@@ -73,7 +73,7 @@ fn denied_text(alloc: Global, at: u64, rule: &Rule) -> Result<String, Fail> {
     Ok(format!(in alloc; "denied at {at}: {}", rule.as_str())?)
 }
 
-fn outcome_text(alloc: Global, outcome: &Outcome) -> Result<String, Fail> {
+pub fn outcome_text(alloc: Global, outcome: &Outcome) -> Result<String, Fail> {
     match outcome {
         Outcome::Bad400 { field } => worded(alloc, "bad", field.as_str()),
         Outcome::TooLarge413 { bytes } => numbered(alloc, "too large", *bytes),

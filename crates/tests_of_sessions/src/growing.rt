@@ -12,7 +12,7 @@ use sg_history::{DocId, Key, Name, Options, RevId, Revs, Row};
 use sg_outside::{Bytes, MemWire, Memory};
 use std::alloc::Global;
 use std::test::Fail;
-use write_path::{Ground, Outcome, Resolved, SoloGround};
+use write_path::{Command, Ground, Outcome, Resolved, SoloGround};
 
 /// A ground over one with one owner, to which an administrator proposes a revision once so many reads were answered. It takes no
 /// proposals itself.
@@ -94,6 +94,11 @@ impl Ground for GrowingGround {
         _strict: bool,
         _revision: Revision,
     ) -> Outcome {
+        write_path::laws::reads();
+        Outcome::Memory507
+    }
+
+    fn command(&mut self, _command: Command) -> Outcome {
         write_path::laws::reads();
         Outcome::Memory507
     }

@@ -38,19 +38,19 @@ bounded stored asked more later_stored later_asked count later_count a b c d = o
 no_side : (text : List ℕ) (old : SideValue) → side_at [] text ≡ Some old → ⊥
 no_side text old h = none-some old h
 
-pub after_write : Extended → (s t : State) (w : Write) → t.log ≡ s.log ++ entry.Write w ∷ [] → t.rooms ≡ s.rooms → length w.body ≤ 20971520 → After (board_of s) (board_of t)
-after_write extended s t w log rooms size =
-    let more : length t.log ≡ length s.log + 1 = ap (λ (es : List Entry). length es) log ∙ one_longer s.log (entry.Write w) in
+pub after_entry : Extended → (s t : State) (e : Entry) → t.log ≡ s.log ++ e ∷ [] → t.rooms ≡ s.rooms → body_size (as_write e) ≤ 20971520 → After (board_of s) (board_of t)
+after_entry extended s t e log rooms size =
+    let more : length t.log ≡ length s.log + 1 = ap (λ (es : List Entry). length es) log ∙ one_longer s.log e in
     let same : length t.rooms ≡ length s.rooms = ap (λ (rs : List RoomFor). length rs) rooms in
     let count : board_count (board_of t) ≡ board_count (board_of s) + 1 = omega arith in
-    let stored : bytes_stored t.log ≡ bytes_stored s.log + length w.body = ap (λ (es : List Entry). bytes_stored es) log ∙ stored_more s.log (entry.Write w) in
+    let stored : bytes_stored t.log ≡ bytes_stored s.log + body_size (as_write e) = ap (λ (es : List Entry). bytes_stored es) log ∙ stored_more s.log e in
     let asked : bytes_asked t.rooms ≡ bytes_asked s.rooms = ap (λ (rs : List RoomFor). bytes_asked rs) rooms in
-    let on : Later (book_of s.log) (book_of t.log) = extended s.log t.log (entry.Write w ∷ [], log) in
+    let on : Later (book_of s.log) (book_of t.log) = extended s.log t.log (e ∷ [], log) in
     record {
       book = subst (λ (book : Book). Later (board_book (board_of s)) book) (sym (same_book t)) (subst (λ (book : Book). Later book (book_of t.log)) (sym (same_book s)) on);
-      log = (entry.Write w ∷ [], log);
+      log = (e ∷ [], log);
       count = omega arith;
-      bytes = bounded (bytes_stored s.log) (bytes_asked s.rooms) (length w.body) (bytes_stored t.log) (bytes_asked t.rooms) (board_count (board_of s)) (board_count (board_of t)) stored asked count size;
+      bytes = bounded (bytes_stored s.log) (bytes_asked s.rooms) (body_size (as_write e)) (bytes_stored t.log) (bytes_asked t.rooms) (board_count (board_of s)) (board_count (board_of t)) stored asked count size;
       side = λ text old h. absurd (no_side text old h);
       faults = omega arith;
     }

@@ -3,13 +3,14 @@ pub mod Alone
 pub mod BoardBodies
 pub mod BodyLaws
 pub mod Braces
+pub mod Commanded
 pub mod Decided
 pub mod Entries
 pub mod Grown
 pub mod Judged
-pub mod Maps
 pub mod NameTexts
 pub mod OneRead
+pub mod OwnEnds
 pub mod Proposed
 pub mod ReadLaws
 pub mod RowsSay

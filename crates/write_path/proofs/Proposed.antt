@@ -16,8 +16,8 @@ use Rattle.doc_board.specs.Outcomes.{IsOutcome}
 use Rattle.doc_board.specs.State.{State}
 use Rattle.write_path.specs.Proposals.{IsAnswered, IsProposed, IsAsBefore, IsBoardAfter, Stores, recorded_after}
 use Rattle.write_path.specs.Reads.{IsAfterAll, Reads, WasRead}
-use Rattle.write_path.specs.Shape.{own_before, own_after}
-use Rattle.write_path.proofs.Grown.{Extended, after_write, small_body, at_end}
+use Rattle.write_path.specs.Own.{own_before, own_after}
+use Rattle.write_path.proofs.Grown.{Extended, after_entry, small_body, at_end}
 use Rattle.write_path.proofs.OneRead.{same_book}
 
 abbrev pub Again : Type 0
@@ -34,7 +34,7 @@ same_board s t e =
     ap (λ (es : List Entry). board_of (record { log = es; rooms = t.rooms; known = 0; reads = 0 })) e.log
     ∙ ap (λ (rooms : List RoomFor). board_of (record { log = s.log; rooms = rooms; known = 0; reads = 0 })) e.rooms
 
-same_after : Itself → (s t : State) → IsAsBefore s t → After (board_of s) (board_of t)
+pub same_after : Itself → (s t : State) → IsAsBefore s t → After (board_of s) (board_of t)
 same_after itself s t e = subst (λ (b : BoardState). After (board_of s) b) (sym (same_board s t e)) (itself (board_of s))
 
 pub after_answer : Extended → Itself → (s t : State) (program : Program) (strict : Bool) (by : Option (List ℕ)) (r : Revision) (answer : Outcome) → IsOutcome program strict by r (board_of s) answer → IsBoardAfter s t program by r answer → After (board_of s) (board_of t)
@@ -46,7 +46,7 @@ after_answer extended itself s t program strict by r (outcome.BadHistory400 at) 
 after_answer extended itself s t program strict by r (outcome.Conflict409 at leaf) is left = same_after itself s t left
 after_answer extended itself s t program strict by r (outcome.Denied403 at rule) is left = same_after itself s t left
 after_answer extended itself s t program strict by r (outcome.Stored sequence at) is left =
-    after_write extended s t left.write left.log left.rooms (subst (λ (body : List ℕ). length body ≤ 20971520) (sym left.is_write.body) (small_body r.body is.0.formed.size))
+    after_entry extended s t (entry.Write left.write) left.log left.rooms (subst (λ (body : List ℕ). length body ≤ 20971520) (sym left.is_write.body) (small_body r.body is.0.formed.size))
 after_answer extended itself s t program strict by r outcome.Memory507 is left = same_after itself s t left
 
 pub no_rooms : (s t : State) (program : Program) (by : Option (List ℕ)) (r : Revision) (answer : Outcome) → s.rooms ≡ [] → IsBoardAfter s t program by r answer → t.rooms ≡ []
@@ -60,7 +60,7 @@ no_rooms s t program by r (outcome.Denied403 at rule) none left = left.rooms ∙
 no_rooms s t program by r (outcome.Stored sequence at) none left = left.rooms ∙ none
 no_rooms s t program by r outcome.Memory507 none left = left.rooms ∙ none
 
-same_length : (s t : State) → IsAsBefore s t → Some (length t.log) ≡ Some (length s.log)
+pub same_length : (s t : State) → IsAsBefore s t → Some (length t.log) ≡ Some (length s.log)
 same_length s t e = ap (λ (es : List Entry). Some (length es)) e.log
 
 pub recorded_then : (s t : State) (program : Program) (by : Option (List ℕ)) (r : Revision) (answer : Outcome) → IsBoardAfter s t program by r answer → Some (length t.log) ≡ recorded_after (Some (length s.log)) answer
@@ -84,7 +84,7 @@ all_after again (x ∷ before) b c all on = (again x b c all.0 on, all_after aga
 no_shorter : (b c : BoardState) → After b c → length b.log ≤ length c.log
 no_shorter b c on = omega (arith, ap (λ (es : List Entry). length es) on.log.1, length-append b.log on.log.0)
 
-two_reads : Again → (before after : List BoardState) (b c : BoardState) → after ≡ c ∷ b ∷ before → IsAfterAll before b → After b c → Reads before after (length b.log) (length c.log)
+pub two_reads : Again → (before after : List BoardState) (b c : BoardState) → after ≡ c ∷ b ∷ before → IsAfterAll before b → After b c → Reads before after (length b.log) (length c.log)
 two_reads again before after b c read all on = record {
   added = c ∷ b ∷ [];
   read = read;
@@ -93,10 +93,10 @@ two_reads again before after b c read all on = record {
   rises = no_shorter b c on;
 }
 
-first_read : (before after : List BoardState) (b c : BoardState) → after ≡ c ∷ b ∷ before → WasRead before after b
+pub first_read : (before after : List BoardState) (b c : BoardState) → after ≡ c ∷ b ∷ before → WasRead before after b
 first_read before after b c read = record { added = c ∷ b ∷ []; read = read; one = inr (inl refl) }
 
-second_read : (before after : List BoardState) (b c : BoardState) → after ≡ c ∷ b ∷ before → WasRead before after c
+pub second_read : (before after : List BoardState) (b c : BoardState) → after ≡ c ∷ b ∷ before → WasRead before after c
 second_read before after b c read = record { added = c ∷ b ∷ []; read = read; one = inl refl }
 
 -- ---- what is answered
@@ -105,7 +105,7 @@ answered : (before after : List BoardState) (s t : State) (program : Program) (s
 answered before after s t program strict by r answer read is =
     record { board = board_of s; was_read = first_read before after (board_of s) (board_of t) read; has_length = refl; outcome = is }
 
-at_sequence : (s t : State) (e : Entry) (sequence : ℕ) → t.log ≡ s.log ++ e ∷ [] → sequence ≡ length s.log + 1 → book_of t.log sequence ≡ Some e
+pub at_sequence : (s t : State) (e : Entry) (sequence : ℕ) → t.log ≡ s.log ++ e ∷ [] → sequence ≡ length s.log + 1 → book_of t.log sequence ≡ Some e
 at_sequence s t e sequence log next =
     ap (λ (n : ℕ). book_of t.log n) next ∙ ap (λ (es : List Entry). book_of es (length s.log + 1)) log ∙ at_end s.log e
 

@@ -1,7 +1,5 @@
 -- The write of a document's current revision.
-use Rattle.std.proofs.Common.{◌≡◌, ℕ, ◌+◌, ◌<◌, add-one, get_or, take, reverse, refl, sym, ◌∙◌, ap, subst, Bool, true, false, if◌then◌else◌, List, [], ◌∷◌, length, Option, Some, None}
-use Rattle.std.proofs.Math.Seq.{take-suc}
-use Rattle.std.proofs.lemmas.List.{reverse-append}
+use Rattle.std.proofs.Common.{◌≡◌, ℕ, ◌+◌, refl, sym, ◌∙◌, ap, subst, Bool, true, false, if◌then◌else◌, List, [], ◌∷◌, length, Option, Some, None}
 use Rattle.std.proofs.lemmas.Option.{none-some, same_Some}
 use Rattle.std.specs.Str.{bytes_eq}
 use Rattle.sg_names.specs.declared.rev_id.RevId.{RevId}
@@ -9,8 +7,7 @@ use Rattle.sg_names.specs.RevId.{same_rev}
 use Rattle.sg_history.specs.declared.entries.Entry.{Entry}
 use Rattle.sg_history.specs.declared.entries.Write.{Write}
 use Rattle.sg_history.specs.History.{as_write, of_document, write_to}
-use Rattle.sg_history.specs.Current.{Current, Sequenced, sequenced_or, last_write, write_of_rev, with_rev_or, write_or, current, current_after, current_by, winning_of, write_alone, rev_or}
-use Rattle.sg_history.proofs.AloneWrites.{alone_next}
+use Rattle.sg_history.specs.Current.{Current, Sequenced, sequenced_or, last_write, write_of_rev, with_rev_or, write_or, current, current_after, current_by, winning_of}
 use Rattle.repl_messages.specs.Looks.{winning_write, winner_after}
 use Rattle.write_path.proofs.Same.{same_bytes}
 
@@ -67,13 +64,3 @@ current_winner es doc c h = go (last_write es doc) h
         let winning : Sequenced = winning_of es doc l in
         let P : Current → Type 0 = λ x. x ≡ current_by es x.seq winning in
         (winning, refl, subst P (same_Some (current_by es l.seq winning) c h) refl)
-
--- the entries up to a place and the one there
-past_at : {X : Type 0} (xs : List X) (i : ℕ) (x : X) → x ≡ get_or xs i x → i < length xs → reverse (take (i + 1) xs) ≡ x ∷ reverse (take i xs)
-past_at {X = X} xs i x is low = rw (add-one, take-suc xs i x, reverse-append) (ap (λ (y : X). y ∷ reverse (take i xs)) (sym is))
-
--- the write of a revision after one entry more
-pub winner_next : (xs : List Entry) (i : ℕ) (e : Entry) (doc : List ℕ) (rev : RevId) → e ≡ get_or xs i e → i < length xs → write_alone (write_of_rev (reverse (take (i + 1) xs)) doc rev) ≡ rev_or (write_to e doc) rev (write_alone (write_of_rev (reverse (take i xs)) doc rev))
-winner_next xs i e doc rev is low =
-    ap (λ (l : List Entry). write_alone (write_of_rev l doc rev)) (past_at xs i e is low)
-    ∙ alone_next (write_to e doc) (length (reverse (take i xs)) + 1) rev (write_of_rev (reverse (take i xs)) doc rev)

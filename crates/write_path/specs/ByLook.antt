@@ -1,30 +1,54 @@
 -- What is answered for a row, by what is looked up of its document. Only proofs need this.
-use Rattle.std.specs.Prelude.{ℕ, ◌&&◌, nat_eq, is_none, List, reverse, Option, Some, if◌then◌else◌}
+use Rattle.std.specs.Prelude.{◌≡◌, ℕ, Bool, ◌&&◌, nat_eq, is_none, List, length, reverse, Option, Some, if◌then◌else◌}
 use Rattle.sg_history.specs.declared.entries.Write.{Write}
 use Rattle.sg_history.specs.declared.row.Row.{Row}
 use Rattle.sg_history.specs.Current.{current, write_alone}
+use Rattle.sg_history.specs.History.{past}
+use Rattle.sg_history.specs.Principals.{has_channel}
 use Rattle.sg_history.specs.View.{Shown, same_view}
 use Rattle.rev_tree.specs.declared.tree.Node.{Node}
-use Rattle.doc_board.specs.State.{tree_on}
+use Rattle.doc_board.specs.State.{State, tree_on}
 use Rattle.repl_messages.specs.declared.looks.Body.{Body}
 use Rattle.repl_messages.specs.declared.looks.Body.TheVariants as body
 use Rattle.repl_messages.specs.Looks.{said_by, left_by_write, body_with}
-use Rattle.log_views.specs.Has.{channels_have}
+use Rattle.log_index.specs.declared.index.LogIndex.{LogIndex}
+use Rattle.log_views.specs.Has.{HasChannels, channels_have}
 use Rattle.log_views.specs.States.{winning, view_by}
-use Rattle.write_path.specs.ByName.{under, place_by}
+use Rattle.grant_history.specs.declared.periods.Period.{Period}
+use Rattle.grant_history.specs.Periods.{ArePeriods}
+use Rattle.feed_rows.specs.LastChange.{place_in}
+use Rattle.feed_rows.specs.PassAt.{IsViewer}
 use Rattle.write_path.specs.declared.bodies.Look.{Look}
 
--- what is answered for a row, by what is shown of its document, its tree, the winner's write and the
--- place of its last change
-abbrev pub answer : Option Shown → List Node → Option Write → ℕ → ℕ → Row → Body
-answer shown tree winner place most row =
+-- what is answered for a row, by what is shown of its document, its tree, the winner's write, and
+-- whether the document left by a write and did not change since
+abbrev pub answer : Option Shown → List Node → Option Write → Bool → ℕ → Row → Body
+answer shown tree winner gone most row =
     if same_view shown (Some (said_by row))
     then body_with tree most winner
-    else (if left_by_write row.bits && is_none shown && nat_eq place row.key.by then body.Removed else body.NoRev)
+    else (if gone && is_none shown then body.Removed else body.NoRev)
 
--- the same by look-up
+-- whether the row says that its document left by a write, and that is its last change
+abbrev pub is_gone : Look → Row → Bool
+is_gone look row =
+    left_by_write row.bits
+    && nat_eq (place_in (reverse look.entries.now) look.viewer row.doc) row.key.by
+
+-- the answer by look-up
 abbrev pub looked : Look → ℕ → Row → Body
 looked look most row =
     answer (view_by (channels_have look.channels) look.filter.now (current (reverse look.entries.now) row.doc))
     (tree_on look.board.now row.doc) (write_alone (winning (reverse look.entries.now) row.doc))
-    (place_by (under look.gone row.doc)) most row
+    (is_gone look row) most row
+
+-- bodies are looked up in this board, by an index of its log, for a user and a filter; where these are the periods of the
+-- user's channels, by these
+pub record LooksIn (index : LogIndex) (board : State) (user : List ℕ) (filter : Option (List (List ℕ))) (periods : List Period) (look : Look) : Type 0 where
+  pub index_is : look.index.now ≡ index
+  pub board_is : look.board.now ≡ board
+  pub entries : look.entries.now ≡ board.log
+  pub channels : HasChannels look.channels (reverse board.log) user
+  pub filter_is : look.filter.now ≡ filter
+  pub of_user : look.viewer.user.now ≡ user
+  pub by_filter : look.viewer.filter.now ≡ filter
+  pub viewer : ArePeriods periods (λ c k. has_channel (past board.log k) user c) (length board.log) → IsViewer look.viewer (reverse board.log)

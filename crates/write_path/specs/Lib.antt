@@ -1,8 +1,9 @@
 pub mod Asks
 pub mod Bodies
 pub mod ByLook
-pub mod ByName
+pub mod Commands
 pub mod Feed
+pub mod Own
 pub mod Proposals
 pub mod Reads
 pub mod Shape

@@ -1,9 +1,6 @@
 -- What the functions of a proposal hand on to one another. Only proofs need this.
 use Rattle.std.specs.Prelude.{◌≡◌, ◌<◌, ℕ, List, ◌∷◌, take, option_map, Option, Some, None}
-use Rattle.sg_history.specs.declared.book.Waiting.{Waiting}
-use Rattle.sg_history.specs.declared.entries.Entry.{Entry}
 use Rattle.sg_history.specs.declared.entries.Write.{Write}
-use Rattle.sg_history.specs.Book.{book_of}
 use Rattle.rev_tree.specs.declared.tree.Node.{Node}
 use Rattle.rev_tree.specs.Tree.{winner_of}
 use Rattle.repl_messages.specs.declared.revision.Revision.{Revision}
@@ -37,13 +34,3 @@ abbrev pub IsStoredOrMemory : Outcome → ℕ → Type 0
 IsStoredOrMemory (outcome.Stored sequence at) front = (at ≡ front) × (front < sequence)
 IsStoredOrMemory outcome.Memory507 front = Unit {0}
 IsStoredOrMemory other front = ⊥
-
--- an entry with its number before others, where there is one
-abbrev pub own_before : Option Entry → ℕ → List Waiting → List Waiting
-own_before None number own = own
-own_before (Some e) number own = record { number = number; entry = e } ∷ own
-
--- the own entries after an answer: where a revision was stored, with the log's entry at its sequence
-abbrev pub own_after : List Waiting → List Entry → Outcome → List Waiting
-own_after own log (outcome.Stored sequence at) = own_before (book_of log sequence) sequence own
-own_after own log other = own

@@ -1,31 +1,35 @@
 //! The bodies of rows at the end of a log.
 
-ghost use Rattle.std.specs.Prelude.{◌≡◌, true, length, map, reverse, option_map, Some, IfOk};
+ghost use Rattle.std.specs.Prelude.{◌≡◌, List, true, length, map, reverse, option_map, Some, IfOk};
 ghost use Rattle.std.specs.List.{list_any};
 ghost use Rattle.std.specs.Option.{option_copied};
-ghost use Rattle.sg_history.specs.History.{entries_of, past};
+ghost use Rattle.sg_history.specs.declared.entries.Entry as entry;
+ghost use Rattle.sg_history.specs.History.{past};
+ghost use Rattle.sg_history.specs.Principals.{has_channel};
 ghost use Rattle.doc_board.specs.Boards.{board_of};
 ghost use Rattle.sg_history.specs.View.{same_view};
 ghost use Rattle.sg_history.specs.Feed as feed;
-ghost use Rattle.log_index.specs.Index.{Indexes, IsBehind};
+ghost use Rattle.log_index.specs.Index.{Indexes};
 ghost use Rattle.log_views.specs.States.{shown_in};
+ghost use Rattle.grant_history.specs.Periods.{ArePeriods};
+ghost use Rattle.grant_history.specs.Stands.{StandsFor};
+ghost use Rattle.feed_rows.specs.PassAt.{IsViewer};
 ghost use Rattle.doc_board.specs.Offers.{nodes_or_none};
 ghost use Rattle.doc_board.specs.State.{tree_on};
 ghost use Rattle.repl_messages.specs.Looks as bodies;
 ghost use Rattle.write_path.specs.Bodies.{BodiesAt};
 ghost use Rattle.write_path.specs.ByLook as by_look;
-ghost use Rattle.write_path.specs.ByName as by_name;
 
-use crate::by_name::{row_under, rows_by_name, rows_now};
 use doc_board::Board;
+use feed_rows::{Viewer, changed_last_at, viewer_of};
+use grant_history::{GrantHistory, Period, Periods};
 use log_index::LogIndex;
 use log_views::{DocState, UserChannels, channels, shown, state};
 use repl_messages::{Bodies, Body, BodyList};
 use rev_tree::Tree;
-use sg_history::{Channels, Entry, Log, Name, Options, Row, Rows, Write};
+use sg_history::{Channels, Entry, LogReads, Name, Options, Row, Write};
 use sg_outside::Memory;
 use std::alloc::Global;
-use std::collections::BTreeMap;
 
 fn is_deleted(bits: u8) -> bool
     ensures { result ≡ feed.is_deleted bits }
@@ -83,40 +87,40 @@ fn body_with(
     body_in(alloc, tree, most, write)
 }
 
-/// What is answered for a row, by what is shown of its document, its tree, its winner and the place of
-/// its last change.
+/// What is answered for a row, by what is shown of its document, its tree, its winner, and whether the
+/// document left by a write and did not change since.
 fn body_by(
     alloc: Global,
     shown: Option<DocState<'_>>,
     tree: Option<&Tree>,
     winner: Option<&Write>,
-    changed: u64,
+    is_gone: bool,
     most: u64,
     row: &Row,
 ) -> Result<Body, Memory>
     ensures { IfOk result (λ body. body ≡ by_look.answer (shown_in shown.entry)
-        (nodes_or_none (option_copied tree.entry)) (option_copied winner.entry) changed most
+        (nodes_or_none (option_copied tree.entry)) (option_copied winner.entry) is_gone most
         row.now) }
 {
     if is_still_shown(shown, row) {
         return body_with(alloc, tree, most, winner);
     }
-    if left_by_write(row.bits) && shown.is_none() && changed == row.key.by {
+    if is_gone && shown.is_none() {
         return Ok(Body::Removed);
     }
     Ok(Body::NoRev)
 }
 
-/// What bodies are looked up in: a board with its entries, an index of them, the channels of the user, and the
-/// rows of the documents that are gone.
+/// What bodies are looked up in: a board with its entries, an index of them, the channels of the user, and
+/// when the user had which, where a row says that its document left.
 #[derive(Drop)]
-struct Look<'a, 'b> {
+struct Look<'a> {
     board: &'a Board,
     index: &'a LogIndex,
     entries: &'a [Entry],
     channels: UserChannels<'a>,
     filter: &'a Option<Channels>,
-    gone: BTreeMap<&'b str, &'b Row>,
+    viewer: Viewer<'a>,
 }
 
 fn winner_of<'a>(now: Option<DocState<'a>>) -> Option<&'a Write>
@@ -128,34 +132,34 @@ fn winner_of<'a>(now: Option<DocState<'a>>) -> Option<&'a Write>
     }
 }
 
-/// The place of the last change of a document, by its row.
-fn place_by(now: Option<&Row>) -> u64
-    ensures { result ≡ by_name.place_by (option_copied now.entry) }
+/// Whether the row says that its document left by a write of its own, and it did not change since.
+fn is_gone(look: &Look<'_>, row: &Row) -> bool
+    requires index { Indexes look.now.index.now (reverse look.now.entries.now) }
+    requires viewer { bodies.left_by_write row.now.bits ≡ true
+        → IsViewer look.now.viewer (reverse look.now.entries.now) }
+    ensures { result ≡ by_look.is_gone look.now row.now }
 {
-    match now {
-        None => 0,
-        Some(now) => now.key.by,
-    }
+    left_by_write(row.bits)
+        && changed_last_at(&look.viewer, look.index, look.entries, &row.doc, row.key.by)
 }
 
-fn body_of(alloc: Global, look: &Look<'_, '_>, most: u64, row: &Row) -> Result<Body, Memory>
-    requires { Indexes look.now.index.now (reverse look.now.entries.now) }
+fn body_of(alloc: Global, look: &Look<'_>, most: u64, row: &Row) -> Result<Body, Memory>
+    requires index { Indexes look.now.index.now (reverse look.now.entries.now) }
+    requires viewer { bodies.left_by_write row.now.bits ≡ true
+        → IsViewer look.now.viewer (reverse look.now.entries.now) }
     ensures { IfOk result (λ body. body ≡ by_look.looked look.now most row.now) }
 {
     let now = state(look.index, look.entries, &row.doc);
     let shown = shown(&look.channels, look.filter, now);
     let tree = look.board.tree(&row.doc);
-    let place = place_by(row_under(&look.gone, &row.doc));
-    body_by(alloc, shown, tree, winner_of(now), place, most, row)
+    let is_gone = is_gone(look, row);
+    body_by(alloc, shown, tree, winner_of(now), is_gone, most, row)
 }
 
-fn answers_of(
-    alloc: Global,
-    look: &Look<'_, '_>,
-    most: u64,
-    rows: &[Row],
-) -> Result<BodyList, Memory>
-    requires { Indexes look.now.index.now (reverse look.now.entries.now) }
+fn answers_of(alloc: Global, look: &Look<'_>, most: u64, rows: &[Row]) -> Result<BodyList, Memory>
+    requires index { Indexes look.now.index.now (reverse look.now.entries.now) }
+    requires viewer { list_any (λ row. bodies.left_by_write row.bits) rows.now ≡ true
+        → IsViewer look.now.viewer (reverse look.now.entries.now) }
     ensures { IfOk result (λ list. list ≡ map (by_look.looked look.now most) rows.now) }
 {
     let mut list = BodyList::new(alloc);
@@ -172,76 +176,103 @@ fn any_left(rows: &[Row]) -> bool
     rows.iter().any(|row| left_by_write(row.bits))
 }
 
-/// The rows of all documents where one of these rows says that its document left, else none.
-fn rows_if_left(
+/// The periods of the user's channels where one of these rows says that its document left, else none.
+fn periods_if_left(
     alloc: Global,
-    log: &Log,
+    grants: &GrantHistory,
     user: &Name,
-    filter: &Option<Channels>,
     rows: &[Row],
-) -> Result<Rows, Memory>
-    ensures { IfOk result (λ all. list_any (λ row. bodies.left_by_write row.bits) rows.now ≡ true
-        → all ≡ feed.feed (past (entries_of log.now) (length (entries_of log.now))) user.now
-        by_name.before_all (by_name.all_rows filter.now)) }
+) -> Result<Periods, Memory>
+    ensures { IfOk result (λ periods. (entries : List entry.Entry)
+        → StandsFor grants.now entries
+        → list_any (λ row. bodies.left_by_write row.bits) rows.now ≡ true
+        → ArePeriods periods (λ c k. has_channel (past entries k) user.now c) grants.now.applied) }
 {
     if any_left(rows) {
-        return rows_now(alloc, log, user, filter);
+        return grants.periods(user);
     }
-    Ok(Rows::new(alloc))
+    Ok(Periods::new(alloc))
 }
 
-/// What a board answers for the rows that a device wants, by an index of its log. Where a row says that its document
-/// left, one pass over the log says since when it is gone.
-fn bodies_by<'a>(
+/// What bodies are looked up in, by the index of a board's log and the periods of the user's channels.
+fn look_of<'a>(
     alloc: Global,
     index: &'a LogIndex,
     board: &'a Board,
-    user: &Name,
+    user: &'a Name,
     options: &'a Options,
-    rows: &[Row],
-    most: u64,
-) -> Result<Bodies, Memory>
+    periods: &'a [Period],
+) -> Result<Look<'a>, Memory>
     requires { Indexes index.now (reverse board.now.log) }
-    ensures front { IfOk result (λ answer. answer.front ≡ length board.now.log) }
-    ensures answers { IfOk result (λ answer. answer.answers
-        ≡ map (bodies.body_of (reverse board.now.log) (tree_on board.now) user.now
-        options.now.filter most) rows.now) }
+    ensures { IfOk result (by_look.LooksIn index.now board.now user.now options.now.filter
+        periods.now) }
 {
-    feed_rows::laws::members();
-    let log = board.log();
-    let entries = log.entries.as_slice();
-    let left = rows_if_left(alloc, log, user, &options.filter, rows)?;
-    let look = Look {
+    let entries = board.log().entries.as_slice();
+    let viewer = viewer_of(alloc, user, &options.filter, periods)?;
+    let channels = channels(alloc, index, entries, user)?;
+    Ok(Look {
         board,
         index,
         entries,
-        channels: channels(alloc, index, entries, user)?,
+        channels,
         filter: &options.filter,
-        gone: rows_by_name(alloc, left.as_slice())?,
-    };
-    Ok(Bodies {
-        front: entries.len() as u64,
-        answers: answers_of(alloc, &look, most, rows)?,
+        viewer,
     })
 }
 
-/// What a board answers for the rows that a device wants: each row is looked up in an index of its log, which
-/// catches up first.
-pub fn bodies_at(
+/// What a board answers for the rows that a device wants, by the history of grants of its log, which has
+/// an index of that, too. Where a row says that its document left, the document is followed back from
+/// its last write to that row's key.
+fn bodies_by(
     alloc: Global,
-    index: &mut LogIndex,
+    grants: &GrantHistory,
     board: &Board,
     user: &Name,
     options: &Options,
     rows: &[Row],
     most: u64,
 ) -> Result<Bodies, Memory>
-    requires { IsBehind index.old board.now.log }
+    requires stands { StandsFor grants.now board.now.log }
+    requires applied { grants.now.applied ≡ length board.now.log }
+    ensures front { IfOk result (λ answer. answer.front ≡ length board.now.log) }
+    ensures answers { IfOk result (λ answer. answer.answers
+        ≡ map (bodies.body_of (reverse board.now.log) (tree_on board.now) user.now
+        options.now.filter most) rows.now) }
+{
+    let periods = periods_if_left(alloc, grants, user, rows)?;
+    let look = look_of(
+        alloc,
+        grants.index(),
+        board,
+        user,
+        options,
+        periods.as_slice(),
+    )?;
+    Ok(Bodies {
+        front: look.entries.len() as u64,
+        answers: answers_of(alloc, &look, most, rows)?,
+    })
+}
+
+/// What a board answers for the rows that a device wants: each row is looked up in the history of grants of its
+/// log, which is applied to the log's end first.
+pub fn bodies_at(
+    alloc: Global,
+    grants: &mut GrantHistory,
+    board: &Board,
+    user: &Name,
+    options: &Options,
+    rows: &[Row],
+    most: u64,
+) -> Result<Bodies, Memory>
+    requires { StandsFor grants.old board.now.log }
     ensures answer { IfOk result
         (BodiesAt (board_of board.now) user.now options.now rows.now most) }
-    ensures behind { IsBehind index.new board.now.log }
+    ensures stands { StandsFor grants.new board.now.log }
 {
     doc_board::laws::boards();
-    index.catch_up(board.log().entries.as_slice())?;
-    bodies_by(alloc, index, board, user, options, rows, most)
+    let mut reads = LogReads::new(board.log());
+    let end = reads.length();
+    grants.apply(&mut reads, end)?;
+    bodies_by(alloc, grants, board, user, options, rows, most)
 }

@@ -4,13 +4,17 @@ ghost use Rattle.std.specs.Prelude.{◌≡◌, ◌≤◌, ◌||◌, ℕ, List, O
 ghost use Rattle.std.specs.Option.{option_copied};
 ghost use Rattle.sg_history.specs.declared.book.Waiting.{Waiting};
 ghost use Rattle.sg_history.specs.Board.{BoardState};
+ghost use Rattle.sg_history.specs.Journal.{IsEntry};
+ghost use Rattle.principals.specs.Script.{entry_of};
 ghost use Rattle.write_path.specs.Reads.{Reads, WasRead, HasLength};
 ghost use Rattle.write_path.specs.Feed.{FeedAt};
 ghost use Rattle.write_path.specs.Bodies.{BodiesAt};
 ghost use Rattle.write_path.specs.Asks.{AskedAt};
+ghost use Rattle.write_path.specs.Commands.{Commands};
 ghost use Rattle.write_path.specs.Proposals.{Stores, recorded_after};
 
 use doc_board::Outcome;
+use principals::Command;
 use repl_messages::{Asked, Bodies, Fed, Offer, Revision};
 use sg_history::{Key, Name, Options, Row};
 use sg_outside::Memory;
@@ -99,5 +103,13 @@ pub trait Ground: Drop {
             (lowest_front self.new)
             (own self.old) (own self.new) (recorded self.old)
             program.now (strict || revision.noconflicts) (option_copied by.entry) revision result }
+        ensures recorded { recorded self.new ≡ recorded_after (recorded self.old) result };
+
+    /// Puts or drops a user or a role: stores the command's entry, which is in its grammar, or answers that memory is short.
+    fn command(&mut self, command: Command) -> Outcome
+        requires { IsEntry (entry_of command) }
+        ensures commands { Commands (read self.old) (read self.new) (lowest_front self.old)
+            (lowest_front self.new)
+            (own self.old) (own self.new) (recorded self.old) (entry_of command) result }
         ensures recorded { recorded self.new ≡ recorded_after (recorded self.old) result };
 }

@@ -1,8 +1,9 @@
 //! Laws of reads. Each is the contract of a function that does nothing.
 
-ghost use Rattle.std.specs.Prelude.{◌≡◌, ◌≤◌, ℕ, List, length, IsTrue, Option, Some, None};
+ghost use Rattle.std.specs.Prelude.{◌≡◌, ◌≤◌, ◌++◌, ℕ, List, length, IsTrue, Option, Some, None};
 ghost use Rattle.sg_names.specs.declared.key.Key.{Key};
 ghost use Rattle.sg_names.specs.declared.rev_id.RevId.{RevId};
+ghost use Rattle.sg_history.specs.declared.book.Waiting.{Waiting};
 ghost use Rattle.sg_history.specs.declared.entries.Entry.{Entry};
 ghost use Rattle.sg_history.specs.declared.entries.Write.{Write};
 ghost use Rattle.sg_history.specs.declared.row.Options.{Options};
@@ -16,6 +17,13 @@ ghost use Rattle.repl_messages.specs.declared.looks.Body.TheVariants as answer;
 ghost use Rattle.repl_messages.specs.declared.looks.Bodies.{Bodies};
 ghost use Rattle.repl_messages.specs.declared.looks.Fed.{Fed};
 ghost use Rattle.repl_messages.specs.Looks.{IsFed, AreBodies, winning_write, said_by, left_by_write, body_of};
+ghost use Rattle.repl_messages.specs.declared.revision.Revision.{Revision};
+ghost use Rattle.sync_syntax.specs.declared.tree.Program.{Program};
+ghost use Rattle.doc_board.specs.declared.outcome.Outcome.{Outcome};
+ghost use Rattle.doc_board.specs.State.{State};
+ghost use Rattle.write_path.specs.Commands.{IsBoardCommanded};
+ghost use Rattle.write_path.specs.Own.{in_order, own_after};
+ghost use Rattle.write_path.specs.Proposals.{IsBoardAfter};
 ghost use Rattle.write_path.specs.Feed.{FeedAt};
 ghost use Rattle.write_path.specs.Bodies.{BodiesAt};
 ghost use Rattle.sg_history.specs.History.{Extends};
@@ -70,6 +78,18 @@ pub fn was_read()
 {
     sg_history::laws::later();
 }
+
+/// A log that has, behind these entries, those that its one owner stored, in their order, has so after a proposal and after a command.
+pub fn own_entries()
+    ensures proposed { (opened : List Entry) (s t : State) (own : List Waiting) (program : Program)
+        (by : Option (List ℕ)) (r : Revision) (answer : Outcome)
+        → IsBoardAfter s t program by r answer → s.log ≡ opened ++ in_order own
+        → t.log ≡ opened ++ in_order (own_after own t.log answer) }
+    ensures commanded { (opened : List Entry) (s t : State) (own : List Waiting) (e : Entry)
+        (answer : Outcome)
+        → IsBoardCommanded s t e answer → s.log ≡ opened ++ in_order own
+        → t.log ≡ opened ++ in_order (own_after own t.log answer) }
+{}
 
 /// A body is answered exactly for a row that says what is shown to the user, which is of a document of which the user
 /// has a channel; and it is the body of the current revision's write, with that revision's first ancestors in the

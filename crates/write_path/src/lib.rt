@@ -3,7 +3,7 @@
 
 mod ask;
 mod bodies;
-mod by_name;
+mod command;
 mod feed;
 mod ground;
 mod judging;
@@ -16,6 +16,7 @@ mod trail;
 
 pub use doc_board::Outcome;
 pub use ground::Ground;
+pub use principals::Command;
 pub use shelf::Shelf;
 pub use solo::SoloGround;
 pub use sync_resolve::Resolved;

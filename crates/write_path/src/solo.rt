@@ -2,20 +2,26 @@
 
 ghost use Rattle.std.specs.Prelude.{◌≡◌, ◌||◌, [], Some, length};
 ghost use Rattle.std.specs.Option.{option_copied};
+ghost use Rattle.sg_history.specs.Journal.{IsEntry};
+ghost use Rattle.principals.specs.Script.{entry_of};
 ghost use Rattle.doc_board.specs.Boards.{board_of};
+ghost use Rattle.doc_board.specs.Outcomes.{IsOutcome};
+ghost use Rattle.write_path.specs.Commands.{Commands, IsBoardCommanded};
+ghost use Rattle.write_path.specs.Own.{EndsWith, own_after};
 ghost use Rattle.write_path.specs.Proposals.{Stores, IsBoardAfter, recorded_after};
 ghost use Rattle.write_path.specs.Reads.{IsAfterAll, IsLaterThanAll};
-ghost use Rattle.write_path.specs.Shape.{own_after};
 
 use crate::ask::asked_at;
 use crate::bodies::bodies_at;
+use crate::command::command_to;
 use crate::feed::feed_at;
 use crate::ground::Ground;
 use crate::propose::propose_to;
 use crate::shelf::Shelf;
 use crate::trail::{OwnEntries, Trail};
 use doc_board::{Board, Outcome};
-use log_index::LogIndex;
+use grant_history::GrantHistory;
+use principals::Command;
 use repl_messages::{Asked, Bodies, Fed, Offer, Revision};
 use sg_history::{Key, Name, Options, Row, entry_at};
 use sg_outside::Memory;
@@ -23,20 +29,22 @@ use std::alloc::Global;
 use std::marker::Model;
 use sync_resolve::Resolved;
 
-/// A ground that owns its shelf and waits for nobody. No room is outstanding between its calls. An index of the log
-/// is brought up to it by each look for bodies.
+/// A ground that owns its shelf and waits for nobody. No room is outstanding between its calls. Each look for bodies
+/// applies the log to a history of grants, which has an index of the log, too. Its log ends with the entries that it has
+/// stored.
 #[derive(Drop)]
 pub struct SoloGround {
     shelf: Shelf,
-    index: LogIndex,
+    grants: GrantHistory,
     read: Trail,
     own: OwnEntries,
 }
 
 impl Model for SoloGround {
     ghost use Rattle.std.specs.Prelude.{◌≡◌, []};
-    ghost use Rattle.log_index.specs.Index.{IsBehind};
+    ghost use Rattle.grant_history.specs.Stands.{StandsFor};
     ghost use Rattle.doc_board.specs.Boards.{board_of};
+    ghost use Rattle.write_path.specs.Own.{EndsWith};
     ghost use Rattle.write_path.specs.Reads.{IsAfterAll};
     ghost use Rattle.write_path.specs.Solo.{Solo};
 
@@ -45,7 +53,8 @@ impl Model for SoloGround {
     ghost view = { λ g. record { board = g.shelf.board; read = g.read; own = g.own } };
 
     ghost invariant = { λ g. IsAfterAll g.read (board_of g.shelf.board)
-        × (g.shelf.board.rooms ≡ []) × IsBehind g.index g.shelf.board.log };
+        × (g.shelf.board.rooms ≡ []) × StandsFor g.grants g.shelf.board.log
+        × EndsWith g.shelf.board.log g.own };
 }
 
 impl SoloGround {
@@ -56,21 +65,23 @@ impl SoloGround {
         ensures read { result.read ≡ [] }
         ensures own { result.own ≡ [] }
     {
-        let index = LogIndex::new(shelf.board.allocator());
+        let grants = GrantHistory::new(shelf.board.allocator());
         SoloGround {
             shelf,
-            index,
+            grants,
             read: Trail::new(),
             own: OwnEntries::new(),
         }
     }
 
-    /// The shelf, whose board comes after all that were read, so that its history counts for them; no room is outstanding.
+    /// The shelf, whose board comes after all that were read, so that its history counts for them, and ends with the entries that
+    /// were stored, in their order; no room is outstanding.
     pub fn into_inner(self) -> Shelf
         ensures board { result.board ≡ self.board }
         ensures rooms { result.board.rooms ≡ [] }
         ensures after { IsAfterAll self.read (board_of result.board) }
         ensures later { IsLaterThanAll self.read result.board.log }
+        ensures ends { EndsWith result.board.log self.own }
     {
         self.shelf
     }
@@ -125,7 +136,7 @@ impl Ground for SoloGround {
         sg_history::laws::boards();
         self.read.add(&self.shelf.board);
         let board = &self.shelf.board;
-        bodies_at(alloc, &mut self.index, board, user, options, rows, most)
+        bodies_at(alloc, &mut self.grants, board, user, options, rows, most)
     }
 
     fn ask(&mut self, alloc: Global, offers: &[Offer]) -> Result<Asked, Memory> {
@@ -148,15 +159,39 @@ impl Ground for SoloGround {
             (option_copied by.entry) revision result }
         ensures recorded { Some (length self.new.board.log)
             ≡ recorded_after (Some (length self.old.board.log)) result }
+        ensures outcome { IsOutcome program.now (strict || revision.noconflicts)
+            (option_copied by.entry) revision (board_of self.old.board) result }
+        ensures own { self.new.own ≡ own_after self.old.own self.new.board.log result }
         // The log and the rooms are as before at every answer other than Stored.
         ensures board { IsBoardAfter self.old.board self.new.board program.now
             (option_copied by.entry) revision result }
     {
         sg_history::laws::boards();
         sg_history::laws::later();
-        log_index::laws::behind();
+        grant_history::laws::extended(&self.grants);
         self.read.add(&self.shelf.board);
         let outcome = propose_to(alloc, &mut self.shelf.board, program, by, strict, revision);
+        self.read.add(&self.shelf.board);
+        record_own(&mut self.own, &self.shelf.board, &outcome);
+        outcome
+    }
+
+    fn command(&mut self, command: Command) -> Outcome
+        requires { IsEntry (entry_of command) }
+        ensures commands { Commands self.old.read self.new.read (length self.old.board.log)
+            (length self.new.board.log) self.old.own self.new.own
+            (Some (length self.old.board.log)) (entry_of command) result }
+        ensures recorded { Some (length self.new.board.log)
+            ≡ recorded_after (Some (length self.old.board.log)) result }
+        ensures own { self.new.own ≡ own_after self.old.own self.new.board.log result }
+        // The log and the rooms are as before where memory is short.
+        ensures board { IsBoardCommanded self.old.board self.new.board (entry_of command) result }
+    {
+        sg_history::laws::boards();
+        sg_history::laws::later();
+        grant_history::laws::extended(&self.grants);
+        self.read.add(&self.shelf.board);
+        let outcome = command_to(&mut self.shelf.board, command);
         self.read.add(&self.shelf.board);
         record_own(&mut self.own, &self.shelf.board, &outcome);
         outcome

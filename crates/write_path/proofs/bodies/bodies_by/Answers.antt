@@ -1,19 +1,35 @@
-use Rattle.std.proofs.Common.{◌≡◌, ◌∙◌, true, List, length, subst}
-use Rattle.std.specs.List.{list_any}
+use Rattle.std.proofs.Common.{◌∙◌, sym, subst, ℕ, List, length, reverse}
 use Rattle.sg_history.specs.declared.entries.Entry.{Entry}
 use Rattle.sg_history.specs.History.{past}
-use Rattle.sg_history.specs.Feed.{feed}
-use Rattle.doc_board.specs.State.{tree_on}
-use Rattle.log_views.specs.Has.{channels_have}
-use Rattle.repl_messages.specs.Looks.{left_by_write}
-use Rattle.write_path.specs.ByName.{under, before_all, all_rows}
+use Rattle.sg_history.specs.Principals.{has_channel}
+use Rattle.log_index.specs.declared.index.LogIndex.{LogIndex}
+use Rattle.log_index.specs.Index.{Indexes}
+use Rattle.grant_history.specs.declared.periods.Period.{Period}
+use Rattle.grant_history.specs.Periods.{ArePeriods}
+use Rattle.feed_rows.specs.PassAt.{IsViewer}
 use Rattle.write_path.proofs.AllRows.{bodies_are}
 use Rattle.write_path.proofs.bodies.bodies_by.Goals as goal
 
+pub look_of-requires : goal.look_of-requires
+look_of-requires c = c.index.ensures c.args.board.now.log c.requires.stands c.requires.applied
+
+pub answers_of-requires-clause-index : goal.answers_of-requires-clause-index
+answers_of-requires-clause-index c =
+    let indexed : Indexes c.index.result.now (reverse c.args.board.now.log) = c.index.ensures c.args.board.now.log c.requires.stands c.requires.applied in
+    subst (λ (i : LogIndex). Indexes i (reverse c.in_ok-look.look.entries.now)) (sym c.in_ok-look.ensures.index_is)
+    (subst (λ (es : List Entry). Indexes c.index.result.now (reverse es)) (sym c.in_ok-look.ensures.entries) indexed)
+
+pub answers_of-requires-clause-viewer : goal.answers_of-requires-clause-viewer
+answers_of-requires-clause-viewer c = λ some.
+    let log = c.args.board.now.log in
+    let user = c.args.user.now in
+    let are = c.in_ok-periods.ensures log c.requires.stands some in
+    let there : ArePeriods c.as_slice.result.now (λ x k. has_channel (past log k) user x) (length log) =
+    subst (λ (n : ℕ). ArePeriods c.as_slice.result.now (λ x k. has_channel (past log k) user x) n) c.requires.applied
+    (subst (λ (l : List Period). ArePeriods l (λ x k. has_channel (past log k) user x) c.args.grants.now.applied) (sym c.as_slice.ensures) are) in
+    subst (λ (es : List Entry). IsViewer c.in_ok-look.look.viewer (reverse es)) (sym c.in_ok-look.ensures.entries) (c.in_ok-look.ensures.viewer there)
+
 pub returns-clause-answers : goal.returns-clause-answers
 returns-clause-answers c =
-    let P : List Entry → Type 0 = λ h. list_any (λ row. left_by_write row.bits) c.args.rows.now ≡ true → c.in_ok-left.left ≡ feed (past h (length h)) c.args.user.now before_all (all_rows c.args.options.now.filter) in
     c.in_ok-answers_of.ensures
-    ∙ bodies_are c.members.ensures.exact c.args.board.now.log c.as_slice-entries.result.now (tree_on c.args.board.now) c.args.user.now c.args.options.now.filter c.args.most c.in_ok-left.left c.as_slice.result.now c.args.rows.now
-    (channels_have c.in_ok-channels.field-0) (under c.in_ok-rows_by_name.field-0)
-    (c.as_slice-entries.ensures ∙ c.log-log.ensures.log) c.in_ok-channels.ensures c.as_slice.ensures (subst P c.log-log.ensures.log c.in_ok-left.ensures) c.in_ok-rows_by_name.ensures
+    ∙ bodies_are c.index.result.now c.args.board.now c.args.user.now c.args.options.now.filter c.as_slice.result.now c.in_ok-look.look c.args.most c.in_ok-look.ensures c.args.rows.now

@@ -1,5 +1,0 @@
-use Rattle.write_path.proofs.Maps.{under_after}
-use Rattle.write_path.proofs.by_name.put_row.Goals as goal
-
-pub returns : goal.returns
-returns c = under_after c.args.rows.now c.insert.new.self c.args.row.now.doc c.as_str.result.now c.args.row c.as_str.ensures.value c.in_ok-insert.ensures.updates

@@ -1,0 +1,34 @@
+//! Commands: users and roles are put and dropped.
+
+ghost use Rattle.std.specs.Prelude.{◌≡◌, []};
+ghost use Rattle.sg_history.specs.Journal.{IsEntry};
+ghost use Rattle.principals.specs.Script.{entry_of};
+ghost use Rattle.write_path.specs.Commands.{IsBoardCommanded};
+
+use doc_board::{Board, Candidate, Commit, Outcome};
+use principals::Command;
+use sg_history::Number;
+
+/// Puts or drops a user or a role: the command's entry is stored at the end of the log, unless memory is short.
+pub fn command_to(board: &mut Board, command: Command) -> Outcome
+    requires rooms { board.old.rooms ≡ [] }
+    requires entry { IsEntry (entry_of command) }
+    ensures { IsBoardCommanded board.old board.new (entry_of command) result }
+{
+    let Ok(room) = board.room(None, 0) else {
+        return Outcome::Memory507;
+    };
+    let number = Number::new(board.front() + 1);
+    match board.commit(room, number, Candidate::Plain(command.into_entry())) {
+        Commit::Stored { sequence, at } => Outcome::Stored { sequence, at },
+        Commit::Stale {
+            room,
+            number,
+            candidate: _candidate,
+            last: _last,
+        } => {
+            board.void(room, number);
+            unreachable!()
+        }
+    }
+}
