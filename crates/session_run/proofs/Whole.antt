@@ -1,5 +1,5 @@
 -- What holds of whole sessions.
-use Rattle.std.proofs.Common.{◌≡◌, ◌≤◌, ℕ, Bool, List, [], ◌∷◌, ◌++◌, Option, Some, None, length, sym, ◌∙◌, ap, subst, append-nil, length-append, arith}
+use Rattle.std.proofs.Common.{◌≡◌, ◌≤◌, ◌+◌, ℕ, Bool, List, [], ◌∷◌, ◌++◌, Option, Some, None, length, sym, ◌∙◌, ap, subst, append-nil, length-append, arith}
 use Rattle.std.proofs.lemmas.List.{append_assoc}
 use Rattle.std.specs.Arc.{arc_value}
 use Rattle.sync_syntax.specs.declared.tree.Program.{Program}
@@ -9,17 +9,21 @@ use Rattle.sg_history.specs.declared.entries.Entry.{Entry}
 use Rattle.sg_history.specs.Board.{BoardState}
 use Rattle.sg_history.specs.History.{Extends}
 use Rattle.repl_messages.specs.declared.request.Version.{Version}
+use Rattle.doc_board.specs.declared.outcome.Outcome.{Outcome}
+use Rattle.doc_board.specs.declared.outcome.Outcome.TheVariants as outcome
 use Rattle.session_core.specs.declared.event.Event.{Event}
+use Rattle.session_core.specs.declared.event.Event.TheVariants as event
 use Rattle.session_core.specs.declared.look.Look.{Look}
 use Rattle.session_core.specs.Conduct.{AreWithin}
-use Rattle.session_core.specs.Fronts.{looks_of, stored_of, RiseBetween}
+use Rattle.session_core.specs.Fronts.{looks_of, stored_as, stored_by, stored_of, RiseBetween}
 use Rattle.session_core.specs.Right.{AreRight}
 use Rattle.session_core.specs.State.{Machine, new_machine}
 use Rattle.session_core.specs.Steps.{Step, Steps, Leads}
+use Rattle.write_path.specs.Proposals.{recorded_after}
 use Rattle.write_path.specs.Reads.{Reads, WasRead, IsLaterThanAll}
 use Rattle.session_run.specs.declared.ended.Ended.{Ended}
 use Rattle.session_run.specs.declared.serve.Setup.{Setup}
-use Rattle.session_run.specs.Answered.{Moment, AreAnswered, AreLooksAt, look_fronts}
+use Rattle.session_run.specs.Answered.{Moment, AreAnswered, AreLooksAt, length_after, look_fronts, recorded_by}
 use Rattle.session_run.specs.Own.{HasOwnBodies, HaveOwnBodies}
 use Rattle.session_run.specs.Served.{IsSession}
 use Rattle.session_run.specs.Turns.{SessionTurn, undone, steps_of, AreLed}
@@ -136,3 +140,59 @@ all_judged law setup start final ended results sent failed session =
     subst (λ stored. OwnSince start setup.user (arc_value setup.program) stored final) (sym session.stored)
     (own_read start session.now final setup.user (arc_value setup.program) (stored_of (undone session.halted ++ steps_of session.turns)) session.reads
     (law start session.now setup.user (arc_value setup.program) setup.strict (undone session.halted ++ steps_of session.turns) session.answered))
+
+-- ---- reads
+
+abbrev pub AnswersReads : Type 0
+AnswersReads = (start now : Moment) (user : List ℕ) (program : Program) (strict : Bool) (steps : List Step) → AreAnswered start user program strict steps now → Reads start.read now.read start.lowest now.lowest
+
+abbrev pub ReadOn : Type 0
+ReadOn = (first second third : List BoardState) (low middle high : ℕ) → Reads first second low middle → Reads second third middle high → Reads first third low high
+
+pub all_reads : AnswersReads → ReadOn → (setup : Setup) (start final : Moment) (ended : Ended) (results : List Got) (sent : List (List ℕ)) (failed : List Gave)
+    → IsSession setup start final ended results sent failed → Reads start.read final.read start.lowest final.lowest
+all_reads law on setup start final ended results sent failed session =
+    on start.read session.now.read final.read start.lowest session.now.lowest final.lowest
+    (law start session.now setup.user (arc_value setup.program) setup.strict (undone session.halted ++ steps_of session.turns) session.answered)
+    session.reads.reads
+
+-- ---- the recorded length
+
+more_stored : (m : ℕ) (answer : Outcome) → recorded_after (Some m) answer ≡ Some (m + length (stored_as answer))
+more_stored m (outcome.Bad400 field) = ap Some (omega arith)
+more_stored m (outcome.TooLarge413 bytes) = ap Some (omega arith)
+more_stored m (outcome.UserGone401 at) = ap Some (omega arith)
+more_stored m (outcome.Known at) = ap Some (omega arith)
+more_stored m (outcome.BadHistory400 at) = ap Some (omega arith)
+more_stored m (outcome.Conflict409 at leaf) = ap Some (omega arith)
+more_stored m (outcome.Denied403 at rule) = ap Some (omega arith)
+more_stored m (outcome.Stored sequence at) = ap Some (omega arith)
+more_stored m outcome.Memory507 = ap Some (omega arith)
+
+more_by : (m : ℕ) (e : Event) → length_after (Some m) e ≡ Some (m + length (stored_by e))
+more_by m (event.Whole message) = ap Some (omega arith)
+more_by m (event.Idle front) = ap Some (omega arith)
+more_by m (event.Fed answer) = ap Some (omega arith)
+more_by m (event.Bodies bodies) = ap Some (omega arith)
+more_by m (event.Asked answer) = ap Some (omega arith)
+more_by m (event.Judged answer) = more_stored m answer
+
+one_for_each : (n : ℕ) (steps : List Step) → recorded_by (Some n) steps ≡ Some (n + length (stored_of steps))
+one_for_each n [] = ap Some (omega arith)
+one_for_each n (s ∷ earlier) =
+    ap (λ (recorded : Option ℕ). length_after recorded s.event) (one_for_each n earlier)
+    ∙ more_by (n + length (stored_of earlier)) s.event
+    ∙ ap Some (omega (arith, length-append (stored_of earlier) (stored_by s.event)))
+
+abbrev pub AnswersRecorded : Type 0
+AnswersRecorded = (start now : Moment) (user : List ℕ) (program : Program) (strict : Bool) (steps : List Step) → AreAnswered start user program strict steps now → now.recorded ≡ recorded_by start.recorded steps
+
+pub all_recorded : AnswersRecorded → (setup : Setup) (start final : Moment) (ended : Ended) (results : List Got) (sent : List (List ℕ)) (failed : List Gave) (n : ℕ)
+    → IsSession setup start final ended results sent failed → start.recorded ≡ Some n → final.recorded ≡ Some (n + length ended.stored)
+all_recorded law setup start final ended results sent failed n session is =
+    let steps : List Step = undone session.halted ++ steps_of session.turns in
+    session.reads.recorded
+    ∙ law start session.now setup.user (arc_value setup.program) setup.strict steps session.answered
+    ∙ ap (λ (recorded : Option ℕ). recorded_by recorded steps) is
+    ∙ one_for_each n steps
+    ∙ ap (λ (stored : List ℕ). Some (n + length stored)) (sym session.stored)

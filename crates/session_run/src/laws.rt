@@ -1,6 +1,6 @@
 //! Laws of what a ground answers to a session. Each is the contract of a function that does nothing.
 
-ghost use Rattle.std.specs.Prelude.{◌≡◌, ◌++◌, ◌∷◌, ℕ, Bool, List, Option, length, map, reverse};
+ghost use Rattle.std.specs.Prelude.{◌≡◌, ◌+◌, ◌++◌, ◌∷◌, ℕ, Bool, List, Option, Some, length, map, reverse};
 ghost use Rattle.std.specs.Arc.{arc_value};
 ghost use Rattle.sg_history.specs.declared.book.Waiting.{Waiting};
 ghost use Rattle.sg_history.specs.declared.entries.Entry.{Entry};
@@ -89,7 +89,8 @@ pub fn own_bodies()
 /// Of a whole session: its steps lead on from a new one, so that what is said of such steps is said of these; by every history that is
 /// later than all boards read none of them puts a foreign body; what the ground has of its own since are the entries at the listed
 /// sequences, each the write of a revision of the user with the effects with which the setup's program accepts it; and the listed looks
-/// are, in order, at the lengths of the logs of boards that were read, each for that look, and don't fall.
+/// are, in order, at the lengths of the logs of boards that were read, each for that look, and don't fall; the boards that were read
+/// come after those before it; and a recorded length has grown by one for each stored revision.
 pub fn sessions()
     ensures leads { (user : List ℕ) (version : Version) (strict : Bool) (halted : Option Event)
         (turns : List SessionTurn) (m : Machine)
@@ -121,6 +122,14 @@ pub fn sessions()
         (sent : List (List ℕ)) (failed : List Gave)
         → IsSession setup start final ended results sent failed
         → RiseBetween start.lowest (look_fronts ended.looks) final.lowest }
+    ensures reads { (setup : Setup) (start final : Moment) (ended : Ended) (results : List Got)
+        (sent : List (List ℕ)) (failed : List Gave)
+        → IsSession setup start final ended results sent failed
+        → Reads start.read final.read start.lowest final.lowest }
+    ensures recorded { (setup : Setup) (start final : Moment) (ended : Ended) (results : List Got)
+        (sent : List (List ℕ)) (failed : List Gave) (n : ℕ)
+        → IsSession setup start final ended results sent failed
+        → start.recorded ≡ Some n → final.recorded ≡ Some (n + length ended.stored) }
 {
     answers();
     own_bodies();

@@ -1,4 +1,4 @@
-use Rattle.session_run.proofs.Whole.{all_lead, all_right, all_own, all_judged, all_looks, all_fronts}
+use Rattle.session_run.proofs.Whole.{all_lead, all_right, all_own, all_judged, all_looks, all_fronts, all_reads, all_recorded}
 use Rattle.session_run.proofs.laws.sessions.Goals as goal
 
 pub returns-clause-leads : goal.returns-clause-leads
@@ -18,3 +18,9 @@ returns-clause-looks c = all_looks c.answers.ensures.looks
 
 pub returns-clause-fronts : goal.returns-clause-fronts
 returns-clause-fronts c = all_fronts c.answers.ensures.fronts
+
+pub returns-clause-reads : goal.returns-clause-reads
+returns-clause-reads c = all_reads c.answers.ensures.reads c.reads.ensures.transitive
+
+pub returns-clause-recorded : goal.returns-clause-recorded
+returns-clause-recorded c = all_recorded c.answers.ensures.recorded
