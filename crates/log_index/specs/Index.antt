@@ -1,10 +1,9 @@
 -- When an index is that of these entries.
-use Rattle.std.specs.Prelude.{◌≡◌, ◌<◌, ◌≤◌, ℕ, List, length, reverse, None}
+use Rattle.std.specs.Prelude.{◌≡◌, ◌<◌, ℕ, List, length, reverse, None}
 use Rattle.std.specs.BTreeMap.{get_by_text}
 use Rattle.sg_names.specs.declared.grants.Grantee.{Grantee}
 use Rattle.sg_names.specs.declared.rev_id.RevId.{RevId}
 use Rattle.sg_history.specs.declared.entries.Entry.{Entry}
-use Rattle.sg_history.specs.History.{past}
 use Rattle.log_index.specs.declared.index.LogIndex.{LogIndex}
 use Rattle.log_index.specs.Places.{first_seq, revision_seq, document_at, last_put, granting_seqs, documents_before}
 use Rattle.log_index.specs.Representation.{seq_in, put_in}
@@ -25,8 +24,3 @@ pub record Indexes (index : LogIndex) (es : List Entry) : Type 0 where
   pub places : HasPlaces index es
   pub granting : index.granting.items ≡ reverse (granting_seqs es)
   pub before : index.before.items ≡ reverse (documents_before es)
-
--- the index is that of the first of these entries, as many as it has
-pub record IsBehind (index : LogIndex) (entries : List Entry) : Type 0 where
-  pub count : index.count ≤ length entries
-  pub indexes : Indexes index (past entries index.count)

@@ -7,7 +7,7 @@ ghost use Rattle.sg_history.specs.declared.entries.Entry.TheVariants as kinds;
 ghost use Rattle.sg_history.specs.History.{as_write};
 ghost use Rattle.sg_history.specs.Puts.{grantee_in};
 ghost use Rattle.sg_names.specs.declared.grants.Grantee.TheVariants as grantee;
-ghost use Rattle.log_index.specs.Index.{HasPlaces, Indexes, IsBehind};
+ghost use Rattle.log_index.specs.Index.{HasPlaces, Indexes};
 ghost use Rattle.log_index.specs.Places as places;
 ghost use Rattle.log_index.specs.Places.{document_at, revision_seq, last_put, granting_seqs, document_before, before_at};
 ghost use Rattle.log_index.specs.Representation.{winning_seq};
@@ -50,7 +50,6 @@ impl LogIndex {
     /// The index of no entries. Allocates nothing.
     pub fn new(alloc: Global) -> LogIndex
         ensures empty { Indexes result [] }
-        ensures behind { (entries : List Entry) → IsBehind result entries }
     {
         LogIndex {
             alloc,
@@ -149,19 +148,6 @@ impl LogIndex {
         self.count = seq;
         keep_if(&mut self.granting, grants_any(entry.as_write()), seq);
         self.before.push_reserved(before);
-        Ok(())
-    }
-
-    /// Takes the entries that it does not have yet. Out of memory it may have taken some.
-    pub fn catch_up(&mut self, entries: &[Entry]) -> Result<(), AllocError>
-        requires { IsBehind self.old entries.now }
-        ensures ok { OnOk result (Indexes self.new (reverse entries.now)) }
-        ensures behind { IsBehind self.new entries.now }
-    {
-        let from = self.count as usize;
-        for entry in &entries[from..] {
-            self.push(entry)?;
-        }
         Ok(())
     }
 

@@ -6,7 +6,6 @@ mod by_name;
 mod documents;
 mod granting;
 mod index;
-pub mod laws;
 mod principals;
 mod revisions;
 
