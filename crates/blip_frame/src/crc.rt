@@ -42,7 +42,8 @@ fn register_after(start: u32, bytes: &[u8]) -> u32
 
 /// Takes bytes in, eight at a time, and gives the register and the bytes that are left.
 fn after_eights(start: u32, bytes: &[u8]) -> (u32, &[u8])
-    ensures { after_bits result.0 (flat_map bits_of result.1.now) ≡ after_bits start (flat_map bits_of bytes.now) }
+    ensures { after_bits result.0 (flat_map bits_of result.1.now)
+        ≡ after_bits start (flat_map bits_of bytes.now) }
 {
     let mut register = start;
     let mut rest = bytes;

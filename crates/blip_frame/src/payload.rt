@@ -96,7 +96,8 @@ pub fn read_payload(alloc: Global, bytes: &[u8]) -> Result<Payload, PayloadFault
 
 fn payload_of(alloc: Global, bytes: &[u8]) -> Result<Payload, PayloadFault>
     ensures ok { IfOk result (λ p. payload_at bytes.now ≡ Ok (p.props, p.body)) }
-    ensures err { IfErr result (λ fault. fault ≢ PayloadFault.Memory → payload_at bytes.now ≡ Err fault) }
+    ensures err { IfErr result
+        (λ fault. fault ≢ PayloadFault.Memory → payload_at bytes.now ≡ Err fault) }
 {
     let (props, body) = props_and_body(alloc, bytes)?;
     let body = Bytes::from_slice(alloc, body)?;
@@ -131,7 +132,8 @@ fn without_front(bytes: Bytes, start: usize) -> Bytes
 fn props_and_body(alloc: Global, bytes: &[u8]) -> Result<(Props, &[u8]), PayloadFault>
     ensures ok { IfOk result (λ x. payload_at bytes.now ≡ Ok (x.0, x.1.now)) }
     ensures last { IfOk result (λ x. (front : List ℕ) × (bytes.now ≡ front ++ x.1.now)) }
-    ensures err { IfErr result (λ fault. fault ≢ PayloadFault.Memory → payload_at bytes.now ≡ Err fault) }
+    ensures err { IfErr result
+        (λ fault. fault ≢ PayloadFault.Memory → payload_at bytes.now ≡ Err fault) }
 {
     let (size, rest) = read_varint(bytes)?;
     if size > rest.len() as u64 {
@@ -146,7 +148,8 @@ fn props_and_body(alloc: Global, bytes: &[u8]) -> Result<(Props, &[u8]), Payload
 #[tactic(auto, unfolding(crate::specs::Payload::block_at))]
 fn props_of(alloc: Global, block: &[u8]) -> Result<Props, PayloadFault>
     ensures ok { IfOk result (λ p. block_at block.now ≡ Ok p) }
-    ensures err { IfErr result (λ fault. fault ≢ PayloadFault.Memory → block_at block.now ≡ Err fault) }
+    ensures err { IfErr result
+        (λ fault. fault ≢ PayloadFault.Memory → block_at block.now ≡ Err fault) }
 {
     if !is_closed(block) {
         return Err(PayloadFault::NotClosed);

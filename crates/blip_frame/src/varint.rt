@@ -32,7 +32,8 @@ pub fn read_varint(bytes: &[u8]) -> Result<(u64, &[u8]), VarintFault>
 }
 
 fn number_of(bytes: &[u8]) -> Result<(u64, &[u8]), VarintFault>
-    ensures { MatchResult result (λ x. number_at bytes.now ≡ Ok (x.0, x.1.now)) (λ fault. number_at bytes.now ≡ Err fault) }
+    ensures { MatchResult result (λ x. number_at bytes.now ≡ Ok (x.0, x.1.now))
+        (λ fault. number_at bytes.now ≡ Err fault) }
 {
     let mut value: u64 = 0;
     let mut scale: u64 = 1;

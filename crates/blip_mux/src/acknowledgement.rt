@@ -43,10 +43,13 @@ impl Acknowledgement {
 
     /// Writes its frame. Out of memory checksum and `out` stay as they were.
     pub(crate) fn write(&self, crc: &mut Crc, out: &mut Bytes) -> Result<(), Memory>
-        ensures ok { OnOk result (out.new ≡ out.old ++ spelling (value_after crc.old.value (ack_frame self.now)) (ack_frame self.now)) }
-        ensures value { OnOk result (crc.new.value ≡ value_after crc.old.value (ack_frame self.now)) }
+        ensures ok { OnOk result (out.new ≡ out.old
+            ++ spelling (value_after crc.old.value (ack_frame self.now)) (ack_frame self.now)) }
+        ensures value { OnOk result
+            (crc.new.value ≡ value_after crc.old.value (ack_frame self.now)) }
         ensures sent { (sent : List ℕ) → crc.old.value ≡ checksum sent
-            → OnOk result (WritesAfter sent out.old out.new (ack_frame self.now) × (crc.new.value ≡ checksum (sent_after sent (ack_frame self.now)))) }
+            → OnOk result (WritesAfter sent out.old out.new (ack_frame self.now)
+            × (crc.new.value ≡ checksum (sent_after sent (ack_frame self.now)))) }
         ensures err { OnErr result ((out.new ≡ out.old) × (crc.new ≡ crc.old)) }
     {
         let payload = Varint::new(self.bytes);

@@ -118,7 +118,9 @@ impl Inbox {
 
     fn may_take(&self, frame: &Frame<'_>) -> bool
         requires { has_checksum frame.now.kind ≡ true }
-        ensures { result ≡ may_come self.now.requests (set.contains self.now.expected frame.now.number) (so_far_at self.now (parts_of frame.now)) (parts_of frame.now) }
+        ensures { result
+            ≡ may_come self.now.requests (set.contains self.now.expected frame.now.number)
+            (so_far_at self.now (parts_of frame.now)) (parts_of frame.now) }
     {
         match self.begun_kind(frame) {
             Some(kind) => kind == frame.kind,
@@ -141,7 +143,9 @@ impl Inbox {
     #[tactic(auto, using(crate::proofs::Classes::of_class))]
     fn may_begin(&self, frame: &Frame<'_>) -> bool
         requires { has_checksum frame.now.kind ≡ true }
-        ensures { result ≡ may_begin self.now.requests (set.contains self.now.expected frame.now.number) (parts_of frame.now) }
+        ensures { result
+            ≡ may_begin self.now.requests (set.contains self.now.expected frame.now.number)
+            (parts_of frame.now) }
     {
         match class_of(frame.kind) {
             Class::Request => self.requests.checked_add(1) == Some(frame.number),
@@ -152,9 +156,12 @@ impl Inbox {
     /// Takes a frame that may come.
     fn take_part(&mut self, frame: &Frame<'_>) -> Result<Taken, TakeFault>
         requires { has_checksum frame.now.kind ≡ true }
-        ensures taken { IfOk result (λ taken. given_by (begun_or (so_far_at self.old (parts_of frame.now)) (parts_of frame.now)) (parts_of frame.now) ≡ Ok taken) }
+        ensures taken { IfOk result
+            (λ taken. given_by (begun_or (so_far_at self.old (parts_of frame.now))
+            (parts_of frame.now)) (parts_of frame.now) ≡ Ok taken) }
         ensures fault { IfErr result (λ fault. fault ≢ TakeFault.Memory
-            → given_by (begun_or (so_far_at self.old (parts_of frame.now)) (parts_of frame.now)) (parts_of frame.now) ≡ Err fault) }
+            → given_by (begun_or (so_far_at self.old (parts_of frame.now)) (parts_of frame.now))
+            (parts_of frame.now) ≡ Err fault) }
         ensures memory { IfErr result (λ fault. fault ≢ TakeFault.Payload PayloadFault.Memory) }
         ensures after { OnOk result (self.new ≡ taken_after self.old (parts_of frame.now)) }
         ensures unchanged { OnErr result (self.new ≡ self.old) }
@@ -174,7 +181,8 @@ impl Inbox {
 
 /// What an acknowledgement says.
 fn acknowledgement_of(frame: &Frame<'_>) -> Result<Taken, TakeFault>
-    ensures { result ≡ acknowledged (parts_of frame.now) (count_in (number_at frame.now.payload.now)) }
+    ensures { result
+        ≡ acknowledged (parts_of frame.now) (count_in (number_at frame.now.payload.now)) }
 {
     match read_varint(frame.payload) {
         Ok((bytes, [])) => Ok(Taken::Ack {

@@ -86,8 +86,11 @@ impl Part {
         alloc: Global,
         frame: &Frame<'_>,
     ) -> Result<Message, TakeFault>
-        ensures ok { IfOk result (λ message. message_by self.old (parts_of frame.now) ≡ Ok message) }
-        ensures fault { IfErr result (λ fault. fault ≢ TakeFault.Memory → message_by self.old (parts_of frame.now) ≡ Err fault) }
+        ensures ok { IfOk result
+            (λ message. message_by self.old (parts_of frame.now) ≡ Ok message) }
+        ensures fault { IfErr result
+            (λ fault. fault ≢ TakeFault.Memory
+            → message_by self.old (parts_of frame.now) ≡ Err fault) }
         ensures memory { IfErr result (λ fault. fault ≢ TakeFault.Payload PayloadFault.Memory) }
         ensures unchanged { OnErr result (self.new ≡ self.old) }
     {
@@ -104,8 +107,11 @@ impl Part {
 
 /// The message of one frame.
 pub(crate) fn only_message(alloc: Global, frame: &Frame<'_>) -> Result<Message, TakeFault>
-    ensures ok { IfOk result (λ message. message_by (begun_by (parts_of frame.now)) (parts_of frame.now) ≡ Ok message) }
-    ensures fault { IfErr result (λ fault. fault ≢ TakeFault.Memory → message_by (begun_by (parts_of frame.now)) (parts_of frame.now) ≡ Err fault) }
+    ensures ok { IfOk result
+        (λ message. message_by (begun_by (parts_of frame.now)) (parts_of frame.now) ≡ Ok message) }
+    ensures fault { IfErr result
+        (λ fault. fault ≢ TakeFault.Memory
+        → message_by (begun_by (parts_of frame.now)) (parts_of frame.now) ≡ Err fault) }
     ensures memory { IfErr result (λ fault. fault ≢ TakeFault.Payload PayloadFault.Memory) }
 {
     let payload = payload_of(alloc, frame.payload)?;
@@ -122,7 +128,9 @@ pub(crate) fn only_message(alloc: Global, frame: &Frame<'_>) -> Result<Message, 
 /// were at a fault.
 fn payload_with(alloc: Global, bytes: &mut Bytes, last: &[u8]) -> Result<Payload, TakeFault>
     ensures ok { IfOk result (λ p. payload_at (bytes.old ++ last.now) ≡ Ok (p.props, p.body)) }
-    ensures fault { IfErr result (λ fault. fault ≢ TakeFault.Memory → with_fault (payload_at (bytes.old ++ last.now)) ≡ Err fault) }
+    ensures fault { IfErr result
+        (λ fault. fault ≢ TakeFault.Memory
+        → with_fault (payload_at (bytes.old ++ last.now)) ≡ Err fault) }
     ensures memory { IfErr result (λ fault. fault ≢ TakeFault.Payload PayloadFault.Memory) }
     ensures unchanged { OnErr result (bytes.new ≡ bytes.old) }
 {
@@ -141,7 +149,8 @@ fn payload_with(alloc: Global, bytes: &mut Bytes, last: &[u8]) -> Result<Payload
 
 fn payload_of(alloc: Global, bytes: &[u8]) -> Result<Payload, TakeFault>
     ensures ok { IfOk result (λ p. payload_at bytes.now ≡ Ok (p.props, p.body)) }
-    ensures err { IfErr result (λ fault. fault ≢ TakeFault.Memory → with_fault (payload_at bytes.now) ≡ Err fault) }
+    ensures err { IfErr result
+        (λ fault. fault ≢ TakeFault.Memory → with_fault (payload_at bytes.now) ≡ Err fault) }
     ensures memory { IfErr result (λ fault. fault ≢ TakeFault.Payload PayloadFault.Memory) }
 {
     match read_payload(alloc, bytes) {

@@ -72,8 +72,11 @@ impl Parts {
 
     /// Takes a frame that is not the last, where its message has begun.
     fn grow(&mut self, frame: &Frame<'_>) -> Result<Option<Taken>, Memory>
-        ensures answer { IfOk result (λ found. found ≡ option_map (λ b. part_by b (parts_of frame.now)) (map.get self.old frame.now.number)) }
-        ensures after { OnOk result (self.new ≡ option_map_or (λ b. map.insert self.old frame.now.number (with_frame b (parts_of frame.now))) (map.get self.old frame.now.number) self.old) }
+        ensures answer { IfOk result (λ found. found ≡ option_map
+            (λ b. part_by b (parts_of frame.now)) (map.get self.old frame.now.number)) }
+        ensures after { OnOk result (self.new ≡ option_map_or
+            (λ b. map.insert self.old frame.now.number (with_frame b (parts_of frame.now)))
+            (map.get self.old frame.now.number) self.old) }
         ensures err { OnErr result (self.new ≡ self.old) }
     {
         match self.parts.get_mut(&frame.number) {
@@ -84,8 +87,12 @@ impl Parts {
 
     /// Takes a frame that is not the last of its message.
     fn take_more(&mut self, frame: &Frame<'_>) -> Result<Taken, Memory>
-        ensures taken { IfOk result (λ taken. taken ≡ part_by (begun_or (map.get self.old frame.now.number) (parts_of frame.now)) (parts_of frame.now)) }
-        ensures after { OnOk result (self.new ≡ map.insert self.old frame.now.number (with_frame (begun_or (map.get self.old frame.now.number) (parts_of frame.now)) (parts_of frame.now))) }
+        ensures taken { IfOk result (λ taken. taken
+            ≡ part_by (begun_or (map.get self.old frame.now.number) (parts_of frame.now))
+            (parts_of frame.now)) }
+        ensures after { OnOk result (self.new ≡ map.insert self.old frame.now.number
+            (with_frame (begun_or (map.get self.old frame.now.number) (parts_of frame.now))
+            (parts_of frame.now))) }
         ensures err { OnErr result (self.new ≡ self.old) }
     {
         if let Some(taken) = self.grow(frame)? {
@@ -99,11 +106,15 @@ impl Parts {
 
     /// The message whose last frame this is. At a fault all stays as it was.
     fn message_with(&mut self, frame: &Frame<'_>) -> Result<Message, TakeFault>
-        ensures ok { IfOk result (λ message. message_by (begun_or (map.get self.old frame.now.number) (parts_of frame.now)) (parts_of frame.now) ≡ Ok message) }
+        ensures ok { IfOk result
+            (λ message. message_by (begun_or (map.get self.old frame.now.number)
+            (parts_of frame.now)) (parts_of frame.now) ≡ Ok message) }
         ensures fault { IfErr result (λ fault. fault ≢ TakeFault.Memory
-            → message_by (begun_or (map.get self.old frame.now.number) (parts_of frame.now)) (parts_of frame.now) ≡ Err fault) }
+            → message_by (begun_or (map.get self.old frame.now.number) (parts_of frame.now))
+            (parts_of frame.now) ≡ Err fault) }
         ensures memory { IfErr result (λ fault. fault ≢ TakeFault.Payload PayloadFault.Memory) }
-        ensures after { OnOk result (map.remove self.new frame.now.number ≡ map.remove self.old frame.now.number) }
+        ensures after { OnOk result (map.remove self.new frame.now.number
+            ≡ map.remove self.old frame.now.number) }
         ensures unchanged { OnErr result (self.new ≡ self.old) }
     {
         match self.parts.get_mut(&frame.number) {
@@ -114,9 +125,12 @@ impl Parts {
 
     /// Takes a frame of a message that has begun, or the first of one.
     pub(crate) fn take(&mut self, frame: &Frame<'_>) -> Result<Taken, TakeFault>
-        ensures taken { IfOk result (λ taken. given_by (begun_or (map.get self.old frame.now.number) (parts_of frame.now)) (parts_of frame.now) ≡ Ok taken) }
+        ensures taken { IfOk result
+            (λ taken. given_by (begun_or (map.get self.old frame.now.number) (parts_of frame.now))
+            (parts_of frame.now) ≡ Ok taken) }
         ensures fault { IfErr result (λ fault. fault ≢ TakeFault.Memory
-            → given_by (begun_or (map.get self.old frame.now.number) (parts_of frame.now)) (parts_of frame.now) ≡ Err fault) }
+            → given_by (begun_or (map.get self.old frame.now.number) (parts_of frame.now))
+            (parts_of frame.now) ≡ Err fault) }
         ensures memory { IfErr result (λ fault. fault ≢ TakeFault.Payload PayloadFault.Memory) }
         ensures after { OnOk result (self.new ≡ begun_after self.old (parts_of frame.now)) }
         ensures unchanged { OnErr result (self.new ≡ self.old) }

@@ -61,11 +61,15 @@ impl Queue {
 
     /// Writes the next frame of the message that sends next, and then puts it last where it has more.
     pub(crate) fn write_next(&mut self, crc: &mut Crc, out: &mut Bytes) -> Result<Next, Memory>
-        ensures frame { IfOk result (λ next. Sends (next_piece self.old) next crc.old.value crc.new.value out.old out.new) }
+        ensures frame { IfOk result
+            (λ next. Sends (next_piece self.old) next crc.old.value crc.new.value out.old out.new) }
         ensures after { OnOk result (self.new ≡ after_piece self.old) }
         ensures idle { next_piece self.old ≡ None → result ≡ Ok Next.Idle }
-        ensures sent { (sent : List ℕ) → crc.old.value ≡ checksum sent → IfOk result (λ next. SendsAfter sent (next_piece self.old) next crc.new.value out.old out.new) }
-        ensures err { OnErr result ((self.new ≡ self.old) × (crc.new ≡ crc.old) × (out.new ≡ out.old)) }
+        ensures sent { (sent : List ℕ) → crc.old.value ≡ checksum sent
+            → IfOk result
+            (λ next. SendsAfter sent (next_piece self.old) next crc.new.value out.old out.new) }
+        ensures err { OnErr result ((self.new ≡ self.old) × (crc.new ≡ crc.old)
+            × (out.new ≡ out.old)) }
     {
         let Some(turn) = self.messages.next_turn() else {
             return Ok(Next::Idle);

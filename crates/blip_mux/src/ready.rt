@@ -69,7 +69,8 @@ impl Ready {
     pub(crate) fn put(&mut self, turn: ReadyMessage)
         requires { count_in turn.urgent self.old < room_in turn.urgent self.old }
         ensures times { (u : Bool) (q : ℕ) → times q (stamps_in u self.new)
-            ≡ cond (same_flag turn.urgent u && turn.stamp == q) 1 0 + times q (stamps_in u self.old) }
+            ≡ cond (same_flag turn.urgent u && turn.stamp == q) 1 0
+            + times q (stamps_in u self.old) }
         ensures count { (u : Bool) → count_in u self.new
             ≡ cond (same_flag turn.urgent u) 1 0 + count_in u self.old }
         ensures room { (u : Bool) → room_in u self.old ≤ room_in u self.new }
@@ -100,7 +101,8 @@ impl Ready {
     pub(crate) fn drop_first(&mut self, turn: ReadyMessage)
         requires { IsLowest turn.stamp (stamps_in turn.urgent self.old) }
         ensures times { (u : Bool) (q : ℕ) → times q (stamps_in u self.new)
-            + cond (same_flag turn.urgent u && turn.stamp == q) 1 0 ≡ times q (stamps_in u self.old) }
+            + cond (same_flag turn.urgent u && turn.stamp == q) 1 0
+            ≡ times q (stamps_in u self.old) }
         ensures count { (u : Bool) → count_in u self.new
             + cond (same_flag turn.urgent u) 1 0 ≡ count_in u self.old }
         ensures room { (u : Bool) → room_in u self.new ≡ room_in u self.old }

@@ -157,7 +157,8 @@ impl Stamped {
         requires more { IfSome (message_at self.old turn.stamp) (λ w. has_more w ≡ true) }
         ensures keeps { Keeps self.new }
         ensures after { IfSome (message_at self.old turn.stamp)
-            (λ w. OnOk result (listed self.new ≡ listed_without turn.stamp self.old ++ without_piece w ∷ [])) }
+            (λ w. OnOk result (listed self.new
+            ≡ listed_without turn.stamp self.old ++ without_piece w ∷ [])) }
         ensures wrote { IfSome (message_at self.old turn.stamp)
             (λ w. OnOk result (Writes w crc.old.value crc.new.value out.old out.new)) }
         ensures err { OnErr result ((self.new.messages.entries ≡ self.old.messages.entries)
@@ -207,7 +208,8 @@ impl Stamped {
         ensures none { stands class number self.old ≡ None
             → self.new.messages.entries ≡ self.old.messages.entries }
         ensures some { (q : ℕ) → stands class number self.old ≡ Some q
-            → IfSome (message_at self.old q) (λ w. self.new.messages.entries ≡ with_message q self.old.messages.entries (acked bytes w)) }
+            → IfSome (message_at self.old q) (λ w. self.new.messages.entries
+            ≡ with_message q self.old.messages.entries (acked bytes w)) }
     {
         let Some(stamp) = self.index.get(class, number) else {
             return;

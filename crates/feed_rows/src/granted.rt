@@ -10,7 +10,7 @@ use sg_history::{Channels, Log, LogReads, Name};
 use std::alloc::{AllocError, Global};
 
 /// The history of grants of a log up to a place.
-pub(crate) fn history_of(alloc: Global, log: &Log, front: u64) -> Result<GrantHistory, AllocError>
+fn history_of(alloc: Global, log: &Log, front: u64) -> Result<GrantHistory, AllocError>
     requires { front ≤ length (entries_of log.now) }
     ensures stands { IfOk result (λ history. StandsFor history (entries_of log.now)) }
     ensures applied { IfOk result (λ history. history.applied ≡ front) }

@@ -80,7 +80,8 @@ fn nodes_of(alloc: Global, items: &Vec<Value>) -> Result<Nodes, Memory>
 /// The members of an object, their values as nodes.
 #[cycle(convert)]
 pub(crate) fn members_of(alloc: Global, members: &Map<String, Value>) -> Result<Members, Memory>
-    ensures { IfOk result (λ made. members_fields made ≡ fields_of (members_view members.now.entries)) }
+    ensures { IfOk result
+        (λ made. members_fields made ≡ fields_of (members_view members.now.entries)) }
 {
     let mut made = Members::new(alloc);
     for (key, value) in members.iter() {

@@ -292,7 +292,8 @@ fn channels_by<'a>(
 ) -> Result<UserChannels<'a>, Memory>
     requires { Indexes index.now (reverse entries.now) }
     ensures { IfOk result (λ channels. (c : List ℕ) → channels_have channels c
-        ≡ user_has (reverse entries.now) (granting_now entries.now) name.now (given_in put.entry) c) }
+        ≡ user_has (reverse entries.now) (granting_now entries.now) name.now
+        (given_in put.entry) c) }
 {
     let documents = granting(alloc, index, entries)?;
     let mut names = BTreeMap::new(alloc);

@@ -32,8 +32,10 @@ pub fn write_changes(alloc: Global, rows: &[Row], version: Version) -> Result<Pa
 }
 
 fn changes_body(alloc: Global, rows: &[Row], version: Version) -> Result<Bytes, Memory>
-    ensures text { IfOk result (λ body. body ≡ compact_text (changes.changes_data version rows.now)) }
-    ensures read { IfOk result (λ body. json_of body ≡ Some (changes.changes_data version rows.now)) }
+    ensures text { IfOk result
+        (λ body. body ≡ compact_text (changes.changes_data version rows.now)) }
+    ensures read { IfOk result
+        (λ body. json_of body ≡ Some (changes.changes_data version rows.now)) }
 {
     let value = changes_value(alloc, rows, version)?;
     let text = value.to_vec(alloc)?;
@@ -73,7 +75,8 @@ fn sequence_value(alloc: Global, key: &Key) -> Result<Value, Memory>
 
 /// Puts what stands after the names at the end.
 fn push_mark(items: &mut Vec<Value>, bits: u8, version: Version) -> Result<(), Memory>
-    ensures { OnOk result (map view items.new.items ≡ map view items.old.items ++ changes.mark version bits) }
+    ensures { OnOk result (map view items.new.items
+        ≡ map view items.old.items ++ changes.mark version bits) }
 {
     match version {
         Version::Two if bits == 1 || bits == 5 => items.push(Value::from(true))?,

@@ -16,7 +16,8 @@ use std::alloc::{AllocError, Global};
 
 /// The client that a property names.
 fn client_of(alloc: Global, value: Option<&str>) -> Result<Option<Client>, AllocError>
-    ensures { IfOk result (λ client. client ≡ option_and_then checkpoints.client_of (option_copied value.entry)) }
+    ensures { IfOk result
+        (λ client. client ≡ option_and_then checkpoints.client_of (option_copied value.entry)) }
 {
     let Some(text) = value else {
         return Ok(None);
@@ -43,7 +44,8 @@ fn number_of(value: Option<&str>) -> Option<u64>
 
 /// Whether a body is a JSON object.
 fn is_object(alloc: Global, body: &[u8]) -> Result<bool, AllocError>
-    ensures { IfOk result (λ found. (if found then Some body.now else None) ≡ checkpoints.object_body body.now) }
+    ensures { IfOk result
+        (λ found. (if found then Some body.now else None) ≡ checkpoints.object_body body.now) }
 {
     match value_of(alloc, body)? {
         Some(Value::Object(_)) => Ok(true),
@@ -87,7 +89,8 @@ fn set_checkpoint(
     number: Option<u64>,
     payload: &Payload,
 ) -> Result<Request, RequestFault>
-    ensures { result ≢ Err RequestFault.Memory → result ≡ checkpoints.set_checkpoint number payload.now }
+    ensures { result ≢ Err RequestFault.Memory
+        → result ≡ checkpoints.set_checkpoint number payload.now }
 {
     let client = or_bad(
         Field::Client,

@@ -137,7 +137,8 @@ fn write_conflict(leaf: &RevId, out: &mut Bytes) -> Result<(), Memory>
 
 /// Puts the words for another checkpoint at the end.
 fn write_checkpoint(current: u64, out: &mut Bytes) -> Result<(), Memory>
-    ensures { OnOk result (out.new ≡ out.old ++ (codes "checkpoint is " ++ checkpoint_rev current)) }
+    ensures { OnOk result (out.new
+        ≡ out.old ++ (codes "checkpoint is " ++ checkpoint_rev current)) }
 {
     out.extend_from_slice(b"checkpoint is 0-")?;
     write_decimal(current, out)

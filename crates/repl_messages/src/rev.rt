@@ -50,7 +50,8 @@ pub fn write_norev(alloc: Global, row: &Row) -> Result<Payload, Memory>
 }
 
 fn push_deleted(alloc: Global, props: &mut Vec<Prop>, bits: u8) -> Result<(), Memory>
-    ensures { OnOk result (pairs_of props.new.items ≡ pairs_of props.old.items ++ deleted_pairs bits) }
+    ensures { OnOk result (pairs_of props.new.items
+        ≡ pairs_of props.old.items ++ deleted_pairs bits) }
 {
     if bits == 1 || bits == 5 {
         push_text(alloc, props, "deleted", "1")?;
@@ -59,7 +60,8 @@ fn push_deleted(alloc: Global, props: &mut Vec<Prop>, bits: u8) -> Result<(), Me
 }
 
 fn push_history(alloc: Global, props: &mut Vec<Prop>, ancestors: &[RevId]) -> Result<(), Memory>
-    ensures { OnOk result (pairs_of props.new.items ≡ pairs_of props.old.items ++ history_pairs ancestors.now) }
+    ensures { OnOk result (pairs_of props.new.items
+        ≡ pairs_of props.old.items ++ history_pairs ancestors.now) }
 {
     match ancestors {
         [] => Ok(()),

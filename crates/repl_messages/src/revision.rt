@@ -29,7 +29,8 @@ pub struct Revision {
 
 /// The document that a property names.
 fn document_of(alloc: Global, value: Option<&str>) -> Result<Option<DocId>, AllocError>
-    ensures { IfOk result (λ doc. doc ≡ option_and_then revisions.document_of (option_copied value.entry)) }
+    ensures { IfOk result
+        (λ doc. doc ≡ option_and_then revisions.document_of (option_copied value.entry)) }
 {
     let Some(text) = value else {
         return Ok(None);
@@ -94,7 +95,8 @@ fn proposal(
     history: Option<Revs>,
     payload: &Payload,
 ) -> Result<Request, RequestFault>
-    ensures { result ≢ Err RequestFault.Memory → result ≡ revisions.revision rev history payload.now }
+    ensures { result ≢ Err RequestFault.Memory
+        → result ≡ revisions.revision rev history payload.now }
 {
     let doc = or_bad(Field::Id, document_of(alloc, payload.props.get("id"))?)?;
     let rev = or_bad(Field::Rev, rev)?;

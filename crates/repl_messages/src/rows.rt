@@ -65,7 +65,8 @@ fn named_parent(alloc: Global, item: &Value) -> Result<Option<Option<RevId>>, Al
 
 /// The parent that a row names after its document and revision.
 fn parent_of(alloc: Global, others: &[Value]) -> Result<Option<Option<RevId>>, AllocError>
-    ensures { IfOk result (λ found. IsFound (λ parent. IsParent (map view others.now) parent) found) }
+    ensures { IfOk result
+        (λ found. IsFound (λ parent. IsParent (map view others.now) parent) found) }
 {
     match others.first() {
         None => Ok(Some(None)),
@@ -81,7 +82,8 @@ fn is_sequence(item: &Value) -> bool
 
 /// The change that the items are of.
 fn change_of(alloc: Global, items: &[Value]) -> Result<Option<Offer>, AllocError>
-    ensures { IfOk result (λ found. IsFound (λ offer. AreOfChange (map view items.now) offer) found) }
+    ensures { IfOk result
+        (λ found. IsFound (λ offer. AreOfChange (map view items.now) offer) found) }
 {
     let Some((sequence, items)) = items.split_first() else {
         return Ok(None);
@@ -110,7 +112,8 @@ fn change_of(alloc: Global, items: &[Value]) -> Result<Option<Offer>, AllocError
 
 /// The proposal that the items are of.
 fn proposal_of(alloc: Global, items: &[Value]) -> Result<Option<Offer>, AllocError>
-    ensures { IfOk result (λ found. IsFound (λ offer. AreOfProposal (map view items.now) offer) found) }
+    ensures { IfOk result
+        (λ found. IsFound (λ offer. AreOfProposal (map view items.now) offer) found) }
 {
     let Some((doc, items)) = items.split_first() else {
         return Ok(None);
@@ -145,7 +148,8 @@ fn offer_of(alloc: Global, form: Form, row: &Value) -> Result<Option<Offer>, All
 
 /// The offers of rows, in order.
 fn offers_of(alloc: Global, form: Form, rows: &[Value]) -> Result<Option<Offers>, AllocError>
-    ensures { IfOk result (λ found. IsFound (λ offers. AreRows form (map view rows.now) offers) found) }
+    ensures { IfOk result
+        (λ found. IsFound (λ offers. AreRows form (map view rows.now) offers) found) }
 {
     let mut offers = Vec::new(alloc);
     for row in rows {
@@ -169,7 +173,8 @@ fn offered(alloc: Global, form: Form, body: &[u8]) -> Result<Option<Offers>, All
 
 /// The offers of a JSON value.
 fn offered_in(alloc: Global, form: Form, value: &Value) -> Result<Option<Offers>, AllocError>
-    ensures { IfOk result (λ found. IsFound (λ offers. AreOffers form (view value.now) offers) found) }
+    ensures { IfOk result
+        (λ found. IsFound (λ offers. AreOffers form (view value.now) offers) found) }
 {
     let Some(rows) = value.as_array() else {
         return Ok(None);

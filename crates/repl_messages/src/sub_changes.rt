@@ -39,7 +39,8 @@ pub(crate) fn read_sub_changes(
 /// What the property `since` is read as.
 fn read_since(value: Option<&str>) -> Result<Key, KeyFault>
     ensures read { IsSince (option_copied value.entry) result }
-    ensures only { (since : Result Key KeyFault) → IsSince (option_copied value.entry) since → since ≡ result }
+    ensures only { (since : Result Key KeyFault) → IsSince (option_copied value.entry) since
+        → since ≡ result }
 {
     match value {
         Some(value) => Key::parse(unquoted(value)),
@@ -67,7 +68,8 @@ fn sub_changes(
     version: Version,
     props: &Props,
 ) -> Result<Request, RequestFault>
-    ensures { result ≢ Err RequestFault.Memory → result ≡ requests.sub_changes since version props.now }
+    ensures { result ≢ Err RequestFault.Memory
+        → result ≡ requests.sub_changes since version props.now }
 {
     let since = since_of(since)?;
     let batch = batch_of(props.get("batch"))?;
@@ -146,7 +148,8 @@ fn split_at_commas(alloc: Global, text: &str) -> Result<Vec<&str>, AllocError>
 }
 
 fn channels_of(alloc: Global, value: Option<&str>) -> Result<Channels, RequestFault>
-    ensures { result ≢ Err RequestFault.Memory → result ≡ requests.channels_of (option_copied value.entry) }
+    ensures { result ≢ Err RequestFault.Memory
+        → result ≡ requests.channels_of (option_copied value.entry) }
 {
     match value {
         Some(value) => {
@@ -163,7 +166,8 @@ fn channels_of(alloc: Global, value: Option<&str>) -> Result<Channels, RequestFa
 fn read_names(alloc: Global, pieces: &[&str]) -> Result<Vec<ChannelName>, RequestFault>
     ensures ok { IfOk result (λ names. (names.items ≡ map (λ p. p.now) pieces.now)
         × IsTrue (list_all (λ n. is_channel_name n) (map (λ p. p.now) pieces.now))) }
-    ensures err { IfErr result (λ fault. fault ≢ RequestFault.Memory → (fault ≡ RequestFault.Bad400 Field.Channels)
+    ensures err { IfErr result
+        (λ fault. fault ≢ RequestFault.Memory → (fault ≡ RequestFault.Bad400 Field.Channels)
         × (list_all (λ n. is_channel_name n) (map (λ p. p.now) pieces.now) ≡ false)) }
 {
     let mut names = Vec::new(alloc);

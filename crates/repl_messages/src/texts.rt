@@ -35,7 +35,8 @@ pub(crate) fn history_string(
     first: &RevId,
     others: &[RevId],
 ) -> Result<String, Memory>
-    ensures { IfOk result (λ text. string_bytes text ≡ join_with_byte 44 (map (λ r. rev_text r) (first.now ∷ others.now))) }
+    ensures { IfOk result (λ text. string_bytes text
+        ≡ join_with_byte 44 (map (λ r. rev_text r) (first.now ∷ others.now))) }
 {
     let mut text = rev_string(alloc, first)?;
     for rev in others {
@@ -59,7 +60,8 @@ pub(crate) fn push_text(
     key: &str,
     value: &str,
 ) -> Result<(), Memory>
-    ensures { OnOk result (pairs_of props.new.items ≡ pairs_of props.old.items ++ (key.now, value.now) ∷ []) }
+    ensures { OnOk result (pairs_of props.new.items
+        ≡ pairs_of props.old.items ++ (key.now, value.now) ∷ []) }
 {
     let value = String::from_str(alloc, value)?;
     push(alloc, props, key, value)
@@ -72,7 +74,8 @@ pub(crate) fn push(
     key: &str,
     value: String,
 ) -> Result<(), Memory>
-    ensures { OnOk result (pairs_of props.new.items ≡ pairs_of props.old.items ++ (key.now, string_bytes value) ∷ []) }
+    ensures { OnOk result (pairs_of props.new.items
+        ≡ pairs_of props.old.items ++ (key.now, string_bytes value) ∷ []) }
 {
     let key = String::from_str(alloc, key)?;
     props.push(Prop { key, value })?;

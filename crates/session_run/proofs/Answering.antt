@@ -42,7 +42,7 @@ use Rattle.write_path.specs.Asks.{AskedAt}
 use Rattle.write_path.specs.Bodies.{BodiesAt}
 use Rattle.write_path.specs.Feed.{FeedAt}
 use Rattle.write_path.specs.Proposals as proposals
-use Rattle.write_path.specs.Proposals.{Stores, IsAnswered, IsStored, recorded_after}
+use Rattle.write_path.specs.Proposals.{IsAnswered, IsStored}
 use Rattle.write_path.specs.Reads.{Reads, WasRead, IsOneOf, HasLength, IsLaterThanAll}
 use Rattle.session_run.specs.Judged.{IsJudgedEntry, AreJudged}
 use Rattle.session_run.specs.Answered as answered

@@ -95,7 +95,8 @@ impl Sink for ScriptedSink {
 
     fn give(&mut self, bytes: &[u8]) -> Gave
         ensures counted { Counts self.old.faults result self.new.faults }
-        ensures taken { TakesIfRecorded (Some self.old.bytes) bytes.now result (Some self.new.bytes) }
+        ensures taken { TakesIfRecorded (Some self.old.bytes) bytes.now result
+            (Some self.new.bytes) }
         ensures script { GivesByScript (fault_at self.old.script.items (gives_of self.old))
             self.old.bytes bytes.now result self.new.bytes }
         ensures kept { self.new.script ≡ self.old.script }

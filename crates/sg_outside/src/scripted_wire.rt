@@ -162,9 +162,11 @@ impl Wire for ScriptedWire {
     fn send(&mut self, frame: &[u8]) -> Gave
         ensures counted { Counts self.old.faults result self.new.faults }
         ensures recorded { SendsIfRecorded
-            (Some (traffic self.old.script.items self.old.calls self.old.sent.items self.old.gave.items))
+            (Some (traffic self.old.script.items self.old.calls self.old.sent.items
+            self.old.gave.items))
             frame.now result
-            (Some (traffic self.new.script.items self.new.calls self.new.sent.items self.new.gave.items)) }
+            (Some (traffic self.new.script.items self.new.calls self.new.sent.items
+            self.new.gave.items)) }
         ensures script { SendsByScript
             (fails_at self.old.send_fails.items (sendings_of self.old)) result }
         ensures kept { self.new.send_fails ≡ self.old.send_fails }

@@ -12,7 +12,7 @@ use Rattle.sync_meaning.specs.declared.fault.RuleKind.{RuleKind}
 use Rattle.sync_meaning.specs.declared.fault.RuleKind.TheVariants as rules
 use Rattle.sync_meaning.specs.declared.fault.Rule.{Rule}
 use Rattle.sync_meaning.specs.Texts.{rule_name, place_text, said, rule_text}
-use Rattle.sync_eval.specs.Verdicts.{IsCounted, RulesHaveTextsOfTheirOwn}
+use Rattle.sync_eval.specs.Verdicts.{RulesHaveTextsOfTheirOwn}
 
 -- a kind without the text that was thrown
 abbrev bare : RuleKind → RuleKind

@@ -21,7 +21,7 @@ use Rattle.sync_syntax.specs.Grammar as g
 use Rattle.sync_syntax.specs.Grammar.{Takes, IsKey, IsExpr, IsChain, AreTails, IsUnary, AreSuffixes, IsSuffix, AreListed, AreExprs, AreFields, AreMembers, IsMember, IsPrimary}
 use Rattle.sync_print.specs.Spelling.{prefix_kind}
 use Rattle.sync_print.specs.Trees as t
-use Rattle.sync_print.specs.Trees.{Spelled, spelled, spelled_suffix, expr, within, operand_level, truth}
+use Rattle.sync_print.specs.Trees.{Spelled, spelled, spelled_suffix, expr, within, operand_level}
 use Rattle.sync_print.proofs.Layers.{spelled_member, spelled_tail, spelled_undefined, spelled_null, spelled_bool, spelled_integer, spelled_text, spelled_name, spelled_list, spelled_object, spelled_prefix, spelled_postfix, spelled_chain, spelled_choice, spelled_suffix_member, spelled_suffix_index, spelled_suffix_call}
 use Rattle.sync_print.proofs.CutWords.{AllAscii, letter_part, parts_ascii}
 

@@ -13,7 +13,7 @@ use Rattle.sync_syntax.specs.declared.tree.Start.{Start}
 use Rattle.sync_syntax.specs.declared.tree.Statement.{Statement}
 use Rattle.sync_syntax.specs.Reading.{Tokens, place}
 use Rattle.sync_syntax.specs.Grammar as g
-use Rattle.sync_syntax.specs.Grammar.{Takes, IsNamed, Ends, IsGiven, AreDeclared, IsDeclaration, IsSimple, IsExprOrNone, IsLast, IsStart, IsStatement, IsOtherwise, AreStatements, IsOwnName, IsSecond, IsProgram}
+use Rattle.sync_syntax.specs.Grammar.{IsNamed, Ends, IsGiven, AreDeclared, IsDeclaration, IsSimple, IsExprOrNone, IsLast, IsStart, IsStatement, IsOtherwise, AreStatements, IsOwnName, IsSecond, IsProgram}
 use Rattle.sync_print.specs.Trees as t
 use Rattle.sync_print.specs.Trees.{Spelled, spelled, expr, parenthesized, sign}
 use Rattle.sync_print.proofs.Layers.{spelled_statement_block, spelled_statement_empty, spelled_statement_declare, spelled_statement_if, spelled_statement_for, spelled_statement_forof, spelled_statement_return, spelled_statement_throw, spelled_statement_break, spelled_statement_continue, spelled_statement_simple}

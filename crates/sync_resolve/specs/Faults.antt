@@ -1,5 +1,5 @@
 -- The faults of a program's names, and which of them is the first.
-use Rattle.std.specs.Prelude.{◌≡◌, ◌≢◌, ◌==◌, nat_lt, Bool, true, false, not, ◌&&◌, if◌then◌else◌, List, [], ◌∷◌, Option, Some, None}
+use Rattle.std.specs.Prelude.{◌≡◌, ◌==◌, nat_lt, Bool, true, false, not, ◌&&◌, if◌then◌else◌, List, [], ◌∷◌, Option, Some, None}
 use Rattle.std.specs.List.{All, Contains}
 use Rattle.sync_tokens.specs.Places.{start}
 use Rattle.sync_tokens.specs.declared.place.Place.{Place}

@@ -1,8 +1,7 @@
 -- The faults of the names in statements, and what statements declare.
-use Rattle.std.specs.Prelude.{ℕ, Bool, true, false, if◌then◌else◌, List, [], ◌∷◌, ◌++◌, map, Option, Some, None}
+use Rattle.std.specs.Prelude.{ℕ, if◌then◌else◌, List, [], ◌∷◌, ◌++◌, map, Option, Some, None}
 use Rattle.sync_syntax.specs.declared.tree.Declares.{Declares}
 use Rattle.sync_syntax.specs.declared.tree.Declares.TheVariants.{Var, Let, Const}
-use Rattle.sync_syntax.specs.declared.tree.Declaration.{Declaration}
 use Rattle.sync_syntax.specs.declared.tree.Expr.{Expr}
 use Rattle.sync_syntax.specs.declared.tree.Named.{Named}
 use Rattle.sync_syntax.specs.declared.tree.Simple.{Simple}

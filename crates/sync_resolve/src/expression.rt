@@ -239,7 +239,8 @@ fn suffix(
     takes: Option<Takes>,
     suffix: &Suffix,
 )
-    ensures { first.new ≡ earliest first.old ((said_behind suffix.now).faults place takes scope.now) }
+    ensures { first.new
+        ≡ earliest first.old ((said_behind suffix.now).faults place takes scope.now) }
 {
     match suffix {
         Suffix::Member(_) => {}

@@ -112,7 +112,8 @@ fn start(
     scope: &mut Scope,
     start: &Option<Boxed<Start>>,
 ) -> Result<(), Memory>
-    ensures faults { OnOk result (first.new ≡ earliest first.old (spec.start start.now scope.old).0) }
+    ensures faults { OnOk result (first.new
+        ≡ earliest first.old (spec.start start.now scope.old).0) }
     ensures seen { OnOk result (scope.new ≡ more scope.old (spec.start start.now scope.old).1) }
 {
     match start {

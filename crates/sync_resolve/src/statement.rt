@@ -114,7 +114,8 @@ fn end_loop(
     body: &Statement,
 ) -> Result<(), Memory>
     ensures faults { OnOk result (first.new ≡ earliest first.old (walk body.now scope.old).0) }
-    ensures seen { OnOk result (scope.new ≡ left count (more scope.old (walk body.now scope.old).1)) }
+    ensures seen { OnOk result (scope.new
+        ≡ left count (more scope.old (walk body.now scope.old).1)) }
 {
     statement(alloc, first, scope, body)?;
     scope.leave(count);

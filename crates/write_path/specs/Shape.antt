@@ -1,5 +1,5 @@
 -- What the functions of a proposal hand on to one another. Only proofs need this.
-use Rattle.std.specs.Prelude.{◌≡◌, ◌<◌, ℕ, List, ◌∷◌, take, option_map, Option, Some, None}
+use Rattle.std.specs.Prelude.{◌≡◌, ◌<◌, ℕ, List, take, option_map, Option, Some}
 use Rattle.sg_history.specs.declared.entries.Write.{Write}
 use Rattle.rev_tree.specs.declared.tree.Node.{Node}
 use Rattle.rev_tree.specs.Tree.{winner_of}
