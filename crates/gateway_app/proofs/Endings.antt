@@ -8,6 +8,9 @@ use Rattle.sg_history.specs.Journal.{Spells}
 use Rattle.gateway_app.specs.declared.status.Status.{Status}
 use Rattle.gateway_app.specs.declared.status.Status.TheVariants as status
 use Rattle.gateway_app.specs.FeedText.{feed_text}
+use Rattle.gateway_app.specs.Inputs.{AreInputs, Contents, Inputs}
+use Rattle.gateway_app.specs.Loading.{AreInputsRead, PrintsReplay}
+use Rattle.gateway_app.specs.Replays.{EndsReplay}
 use Rattle.gateway_app.specs.Words.{FeedWords}
 use Rattle.gateway_app.specs.Run.{Ends, EndsFeed, IsLoaded, Prints}
 
@@ -40,7 +43,7 @@ with_bytes status.WriteFault f bytes journal faults faults' before after loaded 
 with_bytes status.Memory f bytes journal faults faults' before after loaded e = tt
 
 -- a journal that was not loaded
-pub not_loaded : (s : Status) (f : FeedWords) (bytes : List ℕ) (before after : Option (List ℕ)) → IsLoaded bytes (Err s) → Ends s f bytes before after
+pub not_loaded : (s : Status) (f : FeedWords) (bytes : List ℕ) (before after : Option (List ℕ)) → IsLoaded 1 bytes (Err s) → Ends s f bytes before after
 not_loaded status.Ok f bytes before after loaded = absurd loaded
 not_loaded status.BadWords f bytes before after loaded = loaded
 not_loaded (status.BadInput file place why) f bytes before after loaded =
@@ -48,3 +51,21 @@ not_loaded (status.BadInput file place why) f bytes before after loaded =
 not_loaded status.ReadFault f bytes before after loaded = tt
 not_loaded status.WriteFault f bytes before after loaded = absurd loaded
 not_loaded status.Memory f bytes before after loaded = tt
+
+-- what was printed is the transcript of a replay of the files
+pub replayed : (s : Status) (contents : Contents) (i : Inputs) (faults faults' : ℕ) (before after : Option (List ℕ)) → AreInputs contents i → PrintsReplay s i faults faults' before after → EndsReplay s contents before after
+replayed status.Ok contents i faults faults' before after are p = (p.0, record { inputs = i; are_inputs = are; replay = p.1 }, p.2)
+replayed status.BadWords contents i faults faults' before after are p = p
+replayed (status.BadInput file place why) contents i faults faults' before after are p = absurd p
+replayed status.ReadFault contents i faults faults' before after are p = tt
+replayed status.WriteFault contents i faults faults' before after are p = (p.1, record { inputs = i; are_inputs = are; replay = p.2 }, p.3)
+replayed status.Memory contents i faults faults' before after are p = tt
+
+-- files that were not read
+pub not_read : (s : Status) (contents : Contents) (before after : Option (List ℕ)) → AreInputsRead contents (Err s) → EndsReplay s contents before after
+not_read status.Ok contents before after r = absurd r
+not_read status.BadWords contents before after r = r
+not_read (status.BadInput file place why) contents before after r = r
+not_read status.ReadFault contents before after r = tt
+not_read status.WriteFault contents before after r = absurd r
+not_read status.Memory contents before after r = tt

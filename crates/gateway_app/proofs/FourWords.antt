@@ -20,7 +20,7 @@ not_false : (b : Bool) → false ≡ not b → b ≡ true
 not_false true h = refl
 not_false false h = cc
 
-same_word : (word text : List ℕ) → false ≡ not (bytes_eq word text) → word ≡ text
+pub same_word : (word text : List ℕ) → false ≡ not (bytes_eq word text) → word ≡ text
 same_word word text h = (bytes_eq-Decides word text).0 (not_false (bytes_eq word text) h)
 
 -- four words that are read as the command

@@ -1,6 +1,15 @@
 -- what the words were read as. Only proofs need this.
+use Rattle.std.specs.Prelude.{map, string_bytes}
 use Rattle.gateway_app.specs.declared.words.FeedRequest.{FeedRequest}
-use Rattle.gateway_app.specs.Words.{FeedWords}
+use Rattle.gateway_app.specs.declared.words.ReplayRequest.{ReplayRequest}
+use Rattle.gateway_app.specs.Words.{FeedWords, ReplayWords}
 
 abbrev pub words_of : FeedRequest → FeedWords
 words_of request = record { journal = request.journal.now; user = request.user; since = request.since }
+
+abbrev pub replay_of : ReplayRequest → ReplayWords
+replay_of request = record {
+  config = request.config.now;
+  admin = request.admin.now;
+  sessions = map (λ w. string_bytes w) request.sessions.now;
+}

@@ -76,25 +76,25 @@ Silent (status.BadInput file place why) before after = after ≡ before
 Silent status.ReadFault before after = after ≡ before
 Silent status.Memory before after = after ≡ before
 
--- a journal that was loaded whole, or how the run ends without it, where its bytes are recorded
-abbrev pub IsLoaded : List ℕ → Result (List ℕ) Status → Type 0
-IsLoaded bytes (Ok loaded) = (length bytes ≤ largest_file) × (loaded ≡ bytes)
-IsLoaded bytes (Err status.Ok) = ⊥
-IsLoaded bytes (Err status.BadWords) = ⊥
-IsLoaded bytes (Err (status.BadInput file place why)) = (file ≡ 1) × (largest_file < length bytes) × (place ≡ 0) × (why ≡ Long)
-IsLoaded bytes (Err status.ReadFault) = Unit {0}
-IsLoaded bytes (Err status.WriteFault) = ⊥
-IsLoaded bytes (Err status.Memory) = Unit {0}
+-- a file that was loaded whole, or how the run ends without it, where its bytes are recorded; it has this number among the command's words
+abbrev pub IsLoaded : ℕ → List ℕ → Result (List ℕ) Status → Type 0
+IsLoaded number bytes (Ok loaded) = (length bytes ≤ largest_file) × (loaded ≡ bytes)
+IsLoaded number bytes (Err status.Ok) = ⊥
+IsLoaded number bytes (Err status.BadWords) = ⊥
+IsLoaded number bytes (Err (status.BadInput file place why)) = (file ≡ number) × (largest_file < length bytes) × (place ≡ 0) × (why ≡ Long)
+IsLoaded number bytes (Err status.ReadFault) = Unit {0}
+IsLoaded number bytes (Err status.WriteFault) = ⊥
+IsLoaded number bytes (Err status.Memory) = Unit {0}
 
--- how a run may end at the loading, with the count of the files' faults
-abbrev pub EndsLoaded : Result (List ℕ) Status → ℕ → ℕ → Type 0
-EndsLoaded (Ok loaded) before after = Unit {0}
+-- how a run may end at the loading, with the count of the files' faults, which never falls
+abbrev pub EndsLoaded : {X : Type 0} → Result X Status → ℕ → ℕ → Type 0
+EndsLoaded (Ok loaded) before after = before ≤ after
 EndsLoaded (Err status.Ok) before after = ⊥
 EndsLoaded (Err status.BadWords) before after = ⊥
-EndsLoaded (Err (status.BadInput file place why)) before after = Unit {0}
+EndsLoaded (Err (status.BadInput file place why)) before after = before ≤ after
 EndsLoaded (Err status.ReadFault) before after = before < after
 EndsLoaded (Err status.WriteFault) before after = ⊥
-EndsLoaded (Err status.Memory) before after = Unit {0}
+EndsLoaded (Err status.Memory) before after = before ≤ after
 
 -- how a run may end at the writing, with the count of the sink's faults and what it took of the text
 abbrev pub Prints : Status → List ℕ → ℕ → ℕ → Option (List ℕ) → Option (List ℕ) → Type 0

@@ -1,18 +1,18 @@
 //! The command `feed`: prints the rows of a user's changes feed over a journal.
 
-ghost use Rattle.std.specs.Prelude.{◌≡◌, ◌≢◌, ◌↔◌, ℕ, List, Option, Some, None, map, string_bytes, IfOk, IsErrAnd};
+ghost use Rattle.std.specs.Prelude.{◌≡◌, ◌≢◌, ℕ, List, IfOk};
 ghost use Rattle.sg_history.specs.History.{history};
 ghost use Rattle.gateway_app.specs.FeedText.{feed_text};
-ghost use Rattle.gateway_app.specs.Words.{FeedWords, IsFeed};
 ghost use Rattle.gateway_app.specs.Request.{words_of};
-ghost use Rattle.gateway_app.specs.Run.{Counted, Ends, EndsAbsent, EndsFeed, EndsLoaded, HasFile, HasNoFile, IsLoaded, Prints, Silent};
+ghost use Rattle.gateway_app.specs.Run.{Counted, Ends, EndsAbsent, EndsFeed, HasFile, HasNoFile, Prints, Silent};
 
+use crate::files::load;
 use crate::status::Status;
 use crate::text::print_rows;
-use crate::words::{FeedRequest, WordsFault, read_words};
+use crate::words::FeedRequest;
 use feed_rows::rows;
-use sg_history::{BadLine, Key, Log, Name, Options, ReadLog, Why, take_journal};
-use sg_outside::{Bytes, Files, Gave, Loaded, Memory, Sink};
+use sg_history::{BadLine, Key, Log, Name, Options, ReadLog, take_journal};
+use sg_outside::{Bytes, Files, Gave, Memory, Sink};
 use std::alloc::Global;
 
 /// The number of the journal among the command's words.
@@ -31,28 +31,8 @@ fn feed_of(alloc: Global, log: &Log, user: &Name, since: &Key) -> Result<Bytes, 
     print_rows(alloc, rows.as_slice())
 }
 
-/// The bytes of the journal, or how the run ends without them.
-fn load<F: Files>(alloc: Global, files: &mut F, path: &str) -> Result<Bytes, Status>
-    ensures recorded { (bytes : List ℕ) → HasFile (F.recorded files.old) path.now bytes
-        → IsLoaded bytes result }
-    ensures absent { HasNoFile (F.recorded files.old) path.now → IsErrAnd result EndsAbsent }
-    ensures loaded { EndsLoaded result (F.faults files.old) (F.faults files.new) }
-    ensures kept { F.recorded files.new ≡ F.recorded files.old }
-{
-    let mut bytes = Bytes::new(alloc);
-    match files.load(path, &mut bytes) {
-        Loaded::Whole => Ok(bytes),
-        Loaded::Longer => Err(Status::BadInput {
-            file: JOURNAL,
-            place: 0,
-            why: Why::Long,
-        }),
-        Loaded::Failed => Err(Status::ReadFault),
-        Loaded::Memory => Err(Status::Memory),
-    }
-}
-
-fn print<O: Sink>(text: &[u8], out: &mut O) -> Status
+/// Writes a text to the output at once.
+pub(crate) fn print<O: Sink>(text: &[u8], out: &mut O) -> Status
     ensures { Prints result text.now
         (O.faults out.old) (O.faults out.new) (O.taken out.old) (O.taken out.new) }
 {
@@ -96,7 +76,8 @@ fn print_feed<O: Sink>(
     }
 }
 
-fn run_feed<F: Files, O: Sink>(
+/// Runs `feed`.
+pub(crate) fn run_feed<F: Files, O: Sink>(
     alloc: Global,
     request: &FeedRequest<'_>,
     files: &mut F,
@@ -111,30 +92,8 @@ fn run_feed<F: Files, O: Sink>(
     ensures silent { Silent result (O.taken out.old) (O.taken out.new) }
     ensures kept { F.recorded files.new ≡ F.recorded files.old }
 {
-    match load(alloc, files, request.journal) {
+    match load(alloc, files, request.journal, JOURNAL) {
         Ok(journal) => print_feed(alloc, journal, &request.user, &request.since, out),
         Err(status) => status,
-    }
-}
-
-/// Runs a command: the words are those after the program's name.
-pub fn run<F: Files, O: Sink>(alloc: Global, words: &[String], files: &mut F, out: &mut O) -> Status
-    ensures words { (result ≡ Status.BadWords)
-        ↔ ((f : FeedWords) → ¬ IsFeed (map (λ w. string_bytes w) words.now) f) }
-    ensures untouched { result ≡ Status.BadWords → (files.new ≡ files.old) × (out.new ≡ out.old) }
-    ensures ends { (f : FeedWords) (bytes : List ℕ) → IsFeed (map (λ w. string_bytes w) words.now) f
-        → HasFile (F.recorded files.old) f.journal bytes
-        → Ends result f bytes (O.taken out.old) (O.taken out.new) }
-    ensures absent { (f : FeedWords) → IsFeed (map (λ w. string_bytes w) words.now) f
-        → HasNoFile (F.recorded files.old) f.journal → EndsAbsent result }
-    ensures counted { Counted result (F.faults files.old) (F.faults files.new)
-        (O.faults out.old) (O.faults out.new) }
-    ensures silent { Silent result (O.taken out.old) (O.taken out.new) }
-    ensures kept { F.recorded files.new ≡ F.recorded files.old }
-{
-    match read_words(alloc, words) {
-        Ok(request) => run_feed(alloc, &request, files, out),
-        Err(WordsFault::BadWords) => Status::BadWords,
-        Err(WordsFault::Memory) => Status::Memory,
     }
 }

@@ -1,10 +1,13 @@
 //! The gateway's commands.
 #![tactic(auto)]
 
+mod commands;
 mod feed_command;
+mod files;
+mod replay_command;
 pub mod status;
 mod text;
 mod words;
 
-pub use feed_command::run;
+pub use commands::run;
 pub use status::Status;

@@ -1,9 +1,8 @@
-//! The words of the command `feed`.
+//! The words of the commands.
 
-ghost use Rattle.std.specs.Prelude.{◌≡◌, ◌∷◌, [], ℕ, List, IsTrue, IfOk, map, codes, string_bytes, IsUtf8};
-ghost use Rattle.sg_names.specs.Key.{ReadsKey};
-ghost use Rattle.sg_names.specs.Grammar.{is_name};
-ghost use Rattle.gateway_app.specs.Words.{IsFeed, FeedWords};
+ghost use Rattle.std.specs.Prelude.{◌≡◌, IfOk, IfSome, IfNone, map, string_bytes};
+ghost use Rattle.gateway_app.specs.Request.{replay_of};
+ghost use Rattle.gateway_app.specs.Words.{IsFeed, FeedWords, IsReplay, ReplayWords};
 
 use sg_history::{Key, Name, TextFault};
 use std::alloc::Global;
@@ -25,7 +24,7 @@ pub enum WordsFault {
 }
 
 /// Reads the words: `feed`, the journal's path, the user's name, and the since key.
-pub fn read_words(alloc: Global, words: &[String]) -> Result<FeedRequest<'_>, WordsFault>
+pub fn read_feed(alloc: Global, words: &[String]) -> Result<FeedRequest<'_>, WordsFault>
     ensures ok { IfOk result
         (λ r. IsFeed (map (λ w. string_bytes w) words.now)
         (record { journal = r.journal.now; user = r.user; since = r.since })) }
@@ -55,4 +54,35 @@ pub fn read_words(alloc: Global, words: &[String]) -> Result<FeedRequest<'_>, Wo
         Err(TextFault::Bad) => Err(WordsFault::BadWords),
         Err(TextFault::Memory) => Err(WordsFault::Memory),
     }
+}
+
+/// What `replay` is asked for: the paths of a configuration, of a script, and of recorded sessions.
+#[derive(Drop)]
+pub struct ReplayRequest<'a> {
+    pub config: &'a str,
+    pub admin: &'a str,
+    pub sessions: &'a [String],
+}
+
+/// The most recorded sessions that a replay takes.
+const MOST_SESSIONS: usize = 1000;
+
+/// Reads the words: `replay`, and the paths of the configuration, the script, and one recorded session or more.
+pub fn read_replay(words: &[String]) -> Option<ReplayRequest<'_>>
+    ensures some { IfSome result
+        (λ r. IsReplay (map (λ w. string_bytes w) words.now) (replay_of r)) }
+    ensures none { IfNone result ((w : ReplayWords)
+        → ¬ IsReplay (map (λ w. string_bytes w) words.now) w) }
+{
+    let [command, config, admin, sessions @ ..] = words else {
+        return None;
+    };
+    if command.as_str() != "replay" || sessions.is_empty() || sessions.len() > MOST_SESSIONS {
+        return None;
+    }
+    Some(ReplayRequest {
+        config: config.as_str(),
+        admin: admin.as_str(),
+        sessions,
+    })
 }

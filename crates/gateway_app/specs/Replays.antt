@@ -1,0 +1,31 @@
+-- What a run of `replay` answers and does.
+use Rattle.std.specs.Prelude.{ℕ, List, Option}
+use Rattle.replay.specs.Replay.{IsReplay}
+use Rattle.gateway_app.specs.declared.status.Status.{Status}
+use Rattle.gateway_app.specs.declared.status.Status.TheVariants as status
+use Rattle.gateway_app.specs.Inputs.{AreInputs, Contents, Inputs, IsFirstBad}
+use Rattle.gateway_app.specs.Run.{Took, TookPart}
+
+-- the text is the transcript of a replay of what the files hold
+pub record IsTranscript (contents : Contents) (text : List ℕ) : Type 0 where
+  pub inputs : Inputs
+  pub are_inputs : AreInputs contents inputs
+  pub replay : IsReplay inputs.config inputs.lines inputs.records text
+
+-- each status with what it says of the files' bytes and of the sink
+abbrev pub EndsReplay : Status → Contents → Option (List ℕ) → Option (List ℕ) → Type 0
+EndsReplay status.Ok contents before after = (text : List ℕ) × IsTranscript contents text × Took before after text
+EndsReplay status.BadWords contents before after = ⊥
+EndsReplay (status.BadInput file place why) contents before after = IsFirstBad contents file place why × ((i : Inputs) → ¬ AreInputs contents i)
+EndsReplay status.ReadFault contents before after = Unit {0}
+EndsReplay status.WriteFault contents before after = (text : List ℕ) × IsTranscript contents text × TookPart before after text
+EndsReplay status.Memory contents before after = Unit {0}
+
+-- the statuses that a run may end with where there is no file under one of the words: a file before it may be bad
+abbrev pub EndsWithout : Status → Type 0
+EndsWithout status.ReadFault = Unit {0}
+EndsWithout status.Memory = Unit {0}
+EndsWithout (status.BadInput file place why) = Unit {0}
+EndsWithout status.Ok = ⊥
+EndsWithout status.BadWords = ⊥
+EndsWithout status.WriteFault = ⊥

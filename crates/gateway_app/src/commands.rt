@@ -1,0 +1,47 @@
+//! The commands, by their words.
+
+ghost use Rattle.std.specs.Prelude.{◌≡◌, ◌↔◌, ℕ, List, map, string_bytes};
+ghost use Rattle.gateway_app.specs.Inputs.{Contents, HaveContents, LacksOne};
+ghost use Rattle.gateway_app.specs.Replays.{EndsReplay, EndsWithout};
+ghost use Rattle.gateway_app.specs.Run.{Counted, Ends, EndsAbsent, HasFile, HasNoFile, Silent};
+ghost use Rattle.gateway_app.specs.Words.{FeedWords, IsFeed, IsReplay, ReplayWords};
+
+use crate::feed_command::run_feed;
+use crate::replay_command::run_replay;
+use crate::status::Status;
+use crate::words::{WordsFault, read_feed, read_replay};
+use sg_outside::{Files, Sink};
+use std::alloc::Global;
+
+/// Runs a command: the words are those after the program's name.
+pub fn run<F: Files, O: Sink>(alloc: Global, words: &[String], files: &mut F, out: &mut O) -> Status
+    ensures words { (result ≡ Status.BadWords)
+        ↔ (((f : FeedWords) → ¬ IsFeed (map (λ w. string_bytes w) words.now) f)
+        × ((r : ReplayWords) → ¬ IsReplay (map (λ w. string_bytes w) words.now) r)) }
+    ensures untouched { result ≡ Status.BadWords → (files.new ≡ files.old) × (out.new ≡ out.old) }
+    ensures ends { (f : FeedWords) (bytes : List ℕ)
+        → IsFeed (map (λ w. string_bytes w) words.now) f
+        → HasFile (F.recorded files.old) f.journal bytes
+        → Ends result f bytes (O.taken out.old) (O.taken out.new) }
+    ensures replays { (r : ReplayWords) (contents : Contents)
+        → IsReplay (map (λ w. string_bytes w) words.now) r
+        → HaveContents (F.recorded files.old) r contents
+        → EndsReplay result contents (O.taken out.old) (O.taken out.new) }
+    ensures absent { (f : FeedWords) → IsFeed (map (λ w. string_bytes w) words.now) f
+        → HasNoFile (F.recorded files.old) f.journal → EndsAbsent result }
+    ensures lacking { (r : ReplayWords) → IsReplay (map (λ w. string_bytes w) words.now) r
+        → LacksOne (F.recorded files.old) r → EndsWithout result }
+    ensures counted { Counted result (F.faults files.old) (F.faults files.new)
+        (O.faults out.old) (O.faults out.new) }
+    ensures silent { Silent result (O.taken out.old) (O.taken out.new) }
+    ensures kept { F.recorded files.new ≡ F.recorded files.old }
+{
+    if let Some(request) = read_replay(words) {
+        return run_replay(alloc, &request, files, out);
+    }
+    match read_feed(alloc, words) {
+        Ok(request) => run_feed(alloc, &request, files, out),
+        Err(WordsFault::BadWords) => Status::BadWords,
+        Err(WordsFault::Memory) => Status::Memory,
+    }
+}

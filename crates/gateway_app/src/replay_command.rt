@@ -1,0 +1,184 @@
+//! The command `replay`: prints the transcript of a script and recorded sessions over a configuration.
+
+ghost use Rattle.std.specs.Prelude.{◌≡◌, ◌≢◌, ℕ, List, IfOk, IsErrAnd, map, string_bytes};
+ghost use Rattle.principals.specs.Script.{AreLines};
+ghost use Rattle.gateway_app.specs.Inputs.{Contents, HaveContents, HaveFiles, LacksFile, LacksOne};
+ghost use Rattle.gateway_app.specs.Loading.{AreInputsRead, AreSessionsRead, IsConfigRead, IsRefused, IsScriptRead, IsSessionRead, PrintsReplay, inputs_of};
+ghost use Rattle.gateway_app.specs.Replays.{EndsReplay, EndsWithout};
+ghost use Rattle.gateway_app.specs.Request.{replay_of};
+ghost use Rattle.gateway_app.specs.Run.{Counted, EndsAbsent, EndsLoaded, HasFile, HasNoFile, Silent};
+
+use crate::feed_command::print;
+use crate::files::load;
+use crate::status::Status;
+use crate::words::ReplayRequest;
+use gateway_config::{Config, ConfigFault, read_config};
+use principals::{AdminLines, read_admin};
+use record_file::{Recorded, read_record};
+use replay::replay;
+use sg_history::{BadLine, ReadLog, Why};
+use sg_outside::{Files, Sink};
+use std::alloc::Global;
+
+/// The refusal of the file that has this number among the command's words.
+fn refused(file: u64, fault: ReadLog) -> Status
+    ensures { IsRefused file fault result }
+{
+    match fault {
+        ReadLog::Bad(BadLine { place, why }) => Status::BadInput { file, place, why },
+        ReadLog::Memory => Status::Memory,
+    }
+}
+
+/// The configuration of a file, the first one.
+fn load_config<F: Files>(alloc: Global, files: &mut F, path: &str) -> Result<Config, Status>
+    ensures recorded { (bytes : List ℕ) → HasFile (F.recorded files.old) path.now bytes
+        → IsConfigRead bytes result }
+    ensures absent { HasNoFile (F.recorded files.old) path.now → IsErrAnd result EndsAbsent }
+    ensures loaded { EndsLoaded result (F.faults files.old) (F.faults files.new) }
+    ensures kept { F.recorded files.new ≡ F.recorded files.old }
+{
+    let bytes = load(alloc, files, path, 1)?;
+    match read_config(alloc, bytes.as_slice()) {
+        Ok(config) => Ok(config),
+        Err(ConfigFault::Bad { path, why }) => Err(Status::BadInput {
+            file: 1,
+            place: 0,
+            why: Why::Config { path, why },
+        }),
+        Err(ConfigFault::Memory) => Err(Status::Memory),
+    }
+}
+
+/// The lines of a script's file, the second one.
+fn load_script<F: Files>(alloc: Global, files: &mut F, path: &str) -> Result<AdminLines, Status>
+    ensures recorded { (bytes : List ℕ) → HasFile (F.recorded files.old) path.now bytes
+        → IsScriptRead bytes result }
+    ensures absent { HasNoFile (F.recorded files.old) path.now → IsErrAnd result EndsAbsent }
+    ensures lines { IfOk result (λ lines. AreLines lines) }
+    ensures loaded { EndsLoaded result (F.faults files.old) (F.faults files.new) }
+    ensures kept { F.recorded files.new ≡ F.recorded files.old }
+{
+    let bytes = load(alloc, files, path, 2)?;
+    match read_admin(alloc, bytes.as_slice()) {
+        Ok(lines) => Ok(lines),
+        Err(fault) => Err(refused(2, fault)),
+    }
+}
+
+/// The recorded session of a file with this number.
+fn load_session<F: Files>(
+    alloc: Global,
+    files: &mut F,
+    path: &str,
+    file: u64,
+) -> Result<Recorded, Status>
+    ensures recorded { (bytes : List ℕ) → HasFile (F.recorded files.old) path.now bytes
+        → IsSessionRead file bytes result }
+    ensures absent { HasNoFile (F.recorded files.old) path.now → IsErrAnd result EndsAbsent }
+    ensures loaded { EndsLoaded result (F.faults files.old) (F.faults files.new) }
+    ensures kept { F.recorded files.new ≡ F.recorded files.old }
+{
+    let bytes = load(alloc, files, path, file)?;
+    match read_record(alloc, bytes.as_slice()) {
+        Ok(recorded) => Ok(recorded),
+        Err(fault) => Err(refused(file, fault)),
+    }
+}
+
+/// The recorded sessions of files, of which the first is the third.
+fn load_sessions<F: Files>(
+    alloc: Global,
+    files: &mut F,
+    paths: &[String],
+) -> Result<Vec<Recorded>, Status>
+    ensures recorded { (contents : List (List ℕ))
+        → HaveFiles (F.recorded files.old) (map (λ w. string_bytes w) paths.now) contents
+        → AreSessionsRead contents result }
+    ensures absent { LacksFile (F.recorded files.old) (map (λ w. string_bytes w) paths.now)
+        → IsErrAnd result EndsWithout }
+    ensures loaded { EndsLoaded result (F.faults files.old) (F.faults files.new) }
+    ensures kept { F.recorded files.new ≡ F.recorded files.old }
+{
+    let mut sessions = Vec::new(alloc);
+    for (i, path) in paths.iter().enumerate() {
+        let recorded = load_session(alloc, files, path.as_str(), i as u64 + 3)?;
+        if sessions.push(recorded).is_err() {
+            return Err(Status::Memory);
+        }
+    }
+    Ok(sessions)
+}
+
+/// What the files of a replay hold.
+#[derive(Drop)]
+struct LoadedInputs {
+    config: Config,
+    lines: AdminLines,
+    sessions: Vec<Recorded>,
+}
+
+/// Loads the files in their order, each of which is read before the next is loaded.
+fn load_inputs<F: Files>(
+    alloc: Global,
+    files: &mut F,
+    request: &ReplayRequest<'_>,
+) -> Result<LoadedInputs, Status>
+    ensures recorded { (contents : Contents)
+        → HaveContents (F.recorded files.old) (replay_of request.now) contents
+        → AreInputsRead contents result }
+    ensures absent { LacksOne (F.recorded files.old) (replay_of request.now)
+        → IsErrAnd result EndsWithout }
+    ensures lines { IfOk result (λ i. AreLines i.lines) }
+    ensures loaded { EndsLoaded result (F.faults files.old) (F.faults files.new) }
+    ensures kept { F.recorded files.new ≡ F.recorded files.old }
+{
+    let config = load_config(alloc, files, request.config)?;
+    let lines = load_script(alloc, files, request.admin)?;
+    let sessions = load_sessions(alloc, files, request.sessions)?;
+    Ok(LoadedInputs {
+        config,
+        lines,
+        sessions,
+    })
+}
+
+/// Replays what the files hold, and prints the transcript.
+fn print_replay<O: Sink>(alloc: Global, inputs: LoadedInputs, out: &mut O) -> Status
+    requires { AreLines inputs.lines }
+    ensures { PrintsReplay result (inputs_of inputs)
+        (O.faults out.old) (O.faults out.new) (O.taken out.old) (O.taken out.new) }
+{
+    let LoadedInputs {
+        config,
+        lines,
+        sessions,
+    } = inputs;
+    match replay(alloc, config, lines, sessions) {
+        Ok(text) => print(text.as_slice(), out),
+        Err(_) => Status::Memory,
+    }
+}
+
+/// Runs `replay`.
+pub(crate) fn run_replay<F: Files, O: Sink>(
+    alloc: Global,
+    request: &ReplayRequest<'_>,
+    files: &mut F,
+    out: &mut O,
+) -> Status
+    ensures ends { (contents : Contents)
+        → HaveContents (F.recorded files.old) (replay_of request.now) contents
+        → EndsReplay result contents (O.taken out.old) (O.taken out.new) }
+    ensures absent { LacksOne (F.recorded files.old) (replay_of request.now) → EndsWithout result }
+    ensures words { result ≢ Status.BadWords }
+    ensures counted { Counted result (F.faults files.old) (F.faults files.new)
+        (O.faults out.old) (O.faults out.new) }
+    ensures silent { Silent result (O.taken out.old) (O.taken out.new) }
+    ensures kept { F.recorded files.new ≡ F.recorded files.old }
+{
+    match load_inputs(alloc, files, request) {
+        Ok(inputs) => print_replay(alloc, inputs, out),
+        Err(status) => status,
+    }
+}

@@ -1,0 +1,9 @@
+pub mod Alone
+pub mod Devices
+pub mod FinalLog
+pub mod Growing
+pub mod Lines
+pub mod Orders
+pub mod Resumes
+pub mod Runs
+pub mod Served

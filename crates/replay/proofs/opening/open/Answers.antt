@@ -1,0 +1,20 @@
+use Rattle.std.proofs.Common.{◌++◌, ◌∙◌, List, ap}
+use Rattle.std.proofs.lemmas.Result.{on_ok_weaker}
+use Rattle.sg_history.specs.declared.entries.Entry.{Entry}
+use Rattle.replay.specs.Opening.{IsOpening, IsRoleEntry, IsUserEntry}
+use Rattle.replay.specs.Shape.{IsGrownByAll}
+use Rattle.replay.proofs.opening.open.Goals as goal
+
+pub returns-clause-opening : goal.returns-clause-opening
+returns-clause-opening c =
+    let before : List Entry = c.put_roles.new.ground.board.log in
+    let after : List Entry = c.put_users.new.ground.board.log in
+    let roles : IsGrownByAll IsRoleEntry c.args.roles c.args.ground.now.board.log before = c.in_ok-put_roles.ensures.roles in
+    let whole : IsGrownByAll IsUserEntry c.args.users before after → IsOpening c.args.roles c.args.users after = λ users. record {
+      roles = roles.0;
+      users = users.0;
+      are_roles = roles.1;
+      are_users = users.1;
+      entries = users.2 ∙ ap (λ (l : List Entry). l ++ users.0) (roles.2 ∙ ap (λ (l : List Entry). l ++ roles.0) c.requires.empty);
+    } in
+    on_ok_weaker c.put_users.result whole c.put_users.ensures.users

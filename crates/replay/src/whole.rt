@@ -1,0 +1,126 @@
+//! The whole of a replay.
+
+ghost use Rattle.std.specs.Prelude.{◌≡◌, ◌++◌, IfOk, OnOk, codes};
+ghost use Rattle.sg_history.specs.History.{history};
+ghost use Rattle.sg_history.specs.Journal.{journal_text};
+ghost use Rattle.principals.specs.Script.{AreLines};
+ghost use Rattle.replay.specs.Opening.{IsOpening};
+ghost use Rattle.replay.specs.Replay.{IsReplay};
+ghost use Rattle.replay.specs.Shape.{AreServed, HasOwnLog, IsReplayBy, IsScripted};
+ghost use Rattle.std.specs.Arc.{arc_value};
+
+use crate::opening::open;
+use crate::script::run_script;
+use crate::session::run_sessions;
+use doc_board::Board;
+use gateway_config::{Config, ConfigRoles, ConfigUsers};
+use principals::AdminLines;
+use record_file::Recorded;
+use sg_history::{Log, write_journal};
+use sg_outside::{Bytes, Memory};
+use std::alloc::Global;
+use std::sync::Arc;
+use write_path::{Resolved, Shelf, SoloGround};
+
+/// A ground whose history is that of a configuration's roles and users.
+fn opened(alloc: Global, roles: ConfigRoles, users: ConfigUsers) -> Result<SoloGround, Memory>
+    ensures opening { IfOk result (λ g. IsOpening roles users g.board.log) }
+    ensures own { IfOk result (λ g. HasOwnLog g) }
+{
+    let board = Board::new(alloc)?;
+    let mut ground = SoloGround::new(Shelf::new(board)?);
+    open(&mut ground, roles, users)?;
+    Ok(ground)
+}
+
+/// Puts the journal of a log's history at the end, behind its title.
+fn write_history(alloc: Global, log: &Log, out: &mut Bytes) -> Result<(), Memory>
+    ensures { OnOk result (out.new
+        ≡ out.old ++ codes "journal\n" ++ journal_text (history log.now)) }
+{
+    out.extend_from_slice(b"journal\n")?;
+    write_journal(alloc, log, out)
+}
+
+/// A ground at which a script was run behind the roles and users of a configuration; the outcomes are printed at the end.
+fn scripted(
+    alloc: Global,
+    program: &Resolved,
+    strict: bool,
+    roles: ConfigRoles,
+    users: ConfigUsers,
+    lines: AdminLines,
+    out: &mut Bytes,
+) -> Result<SoloGround, Memory>
+    requires { AreLines lines }
+    ensures { IfOk result
+        (λ g. IsScripted program.now strict roles users lines g out.old out.new) }
+{
+    let mut ground = opened(alloc, roles, users)?;
+    run_script(alloc, &mut ground, program, strict, lines, out)?;
+    Ok(ground)
+}
+
+/// Serves recorded sessions at a ground, and prints them and the journal of its history in the end.
+fn serve_all(
+    alloc: Global,
+    ground: SoloGround,
+    program: &Arc<Resolved>,
+    strict: bool,
+    sessions: Vec<Recorded>,
+    out: &mut Bytes,
+) -> Result<(), Memory>
+    ensures { OnOk result (AreServed (arc_value program.now) strict sessions.items ground
+        out.old out.new) }
+{
+    let ground = run_sessions(alloc, ground, program, strict, sessions, out)?;
+    let shelf = ground.into_inner();
+    write_history(alloc, shelf.board.log(), out)
+}
+
+/// Prints the transcript of a replay by these parts of a configuration.
+fn write_transcript(
+    alloc: Global,
+    program: &Arc<Resolved>,
+    strict: bool,
+    roles: ConfigRoles,
+    users: ConfigUsers,
+    lines: AdminLines,
+    sessions: Vec<Recorded>,
+    out: &mut Bytes,
+) -> Result<(), Memory>
+    requires { AreLines lines }
+    ensures { OnOk result (IsReplayBy (arc_value program.now) strict roles users lines
+        sessions.items out.old out.new) }
+{
+    out.extend_from_slice(b"admin\n")?;
+    let ground = scripted(alloc, program, strict, roles, users, lines, out)?;
+    serve_all(alloc, ground, program, strict, sessions, out)
+}
+
+/// Replays a script and recorded sessions over the history that a configuration begins: the script line by line, as the
+/// administrator, and then the sessions one after another, all at one ground. Gives the transcript.
+pub fn replay(
+    alloc: Global,
+    config: Config,
+    lines: AdminLines,
+    sessions: Vec<Recorded>,
+) -> Result<Bytes, Memory>
+    requires { AreLines lines }
+    ensures { IfOk result (λ text. IsReplay config lines sessions.items text) }
+{
+    let Config {
+        database: _database,
+        bind: _bind,
+        accepts: _accepts,
+        conflicts,
+        program,
+        roles,
+        users,
+    } = config;
+    let mut out = Bytes::new(alloc);
+    write_transcript(
+        alloc, &program, !conflicts, roles, users, lines, sessions, &mut out,
+    )?;
+    Ok(out)
+}
