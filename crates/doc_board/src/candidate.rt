@@ -1,4 +1,4 @@
-//! What is to be stored, and what came of it.
+//! What is to be stored, and its outcome.
 
 use crate::room::Room;
 use rev_tree::Tree;
@@ -13,7 +13,7 @@ pub enum Candidate {
     Plain(Entry),
 }
 
-/// What came of storing a candidate.
+/// The outcome of storing a candidate.
 pub enum Commit {
     /// It is stored: the entry's sequence, and the front at which a write was judged, or the log's length before another entry.
     Stored {

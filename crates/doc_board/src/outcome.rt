@@ -7,7 +7,7 @@ use sync_meaning::Rule;
 /// The most bytes that a document's body may have.
 pub const MOST_BODY_BYTES: u64 = 20_971_520;
 
-/// What came of a revision that was proposed. `at` is the length of the log of the board by which it was judged.
+/// The outcome of a proposed revision. `at` is the length of the log of the board by which it was judged.
 #[derive(Drop)]
 pub enum Outcome {
     /// This part of it is outside its grammar, or the body is no document.

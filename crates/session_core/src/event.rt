@@ -17,6 +17,6 @@ pub enum Event {
     Bodies(Bodies),
     /// What the look for offered revisions answered.
     Asked(Asked),
-    /// What came of the revision that was proposed.
+    /// The outcome of the proposed revision.
     Judged(Outcome),
 }

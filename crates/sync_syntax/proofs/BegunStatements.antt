@@ -25,7 +25,7 @@ use Rattle.sync_syntax.specs.Reading.{Tokens, Outcome, ◌>>=◌, pure, take, ki
 use Rattle.sync_syntax.specs.Operators.{declares_by, writing_by, is_name}
 use Rattle.sync_syntax.specs.Statements.{named, ending, expr, given, declared, more_declared, declaration, written, write, value, write_or_value, simple, expr_unless, simple_unless, returned, return_at, throw, declare, only_simple, declare_or_simple, plain, jump, block_from, block, otherwise, choose, repeat, each, for_declared, for_simple, for_by, for_at, word_by, sign_by, statement_by, opened, statement}
 use Rattle.sync_syntax.specs.Grammar as g
-use Rattle.sync_syntax.specs.Grammar.{Takes, IsExpr, IsNamed, Ends, IsGiven, AreDeclared, IsDeclaration, IsSimple, IsExprOrNone, IsStart, IsStatement, IsOtherwise, AreStatements}
+use Rattle.sync_syntax.specs.Grammar.{Takes, IsExpr, IsNamed, Ends, IsGiven, AreDeclared, IsSimple, IsExprOrNone, IsStart, IsStatement, IsOtherwise, AreStatements}
 use Rattle.sync_syntax.proofs.Begun.{Front, Full, Found, Spells, Always, Filled, Grows, then_grows, map_grows, madeof, good_token, One, one_token, one_made, pure_grows, token_grows, refuse_grows, deep_grows, behind_grows, see_grows, eat_grows, eat_word_grows, expect_grows, IsName, name_token, a_name, a_kind, name_grows}
 use Rattle.sync_syntax.proofs.BegunExpressions.{Starts, null_expr, expr_grows, plain_expr, separated_grows, then_starts, behind_starts}
 use Rattle.sync_syntax.proofs.Holds.{sees-takes}

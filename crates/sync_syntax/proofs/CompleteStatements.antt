@@ -18,7 +18,7 @@ use Rattle.sync_syntax.specs.declared.tree.Start.{Start}
 use Rattle.sync_syntax.specs.declared.tree.Statement.{Statement}
 use Rattle.sync_syntax.specs.Depth.{given_depth, declared_depth, simple_depth, expr_or_none_depth, last_depth, start_depth, statement_depth, otherwise_depth, statements_depth, depth}
 use Rattle.sync_syntax.specs.Grammar as g
-use Rattle.sync_syntax.specs.Grammar.{Takes, IsNamed, Ends, IsGiven, AreDeclared, IsDeclaration, IsSimple, IsExprOrNone, IsLast, IsStart, IsStatement, IsOtherwise, AreStatements, IsOwnName, IsSecond, IsHead, IsTail, IsProgram}
+use Rattle.sync_syntax.specs.Grammar.{Takes, Ends, IsGiven, AreDeclared, IsSimple, IsExprOrNone, IsLast, IsStart, IsStatement, IsOtherwise, AreStatements, IsOwnName, IsSecond, IsHead, IsTail, IsProgram}
 use Rattle.sync_syntax.specs.Laws.{max_depth, ProgramsAreRead, GrammarIsUnambiguous}
 use Rattle.sync_syntax.specs.Reading.{Tokens, Outcome, Rule, kind, next, place, same_sign, is_sign, sees, sees_word, is_word, turns, separated_from}
 use Rattle.sync_syntax.specs.Statements.{named, given, declared, declaration, simple, expr_unless, simple_unless, block_from, block, statement, block_in, otherwise_in, repeat_in, for_in, max_len, body_room, end, own_name, second_parameter, head, body, program, only, parsed, Gives}

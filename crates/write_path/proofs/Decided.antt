@@ -1,4 +1,4 @@
--- what came of a revision that the program accepts
+-- the outcome of a revision that the program accepts
 use Rattle.std.proofs.Common.{ℕ, List, Option}
 use Rattle.sg_history.specs.Board.{BoardState}
 use Rattle.repl_messages.specs.declared.revision.Revision.{Revision}

@@ -47,7 +47,7 @@ pub record IsBasis (s : State) (by : Option (List ℕ)) (r : Revision) (basis : 
   pub documents : IfSome basis.old (λ body. HasDocument body)
   pub context : IsContext (reverse s.log) by basis.context
 
--- what came of a revision that extends its document's tree, judged at this front: it is stored where the program accepts it, and denied by its rule where it denies
+-- the outcome of a revision that extends its document's tree, judged at this front: it is stored where the program accepts it, and denied by its rule where it denies
 abbrev pub IsDecided : Program → Option (List ℕ) → Revision → BoardState → ℕ → Outcome → Type 0
 IsDecided program by r board front (outcome.Stored sequence at) = IsAccepted program by r board × (at ≡ front) × (front < sequence)
 IsDecided program by r board front (outcome.Denied403 at rule) = IsSaid program by r board (Err (stop.Deny rule)) × (at ≡ front)
