@@ -19,7 +19,7 @@ use Rattle.grant_history.specs.Givers.{giver_has, has_with}
 use Rattle.grant_history.specs.Holdings.{held_in}
 use Rattle.grant_history.specs.Reads.{channel_among}
 use Rattle.grant_history.specs.Spells.{Stays, Swept, spells_have, open_has}
-use Rattle.grant_history.specs.Tracks.{has_place, was_held, is_open, held_at}
+use Rattle.grant_history.specs.Tracks.{has_place, was_held, held_last, held_at}
 use Rattle.grant_history.proofs.Sweeping.{stretched}
 
 cut_parts : (xs ys : List ℕ) (k : ℕ) → is_cut (xs ++ ys) k ≡ false → (is_cut xs k ≡ false) × (is_cut ys k ≡ false)
@@ -56,24 +56,33 @@ span_rest old new s spans rest is split k h same =
     ∙ ap (λ (b : Bool). has_place k s || b) same
     ∙ ap (λ (l : List Span). list_any (has_place k) l) (sym split)
 
-open_steady : (t : Track) (k : ℕ) → nat_eq (k + 1) t.opened ≡ false → is_open t (k + 1) ≡ is_open t k
-open_steady t k h = ap (λ (b : Bool). nat_lt 0 t.count && b) (by t.opened h)
+-- the last span changes where it begins and where it ended
+last_steady : (count opened until k : ℕ) → nat_eq (k + 1) opened ≡ false → nat_eq (k + 1) until ≡ false
+    → (nat_le opened (k + 1) && (nat_lt 0 count || nat_lt (k + 1) until)) ≡ (nat_le opened k && (nat_lt 0 count || nat_lt k until))
+last_steady count opened until k from to =
+    ap (λ (b : Bool). b && (nat_lt 0 count || nat_lt (k + 1) until)) (begins opened from)
+    ∙ ap (λ (b : Bool). nat_le opened k && (nat_lt 0 count || b)) (ends until to)
   where
-    by : (o : ℕ) → nat_eq (k + 1) o ≡ false → nat_le o (k + 1) ≡ nat_le o k
-    by o h = grind (arith, h)
+    begins : (o : ℕ) → nat_eq (k + 1) o ≡ false → nat_le o (k + 1) ≡ nat_le o k
+    begins o h = grind (arith, h)
+
+    ends : (o : ℕ) → nat_eq (k + 1) o ≡ false → nat_lt (k + 1) o ≡ nat_lt k o
+    ends o h = grind (arith, h)
 
 pub track_covers : (t : Track) (start middle new : List ℕ) → ((k : ℕ) → is_cut middle k ≡ false → is_cut start k ≡ false) → ((k : ℕ) → is_cut middle (k + 1) ≡ false → was_held t (k + 1) ≡ was_held t k)
-    → new ≡ middle ++ t.opened ∷ [] → Covers start new (held_at t)
+    → new ≡ middle ++ t.opened ∷ t.until ∷ [] → Covers start new (held_at t)
 track_covers t start middle new kept steady is = record {
   kept = λ k h. kept k (parts k h).0;
   steady = λ k h.
       let p = parts (k + 1) h in
-      ap (λ (b : Bool). b || is_open t (k + 1)) (steady k p.0)
-      ∙ ap (λ (b : Bool). was_held t k || b) (open_steady t k (first_none (nat_eq (k + 1) t.opened) false p.1));
+      let from = first_none (nat_eq (k + 1) t.opened) (nat_eq (k + 1) t.until || false) p.1 in
+      let to = first_none (nat_eq (k + 1) t.until) false (second_none (nat_eq (k + 1) t.opened) (nat_eq (k + 1) t.until || false) p.1) in
+      ap (λ (b : Bool). b || held_last t (k + 1)) (steady k p.0)
+      ∙ ap (λ (b : Bool). was_held t k || b) (last_steady t.count t.opened t.until k from to);
 }
   where
-    parts : (k : ℕ) → is_cut new k ≡ false → (is_cut middle k ≡ false) × (is_cut (t.opened ∷ []) k ≡ false)
-    parts k h = cut_parts middle (t.opened ∷ []) k (ap (λ (l : List ℕ). is_cut l k) (sym is) ∙ h)
+    parts : (k : ℕ) → is_cut new k ≡ false → (is_cut middle k ≡ false) × (is_cut (t.opened ∷ t.until ∷ []) k ≡ false)
+    parts k h = cut_parts middle (t.opened ∷ t.until ∷ []) k (ap (λ (l : List ℕ). is_cut l k) (sym is) ∙ h)
 
 -- a test that never changes
 pub covers_none : (cuts : List ℕ) (test : ℕ → Bool) → ((k : ℕ) → test k ≡ false) → Covers cuts cuts test
@@ -191,16 +200,32 @@ any_end test (y ∷ ys) x = ap (λ (b : Bool). test y || b) (any_end test ys x) 
     by true = refl
     by false = refl
 
-pub one_over : (test : Giver → Bool) (all : List Giver) (i : ℕ) (x : Giver) (old new : List Giver) → i < length all → x ≡ get_or all i x → list_any test new ≡ (list_any test old || test x)
-    → (list_any test new || list_any test (drop (i + 1) all)) ≡ (list_any test old || list_any test (drop i all))
-one_over test all i x old new within is more =
+pub moves_over : {X : Type 0} (f : Giver → Bool) (test : X → Bool) (all : List X) (i : ℕ) (x : X) (old new : List Giver) → i < length all → x ≡ get_or all i x → list_any f new ≡ (list_any f old || test x)
+    → (list_any f new || list_any test (drop (i + 1) all)) ≡ (list_any f old || list_any test (drop i all))
+moves_over {X = X} f test all i x old new within is more =
     ap (λ (b : Bool). b || list_any test (drop (i + 1) all)) more
-    ∙ by (list_any test old)
-    ∙ ap (λ (l : List Giver). list_any test old || list_any test l) (ap (λ (y : Giver). y ∷ drop (i + 1) all) is ∙ sym (drop_more all i x within))
+    ∙ by (list_any f old)
+    ∙ ap (λ (l : List X). list_any f old || list_any test l) (ap (λ (y : X). y ∷ drop (i + 1) all) is ∙ sym (drop_more all i x within))
   where
     by : (b : Bool) → ((b || test x) || list_any test (drop (i + 1) all)) ≡ (b || (test x || list_any test (drop (i + 1) all)))
     by true = refl
     by false = refl
+
+pub one_over : (test : Giver → Bool) (all : List Giver) (i : ℕ) (x : Giver) (old new : List Giver) → i < length all → x ≡ get_or all i x → list_any test new ≡ (list_any test old || test x)
+    → (list_any test new || list_any test (drop (i + 1) all)) ≡ (list_any test old || list_any test (drop i all))
+one_over test all i x old new within is more = moves_over test test all i x old new within is more
+
+-- one that is kept of a role, and one that is no role
+pub given_more : (f : Giver → Bool) (old new : List Giver) (g : Giver) (held gives : Bool) → new ≡ old ++ g ∷ [] → f g ≡ (held && gives) → list_any f new ≡ (list_any f old || (held && gives))
+given_more f old new g held gives is same = ap (λ (l : List Giver). list_any f l) is ∙ any_end f old g ∙ ap (λ (b : Bool). list_any f old || b) same
+
+pub given_same : (f : Giver → Bool) (old new : List Giver) (held gives : Bool) → new ≡ old → false ≡ gives → list_any f new ≡ (list_any f old || (held && gives))
+given_same f old new held gives is none = ap (λ (l : List Giver). list_any f l) is ∙ by (list_any f old) held ∙ ap (λ (b : Bool). list_any f old || (held && b)) none
+  where
+    by : (a h : Bool) → a ≡ (a || (h && false))
+    by true h = refl
+    by false true = refl
+    by false false = refl
 
 pub none_over : (test : Giver → Bool) (all : List Giver) (i : ℕ) (list : List Giver) → length all ≤ i → list_any test list ≡ (list_any test list || list_any test (drop i all))
 none_over test all i list le = by (list_any test list) ∙ ap (λ (l : List Giver). list_any test list || list_any test l) (sym (drop_all i all le))

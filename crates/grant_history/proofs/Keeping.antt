@@ -1,5 +1,5 @@
 -- what is kept once a source gives other facts
-use Rattle.std.proofs.Common.{◌≡◌, ◌≤◌, ◌+◌, ◌-◌, ℕ, refl, sym, ◌∙◌, ap, subst, arith, Bool, true, false, ◌&&◌, ◌||◌, if◌then◌else◌, nat_lt, nat_le, List, [], ◌∷◌, length, Option, Some, None, Vec, String}
+use Rattle.std.proofs.Common.{◌≡◌, ◌≤◌, ◌+◌, ◌-◌, ℕ, le-leb, refl, sym, ◌∙◌, ap, subst, arith, Bool, true, false, ◌&&◌, ◌||◌, if◌then◌else◌, nat_lt, nat_le, List, [], ◌∷◌, length, Option, Some, None, Vec, String}
 use Rattle.std.specs.BTreeMap.{get_by_text, is_at}
 use Rattle.std.specs.Map.{lookup}
 use Rattle.std.specs.Prelude.{string_bytes}
@@ -21,7 +21,7 @@ use Rattle.grant_history.specs.declared.track.Track.{Track}
 use Rattle.grant_history.specs.declared.store.Store.{Store}
 use Rattle.grant_history.specs.declared.ledger.Ledger.{Ledger}
 use Rattle.grant_history.specs.Dated.{Dated}
-use Rattle.grant_history.specs.Tracks.{IsTrack, held_at, is_open}
+use Rattle.grant_history.specs.Tracks.{IsTrack, held_at, held_last}
 use Rattle.grant_history.specs.Facts.{same_what, times, put_facts, document_facts}
 use Rattle.grant_history.specs.Holdings.{count_in, held_in, AreUpTo, Holders, count_by_list, held_by_list, count_of, held_of, AreAllUpTo, count_to, held_to, count_at, has_at, IsStore}
 use Rattle.grant_history.specs.Sources.{principal_of, sources}
@@ -47,11 +47,14 @@ swapped false v o = refl
 
 -- at the place up to which a track says anything it says what there is now
 settled_track : (t : Track) (n : ℕ) → IsTrack t n → held_at t n ≡ nat_lt 0 t.count
-settled_track t n is = ap (λ (b : Bool). b || is_open t n) (none_left t.closed.items n is.ended) ∙ by (nat_lt 0 t.count) refl
+settled_track t n is =
+    ap (λ (b : Bool). b || held_last t n) (none_left t.closed.items n is.ended)
+    ∙ ap (λ (b : Bool). b && (nat_lt 0 t.count || nat_lt n t.until)) (le-leb t.opened n is.opened)
+    ∙ by (nat_lt 0 t.count) refl
   where
-    by : (b : Bool) → nat_lt 0 t.count ≡ b → (b && nat_le t.opened n) ≡ b
-    by true h = let le : t.opened ≤ n = is.opened (grind (arith, h)) in grind (arith, le)
-    by false h = refl
+    by : (b : Bool) → nat_lt 0 t.count ≡ b → (b || nat_lt n t.until) ≡ b
+    by true h = refl
+    by false h = let le : t.until ≤ n = is.until (grind (arith, h)) in grind (arith, le)
 
 settled_list : (list : List Held) (n : ℕ) (w : What) → AreUpTo list n → held_in list w n ≡ nat_lt 0 (count_in list w)
 settled_list [] n w up = grind arith

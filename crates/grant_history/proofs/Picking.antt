@@ -8,7 +8,7 @@ use Rattle.log_views.proofs.Members.{both_ways}
 use Rattle.grant_history.specs.declared.held.Held.{Held}
 use Rattle.grant_history.specs.declared.track.Track.{Track}
 use Rattle.grant_history.specs.declared.blocks.Blocks.{Blocks}
-use Rattle.grant_history.specs.Tracks.{IsTrack, Moves, BeginsAt, was_held, held_at, is_open}
+use Rattle.grant_history.specs.Tracks.{IsTrack, Moves, BeginsAt, was_held, held_at, held_last}
 use Rattle.grant_history.specs.HeldLists.{AreUpTo}
 use Rattle.grant_history.specs.Listed.{is_in}
 use Rattle.grant_history.specs.Blocks.{near}
@@ -88,8 +88,16 @@ grown all old new kept misses i k h got held = kept k i (misses i k h got held)
 pub given_on : (t : Track) (n k : ℕ) → IsTrack t n → n ≤ k → held_at t k ≡ true → 0 < t.count
 given_on t n k is le held =
     let none = none_left t.closed.items k (λ i d w. omega (arith, le, is.ended i d w)) in
-    let lasts : is_open t k ≡ true = ap (λ (b : Bool). b || is_open t k) (sym none) ∙ held in
-    leb-true 1 t.count (and_first (nat_lt 0 t.count) (nat_le t.opened k) lasts)
+    let last : held_last t k ≡ true = ap (λ (b : Bool). b || held_last t k) (sym none) ∙ held in
+    elim (cases_lt 0 t.count) [
+      | inl pos ↦ pos
+      | inr none ↦
+          let ended : t.until ≤ k = omega (arith, is.until (omega (arith, none)), le) in
+          absurd (false≢true (sym (over t.opened t.count t.until none ended) ∙ last))
+    ]
+  where
+    over : (opened count until : ℕ) → count ≤ 0 → until ≤ k → (nat_le opened k && (nat_lt 0 count || nat_lt k until)) ≡ false
+    over opened count until none ended = grind (arith, none, ended)
 
 -- a block more, which has what a source gives
 pub begun_miss : (all : List Held) (old new : Blocks) (at : ℕ) (last given : List ℕ) → AreUpTo all at → old.from ≤ at → MissNothing all old
@@ -119,7 +127,7 @@ pub added_miss : (all : List Held) (old new : Blocks) (x : Held) (at : ℕ) → 
 added_miss all old new x at misses kept has begins i k h got held = elim (got_added all x h i got) [
   | inl there ↦ kept k i (misses i k h there held)
   | inr end ↦ ap (λ (m : ℕ). is_in (near new k) m) end.0 ∙ elim (cases_lt k at) [
-    | inl below ↦ absurd (false≢true (sym (begins.moves.before k below ∙ fresh_held begins.fresh k begins.none begins.empty) ∙ ap (λ (y : Held). held_at y.track k) end.1 ∙ held))
+    | inl below ↦ absurd (false≢true (sym (begins.moves.before k below ∙ fresh_held begins.fresh k begins.is_fresh) ∙ ap (λ (y : Held). held_at y.track k) end.1 ∙ held))
     | inr above ↦ has k above
   ]
 ]
@@ -145,8 +153,9 @@ set_miss all old new i x misses kept has j k h got held = elim (got_set all i j 
 -- what has a source is held from where it began
 given_held : (t : Track) (n k : ℕ) → IsTrack t n → n ≤ k → 0 < t.count → held_at t k ≡ true
 given_held t n k is le pos =
-    let low : t.opened ≤ k = omega (arith, is.opened pos, le) in
-    or_right (was_held t k) (is_open t k) (ap (λ (b : Bool). b && nat_le t.opened k) (le-leb 1 t.count pos) ∙ le-leb t.opened k low)
+    let low : t.opened ≤ k = omega (arith, is.opened, le) in
+    or_right (was_held t k) (held_last t k)
+    (ap (λ (b : Bool). b && (nat_lt 0 t.count || nat_lt k t.until)) (le-leb t.opened k low) ∙ ap (λ (b : Bool). b || nat_lt k t.until) (le-leb 1 t.count pos))
 
 module _ (all : List Held) (old new : Blocks) (i at sources : ℕ) (h : Held) (t : Track) (got : slice_get all i ≡ Some h) (up : AreUpTo all at) (misses : MissNothing all old)
     (kept : (k y : ℕ) → is_in (near old k) y ≡ true → is_in (near new k) y ≡ true) (moves : Moves h.track t at sources) where

@@ -1,5 +1,6 @@
 -- a list of what is held, of which one changed or to which one was added
-use Rattle.std.proofs.Common.{◌≡◌, ◌<◌, ◌≤◌, ◌+◌, ◌-◌, ℕ, zero, suc, refl, sym, ◌∙◌, ap, subst, arith, Bool, true, false, if◌then◌else◌, List, [], ◌∷◌, ◌++◌, length, get_or, Option, Some, None, Result, Ok, Err}
+use Rattle.std.proofs.Common.{◌≡◌, ◌<◌, ◌≤◌, ◌+◌, ◌-◌, ℕ, zero, suc, refl, sym, ◌∙◌, ap, subst, arith, Bool, true, false, if◌then◌else◌, List, [], ◌∷◌, ◌++◌, length, get_or, Option, Some, None, Result, Ok, Err, nat_le, nat_lt, ◌&&◌, ◌||◌}
+use Rattle.std.specs.List.{list_any}
 use Rattle.std.specs.Prelude.{option_map, slice_get, slice_set, OnOk, OnErr, is_err}
 use Rattle.std.proofs.lemmas.Bool.{false≢true, true≢false}
 use Rattle.std.proofs.lemmas.Option.{none-some, same_Some, get_or_from_slice_get}
@@ -7,7 +8,8 @@ use Rattle.grant_history.specs.declared.facts.What.{What}
 use Rattle.grant_history.specs.declared.held.Held.{Held}
 use Rattle.grant_history.specs.declared.track.Track.{Track}
 use Rattle.grant_history.specs.Dated.{Dated}
-use Rattle.grant_history.specs.Tracks.{IsTrack, Moves, BeginsAt, held_at}
+use Rattle.grant_history.specs.declared.track.Span.{Span}
+use Rattle.grant_history.specs.Tracks.{IsTrack, IsFresh, Moves, BeginsAt, has_place, held_at}
 use Rattle.grant_history.specs.Facts.{same_what}
 use Rattle.grant_history.specs.Holdings.{place_of, count_in, held_in, AreUpTo, one_more, one_less}
 use Rattle.grant_history.proofs.Same.{whats, what_itself}
@@ -21,8 +23,8 @@ whats_swap a b = both_ways (same_what a b) (same_what b a)
 pub later_track : (t : Track) (n m : ℕ) → n ≤ m → IsTrack t n → IsTrack t m
 later_track t n m h is = record {
   ended = λ i d w. omega (arith, h, is.ended i d w);
-  opened = λ pos. omega (arith, h, is.opened pos);
-  room = is.room;
+  opened = omega (arith, h, is.opened);
+  until = λ none. omega (arith, h, is.until none);
 }
 
 -- the place of the first that passes is one more where the first does not
@@ -210,19 +212,23 @@ place_append (y ∷ ys) x v h apart =
     ap (λ (b : Bool). if b then Some 0 else option_map (λ (m : ℕ). m + 1) (place_of (ys ++ x ∷ []) v)) parts.0
     ∙ ap (λ (o : Option ℕ). option_map (λ (m : ℕ). m + 1) o) (place_append ys x v parts.1 apart)
 
-pub fresh_held : (t : Track) (k : ℕ) → t.count ≡ 0 → t.closed.items ≡ [] → held_at t k ≡ false
-fresh_held t k none empty = grind (arith, none, empty)
+pub fresh_held : (t : Track) (k : ℕ) → IsFresh t → held_at t k ≡ false
+fresh_held t k is = by t.count t.opened t.until t.closed.items is.none is.opened is.until is.empty
+  where
+    by : (count opened until : ℕ) (spans : List Span) → count ≡ 0 → opened ≡ 0 → until ≡ 0 → spans ≡ []
+        → (list_any (has_place k) spans || (nat_le opened k && (nat_lt 0 count || nat_lt k until))) ≡ false
+    by count opened until spans none first last empty = grind (arith, none, first, last, empty)
 
-pub fresh_up_to : (t : Track) (n : ℕ) → t.count ≡ 0 → t.closed.items ≡ [] → IsTrack t n
-fresh_up_to t n none empty = record {
-  ended = λ i d w. absurd (omega (arith, w, ap length empty));
-  opened = λ pos. absurd (omega (arith, pos, none));
-  room = λ pos. absurd (omega (arith, pos, none));
+pub fresh_up_to : (t : Track) (n : ℕ) → IsFresh t → IsTrack t n
+fresh_up_to t n is = record {
+  ended = λ i d w. absurd (omega (arith, w, ap length is.empty));
+  opened = omega (arith, is.opened);
+  until = λ none. omega (arith, is.until);
 }
 
-module _ (w : What) (x : Held) (fresh : Track) (at : ℕ) (is : x.what ≡ w) (none : fresh.count ≡ 0) (empty : fresh.closed.items ≡ []) (moves : Moves fresh x.track at (fresh.count + 1)) where
+module _ (w : What) (x : Held) (fresh : Track) (at : ℕ) (is : x.what ≡ w) (is_fresh : IsFresh fresh) (moves : Moves fresh x.track at (fresh.count + 1)) where
   one : x.track.count ≡ 1
-  one = moves.count ∙ ap (λ (n : ℕ). n + 1) none
+  one = moves.count ∙ ap (λ (n : ℕ). n + 1) is_fresh.none
 
   added_count : (list : List Held) → place_of list w ≡ None → (v : What) → count_in (list ++ x ∷ []) v ≡ one_more (count_in list) w v
   added_count [] h v = ap (λ (u : What). if same_what u v then x.track.count else 0) is ∙ ap (λ (n : ℕ). if same_what w v then n else 0) one
@@ -240,12 +246,12 @@ module _ (w : What) (x : Held) (fresh : Track) (at : ℕ) (is : x.what ≡ w) (n
   added_held [] v k below = by (same_what x.what v)
     where
       by : (b : Bool) → (if b then held_at x.track k else false) ≡ false
-      by true = moves.before k below ∙ fresh_held fresh k none empty
+      by true = moves.before k below ∙ fresh_held fresh k is_fresh
       by false = refl
   added_held (y ∷ ys) v k below = ap (λ (b : Bool). if same_what y.what v then held_at y.track k else b) (added_held ys v k below)
 
   added_up_to : (list : List Held) (n : ℕ) → place_of list w ≡ None → n ≤ at → AreUpTo list n → AreUpTo (list ++ x ∷ []) at
-  added_up_to [] n h le up = (moves.up_to at (omega arith) (fresh_up_to fresh at none empty), refl, tt)
+  added_up_to [] n h le up = (moves.up_to at (omega arith) (fresh_up_to fresh at is_fresh), refl, tt)
   added_up_to (y ∷ ys) n h le up =
       let parts = apart_from y ys w h in (
         later_track y.track n at le up.0,
@@ -263,7 +269,7 @@ module _ (w : What) (x : Held) (fresh : Track) (at : ℕ) (is : x.what ≡ w) (n
 -- one thing more, which begins
 pub begun : (w : What) (x : Held) (at : ℕ) → x.what ≡ w → BeginsAt x.track at → (list new : List Held) → new ≡ list ++ x ∷ [] → place_of list w ≡ None → Dated count_in held_in AreUpTo list new at (one_more (count_in list) w)
 begun w x at is b list new pushed none =
-    subst (λ (l : List Held). Dated count_in held_in AreUpTo list l at (one_more (count_in list) w)) (sym pushed) (added w x b.fresh at is b.none b.empty b.moves list none)
+    subst (λ (l : List Held). Dated count_in held_in AreUpTo list l at (one_more (count_in list) w)) (sym pushed) (added w x b.fresh at is b.is_fresh b.moves list none)
 
 pub track_up_to : (list : List Held) (i n : ℕ) (h : Held) → slice_get list i ≡ Some h → AreUpTo list n → IsTrack h.track n
 track_up_to [] i n h got up = absurd (none-some h got)

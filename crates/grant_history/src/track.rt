@@ -14,18 +14,19 @@ pub struct Span {
     pub to: u64,
 }
 
-/// When one thing is held: how many sources give it, since which place where any does, and the
-/// spans in which any did before.
+/// When one thing is held: how many sources give it, where the last span in which any does or did
+/// begins, where it ends if none does any more, and the spans before it.
 #[derive(Drop)]
 pub struct Track {
     count: u64,
     opened: u64,
+    until: u64,
     closed: Vec<Span>,
     ghost placed: { (i : ℕ) (d : Span) → i < length closed.items
         → (slice_index_or closed.items i d).from ≤ (slice_index_or closed.items i d).to },
     ghost apart: { (i j : ℕ) (d : Span) → i < j → j < length closed.items
         → (slice_index_or closed.items i d).to ≤ (slice_index_or closed.items j d).from },
-    ghost ended: { (i : ℕ) (d : Span) → i < length closed.items → 0 < count
+    ghost ended: { (i : ℕ) (d : Span) → i < length closed.items
         → (slice_index_or closed.items i d).to ≤ opened },
 }
 
@@ -52,25 +53,25 @@ fn ended(spans: &[Span], k: u64) -> usize
 
 impl Track {
     ghost use Rattle.grant_history.specs.Cuts.{Covers};
-    ghost use Rattle.grant_history.specs.Tracks.{BeginsAt, IsTrack, Moves, held_at, was_held};
+    ghost use Rattle.grant_history.specs.Tracks.{BeginsAt, IsFresh, IsTrack, Moves, held_at, was_held};
 
-    /// A track of what no source gives, with room for one span.
-    fn new(alloc: Global) -> Result<Track, Memory>
-        ensures count { IfOk result (λ track. track.count ≡ 0) }
-        ensures closed { IfOk result (λ track. track.closed.items ≡ []) }
+    /// A track of what no source gives or gave.
+    fn new(alloc: Global) -> Track
+        ensures { IsFresh result }
     {
-        Ok(Track {
+        Track {
             count: 0,
             opened: 0,
-            closed: Vec::with_capacity(alloc, 1)?,
-        })
+            until: 0,
+            closed: Vec::new(alloc),
+        }
     }
 
     /// A track of what one source gives from a place on.
     pub fn begun(alloc: Global, at: u64) -> Result<Track, Memory>
         ensures { IfOk result (λ track. BeginsAt track at) }
     {
-        let mut track = Track::new(alloc)?;
+        let mut track = Track::new(alloc);
         track.give(at)?;
         Ok(track)
     }
@@ -86,7 +87,7 @@ impl Track {
     pub fn holds(&self, k: u64) -> bool
         ensures { result ≡ held_at self.now k }
     {
-        self.held_before(k) || (self.count > 0 && self.opened <= k)
+        self.held_before(k) || (self.opened <= k && (self.count > 0 || k < self.until))
     }
 
     fn held_before(&self, k: u64) -> bool
@@ -105,6 +106,7 @@ impl Track {
             add_ends(cuts, span)?;
         }
         cuts.push(self.opened)?;
+        cuts.push(self.until)?;
         Ok(())
     }
 
@@ -119,7 +121,12 @@ impl Track {
             return Err(AllocError);
         }
         if self.count == 0 {
-            self.closed.reserve(1)?;
+            if self.opened < self.until {
+                self.closed.push(Span {
+                    from: self.opened,
+                    to: self.until,
+                })?;
+            }
             self.opened = at;
         }
         self.count += 1;
@@ -133,10 +140,7 @@ impl Track {
         ensures { Moves self.old self.new at (self.old.count - 1) }
     {
         if self.count == 1 {
-            self.closed.push_reserved(Span {
-                from: self.opened,
-                to: at,
-            });
+            self.until = at;
         }
         self.count -= 1;
     }

@@ -2,4 +2,4 @@ use Rattle.grant_history.proofs.Tracked.{fresh_up_to}
 use Rattle.grant_history.proofs.track.Track.begun.Goals as goal
 
 pub give-requires : goal.give-requires
-give-requires c = fresh_up_to c.in_ok-track.track c.args.at c.in_ok-track.ensures.count c.in_ok-track.ensures.closed
+give-requires c = fresh_up_to c.new-track.result c.args.at c.new-track.ensures
