@@ -17,11 +17,11 @@ use Rattle.principals.specs.Faults.{IsBadScript}
 use Rattle.record_file.specs.declared.record.Recorded.{Recorded}
 use Rattle.record_file.specs.Record as record_file
 use Rattle.record_file.specs.Faults.{NamesBadLine, bad_line}
-use Rattle.gateway_app.specs.declared.status.Status.{Status}
-use Rattle.gateway_app.specs.declared.status.Status.TheVariants as status
+use Rattle.feed_command.specs.declared.status.Status.{Status}
+use Rattle.feed_command.specs.declared.status.Status.TheVariants as status
 use Rattle.gateway_app.specs.Inputs.{AreSessionsIn, Contents, HaveFiles, IsBadAdmin, IsBadAmong, IsBadConfig, IsBadSession, IsConfigIn, IsScriptIn, IsSessionIn, LacksFile}
 use Rattle.gateway_app.specs.Loading.{AreInputsRead, AreSessionsRead, IsConfigRead, IsRead, IsRefused, IsScriptRead, IsSessionRead}
-use Rattle.gateway_app.specs.Run.{HasFile, HasNoFile, IsLoaded}
+use Rattle.feed_command.specs.Run.{HasFile, HasNoFile, IsLoaded}
 
 -- ---- one file
 

@@ -12,7 +12,7 @@ use Rattle.principals.specs.Faults.{IsBadScript}
 use Rattle.record_file.specs.declared.record.Recorded.{Recorded}
 use Rattle.record_file.specs.Record as record_file
 use Rattle.record_file.specs.Faults.{bad_line}
-use Rattle.gateway_app.specs.Run.{HasFile, HasNoFile}
+use Rattle.feed_command.specs.Run.{HasFile, HasNoFile}
 use Rattle.gateway_app.specs.Words.{ReplayWords}
 
 -- ---- the files

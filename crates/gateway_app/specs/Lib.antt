@@ -1,7 +1,5 @@
-pub mod FeedText
 pub mod Inputs
 pub mod Loading
 pub mod Replays
 pub mod Request
-pub mod Run
 pub mod Words

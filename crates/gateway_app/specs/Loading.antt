@@ -9,10 +9,10 @@ use Rattle.principals.specs.declared.admin_line.AdminLine.{AdminLine}
 use Rattle.record_file.specs.declared.record.Recorded.{Recorded}
 use Rattle.replay.specs.Replay.{IsReplay}
 use Rattle.gateway_app.specs.declared.replay_command.LoadedInputs.{LoadedInputs}
-use Rattle.gateway_app.specs.declared.status.Status.{Status}
-use Rattle.gateway_app.specs.declared.status.Status.TheVariants as status
+use Rattle.feed_command.specs.declared.status.Status.{Status}
+use Rattle.feed_command.specs.declared.status.Status.TheVariants as status
 use Rattle.gateway_app.specs.Inputs.{AreInputs, AreSessionsIn, Contents, Inputs, IsBadAdmin, IsBadAmong, IsBadConfig, IsBadSession, IsConfigIn, IsFirstBad, IsScriptIn, IsSessionIn}
-use Rattle.gateway_app.specs.Run.{Took, TookPart}
+use Rattle.feed_command.specs.Run.{Took, TookPart}
 
 -- what was read of files, of which something holds, or how the run ends: at the file with this number, where it holds of nothing, or at one
 -- that was not read

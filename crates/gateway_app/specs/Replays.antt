@@ -1,10 +1,10 @@
 -- What a run of `replay` answers and does.
 use Rattle.std.specs.Prelude.{ℕ, List, Option}
 use Rattle.replay.specs.Replay.{IsReplay}
-use Rattle.gateway_app.specs.declared.status.Status.{Status}
-use Rattle.gateway_app.specs.declared.status.Status.TheVariants as status
+use Rattle.feed_command.specs.declared.status.Status.{Status}
+use Rattle.feed_command.specs.declared.status.Status.TheVariants as status
 use Rattle.gateway_app.specs.Inputs.{AreInputs, Contents, Inputs, IsFirstBad}
-use Rattle.gateway_app.specs.Run.{Took, TookPart}
+use Rattle.feed_command.specs.Run.{Took, TookPart}
 
 -- the text is the transcript of a replay of what the files hold
 pub record IsTranscript (contents : Contents) (text : List ℕ) : Type 0 where

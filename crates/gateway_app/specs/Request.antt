@@ -1,11 +1,7 @@
 -- what the words were read as. Only proofs need this.
 use Rattle.std.specs.Prelude.{map, string_bytes}
-use Rattle.gateway_app.specs.declared.words.FeedRequest.{FeedRequest}
 use Rattle.gateway_app.specs.declared.words.ReplayRequest.{ReplayRequest}
-use Rattle.gateway_app.specs.Words.{FeedWords, ReplayWords}
-
-abbrev pub words_of : FeedRequest → FeedWords
-words_of request = record { journal = request.journal.now; user = request.user; since = request.since }
+use Rattle.gateway_app.specs.Words.{ReplayWords}
 
 abbrev pub replay_of : ReplayRequest → ReplayWords
 replay_of request = record {

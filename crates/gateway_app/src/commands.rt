@@ -3,13 +3,13 @@
 ghost use Rattle.std.specs.Prelude.{◌≡◌, ◌↔◌, ℕ, List, map, string_bytes};
 ghost use Rattle.gateway_app.specs.Inputs.{Contents, HaveContents, LacksOne};
 ghost use Rattle.gateway_app.specs.Replays.{EndsReplay, EndsWithout};
-ghost use Rattle.gateway_app.specs.Run.{Counted, Ends, EndsAbsent, HasFile, HasNoFile, Silent};
-ghost use Rattle.gateway_app.specs.Words.{FeedWords, IsFeed, IsReplay, ReplayWords};
+ghost use Rattle.feed_command.specs.Run.{Counted, Ends, EndsAbsent, HasFile, HasNoFile, Silent};
+ghost use Rattle.feed_command.specs.Words.{FeedWords, IsFeed};
+ghost use Rattle.gateway_app.specs.Words.{IsReplay, ReplayWords};
 
-use crate::feed_command::run_feed;
 use crate::replay_command::run_replay;
-use crate::status::Status;
-use crate::words::{WordsFault, read_feed, read_replay};
+use crate::words::read_replay;
+use feed_command::Status;
 use sg_outside::{Files, Sink};
 use std::alloc::Global;
 
@@ -39,9 +39,5 @@ pub fn run<F: Files, O: Sink>(alloc: Global, words: &[String], files: &mut F, ou
     if let Some(request) = read_replay(words) {
         return run_replay(alloc, &request, files, out);
     }
-    match read_feed(alloc, words) {
-        Ok(request) => run_feed(alloc, &request, files, out),
-        Err(WordsFault::BadWords) => Status::BadWords,
-        Err(WordsFault::Memory) => Status::Memory,
-    }
+    feed_command::run(alloc, words, files, out)
 }

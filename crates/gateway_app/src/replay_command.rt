@@ -6,12 +6,10 @@ ghost use Rattle.gateway_app.specs.Inputs.{Contents, HaveContents, HaveFiles, La
 ghost use Rattle.gateway_app.specs.Loading.{AreInputsRead, AreSessionsRead, IsConfigRead, IsRefused, IsScriptRead, IsSessionRead, PrintsReplay, inputs_of};
 ghost use Rattle.gateway_app.specs.Replays.{EndsReplay, EndsWithout};
 ghost use Rattle.gateway_app.specs.Request.{replay_of};
-ghost use Rattle.gateway_app.specs.Run.{Counted, EndsAbsent, EndsLoaded, HasFile, HasNoFile, Silent};
+ghost use Rattle.feed_command.specs.Run.{Counted, EndsAbsent, EndsLoaded, HasFile, HasNoFile, Silent};
 
-use crate::feed_command::print;
-use crate::files::load;
-use crate::status::Status;
 use crate::words::ReplayRequest;
+use feed_command::{Status, load, print};
 use gateway_config::{Config, ConfigFault, read_config};
 use principals::{AdminLines, read_admin};
 use record_file::{Recorded, read_record};

@@ -1,6 +1,6 @@
 //! Runs of commands over files and sinks in memory, with each call of a small run failing in turn.
 
-use gateway_app::{Status, run};
+use feed_command::{Status, run};
 use sg_outside::{Bytes, MemFile, MemFiles, MemSink, ScriptedFiles, ScriptedSink};
 use std::alloc::{AllocError, Global};
 use std::test::Fail;

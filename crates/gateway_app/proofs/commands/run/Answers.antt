@@ -1,23 +1,9 @@
-use Rattle.std.proofs.Common.{sym, subst, refl, ap, Err}
 use Rattle.gateway_app.specs.Request.{replay_of}
-use Rattle.gateway_app.specs.Run.{Ends, HasFile}
-use Rattle.gateway_app.specs.Words.{FeedWords}
 use Rattle.gateway_app.proofs.commands.run.Goals as goal
 
 pub returns-in-Some-clause-words : goal.returns-in-Some-clause-words
 returns-in-Some-clause-words g c =
     (λ e. absurd (c.run_replay.ensures.words e), λ none. absurd (none.1 (replay_of c.in-Some.request) c.in-Some.ensures.some))
 
-pub returns-in-Ok-clause-ends : goal.returns-in-Ok-clause-ends
-returns-in-Ok-clause-ends g c = λ f bytes read.
-    let P : FeedWords → Type 0 = λ w. HasFile (g.F.Files.recorded c.args.files.now) w.journal bytes → Ends c.run_feed.result w bytes (g.O.Sink.taken c.args.out.now) (g.O.Sink.taken c.run_feed.new.out) in
-    subst P (sym (c.in-Ok.ensures.only f read)) (c.run_feed.ensures.ends bytes)
-
-pub returns-in-Err-BadWords-clause-words : goal.returns-in-Err-BadWords-clause-words
-returns-in-Err-BadWords-clause-words g c = (λ _. (c.in-Err-BadWords.ensures.bad (ap Err c.in-Err-BadWords.field-0-is), c.in_default.ensures.none), λ _. refl)
-
-pub returns-in-Err-BadWords-clause-ends : goal.returns-in-Err-BadWords-clause-ends
-returns-in-Err-BadWords-clause-ends g c = λ f bytes read. absurd (c.in-Err-BadWords.ensures.bad (ap Err c.in-Err-BadWords.field-0-is) f read)
-
-pub returns-in-Err-BadWords-clause-absent : goal.returns-in-Err-BadWords-clause-absent
-returns-in-Err-BadWords-clause-absent g c = λ f read. absurd (c.in-Err-BadWords.ensures.bad (ap Err c.in-Err-BadWords.field-0-is) f read)
+pub returns-clause-words : goal.returns-clause-words
+returns-clause-words g c = (λ e. (c.run.ensures.words.0 e, c.in_default.ensures.none), λ none. c.run.ensures.words.1 none.0)

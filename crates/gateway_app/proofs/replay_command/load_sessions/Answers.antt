@@ -1,7 +1,7 @@
 use Rattle.std.proofs.Common.{◌≡◌, ◌<◌, ◌+◌, ◌++◌, ◌∷◌, [], suc, length, get_or, take, string_bytes, String, Global, arith, rules}
 use Rattle.std.proofs.lemmas.List.{take_all}
 use Rattle.std.proofs.lemmas.Result.{err_from_is_err_and}
-use Rattle.gateway_app.specs.Run.{HasNoFile}
+use Rattle.feed_command.specs.Run.{HasNoFile}
 use Rattle.gateway_app.proofs.Reading.{as_many, file_at, lacks_behind, one_more, session_failed}
 use Rattle.gateway_app.proofs.replay_command.load_sessions.Goals as goal
 

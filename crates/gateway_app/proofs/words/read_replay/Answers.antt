@@ -1,9 +1,16 @@
-use Rattle.std.proofs.Common.{false, not, nat_eq, ◌≡◌, ℕ, ◌-◌, ◌≤◌, List, [], ◌∷◌, length, get_or, take, drop, map, codes, sym, ◌∙◌, arith, String, Global, string_bytes}
+use Rattle.std.proofs.Common.{Bool, true, false, not, refl, nat_eq, ◌≡◌, ℕ, ◌-◌, ◌≤◌, List, [], ◌∷◌, length, get_or, take, drop, map, codes, sym, ◌∙◌, arith, String, Global, string_bytes}
 use Rattle.std.specs.Str.{bytes_eq}
 use Rattle.std.proofs.lemmas.Bool.Decides.{nat_tests}
 use Rattle.std.proofs.lemmas.List.{length-map, take_all}
-use Rattle.gateway_app.proofs.FourWords.{same_word}
+use Rattle.std.proofs.lemmas.Slice.Eq.{bytes_eq-Decides}
 use Rattle.gateway_app.proofs.words.read_replay.Goals as goal
+
+not_false : (b : Bool) → false ≡ not b → b ≡ true
+not_false true h = refl
+not_false false h = cc
+
+same_word : (word text : List ℕ) → false ≡ not (bytes_eq word text) → word ≡ text
+same_word word text h = (bytes_eq-Decides word text).0 (not_false (bytes_eq word text) h)
 
 -- the first three items of a list, and the others
 three : {X : Type 0} (f : X → List ℕ) (xs : List X) (a b c : X) → 3 ≤ length xs → a ≡ get_or xs 0 a → b ≡ get_or xs 1 b → c ≡ get_or xs 2 c → map f xs ≡ f a ∷ f b ∷ f c ∷ map f (take (length xs - 3) (drop 3 xs))

@@ -1,0 +1,18 @@
+use Rattle.std.proofs.Common.{sym, subst, refl, ap, Err}
+use Rattle.feed_command.specs.Run.{Ends, HasFile}
+use Rattle.feed_command.specs.Words.{FeedWords}
+use Rattle.feed_command.proofs.command.run.Goals as goal
+
+pub returns-in-Ok-clause-ends : goal.returns-in-Ok-clause-ends
+returns-in-Ok-clause-ends g c = λ f bytes read.
+    let P : FeedWords → Type 0 = λ w. HasFile (g.F.Files.recorded c.args.files.now) w.journal bytes → Ends c.run_feed.result w bytes (g.O.Sink.taken c.args.out.now) (g.O.Sink.taken c.run_feed.new.out) in
+    subst P (sym (c.in-Ok.ensures.only f read)) (c.run_feed.ensures.ends bytes)
+
+pub returns-in-Err-BadWords-clause-words : goal.returns-in-Err-BadWords-clause-words
+returns-in-Err-BadWords-clause-words g c = (λ _. c.in-Err-BadWords.ensures.bad (ap Err c.in-Err-BadWords.field-0-is), λ _. refl)
+
+pub returns-in-Err-BadWords-clause-ends : goal.returns-in-Err-BadWords-clause-ends
+returns-in-Err-BadWords-clause-ends g c = λ f bytes read. absurd (c.in-Err-BadWords.ensures.bad (ap Err c.in-Err-BadWords.field-0-is) f read)
+
+pub returns-in-Err-BadWords-clause-absent : goal.returns-in-Err-BadWords-clause-absent
+returns-in-Err-BadWords-clause-absent g c = λ f read. absurd (c.in-Err-BadWords.ensures.bad (ap Err c.in-Err-BadWords.field-0-is) f read)

@@ -1,0 +1,14 @@
+use Rattle.std.proofs.Common.{refl}
+use Rattle.sg_history.specs.History.{history}
+use Rattle.feed_command.proofs.Endings.{printed}
+use Rattle.feed_command.proofs.feed.print_feed.Goals as goal
+
+pub returns-in-Ok : goal.returns-in-Ok
+returns-in-Ok g c =
+    printed c.print_log.result (history c.in-Ok.log) c.args.journal c.args.user.now c.args.since.now _ _ _ _ c.in-Ok.ensures.ok c.print_log.ensures
+
+pub returns-in-Err-Bad : goal.returns-in-Err-Bad
+returns-in-Err-Bad g c =
+    let line = rw c.in-Err-Bad.field-0-is at c.in-Err-Bad.ensures.line in
+    let bad = rw c.in-Err-Bad.field-0-is at c.in-Err-Bad.ensures.bad in
+    rw c.in-Err-Bad.field-0-is (refl, line, bad, refl)

@@ -1,0 +1,34 @@
+//! The command by its words.
+
+ghost use Rattle.std.specs.Prelude.{◌≡◌, ◌↔◌, ℕ, List, map, string_bytes};
+ghost use Rattle.feed_command.specs.Run.{Counted, Ends, EndsAbsent, HasFile, HasNoFile, Silent};
+ghost use Rattle.feed_command.specs.Words.{FeedWords, IsFeed};
+
+use crate::feed::run_feed;
+use crate::status::Status;
+use crate::words::{WordsFault, read_feed};
+use sg_outside::{Files, Sink};
+use std::alloc::Global;
+
+/// Runs `feed`: the words are those after the program's name.
+pub fn run<F: Files, O: Sink>(alloc: Global, words: &[String], files: &mut F, out: &mut O) -> Status
+    ensures words { (result ≡ Status.BadWords)
+        ↔ ((f : FeedWords) → ¬ IsFeed (map (λ w. string_bytes w) words.now) f) }
+    ensures untouched { result ≡ Status.BadWords → (files.new ≡ files.old) × (out.new ≡ out.old) }
+    ensures ends { (f : FeedWords) (bytes : List ℕ)
+        → IsFeed (map (λ w. string_bytes w) words.now) f
+        → HasFile (F.recorded files.old) f.journal bytes
+        → Ends result f bytes (O.taken out.old) (O.taken out.new) }
+    ensures absent { (f : FeedWords) → IsFeed (map (λ w. string_bytes w) words.now) f
+        → HasNoFile (F.recorded files.old) f.journal → EndsAbsent result }
+    ensures counted { Counted result (F.faults files.old) (F.faults files.new)
+        (O.faults out.old) (O.faults out.new) }
+    ensures silent { Silent result (O.taken out.old) (O.taken out.new) }
+    ensures kept { F.recorded files.new ≡ F.recorded files.old }
+{
+    match read_feed(alloc, words) {
+        Ok(request) => run_feed(alloc, &request, files, out),
+        Err(WordsFault::BadWords) => Status::BadWords,
+        Err(WordsFault::Memory) => Status::Memory,
+    }
+}

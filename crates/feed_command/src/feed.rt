@@ -1,0 +1,99 @@
+//! The command `feed`: prints the rows of a user's changes feed over a journal.
+
+ghost use Rattle.std.specs.Prelude.{◌≡◌, ◌≢◌, ℕ, List, IfOk};
+ghost use Rattle.sg_history.specs.History.{history};
+ghost use Rattle.feed_command.specs.FeedText.{feed_text};
+ghost use Rattle.feed_command.specs.Request.{words_of};
+ghost use Rattle.feed_command.specs.Run.{Counted, Ends, EndsAbsent, EndsFeed, HasFile, HasNoFile, Prints, Silent};
+
+use crate::files::load;
+use crate::status::Status;
+use crate::text::print_rows;
+use crate::words::FeedRequest;
+use feed_rows::rows;
+use sg_history::{BadLine, Key, Log, Name, Options, ReadLog, take_journal};
+use sg_outside::{Bytes, Files, Gave, Memory, Sink};
+use std::alloc::Global;
+
+/// The number of the journal among the command's words.
+const JOURNAL: u64 = 1;
+
+/// The printed feed of a log, over its whole length, with revocations.
+fn feed_of(alloc: Global, log: &Log, user: &Name, since: &Key) -> Result<Bytes, Memory>
+    ensures { IfOk result (λ text. text ≡ feed_text (history log.now) user.now since.now) }
+{
+    let options = Options {
+        filter: None,
+        active_only: false,
+        revocations: true,
+    };
+    let rows = rows(alloc, log, log.entries.len() as u64, user, since, &options)?;
+    print_rows(alloc, rows.as_slice())
+}
+
+/// Writes a text to the output at once.
+pub fn print<O: Sink>(text: &[u8], out: &mut O) -> Status
+    ensures { Prints result text.now
+        (O.faults out.old) (O.faults out.new) (O.taken out.old) (O.taken out.new) }
+{
+    match out.give(text) {
+        Gave::Done => Status::Ok,
+        Gave::Failed => Status::WriteFault,
+        Gave::Memory => Status::Memory,
+    }
+}
+
+/// Prints the feed of a log.
+fn print_log<O: Sink>(alloc: Global, log: &Log, user: &Name, since: &Key, out: &mut O) -> Status
+    ensures { Prints result (feed_text (history log.now) user.now since.now)
+        (O.faults out.old) (O.faults out.new) (O.taken out.old) (O.taken out.new) }
+{
+    match feed_of(alloc, log, user, since) {
+        Ok(text) => print(text.as_slice(), out),
+        Err(_) => Status::Memory,
+    }
+}
+
+/// Prints the feed of a journal that was loaded, of which the bytes are let go while they are read.
+fn print_feed<O: Sink>(
+    alloc: Global,
+    journal: Bytes,
+    user: &Name,
+    since: &Key,
+    out: &mut O,
+) -> Status
+    ensures { EndsFeed result journal user.now since.now
+        (O.faults out.old) (O.faults out.new) (O.taken out.old) (O.taken out.new) }
+{
+    match take_journal(alloc, journal) {
+        Ok(log) => print_log(alloc, &log, user, since, out),
+        Err(ReadLog::Bad(BadLine { place, why })) => Status::BadInput {
+            file: JOURNAL,
+            place,
+            why,
+        },
+        Err(ReadLog::Memory) => Status::Memory,
+    }
+}
+
+/// Runs `feed`.
+pub(crate) fn run_feed<F: Files, O: Sink>(
+    alloc: Global,
+    request: &FeedRequest<'_>,
+    files: &mut F,
+    out: &mut O,
+) -> Status
+    ensures ends { (bytes : List ℕ) → HasFile (F.recorded files.old) request.now.journal.now bytes
+        → Ends result (words_of request.now) bytes (O.taken out.old) (O.taken out.new) }
+    ensures absent { HasNoFile (F.recorded files.old) request.now.journal.now → EndsAbsent result }
+    ensures words { result ≢ Status.BadWords }
+    ensures counted { Counted result (F.faults files.old) (F.faults files.new)
+        (O.faults out.old) (O.faults out.new) }
+    ensures silent { Silent result (O.taken out.old) (O.taken out.new) }
+    ensures kept { F.recorded files.new ≡ F.recorded files.old }
+{
+    match load(alloc, files, request.journal, JOURNAL) {
+        Ok(journal) => print_feed(alloc, journal, &request.user, &request.since, out),
+        Err(status) => status,
+    }
+}
