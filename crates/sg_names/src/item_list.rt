@@ -1,6 +1,6 @@
 //! Texts of lists: `-` for none, else the items joined by commas.
 
-ghost use Rattle.std.specs.Prelude.{◌≡◌, ◌≢◌, ◌==◌, ◌&&◌, ◌++◌, ◌∷◌, List, [], ℕ, Bool, true, false, map, length, take, IsTrue, IfOk, OnOk, OnErr};
+ghost use Rattle.std.specs.Prelude.{◌≡◌, ◌≢◌, ◌≤◌, ◌==◌, ◌&&◌, ◌++◌, ◌∷◌, List, [], ℕ, Bool, true, false, map, length, take, IsTrue, IfOk, OnOk, OnErr};
 ghost use Rattle.std.specs.List.{flat_map, list_all, slice_split};
 ghost use Rattle.std.specs.declared.cmp.Ordering as ordering;
 ghost use Rattle.sg_names.specs.Grammar.{lacks};
@@ -70,6 +70,19 @@ fn are_items<T: Item>(text: &str) -> bool
     T::is_text(rest)
 }
 
+/// How many parts there are between commas. Allocates nothing.
+fn count_parts(text: &str) -> usize
+    ensures { 1 ≤ result }
+{
+    let mut commas: usize = 0;
+    for byte in text.as_bytes() {
+        if *byte == b',' {
+            commas = commas.saturating_add(1);
+        }
+    }
+    commas.saturating_add(1)
+}
+
 /// Reads an item from each part between commas: `Bad` where one is outside the grammar.
 fn read_items<T: Item>(alloc: Global, text: &str) -> Result<Vec<T>, TextFault>
     ensures ok { IfOk result (λ v. (slice_split (λ b. b == 44) text.now ≡ map T.text v.items)
@@ -77,8 +90,7 @@ fn read_items<T: Item>(alloc: Global, text: &str) -> Result<Vec<T>, TextFault>
     ensures bad { result ≡ Err TextFault.Bad → (xs : List T) → IsTrue (list_all T.admits xs)
         → slice_split (λ b. b == 44) text.now ≢ map T.text xs }
 {
-    // most lists have one item
-    let mut items = Vec::with_capacity(alloc, 1)?;
+    let mut items = Vec::with_capacity(alloc, count_parts(text))?;
     let mut rest = text;
     while let Some((part, after)) = pieces::cut(rest, ',') {
         items.push(T::read(alloc, part)?)?;
