@@ -152,7 +152,9 @@ fn periods_for(
     ensures { IfOk result (λ list. AreSoFar (names_of channels.now) list.items
         (has_at_with givers.now all.now.items)) }
 {
-    let mut periods = Vec::new(alloc);
+    // most channels have one period
+    let room = channels.len().saturating_add(channels.len() / 4);
+    let mut periods = Vec::with_capacity(alloc, room)?;
     for channel in channels {
         add_channel(alloc, &mut periods, all, givers, channel)?;
     }

@@ -7,7 +7,7 @@ use Rattle.grant_history.proofs.Dividing.{none_so_far, more_so_far, parted}
 use Rattle.grant_history.proofs.periods.periods_for.Goals as goal
 
 pub loop-channel-init : goal.loop-channel-init
-loop-channel-init c = none_so_far _ _ c.new-periods.ensures.items
+loop-channel-init c = none_so_far _ _ c.in_ok-periods.ensures.items
 
 pub loop-channel-preserved : goal.loop-channel-preserved
 loop-channel-preserved c =
