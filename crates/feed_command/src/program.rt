@@ -1,6 +1,6 @@
 //! What a program does besides its command: it takes the words, and says how the command ended.
 
-ghost use Rattle.std.specs.Prelude.{◌≡◌};
+ghost use Rattle.std.specs.Prelude.{◌≡◌, ◌⊎◌, IfErr};
 ghost use Rattle.feed_command.specs.Exit.{exit_number};
 
 use crate::status::Status;
@@ -9,8 +9,10 @@ use std::io::ErrorKind;
 use std::rt::Env;
 use std::{env, io};
 
-/// The words after the program's name.
-pub fn words_of(rt: &(impl Env + AllocGlobal)) -> Result<Vec<String>, Status> {
+/// The words after the program's name; bad words where one of them isn't UTF-8.
+pub fn words_of(rt: &(impl Env + AllocGlobal)) -> Result<Vec<String>, Status>
+    ensures { IfErr result (λ status. (status ≡ Status.BadWords) ⊎ (status ≡ Status.Memory)) }
+{
     let args = match env::args(rt) {
         Ok(args) => args,
         Err(error) if error.kind() == ErrorKind::OutOfMemory => return Err(Status::Memory),
