@@ -1,1 +1,9 @@
 pub mod Texts
+pub mod Layers
+pub mod Depths
+pub mod InTurn
+pub mod Places
+pub mod Parameters
+pub mod Nodes
+pub mod Opened
+pub mod Ends

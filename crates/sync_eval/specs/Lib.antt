@@ -1,1 +1,3 @@
 pub mod Verdicts
+pub mod Nested
+pub mod NestedSteps

@@ -6,9 +6,10 @@ ghost use Rattle.sync_meaning.specs.Meaning.{meaning};
 ghost use Rattle.sync_eval.specs.declared.verdict.Verdict as Verdict;
 ghost use Rattle.sync_eval.specs.Verdicts.{verdict};
 
+use crate::meaning::evaluate;
 use json_doc::Doc;
 use std::alloc::Global;
-use sync_meaning::{Context, Effects, Rule, Stop, evaluate};
+use sync_meaning::{Context, Effects, Rule, Stop};
 use sync_resolve::Resolved;
 
 /// What a program says of a revision: it is accepted, with these effects, or denied by this rule.
@@ -33,7 +34,7 @@ pub fn judge(
     ensures { result ≢ Verdict.Memory → result ≡ verdict (meaning program.now (node_tree doc.now)
         (option_map (λ doc. node_tree doc.now) old.entry) context.now) }
 {
-    match evaluate(alloc, program.as_program(), doc, old, context) {
+    match evaluate(alloc, program, doc, old, context) {
         Ok(effects) => Verdict::Accept(effects),
         Err(Stop::Deny(rule)) => Verdict::Deny(rule),
         Err(Stop::Memory) => Verdict::Memory,

@@ -20,7 +20,6 @@ use Rattle.sync_syntax.specs.declared.tree.Statement.{Statement, out-Statement}
 use Rattle.sync_syntax.specs.declared.tree.Statement.TheOpen.{Statement-F}
 use Rattle.sync_syntax.specs.declared.tree.Suffix.{Suffix, out-Suffix}
 use Rattle.sync_syntax.specs.declared.tree.Writes.TheVariants as writes
-use Rattle.sync_meaning.specs.declared.callee.Builtin.{Builtin}
 use Rattle.sync_meaning.specs.declared.callee.Builtin.TheVariants.{IsArray}
 use Rattle.sync_meaning.specs.declared.callee.Target.{Target}
 use Rattle.sync_meaning.specs.declared.callee.Target.TheVariants as t
@@ -31,7 +30,7 @@ use Rattle.sync_meaning.specs.declared.scope.Scope.{Scope}
 use Rattle.sync_meaning.specs.declared.state.State.{State}
 use Rattle.sync_meaning.specs.declared.value.Value.{Value}
 use Rattle.sync_meaning.specs.declared.value.Value.TheVariants as v
-use Rattle.sync_meaning.specs.Acts.{Found, Act, and_then, in_state, ◌>>=◌, ◌>>◌, pure, lift, type_fault, denial, visits, out_of_visits}
+use Rattle.sync_meaning.specs.Acts.{Found, Act, and_then, in_state, ◌>>=◌, pure, lift, type_fault, denial, visits, out_of_visits}
 use Rattle.sync_meaning.specs.Values.{truth, combined, prefixed, member, indexed, listed, same_truth}
 use Rattle.sync_meaning.specs.Variables.{top, new_number, declared, started, behind}
 use Rattle.sync_meaning.specs.Builtins.{by_method}

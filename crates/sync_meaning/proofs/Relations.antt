@@ -27,7 +27,7 @@ use Rattle.sync_meaning.specs.declared.completion.Completion.TheVariants.{Normal
 use Rattle.sync_meaning.specs.declared.scope.Scope.{Scope}
 use Rattle.sync_meaning.specs.declared.value.Value.{Value}
 use Rattle.sync_meaning.specs.declared.value.Value.TheVariants as v
-use Rattle.sync_meaning.specs.Acts.{Found, Act, ◌>>=◌, ◌>>◌, pure, lift, type_fault, visits, out_of_visits}
+use Rattle.sync_meaning.specs.Acts.{Found, Act, ◌>>=◌, pure, lift, type_fault, visits, out_of_visits}
 use Rattle.sync_meaning.specs.Values.{truth, combined, prefixed, member, indexed, listed, same_truth, added}
 use Rattle.sync_meaning.specs.Variables.{new_number, declared, started, behind}
 use Rattle.sync_meaning.specs.Builtins.{built_in, by_method}

@@ -1,11 +1,11 @@
 pub mod Acts
 pub mod Values
 pub mod Variables
+pub mod Slots
 pub mod Builtins
 pub mod Expressions
 pub mod Statements
 pub mod Meaning
-pub mod Nests
 pub mod Texts
 pub mod Laws
 pub mod formers

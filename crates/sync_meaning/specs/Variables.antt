@@ -1,6 +1,5 @@
 -- Names: which variable a name stands for, and what the variables hold.
-use Rattle.std.specs.Prelude.{ℕ, ◌+◌, ◌==◌, Bool, ◌&&◌, if◌then◌else◌, List, [], ◌∷◌, ◌++◌, Option, None, Some, unwrap_or}
-use Rattle.std.specs.Str.{bytes_eq}
+use Rattle.std.specs.Prelude.{ℕ, ◌+◌, if◌then◌else◌, List, [], ◌∷◌, ◌++◌, Option, None, Some, unwrap_or}
 use Rattle.sync_syntax.specs.declared.tree.Declares.{Declares}
 use Rattle.sync_syntax.specs.declared.tree.Declares.TheVariants.{Var, Let, Const}
 use Rattle.sync_syntax.specs.declared.tree.Expr.{Expr}
@@ -13,6 +12,7 @@ use Rattle.sync_meaning.specs.declared.scope.Scope.{Scope}
 use Rattle.sync_meaning.specs.declared.variables.Variable.{Variable}
 use Rattle.sync_meaning.specs.declared.value.Value.{Value}
 use Rattle.sync_meaning.specs.declared.value.Value.TheVariants as v
+use Rattle.sync_meaning.specs.Slots.{is_variable}
 use Rattle.sync_meaning.specs.Values.{last_named}
 
 -- ---- which variables of `let` and `const` are seen. This is by the text alone, whatever runs.
@@ -81,10 +81,6 @@ behind_all [] scope = scope
 behind_all (s ∷ ss) scope = behind_all ss (behind s scope)
 
 -- ---- what the variables hold
-
--- whether this is the variable of a name and a number
-abbrev pub is_variable : List ℕ → ℕ → Variable → Bool
-is_variable name number x = bytes_eq name x.name && number == x.number
 
 -- what a variable holds: undefined where it was not written
 abbrev pub value_in : List ℕ → ℕ → List Variable → Value

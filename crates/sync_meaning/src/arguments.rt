@@ -17,7 +17,7 @@ use sync_tokens::Place;
 
 /// The text that a value is.
 #[tactic(auto, unfolding(crate::specs::Builtins::text_in))]
-pub(crate) fn text_in(value: &Value) -> Option<&DocText>
+pub fn text_in(value: &Value) -> Option<&DocText>
     ensures { option_map (λ text. text.now) result ≡ spec.text_in value.now }
 {
     match value {

@@ -233,7 +233,7 @@ fn require_admin(place: Place, state: &mut State) -> Result<Value, Stop>
 }
 
 /// What a builtin gives and does. Another count of arguments is a fault.
-pub(crate) fn built_in(
+pub fn built_in(
     alloc: Global,
     place: Place,
     builtin: Builtin,

@@ -93,7 +93,7 @@ fn put<T: Ordered>(item: T, items: List<T>) -> Result<List<T>, AllocError>
 
 impl Effects {
     /// None.
-    pub(crate) fn none(alloc: Global) -> Effects
+    pub fn none(alloc: Global) -> Effects
         ensures channels { result.channels ≡ [] }
         ensures grants { result.grants ≡ [] }
         ensures roles { result.roles ≡ [] }

@@ -56,7 +56,7 @@ impl Stop {
     ghost use Rattle.sync_meaning.specs.Acts as spec;
 
     /// A fault of this kind at this place.
-    pub(crate) fn fault(kind: FaultKind, place: Place) -> Stop
+    pub fn fault(kind: FaultKind, place: Place) -> Stop
         ensures { result ≡ spec.fault kind place }
     {
         Stop::Deny(Rule {

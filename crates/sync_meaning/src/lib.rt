@@ -1,4 +1,5 @@
-//! What a program of the sync language means.
+//! What a program of the sync language means, and the parts that evaluate it: values with their
+//! operators and methods, the functions that are built in, and what a run has made so far.
 #![tactic(auto)]
 
 mod arguments;
@@ -6,24 +7,29 @@ mod builtin;
 mod callee;
 mod completion;
 mod effects;
-mod expression;
 mod fault;
 pub mod laws;
-mod meaning;
 mod methods;
 mod operators;
 mod scope;
 mod shared;
-mod simple;
 mod state;
-mod statement;
 mod value;
 mod variables;
 
+pub use arguments::text_in;
+pub use builtin::built_in;
+pub use callee::{Builtin, Method, Target};
+pub use completion::Completion;
 pub use effects::Effects;
 pub use fault::{FaultKind, Rule, RuleKind, Stop};
-pub use meaning::{evaluate, evaluate_within};
-pub use state::Context;
+pub use methods::{by_method, indexed, listed, member};
+pub use operators::{added, bounded, combined, integer_in, prefixed, subtracted, truth};
+pub use scope::Scope;
+pub use shared::Shared;
+pub use state::{Context, State};
+pub use value::{Value, last_named, value_of};
+pub use variables::{Slot, Variable, Variables};
 
 /// Memory ran out.
 pub type Memory = std::alloc::AllocError;

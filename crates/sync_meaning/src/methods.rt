@@ -81,7 +81,7 @@ fn length_or(name: &str, count: usize) -> Result<Value, Memory>
 
 /// `.name`
 #[tactic(auto, unfolding(crate::specs::Values::member))]
-pub(crate) fn member(place: Place, name: &str, value: &Value) -> Result<Value, Stop>
+pub fn member(place: Place, name: &str, value: &Value) -> Result<Value, Stop>
     ensures { Gives (spec.member place name.now value.now) result }
 {
     match value {
@@ -105,7 +105,7 @@ fn item_at(values: &[Value], at: i64) -> Result<Value, Memory>
 
 /// `[e]`
 #[tactic(auto, unfolding(crate::specs::Values::indexed))]
-pub(crate) fn indexed(place: Place, value: &Value, index: &Value) -> Result<Value, Stop>
+pub fn indexed(place: Place, value: &Value, index: &Value) -> Result<Value, Stop>
     ensures { Gives (spec.indexed place value.now index.now) result }
 {
     match (value, index) {
@@ -162,7 +162,7 @@ fn index_of(place: Place, list: &Value, value: &Value) -> Result<Value, Stop>
 
 /// A list of these, unless there are too many.
 #[tactic(auto, unfolding(crate::specs::Values::listed))]
-pub(crate) fn listed(alloc: Global, place: Place, values: Items<Value>) -> Result<Value, Stop>
+pub fn listed(alloc: Global, place: Place, values: Items<Value>) -> Result<Value, Stop>
     ensures { Gives (spec.listed place values) result }
 {
     if values.len() > MAX_ITEMS {
@@ -221,7 +221,7 @@ pub(crate) fn is_list(value: &Value) -> bool
 }
 
 /// What a method gives.
-pub(crate) fn by_method(
+pub fn by_method(
     alloc: Global,
     place: Place,
     method: Method,

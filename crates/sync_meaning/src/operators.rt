@@ -23,7 +23,7 @@ const MAX_TEXT: usize = 4096;
 
 /// Whether a value counts as true.
 #[tactic(auto, unfolding(crate::specs::Values::truth))]
-pub(crate) fn truth(place: Place, value: &Value) -> Result<bool, Stop>
+pub fn truth(place: Place, value: &Value) -> Result<bool, Stop>
     ensures { result ≡ spec.truth place value.now }
 {
     match value {
@@ -38,7 +38,7 @@ pub(crate) fn truth(place: Place, value: &Value) -> Result<bool, Stop>
 
 /// An integer, unless it is too great.
 #[tactic(auto, unfolding(crate::specs::Values::bounded))]
-pub(crate) fn bounded(place: Place, n: i128) -> Result<Value, Stop>
+pub fn bounded(place: Place, n: i128) -> Result<Value, Stop>
     ensures { result ≡ spec.bounded place n }
 {
     if -MAX_SAFE_INTEGER <= n && n <= MAX_SAFE_INTEGER {
@@ -71,7 +71,7 @@ fn decimal_of(alloc: Global, n: i64) -> Result<DocText, Memory>
 
 /// `+`
 #[tactic(auto, unfolding(crate::specs::Values::added))]
-pub(crate) fn added(alloc: Global, place: Place, x: &Value, y: &Value) -> Result<Value, Stop>
+pub fn added(alloc: Global, place: Place, x: &Value, y: &Value) -> Result<Value, Stop>
     ensures { Gives (spec.added place x.now y.now) result }
 {
     match (x, y) {
@@ -96,7 +96,7 @@ pub(crate) fn added(alloc: Global, place: Place, x: &Value, y: &Value) -> Result
 
 /// The integer that a value is.
 #[tactic(auto, unfolding(crate::specs::Values::integer_in))]
-pub(crate) fn integer_in(place: Place, value: &Value) -> Result<i64, Stop>
+pub fn integer_in(place: Place, value: &Value) -> Result<i64, Stop>
     ensures { result ≡ spec.integer_in place value.now }
 {
     match value {
@@ -107,7 +107,7 @@ pub(crate) fn integer_in(place: Place, value: &Value) -> Result<i64, Stop>
 
 /// `-` between operands
 #[tactic(auto, unfolding(crate::specs::Values::calculated))]
-pub(crate) fn subtracted(place: Place, x: &Value, y: &Value) -> Result<Value, Stop>
+pub fn subtracted(place: Place, x: &Value, y: &Value) -> Result<Value, Stop>
     ensures { result ≡ spec.calculated place (λ a b. a -ℤ b) x.now y.now }
 {
     let a = integer_in(place, x)?;
@@ -221,7 +221,7 @@ fn strictly_equal(place: Place, x: &Value, y: &Value) -> Result<bool, Stop>
 }
 
 /// What an operator makes of both operands. `||` and `&&` come here with the second one alone.
-pub(crate) fn combined(
+pub fn combined(
     alloc: Global,
     place: Place,
     op: Operator,
@@ -261,7 +261,7 @@ fn kind_name(x: &Value) -> &'static str
 }
 
 /// What an operator before its operand makes of it.
-pub(crate) fn prefixed(alloc: Global, place: Place, op: Prefix, x: &Value) -> Result<Value, Stop>
+pub fn prefixed(alloc: Global, place: Place, op: Prefix, x: &Value) -> Result<Value, Stop>
     ensures { Gives (spec.prefixed place op x.now) result }
 {
     match op {

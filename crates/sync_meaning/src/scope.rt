@@ -52,7 +52,7 @@ fn with_one(
 impl Scope {
     /// What is seen at the beginning of a program.
     #[tactic(auto, unfolding(crate::specs::Variables::top))]
-    pub(crate) fn top(alloc: Global) -> Result<Scope, Memory>
+    pub fn top(alloc: Global) -> Result<Scope, Memory>
         ensures { IfOk result (λ made. made ≡ spec.top) }
     {
         Ok(Scope {
@@ -62,7 +62,7 @@ impl Scope {
     }
 
     /// The same again.
-    pub(crate) fn share(&self) -> Result<Scope, Memory>
+    pub fn share(&self) -> Result<Scope, Memory>
         ensures { IfOk result (λ made. made ≡ self.now) }
     {
         Ok(Scope {
@@ -73,7 +73,7 @@ impl Scope {
 
     /// The number of the variable that a name stands for.
     #[tactic(auto, unfolding(crate::specs::Variables::number_of))]
-    pub(crate) fn number_of(&self, name: &DocText) -> u64
+    pub fn number_of(&self, name: &DocText) -> u64
         ensures { result ≡ spec.number_of name.now self.now }
     {
         match last_named(name.as_str(), self.seen.get().as_slice()) {
@@ -83,7 +83,7 @@ impl Scope {
     }
 
     /// The number that a declaration gives its variable.
-    pub(crate) fn new_number(&self, declares: Declares) -> u64
+    pub fn new_number(&self, declares: Declares) -> u64
         ensures { result ≡ spec.new_number declares self.now }
     {
         match declares {
@@ -108,7 +108,7 @@ impl Scope {
     }
 
     /// What is seen behind the declaration of a variable.
-    pub(crate) fn declared(
+    pub fn declared(
         self,
         alloc: Global,
         declares: Declares,
@@ -123,7 +123,7 @@ impl Scope {
     }
 
     /// What is seen behind declarations.
-    pub(crate) fn all_declared(
+    pub fn all_declared(
         self,
         alloc: Global,
         declares: Declares,
@@ -141,11 +141,7 @@ impl Scope {
     }
 
     /// What is seen behind the beginning of a `for`.
-    pub(crate) fn started(
-        self,
-        alloc: Global,
-        start: &Option<Boxed<Start>>,
-    ) -> Result<Scope, Memory>
+    pub fn started(self, alloc: Global, start: &Option<Boxed<Start>>) -> Result<Scope, Memory>
         ensures { IfOk result (λ made. made ≡ spec.started start.now self) }
     {
         match start {
@@ -172,7 +168,7 @@ impl Scope {
 
     /// What is seen behind a statement.
     #[cycle(behind)]
-    pub(crate) fn behind(self, alloc: Global, statement: &Statement) -> Result<Scope, Memory>
+    pub fn behind(self, alloc: Global, statement: &Statement) -> Result<Scope, Memory>
         ensures { IfOk result (λ made. made ≡ spec.behind statement.now self) }
     {
         match statement {

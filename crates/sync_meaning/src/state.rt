@@ -1,19 +1,17 @@
 //! What a run knows and has done so far.
 
-ghost use Rattle.std.specs.Prelude.{◌≡◌, List, ℕ};
+ghost use Rattle.std.specs.Prelude.{◌≡◌, List, ℕ, IfOk};
 ghost use Rattle.sync_meaning.specs.Acts as acts;
 ghost use Rattle.sync_meaning.specs.Acts.{Does};
-ghost use Rattle.sync_meaning.specs.Expressions as expressions;
 ghost use Rattle.sync_meaning.specs.Statements as statements;
+ghost use Rattle.sync_meaning.specs.Variables as variables;
 
+use crate::Memory;
 use crate::effects::Effects;
 use crate::fault::{Rule, RuleKind, Stop};
-use crate::scope::Scope;
 use crate::value::Value;
-use crate::variables::{self, Variable};
-use json_doc::DocText;
+use crate::variables::{Slot, Variables};
 use sg_names::{Channels, Name, Names};
-use sqlite_items::Items;
 use std::alloc::Global;
 use sync_tokens::Place;
 
@@ -25,20 +23,37 @@ pub struct Context {
     pub channels: Channels,
 }
 
+impl Context {
+    /// The same again.
+    pub fn copy(&self, alloc: Global) -> Result<Context, Memory>
+        ensures { IfOk result (λ made. made ≡ self.now) }
+    {
+        let user = match &self.user {
+            Some(name) => Some(name.copy(alloc)?),
+            None => None,
+        };
+        Ok(Context {
+            user,
+            roles: self.roles.copy(alloc)?,
+            channels: self.channels.copy(alloc)?,
+        })
+    }
+}
+
 /// What a run has made so far.
 #[derive(Drop)]
 pub struct State {
     pub context: Context,
     /// How many visits are left.
     pub visits: u32,
-    pub variables: Items<Variable>,
+    pub variables: Variables,
     pub effects: Effects,
 }
 
 impl State {
     /// So many visits at a place.
     #[tactic(auto, unfolding(crate::specs::Acts::visits))]
-    pub(crate) fn take_visits(&mut self, count: u64, place: Place) -> Result<(), Stop>
+    pub fn take_visits(&mut self, count: u64, place: Place) -> Result<(), Stop>
         ensures { Does (acts.visits count place self.old) result self.new }
     {
         if u64::from(self.visits) < count {
@@ -52,46 +67,27 @@ impl State {
     }
 
     /// A visit of a place.
-    pub(crate) fn visit(&mut self, place: Place) -> Result<(), Stop>
+    pub fn visit(&mut self, place: Place) -> Result<(), Stop>
         ensures { Does (acts.visit place self.old) result self.new }
     {
         self.take_visits(1, place)
     }
 
-    /// What a variable of the scope holds.
-    #[tactic(auto, unfolding(crate::specs::Expressions::read))]
-    pub(crate) fn read(&mut self, scope: &Scope, name: &DocText) -> Result<Value, Stop>
-        ensures { Does (expressions.read scope.now name.now self.old) result self.new }
+    /// What a variable holds.
+    pub fn read(&self, slot: &Slot) -> Result<Value, Memory>
+        ensures { IfOk result (λ value. value
+            ≡ variables.value_in slot.now.name slot.now.number self.now.variables) }
     {
-        let number = scope.number_of(name);
-        Ok(variables::value_in(name, number, self.variables.as_slice())?)
+        self.variables.value(slot)
     }
 
-    /// The variable of this name and number takes a value.
+    /// A variable takes a value.
     #[tactic(auto, unfolding(crate::specs::Statements::store))]
-    pub(crate) fn store(
-        &mut self,
-        alloc: Global,
-        name: &DocText,
-        number: u64,
-        value: Value,
-    ) -> Result<(), Stop>
-        ensures { Does (statements.store name.now number value self.old) result self.new }
+    pub fn store(&mut self, slot: &Slot, value: Value) -> Result<(), Stop>
+        ensures { Does (statements.store slot.now.name slot.now.number value self.old) result
+            self.new }
     {
-        variables::write(alloc, name, number, value, &mut self.variables)?;
+        self.variables.write(slot, value)?;
         Ok(())
-    }
-
-    /// The variable that a name stands for takes a value.
-    pub(crate) fn assign(
-        &mut self,
-        alloc: Global,
-        scope: &Scope,
-        name: &DocText,
-        value: Value,
-    ) -> Result<(), Stop>
-        ensures { Does (statements.assign scope.now name.now value self.old) result self.new }
-    {
-        self.store(alloc, name, scope.number_of(name), value)
     }
 }

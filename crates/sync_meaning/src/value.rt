@@ -43,7 +43,7 @@ impl Value {
     }
 
     /// A text.
-    pub(crate) fn text(alloc: Global, text: DocText) -> Result<Value, Memory>
+    pub fn text(alloc: Global, text: DocText) -> Result<Value, Memory>
         ensures { IfOk result (λ made. made ≡ Value.Text text) }
     {
         Ok(Value::Text(Shared::new(alloc, text)?))
@@ -57,7 +57,7 @@ impl Value {
     }
 
     /// An object with these members.
-    pub(crate) fn object(alloc: Global, members: Items<(DocText, Value)>) -> Result<Value, Memory>
+    pub fn object(alloc: Global, members: Items<(DocText, Value)>) -> Result<Value, Memory>
         ensures { IfOk result (λ made. made ≡ Value.Object members) }
     {
         Ok(Value::Object(Shared::new(alloc, members)?))
@@ -77,7 +77,7 @@ pub(crate) fn share_all(alloc: Global, values: &[Value]) -> Result<Items<Value>,
 
 /// What a node of a document is as a value.
 #[cycle(convert)]
-pub(crate) fn value_of(alloc: Global, node: &Node) -> Result<Value, Memory>
+pub fn value_of(alloc: Global, node: &Node) -> Result<Value, Memory>
     ensures { IfOk result (λ value. value ≡ value_of (node_tree node.now)) }
 {
     match node {
@@ -118,7 +118,7 @@ fn members_of(alloc: Global, members: &Members) -> Result<Items<(DocText, Value)
 
 /// What stands last under a name.
 #[tactic(auto, unfolding(crate::specs::Values::last_named))]
-pub(crate) fn last_named<'m, T>(name: &str, members: &'m [(DocText, T)]) -> Option<&'m T>
+pub fn last_named<'m, T>(name: &str, members: &'m [(DocText, T)]) -> Option<&'m T>
     ensures { option_map (λ x. x.now) result ≡ last_named name.now members.now }
 {
     let mut found = None;

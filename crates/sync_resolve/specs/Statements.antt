@@ -1,5 +1,5 @@
 -- The faults of the names in statements, and what statements declare.
-use Rattle.std.specs.Prelude.{ℕ, if◌then◌else◌, List, [], ◌∷◌, ◌++◌, map, Option, Some, None}
+use Rattle.std.specs.Prelude.{ℕ, List, [], ◌∷◌, ◌++◌, map, Option, Some, None}
 use Rattle.sync_syntax.specs.declared.tree.Declares.{Declares}
 use Rattle.sync_syntax.specs.declared.tree.Declares.TheVariants.{Var, Let, Const}
 use Rattle.sync_syntax.specs.declared.tree.Expr.{Expr}

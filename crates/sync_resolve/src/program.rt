@@ -1,6 +1,7 @@
 //! Programs whose names stand for something.
 
 ghost use Rattle.std.specs.Prelude.{◌≡◌, ◌≢◌, [], None, IfErr, IfOk};
+ghost use Rattle.sync_code.specs.Made.{IsCodeOf};
 ghost use Rattle.sync_resolve.specs.declared.fault.ResolveFault.TheVariants.{Memory};
 ghost use Rattle.sync_resolve.specs.Faults.{IsFirst, earliest};
 ghost use Rattle.sync_resolve.specs.Resolving as spec;
@@ -13,13 +14,15 @@ use crate::scope::Scope;
 use crate::statement::statements;
 use std::alloc::Global;
 use std::marker::Model;
+use sync_code::{ProgramCode, code_of_program};
 use sync_syntax::tree::{Declares, Program};
 
 /// A program whose names all stand for variables, functions and methods, which contracts see as that
-/// program.
+/// program. Its code is kept beside it, in which each name stands for a slot.
 #[derive(Drop)]
 pub struct Resolved {
     program: Program,
+    code: ProgramCode,
 }
 
 impl Model for Resolved {
@@ -27,6 +30,7 @@ impl Model for Resolved {
     ghost use Rattle.sync_syntax.specs.contracts.tree.Expr as expr;
     ghost use Rattle.sync_syntax.specs.contracts.tree.Statement as statement;
     ghost use Rattle.sync_syntax.specs.declared.tree.Program.{Program};
+    ghost use Rattle.sync_code.specs.Made.{IsCodeOf};
     ghost use Rattle.sync_resolve.specs.Resolving.{IsResolved};
 
     ghost Value = { Program };
@@ -35,7 +39,7 @@ impl Model for Resolved {
 
     ghost view = { λ r. r.program };
 
-    ghost invariant = { λ r. IsResolved r.program };
+    ghost invariant = { λ r. IsResolved r.program × IsCodeOf r.code r.program };
 }
 
 impl Resolved {
@@ -45,6 +49,13 @@ impl Resolved {
         ensures resolved { IsResolved result.now }
     {
         &self.program
+    }
+
+    /// The program's code.
+    pub fn as_code(&self) -> &ProgramCode
+        ensures { IsCodeOf result.now self.now }
+    {
+        &self.code
     }
 
     /// Gives the program back, which allocates nothing.
@@ -100,5 +111,6 @@ pub fn resolve(alloc: Global, program: Program) -> Result<Resolved, ResolveFault
     ensures fault { IfErr result (λ e. e ≢ Memory → IsFirst e (faults program)) }
 {
     check(alloc, &program)?;
-    Ok(Resolved { program })
+    let code = code_of_program(alloc, &program)?;
+    Ok(Resolved { program, code })
 }

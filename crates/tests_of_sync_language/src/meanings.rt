@@ -3,8 +3,8 @@ use sg_names::{Channels, Name, Names};
 use sg_outside::Bytes;
 use std::alloc::Global;
 use std::test::Fail;
-use sync_eval::{Context, Effects, Rule, Verdict, judge};
-use sync_meaning::{Stop, evaluate_within};
+use sync_eval::{Context, Effects, Rule, Verdict, evaluate_within, judge};
+use sync_meaning::Stop;
 use sync_resolve::{Resolved, resolve};
 use sync_syntax::parse;
 use sync_syntax::tree::Program;
@@ -134,6 +134,7 @@ for (let i = 0; i < 5; i++) { if (i == 1) continue; if (i == 3) break; channel('
 for (let x of [1, 2]) { for (let y of [1, 2]) { if (y == 2) break; channel(x + '' + y) } }#{}#-#a#11,21 - -\n\
 for (; doc.n;) ;#{\"n\":1.5}#-#a#type at 2:1\n\
 for (let i = 0; ; i++) ;#{}#-#a#fuel at 2:24\n\
+let a = []; for (;;) a = [a]#{}#-#a#fuel at 2:22\n\
 var x; x = 'a'; { let x = 'b'; channel(x) } channel(x + '2')#{}#-#a#a2,b - -\n\
 let x = 'a'; { channel(x); let x = 'b'; channel(x) }#{}#-#a#a,b - -\n\
 let x = 'a', y = x; channel(y)#{}#-#a#a - -\n\
@@ -404,7 +405,7 @@ fn found_text(alloc: Global, found: Result<Effects, Stop>) -> Result<Bytes, Fail
 }
 
 /// What a program says of an empty document with so many visits.
-fn said_within(alloc: Global, program: &Program, visits: u32) -> Result<Bytes, Fail> {
+fn said_within(alloc: Global, program: &Resolved, visits: u32) -> Result<Bytes, Fail> {
     let empty = doc(alloc, "{}")?;
     let who = context(alloc, "a")?;
     found_text(
@@ -415,7 +416,7 @@ fn said_within(alloc: Global, program: &Program, visits: u32) -> Result<Bytes, F
 
 /// The same of the default function.
 fn default_within(alloc: Global, visits: u32) -> Result<Bytes, Fail> {
-    let default = program(alloc, "function(doc, oldDoc) { channel(doc.channels); }")?;
+    let default = resolved(alloc, "function(doc, oldDoc) { channel(doc.channels); }")?;
     said_within(alloc, &default, visits)
 }
 

@@ -1,0 +1,4 @@
+use Rattle.sync_eval.proofs.expression.Expressions.inner.Goals as goal
+
+pub returns : goal.returns
+returns g c = λ scope f. c.requires.does _ _ _ _ _ _ c.inner.ensures scope f

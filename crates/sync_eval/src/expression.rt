@@ -1,0 +1,712 @@
+//! Expressions, each rule by its own function. They take what evaluates an expression inside as a
+//! parameter, so that each is proved by itself.
+
+ghost use Rattle.std.specs.Prelude.{◌≡◌, ◌&&◌, Ok, IsTrue};
+ghost use Rattle.sync_meaning.specs.declared.scope.Scope.{Scope};
+ghost use Rattle.sync_meaning.specs.declared.value.Value as Value;
+ghost use Rattle.sync_meaning.specs.Acts.{Does};
+ghost use Rattle.sync_meaning.specs.Expressions as spec;
+ghost use Rattle.sync_meaning.specs.Expressions.{evaluated};
+ghost use Rattle.sync_code.specs.Code.{source, sources, tail_source, tail_sources, member_sources};
+ghost use Rattle.sync_code.specs.Code.{operand_sources};
+ghost use Rattle.sync_code.specs.Code.{fits, all_fit, tail_fits, tails_fit, members_fit};
+ghost use Rattle.sync_code.specs.Code.{operands_fit, slot_fits};
+ghost use Rattle.sync_eval.specs.Nested.{DoesWhere, Nests};
+
+use crate::variables::read;
+use json_doc::DocText;
+use sqlite_items::Items;
+use std::alloc::Global;
+use sync_code::{Code, Tail};
+use sync_meaning::{
+    Builtin, FaultKind, Method, Rule, RuleKind, Shared, Slot, State, Stop, Target, Value, bounded,
+    built_in, by_method, combined, indexed, listed, member, prefixed, truth,
+};
+use sync_syntax::tree::{Operator, Prefix};
+use sync_tokens::Place;
+
+/// The place of an expression, which is that of its first character.
+pub(crate) fn place_of(code: &Code) -> Place
+    ensures { result ≡ spec.place_of (source code.now) }
+{
+    match code {
+        Code::Undefined(place) => *place,
+        Code::Null(place) => *place,
+        Code::Bool(place, _) => *place,
+        Code::Integer(place, _) => *place,
+        Code::Text(place, _) => *place,
+        Code::Name(place, _) => *place,
+        Code::List(place, _) => *place,
+        Code::Object(place, _) => *place,
+        Code::Prefix(place, _, _) => *place,
+        Code::Postfix(first, _) => place_of(first.get()),
+        Code::Chain(first, _) => place_of(first.get()),
+        Code::Choice(condition, _, _) => place_of(condition.get()),
+    }
+}
+
+/// What a name calls.
+#[tactic(auto, unfolding(sync_meaning::specs::Expressions::called_by))]
+fn called_by(name: &str) -> Target
+    ensures { result ≡ spec.called_by name.now }
+{
+    let builtin = if name == "channel" {
+        Builtin::Channel
+    } else if name == "access" {
+        Builtin::Access
+    } else if name == "role" {
+        Builtin::Role
+    } else if name == "requireUser" {
+        Builtin::RequireUser
+    } else if name == "requireRole" {
+        Builtin::RequireRole
+    } else if name == "requireAccess" {
+        Builtin::RequireAccess
+    } else if name == "requireAdmin" {
+        Builtin::RequireAdmin
+    } else {
+        return Target::Nothing;
+    };
+    Target::Builtin(builtin)
+}
+
+/// What a name behind a value calls.
+#[tactic(auto, unfolding(sync_meaning::specs::Expressions::method_of))]
+fn method_of(value: Value, name: &str) -> Target
+    ensures { result ≡ spec.method_of value name.now }
+{
+    if name == "indexOf" {
+        Target::Method(value, Method::IndexOf)
+    } else if name == "concat" {
+        Target::Method(value, Method::Concat)
+    } else if name == "startsWith" {
+        Target::Method(value, Method::StartsWith)
+    } else {
+        Target::Nothing
+    }
+}
+
+#[tactic(auto, using(crate::proofs::Layers::out_tail_source))]
+fn is_call(suffix: &Tail) -> bool
+    ensures { result ≡ spec.is_call (tail_source suffix.now) }
+{
+    matches!(suffix, Tail::Call(_))
+}
+
+/// Whether a call comes next; behind the last suffix as it is said.
+fn is_called(behind: bool, suffixes: &[Tail]) -> bool
+    ensures { result ≡ spec.is_called behind (tail_sources suffixes.now) }
+{
+    match suffixes {
+        [next, ..] => is_call(next),
+        [] => behind,
+    }
+}
+
+#[tactic(auto, using(crate::proofs::Layers::out_source))]
+fn is_array_name(expr: &Code) -> bool
+    ensures { result ≡ spec.is_array_name (source expr.now) }
+{
+    match expr {
+        Code::Name(_, slot) => slot.name.get().as_str() == "Array",
+        _ => false,
+    }
+}
+
+#[tactic(auto, using(crate::proofs::Layers::out_tail_source))]
+fn is_array_member(suffix: &Tail) -> bool
+    ensures { result ≡ spec.is_array_member (tail_source suffix.now) }
+{
+    match suffix {
+        Tail::Member(name) => name.as_str() == "isArray",
+        _ => false,
+    }
+}
+
+/// Whether this is `Array.isArray` before a call.
+fn calls_is_array(behind: bool, first: &Code, suffixes: &[Tail]) -> bool
+    ensures { result ≡ spec.calls_is_array behind (source first.now) (tail_sources suffixes.now) }
+{
+    match suffixes {
+        [next, rest @ ..] => {
+            is_array_name(first) && is_array_member(next) && is_called(behind, rest)
+        }
+        [] => false,
+    }
+}
+
+/// Whether a suffix ends a node: `.name` before a call doesn't.
+#[tactic(auto, using(crate::proofs::Layers::out_tail_source))]
+fn ends_node(called: bool, suffix: &Tail) -> bool
+    ensures { result ≡ spec.ends_node called (tail_source suffix.now) }
+{
+    match suffix {
+        Tail::Member(_) => !called,
+        _ => true,
+    }
+}
+
+/// How many nodes end with these suffixes.
+fn node_count(behind: bool, suffixes: &[Tail]) -> u64
+    ensures { result ≡ spec.node_count behind (tail_sources suffixes.now) }
+{
+    let mut count = 0;
+    let mut left = suffixes;
+    while let [suffix, rest @ ..] = left {
+        if ends_node(is_called(behind, rest), suffix) {
+            count += 1;
+        }
+        left = rest;
+    }
+    count
+}
+
+/// The value that was found, if it is one.
+fn as_value(place: Place, target: Target) -> Result<Value, Stop>
+    ensures { result ≡ spec.as_value place target }
+{
+    match target {
+        Target::Value(value) => Ok(value),
+        _ => Err(Stop::fault(FaultKind::TypeFault, place)),
+    }
+}
+
+/// What a literal evaluates to.
+#[tactic(auto, unfolding(sync_meaning::specs::Expressions::literal))]
+fn literal(state: &mut State, place: Place, found: Result<Value, Stop>) -> Result<Value, Stop>
+    ensures { Does (spec.literal place found state.old) result state.new }
+{
+    state.visit(place)?;
+    found
+}
+
+/// What a text of the program evaluates to.
+#[tactic(auto, unfolding(sync_meaning::specs::Expressions::literal))]
+fn text(state: &mut State, place: Place, text: &Shared<DocText>) -> Result<Value, Stop>
+    ensures { Does (spec.literal place (Ok (Value.Text text.now)) state.old) result state.new }
+{
+    state.visit(place)?;
+    Ok(Value::Text(text.share()?))
+}
+
+/// What a name evaluates to.
+#[tactic(auto, unfolding(sync_meaning::specs::Expressions::name))]
+fn name(state: &mut State, place: Place, slot: &Slot) -> Result<Value, Stop>
+    ensures { DoesWhere (slot_fits slot.now) (λ scope. spec.name scope place slot.now.name)
+        state.old result state.new }
+{
+    state.visit(place)?;
+    read(state, slot)
+}
+
+/// What is called is called with these arguments.
+fn call_by(
+    alloc: Global,
+    state: &mut State,
+    place: Place,
+    target: Target,
+    values: &[Value],
+) -> Result<Value, Stop>
+    ensures { Does (spec.call_by place target values.now state.old) result state.new }
+{
+    match target {
+        Target::Method(value, method) => by_method(alloc, place, method, &value, values),
+        Target::Builtin(builtin) => built_in(alloc, place, builtin, values, state),
+        Target::Value(_) | Target::Nothing => Err(Stop::fault(FaultKind::TypeFault, place)),
+    }
+}
+
+/// A member, or before a call a method.
+#[tactic(auto, unfolding(sync_meaning::specs::Expressions::member_or_method))]
+fn member_or_method(
+    state: &mut State,
+    called: bool,
+    place: Place,
+    target: Target,
+    name: &str,
+) -> Result<Target, Stop>
+    ensures { Does (spec.member_or_method called place target name.now state.old) result state.new }
+{
+    let value = as_value(place, target)?;
+    if called {
+        Ok(method_of(value, name))
+    } else {
+        Ok(Target::Value(member(place, name, &value)?))
+    }
+}
+
+/// What the rules are evaluated with.
+#[derive(Clone, Copy)]
+pub(crate) struct Expressions<F> {
+    pub alloc: Global,
+    /// How much deeper an expression may be.
+    pub depth: u64,
+    /// Evaluates an expression inside: where it is given true, as what a call calls.
+    pub inner: F,
+}
+
+impl<F: Fn(Global, u64, &mut State, &Code, bool) -> Result<Target, Stop>> Expressions<F> {
+    fn inner(&self, state: &mut State, expr: &Code, called: bool) -> Result<Target, Stop>
+        requires { Nests self.now.depth (F.pre self.now.inner) (F.post self.now.inner) }
+        ensures { DoesWhere (fits expr.now)
+            (λ scope. evaluated self.now.depth called scope (source expr.now))
+            state.old result state.new }
+    {
+        (self.inner)(self.alloc, self.depth, state, expr, called)
+    }
+
+    /// The value of an expression inside.
+    #[tactic(auto, unfolding(sync_meaning::specs::Expressions::value))]
+    pub fn value(&self, state: &mut State, expr: &Code) -> Result<Value, Stop>
+        requires { Nests self.now.depth (F.pre self.now.inner) (F.post self.now.inner) }
+        ensures { DoesWhere (fits expr.now)
+            (λ scope. spec.value_to self.now.depth scope (source expr.now))
+            state.old result state.new }
+    {
+        let target = self.inner(state, expr, false)?;
+        as_value(place_of(expr), target)
+    }
+
+    /// The values of expressions, from left to right.
+    #[tactic(auto, unfolding(sync_meaning::specs::Expressions::values))]
+    fn values(&self, state: &mut State, exprs: &[Code]) -> Result<Items<Value>, Stop>
+        requires { Nests self.now.depth (F.pre self.now.inner) (F.post self.now.inner) }
+        ensures { DoesWhere (all_fit exprs.now)
+            (λ scope. spec.values (evaluated self.now.depth) scope (sources exprs.now))
+            state.old result state.new }
+    {
+        let mut found = Items::new(self.alloc);
+        let mut left = exprs;
+        while let [expr, rest @ ..] = left {
+            found.push(self.value(state, expr)?)?;
+            left = rest;
+        }
+        Ok(found)
+    }
+
+    /// The members of an object, from left to right.
+    #[tactic(auto, unfolding(sync_meaning::specs::Expressions::members))]
+    fn members(
+        &self,
+        state: &mut State,
+        exprs: &[(DocText, Code)],
+    ) -> Result<Items<(DocText, Value)>, Stop>
+        requires { Nests self.now.depth (F.pre self.now.inner) (F.post self.now.inner) }
+        ensures { DoesWhere (members_fit exprs.now)
+            (λ scope. spec.members (evaluated self.now.depth) scope (member_sources exprs.now))
+            state.old result state.new }
+    {
+        let mut found = Items::new(self.alloc);
+        let mut left = exprs;
+        while let [expr, rest @ ..] = left {
+            let value = self.value(state, &expr.1)?;
+            found.push((expr.0.copy(self.alloc)?, value))?;
+            left = rest;
+        }
+        Ok(found)
+    }
+
+    #[tactic(auto, unfolding(sync_meaning::specs::Expressions::list))]
+    fn list(&self, state: &mut State, place: Place, exprs: &[Code]) -> Result<Value, Stop>
+        requires { Nests self.now.depth (F.pre self.now.inner) (F.post self.now.inner) }
+        ensures { DoesWhere (all_fit exprs.now)
+            (λ scope. spec.list (evaluated self.now.depth) scope place (sources exprs.now))
+            state.old result state.new }
+    {
+        state.visit(place)?;
+        let values = self.values(state, exprs)?;
+        listed(self.alloc, place, values)
+    }
+
+    #[tactic(auto, unfolding(sync_meaning::specs::Expressions::object))]
+    fn object(
+        &self,
+        state: &mut State,
+        place: Place,
+        exprs: &[(DocText, Code)],
+    ) -> Result<Value, Stop>
+        requires { Nests self.now.depth (F.pre self.now.inner) (F.post self.now.inner) }
+        ensures { DoesWhere (members_fit exprs.now)
+            (λ scope. spec.object (evaluated self.now.depth) scope place (member_sources exprs.now))
+            state.old result state.new }
+    {
+        state.visit(place)?;
+        let members = self.members(state, exprs)?;
+        Ok(Value::object(self.alloc, members)?)
+    }
+
+    #[tactic(auto, unfolding(sync_meaning::specs::Expressions::prefix))]
+    fn prefix(
+        &self,
+        state: &mut State,
+        place: Place,
+        op: Prefix,
+        expr: &Code,
+    ) -> Result<Value, Stop>
+        requires { Nests self.now.depth (F.pre self.now.inner) (F.post self.now.inner) }
+        ensures { DoesWhere (fits expr.now)
+            (λ scope. spec.prefix (evaluated self.now.depth) scope place op (source expr.now))
+            state.old result state.new }
+    {
+        state.visit(place)?;
+        let value = self.value(state, expr)?;
+        prefixed(self.alloc, place, op, &value)
+    }
+
+    /// The first operand where it decides, else the second.
+    #[tactic(auto, unfolding(sync_meaning::specs::Expressions::decided))]
+    fn decided(
+        &self,
+        state: &mut State,
+        place: Place,
+        deciding: bool,
+        value: Value,
+        expr: &Code,
+    ) -> Result<Value, Stop>
+        requires { Nests self.now.depth (F.pre self.now.inner) (F.post self.now.inner) }
+        ensures { DoesWhere (fits expr.now)
+            (λ scope. spec.decided (evaluated self.now.depth) scope place deciding value
+            (source expr.now)) state.old result state.new }
+    {
+        let is_true = truth(place, &value)?;
+        let decides = if is_true { deciding } else { !deciding };
+        if decides {
+            Ok(value)
+        } else {
+            self.value(state, expr)
+        }
+    }
+
+    /// An operator, with its first operand evaluated.
+    fn operation(
+        &self,
+        state: &mut State,
+        place: Place,
+        op: Operator,
+        value: Value,
+        expr: &Code,
+    ) -> Result<Value, Stop>
+        requires { Nests self.now.depth (F.pre self.now.inner) (F.post self.now.inner) }
+        ensures { DoesWhere (fits expr.now)
+            (λ scope. spec.operation (evaluated self.now.depth) scope place op value
+            (source expr.now)) state.old result state.new }
+    {
+        match op {
+            Operator::Or => self.decided(state, place, true, value, expr),
+            Operator::And => self.decided(state, place, false, value, expr),
+            _ => self.operated(state, place, op, value, expr),
+        }
+    }
+
+    /// An operator that takes both operands.
+    #[tactic(auto, unfolding(sync_meaning::specs::Expressions::operated))]
+    fn operated(
+        &self,
+        state: &mut State,
+        place: Place,
+        op: Operator,
+        value: Value,
+        expr: &Code,
+    ) -> Result<Value, Stop>
+        requires { Nests self.now.depth (F.pre self.now.inner) (F.post self.now.inner) }
+        ensures { DoesWhere (fits expr.now)
+            (λ scope. spec.operated (evaluated self.now.depth) scope place op value
+            (source expr.now)) state.old result state.new }
+    {
+        let other = self.value(state, expr)?;
+        combined(self.alloc, place, op, value, other)
+    }
+
+    /// Operators from left to right.
+    fn operations(
+        &self,
+        state: &mut State,
+        place: Place,
+        first: Value,
+        tails: &[(Operator, Code)],
+    ) -> Result<Value, Stop>
+        requires { Nests self.now.depth (F.pre self.now.inner) (F.post self.now.inner) }
+        ensures { DoesWhere (operands_fit tails.now)
+            (λ scope. spec.operations (evaluated self.now.depth) scope place first
+            (operand_sources tails.now)) state.old result state.new }
+    {
+        let mut value = first;
+        let mut left = tails;
+        while let [tail, rest @ ..] = left {
+            value = self.operation(state, place, tail.0, value, &tail.1)?;
+            left = rest;
+        }
+        Ok(value)
+    }
+
+    #[tactic(auto, unfolding(sync_meaning::specs::Expressions::chain))]
+    fn chain(
+        &self,
+        state: &mut State,
+        first: &Code,
+        tails: &[(Operator, Code)],
+    ) -> Result<Value, Stop>
+        requires { Nests self.now.depth (F.pre self.now.inner) (F.post self.now.inner) }
+        ensures { DoesWhere (λ scope. fits first.now scope && operands_fit tails.now scope)
+            (λ scope. spec.chain (evaluated self.now.depth) scope (source first.now)
+            (operand_sources tails.now)) state.old result state.new }
+    {
+        let place = place_of(first);
+        state.take_visits(tails.len() as u64, place)?;
+        let value = self.value(state, first)?;
+        self.operations(state, place, value, tails)
+    }
+
+    #[tactic(auto, unfolding(sync_meaning::specs::Expressions::choice))]
+    fn choice(
+        &self,
+        state: &mut State,
+        condition: &Code,
+        first: &Code,
+        other: &Code,
+    ) -> Result<Value, Stop>
+        requires { Nests self.now.depth (F.pre self.now.inner) (F.post self.now.inner) }
+        ensures { DoesWhere (λ scope. fits condition.now scope
+            && (fits first.now scope && fits other.now scope))
+            (λ scope. spec.choice (evaluated self.now.depth) scope (source condition.now)
+            (source first.now) (source other.now)) state.old result state.new }
+    {
+        let place = place_of(condition);
+        state.visit(place)?;
+        let value = self.value(state, condition)?;
+        if truth(place, &value)? {
+            self.value(state, first)
+        } else {
+            self.value(state, other)
+        }
+    }
+
+    /// A call: the arguments first.
+    #[tactic(auto, unfolding(sync_meaning::specs::Expressions::call))]
+    fn call(
+        &self,
+        state: &mut State,
+        place: Place,
+        target: Target,
+        exprs: &[Code],
+    ) -> Result<Value, Stop>
+        requires { Nests self.now.depth (F.pre self.now.inner) (F.post self.now.inner) }
+        ensures { DoesWhere (all_fit exprs.now)
+            (λ scope. spec.call (evaluated self.now.depth) scope place target (sources exprs.now))
+            state.old result state.new }
+    {
+        let values = self.values(state, exprs)?;
+        call_by(self.alloc, state, place, target, values.as_slice())
+    }
+
+    #[tactic(auto, unfolding(sync_meaning::specs::Expressions::index))]
+    fn index(
+        &self,
+        state: &mut State,
+        place: Place,
+        target: Target,
+        expr: &Code,
+    ) -> Result<Target, Stop>
+        requires { Nests self.now.depth (F.pre self.now.inner) (F.post self.now.inner) }
+        ensures { DoesWhere (fits expr.now)
+            (λ scope. spec.index (evaluated self.now.depth) scope place target (source expr.now))
+            state.old result state.new }
+    {
+        let value = as_value(place, target)?;
+        let index = self.value(state, expr)?;
+        Ok(Target::Value(indexed(place, &value, &index)?))
+    }
+
+    /// One suffix behind what was found.
+    #[tactic(auto, unfolding(sync_meaning::specs::Expressions::suffix))]
+    fn suffix(
+        &self,
+        state: &mut State,
+        called: bool,
+        place: Place,
+        target: Target,
+        suffix: &Tail,
+    ) -> Result<Target, Stop>
+        requires { Nests self.now.depth (F.pre self.now.inner) (F.post self.now.inner) }
+        ensures { DoesWhere (tail_fits suffix.now)
+            (λ scope. spec.suffix (evaluated self.now.depth) called scope place target
+            (tail_source suffix.now)) state.old result state.new }
+    {
+        match suffix {
+            Tail::Member(name) => { member_or_method(state, called, place, target, name.as_str()) }
+            Tail::Index(expr) => self.index(state, place, target, expr),
+            Tail::Call(exprs) => {
+                let value = self.call(state, place, target, exprs.as_slice())?;
+                Ok(Target::Value(value))
+            }
+        }
+    }
+
+    /// Suffixes from left to right.
+    fn suffixes(
+        &self,
+        state: &mut State,
+        behind: bool,
+        place: Place,
+        first: Target,
+        suffixes: &[Tail],
+    ) -> Result<Target, Stop>
+        requires { Nests self.now.depth (F.pre self.now.inner) (F.post self.now.inner) }
+        ensures { DoesWhere (tails_fit suffixes.now)
+            (λ scope. spec.suffixes (evaluated self.now.depth) behind scope place first
+            (tail_sources suffixes.now)) state.old result state.new }
+    {
+        let mut target = first;
+        let mut left = suffixes;
+        while let [suffix, rest @ ..] = left {
+            let called = is_called(behind, rest);
+            target = self.suffix(state, called, place, target, suffix)?;
+            left = rest;
+        }
+        Ok(target)
+    }
+
+    #[tactic(auto, unfolding(sync_meaning::specs::Expressions::postfix))]
+    fn postfix(
+        &self,
+        state: &mut State,
+        behind: bool,
+        first: &Code,
+        suffixes: &[Tail],
+    ) -> Result<Target, Stop>
+        requires { Nests self.now.depth (F.pre self.now.inner) (F.post self.now.inner) }
+        ensures { DoesWhere (λ scope. fits first.now scope && tails_fit suffixes.now scope)
+            (λ scope. spec.postfix (evaluated self.now.depth) behind scope (source first.now)
+            (tail_sources suffixes.now)) state.old result state.new }
+    {
+        let place = place_of(first);
+        state.take_visits(node_count(behind, suffixes), place)?;
+        if calls_is_array(behind, first, suffixes) {
+            let rest = without_first(suffixes);
+            self.suffixes(
+                state,
+                behind,
+                place,
+                Target::Builtin(Builtin::IsArray),
+                rest,
+            )
+        } else {
+            let target = self.inner(state, first, is_called(behind, suffixes))?;
+            self.suffixes(state, behind, place, target, suffixes)
+        }
+    }
+
+    /// What a call calls.
+    #[tactic(auto, unfolding(sync_meaning::specs::Expressions::callee), using(crate::proofs::Layers::out_source))]
+    fn callee(&self, state: &mut State, expr: &Code) -> Result<Target, Stop>
+        requires { Nests self.now.depth (F.pre self.now.inner) (F.post self.now.inner) }
+        ensures { DoesWhere (fits expr.now)
+            (λ scope. spec.callee (evaluated self.now.depth) scope (source expr.now))
+            state.old result state.new }
+    {
+        match expr {
+            Code::Name(_, slot) => Ok(called_by(slot.name.get().as_str())),
+            Code::Postfix(first, suffixes) => {
+                self.postfix(state, true, first.get(), suffixes.as_slice())
+            }
+            _ => Ok(Target::Nothing),
+        }
+    }
+
+    /// An expression with suffixes as a value.
+    #[tactic(auto, unfolding(sync_meaning::specs::Expressions::postfix_value))]
+    fn postfix_value(
+        &self,
+        state: &mut State,
+        first: &Code,
+        suffixes: &[Tail],
+    ) -> Result<Value, Stop>
+        requires { Nests self.now.depth (F.pre self.now.inner) (F.post self.now.inner) }
+        ensures { DoesWhere (λ scope. fits first.now scope && tails_fit suffixes.now scope)
+            (λ scope. spec.postfix_value (evaluated self.now.depth) scope (source first.now)
+            (tail_sources suffixes.now)) state.old result state.new }
+    {
+        let target = self.postfix(state, false, first, suffixes)?;
+        as_value(place_of(first), target)
+    }
+
+    /// The value of an expression.
+    #[tactic(auto, unfolding(sync_meaning::specs::Expressions::node))]
+    fn node(&self, state: &mut State, expr: &Code) -> Result<Value, Stop>
+        requires { Nests self.now.depth (F.pre self.now.inner) (F.post self.now.inner) }
+        ensures { DoesWhere (fits expr.now)
+            (λ scope. spec.node (evaluated self.now.depth) scope (source expr.now))
+            state.old result state.new }
+    {
+        match expr {
+            Code::Undefined(place) => literal(state, *place, Ok(Value::Undefined)),
+            Code::Null(place) => literal(state, *place, Ok(Value::Null)),
+            Code::Bool(place, truth) => literal(state, *place, Ok(Value::Bool(*truth))),
+            Code::Integer(place, n) => literal(state, *place, bounded(*place, *n as i128)),
+            Code::Text(place, found) => text(state, *place, found),
+            Code::Name(place, slot) => name(state, *place, slot),
+            Code::List(place, exprs) => self.list(state, *place, exprs.as_slice()),
+            Code::Object(place, exprs) => self.object(state, *place, exprs.as_slice()),
+            Code::Prefix(place, op, expr) => self.prefix(state, *place, *op, expr.get()),
+            Code::Postfix(first, suffixes) => {
+                self.postfix_value(state, first.get(), suffixes.as_slice())
+            }
+            Code::Chain(first, tails) => self.chain(state, first.get(), tails.as_slice()),
+            Code::Choice(condition, first, other) => {
+                self.choice(state, condition.get(), first.get(), other.get())
+            }
+        }
+    }
+
+    /// An expression: where it is called, as what the call calls.
+    #[tactic(auto, unfolding(sync_meaning::specs::Expressions::opened))]
+    fn opened(&self, state: &mut State, expr: &Code, called: bool) -> Result<Target, Stop>
+        requires { Nests self.now.depth (F.pre self.now.inner) (F.post self.now.inner) }
+        ensures { DoesWhere (fits expr.now)
+            (λ scope. spec.opened (evaluated self.now.depth) called scope (source expr.now))
+            state.old result state.new }
+    {
+        if called {
+            self.callee(state, expr)
+        } else {
+            Ok(Target::Value(self.node(state, expr)?))
+        }
+    }
+}
+
+/// The suffixes but the first.
+fn without_first(suffixes: &[Tail]) -> &[Tail]
+    ensures source { tail_sources result.now ≡ spec.without_first (tail_sources suffixes.now) }
+    ensures fits { (scope : Scope) → IsTrue (tails_fit suffixes.now scope)
+        → IsTrue (tails_fit result.now scope) }
+{
+    match suffixes {
+        [_, rest @ ..] => rest,
+        [] => suffixes,
+    }
+}
+
+/// An expression, to this depth.
+pub(crate) fn evaluated(
+    alloc: Global,
+    depth: u64,
+    state: &mut State,
+    expr: &Code,
+    called: bool,
+) -> Result<Target, Stop>
+    ensures { DoesWhere (fits expr.now)
+        (λ scope. evaluated depth called scope (source expr.now)) state.old result state.new }
+{
+    if depth == 0 {
+        return Err(Stop::Deny(Rule {
+            kind: RuleKind::Fuel,
+            place: place_of(expr),
+        }));
+    }
+    Expressions {
+        alloc,
+        depth: depth - 1,
+        inner: evaluated,
+    }
+    .opened(state, expr, called)
+}

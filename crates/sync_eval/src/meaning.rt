@@ -1,0 +1,151 @@
+//! What a program says of a document.
+
+ghost use Rattle.std.specs.Prelude.{◌≡◌, [], option_map, Ok, Err, IfErr, IfOk, OnOk};
+ghost use Rattle.json_doc.specs.View.{node_tree};
+ghost use Rattle.sync_meaning.specs.Acts.{Does, Gives};
+ghost use Rattle.sync_meaning.specs.Meaning as spec;
+ghost use Rattle.sync_meaning.specs.Values as values;
+ghost use Rattle.sync_meaning.specs.Variables.{written};
+
+use crate::statement::{Statements, run};
+use json_doc::Doc;
+use std::alloc::Global;
+use sync_code::Memory;
+use sync_meaning::{Completion, Context, Effects, State, Stop, Value, Variables, value_of};
+use sync_resolve::Resolved;
+
+/// How many visits a run has.
+const VISITS: u32 = 100000;
+
+/// The document before, or null.
+fn value_before(alloc: Global, old: Option<&Doc>) -> Result<Value, Memory>
+    ensures { IfOk result (λ value. value
+        ≡ spec.value_before (option_map (λ doc. node_tree doc.now) old.entry)) }
+{
+    match old {
+        Some(doc) => value_of(alloc, doc.as_node()),
+        None => Ok(Value::Null),
+    }
+}
+
+/// The first parameter takes a value.
+#[tactic(auto, using(crate::proofs::Parameters::first_written))]
+fn write_first(program: &Resolved, value: Value, variables: &mut Variables) -> Result<(), Memory>
+    ensures { OnOk result (variables.new
+        ≡ written program.now.first.name 0 value variables.old) }
+{
+    variables.write(&program.as_code().first, value)
+}
+
+/// The second parameter takes a value, where there is one.
+#[tactic(auto, using(crate::proofs::Parameters::second_written))]
+fn write_second(program: &Resolved, value: Value, variables: &mut Variables) -> Result<(), Memory>
+    ensures { OnOk result (variables.new
+        ≡ spec.with_second program.now.second value variables.old) }
+{
+    match &program.as_code().second {
+        Some(second) => variables.write(second, value),
+        None => Ok(()),
+    }
+}
+
+/// The first parameter.
+fn first_parameter(alloc: Global, program: &Resolved, doc: &Doc) -> Result<Variables, Memory>
+    ensures { IfOk result (λ variables. variables
+        ≡ written program.now.first.name 0 (values.value_of (node_tree doc.now)) []) }
+{
+    let mut variables = Variables::new(alloc, program.as_code().slots)?;
+    write_first(program, value_of(alloc, doc.as_node())?, &mut variables)?;
+    Ok(variables)
+}
+
+/// The parameters.
+#[tactic(auto, unfolding(sync_meaning::specs::Meaning::parameters))]
+fn parameters(
+    alloc: Global,
+    program: &Resolved,
+    doc: &Doc,
+    old: Option<&Doc>,
+) -> Result<Variables, Memory>
+    ensures { IfOk result (λ variables. variables ≡ spec.parameters program.now (node_tree doc.now)
+        (option_map (λ doc. node_tree doc.now) old.entry)) }
+{
+    let mut variables = first_parameter(alloc, program, doc)?;
+    write_second(program, value_before(alloc, old)?, &mut variables)?;
+    Ok(variables)
+}
+
+/// Runs the body.
+fn body(
+    alloc: Global,
+    depth: u64,
+    program: &Resolved,
+    state: &mut State,
+) -> Result<Completion, Stop>
+    ensures { Does (spec.body depth program.now state.old) result state.new }
+{
+    let code = program.as_code();
+    Statements {
+        alloc,
+        depth,
+        inner: run,
+    }
+    .block(state, code.place, code.body.as_slice())
+}
+
+/// How a run ends: its variables are let go, what was written last first, and its effects stay.
+fn finish(state: State, done: Result<Completion, Stop>) -> Result<Effects, Stop>
+    ensures ok { IfOk done (λ _. result ≡ Ok state.effects) }
+    ensures stop { IfErr done (λ stop. result ≡ Err stop) }
+{
+    let State {
+        variables,
+        effects,
+        ..
+    } = state;
+    variables.release();
+    match done {
+        Ok(_) => Ok(effects),
+        Err(stop) => Err(stop),
+    }
+}
+
+/// What a program says of a document, with so many visits. What it made is dropped no deeper than
+/// an expression or a document nests.
+#[tactic(auto, unfolding(sync_meaning::specs::Meaning::meaning_within), using(crate::proofs::Ends::finished))]
+pub fn evaluate_within(
+    alloc: Global,
+    visits: u32,
+    program: &Resolved,
+    doc: &Doc,
+    old: Option<&Doc>,
+    context: &Context,
+) -> Result<Effects, Stop>
+    // It is what the definition says, but for `Memory`.
+    ensures { Gives (spec.meaning_within visits program.now (node_tree doc.now)
+        (option_map (λ doc. node_tree doc.now) old.entry) context.now) result }
+{
+    let mut state = State {
+        context: context.copy(alloc)?,
+        visits,
+        variables: parameters(alloc, program, doc, old)?,
+        effects: Effects::none(alloc),
+    };
+    let done = body(alloc, u64::from(visits) * 2 + 2, program, &mut state);
+    finish(state, done)
+}
+
+/// What a program says of a document, the one before it and who writes: the effects, or the rule
+/// that denies. `Memory` may come in the place of any answer.
+pub(crate) fn evaluate(
+    alloc: Global,
+    program: &Resolved,
+    doc: &Doc,
+    old: Option<&Doc>,
+    context: &Context,
+) -> Result<Effects, Stop>
+    ensures { Gives (spec.meaning program.now (node_tree doc.now)
+        (option_map (λ doc. node_tree doc.now) old.entry) context.now) result }
+{
+    evaluate_within(alloc, VISITS, program, doc, old, context)
+}

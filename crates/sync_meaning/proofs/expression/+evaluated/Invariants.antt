@@ -1,4 +1,0 @@
-use Rattle.sync_meaning.proofs.expression.+evaluated.Given as goal
-
-abbrev pub decreases-evaluated : goal.decreases-evaluated
-decreases-evaluated l = l.depth

@@ -1,4 +1,0 @@
-use Rattle.sync_meaning.proofs.statement.+run.Given as goal
-
-abbrev pub decreases-run : goal.decreases-run
-decreases-run l = l.depth

@@ -1,0 +1,23 @@
+-- Which variable this is, and at which place it stands among those that were written, each of which stands once.
+use Rattle.std.specs.Prelude.{ℕ, ◌+◌, ◌==◌, Bool, true, false, not, ◌&&◌, ◌||◌, if◌then◌else◌, List, [], ◌∷◌}
+use Rattle.std.specs.Str.{bytes_eq}
+use Rattle.sync_meaning.specs.declared.variables.Variable.{Variable}
+
+-- whether this is the variable of a name and a number
+abbrev pub is_variable : List ℕ → ℕ → Variable → Bool
+is_variable name number x = bytes_eq name x.name && number == x.number
+
+-- the first place of a variable, or the count of all where it isn't there
+abbrev pub place_of : List ℕ → ℕ → List Variable → ℕ
+place_of name number [] = 0
+place_of name number (x ∷ xs) = if is_variable name number x then 0 else place_of name number xs + 1
+
+-- whether a variable was written
+abbrev pub is_written : List ℕ → ℕ → List Variable → Bool
+is_written name number [] = false
+is_written name number (x ∷ xs) = is_variable name number x || is_written name number xs
+
+-- whether each variable stands once
+abbrev pub each_once : List Variable → Bool
+each_once [] = true
+each_once (x ∷ xs) = not (is_written x.name x.number xs) && each_once xs
