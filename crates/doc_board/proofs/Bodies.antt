@@ -1,27 +1,22 @@
 -- the body of each write of a board is a document
-use Rattle.std.proofs.Common.{◌≡◌, ◌+◌, ℕ, Bool, true, false, List, [], ◌∷◌, length, Option, Some, None, option_map, true≢false, if◌then◌else◌}
-use Rattle.std.specs.Prelude.{IfSome, is_some}
+use Rattle.std.proofs.Common.{◌≡◌, ℕ, zero, suc, Bool, true, false, List, [], ◌∷◌, Option, Some, None, option_map, Result, Ok, Err, Bor, refl, sym, subst, if◌then◌else◌}
+use Rattle.std.specs.Prelude.{IfOk, IfSome}
+use Rattle.std.specs.Option.{option_copied}
+use Rattle.doc_board.specs.declared.snapshot.Snapshot.{Snapshot}
 use Rattle.std.specs.Str.{bytes_eq}
 use Rattle.sg_names.specs.declared.rev_id.RevId.{RevId}
 use Rattle.sg_names.specs.RevId.{same_rev}
 use Rattle.sg_history.specs.declared.entries.Entry.{Entry}
 use Rattle.sg_history.specs.declared.entries.Write.{Write}
-use Rattle.sg_history.specs.History.{as_write, of_document, write_to}
-use Rattle.sg_history.specs.Current.{Sequenced, with_rev_or, write_of_rev, write_alone}
-use Rattle.sg_history.specs.Line.{is_write}
+use Rattle.sg_history.specs.History.{as_write, of_document}
+use Rattle.sg_history.specs.Book.{Book, written_in, writes_up_to, first_of_rev, write_of_rev_up_to}
+use Rattle.sg_history.specs.Current.{Sequenced, sequenced_before, write_alone}
 use Rattle.rev_tree.specs.Extension.{first_of}
-use Rattle.rev_tree.specs.Documents.{written_by_rev, base_write}
-use Rattle.doc_board.specs.Kept.{HaveDocuments}
+use Rattle.rev_tree.specs.Documents.{rev_written_in, base_in}
+use Rattle.doc_board.specs.Kept.{HaveDocuments, AreRight, IsRightBy}
 use Rattle.doc_board.specs.Recorded.{HasDocument, WriteMayFollow, AreFollowing}
 
 -- ---- one more entry
-
-no_write_there : (o : Option Write) → is_some o ≡ false → IfSome o (λ w. HasDocument w.body)
-no_write_there None h = tt
-no_write_there (Some w) h = absurd (true≢false h)
-
-pub no_body : (e : Entry) → is_write e ≡ false → IfSome (as_write e) (λ w. HasDocument w.body)
-no_body e h = no_write_there (as_write e) h
 
 following_one : (older : List Entry) (o : Option Write) → WriteMayFollow older o → IfSome o (λ w. HasDocument w.body)
 following_one older None h = tt
@@ -34,34 +29,51 @@ following_bodies (e ∷ older) h = (following_one older (as_write e) h.0, follow
 
 -- ---- what is found of a revision
 
-of_doc : (o : Option Write) (doc : List ℕ) → IfSome o (λ w. HasDocument w.body) → IfSome (of_document o doc) (λ w. HasDocument w.body)
-of_doc None doc h = tt
-of_doc (Some w) doc h = go (bytes_eq w.doc doc)
+found_body : (book : Book) (k : ℕ) (doc : List ℕ) (rev : RevId) → AreRight book → IfSome (write_of_rev_up_to book k doc rev) (λ s. HasDocument s.write.body)
+found_body book zero doc rev right = tt
+found_body book (suc k) doc rev right = go (book (suc k)) refl (found_body book k doc rev right)
   where
-    go : (b : Bool) → IfSome (if b then Some w else None) (λ w. HasDocument w.body)
-    go true = h
-    go false = tt
+    Found : Option Entry → Type 0
+    Found o = IfSome (first_of_rev (sequenced_before (written_in o doc) (suc k) (writes_up_to book k doc)) rev) (λ s. HasDocument s.write.body)
 
-with_rev : (o : Option Write) (n : ℕ) (rev : RevId) (other : Option Sequenced) → IfSome o (λ w. HasDocument w.body) → IfSome other (λ s. HasDocument s.write.body) → IfSome (with_rev_or o n rev other) (λ s. HasDocument s.write.body)
-with_rev None n rev other h before = before
-with_rev (Some w) n rev other h before = go (same_rev w.rev rev)
-  where
-    go : (b : Bool) → IfSome (if b then Some (record { seq = n; write = w }) else other) (λ s. HasDocument s.write.body)
-    go true = h
-    go false = before
+    of_write : (o : Option Write) → IsRightBy book (suc k) o → IfSome (write_of_rev_up_to book k doc rev) (λ s. HasDocument s.write.body)
+        → IfSome (first_of_rev (sequenced_before (of_document o doc) (suc k) (writes_up_to book k doc)) rev) (λ s. HasDocument s.write.body)
+    of_write None right before = before
+    of_write (Some w) right before = by (bytes_eq w.doc doc)
+      where
+        by : (b : Bool) → IfSome (first_of_rev (sequenced_before (if b then Some w else None) (suc k) (writes_up_to book k doc)) rev) (λ s. HasDocument s.write.body)
+        by false = before
+        by true = pick (same_rev w.rev rev)
+          where
+            pick : (b : Bool) → IfSome (if b then Some (record { seq = suc k; write = w }) else first_of_rev (writes_up_to book k doc) rev) (λ s. HasDocument s.write.body)
+            pick true = right.0
+            pick false = before
 
-rev_body : (es : List Entry) (doc : List ℕ) (rev : RevId) → HaveDocuments es → IfSome (write_of_rev es doc rev) (λ s. HasDocument s.write.body)
-rev_body [] doc rev h = tt
-rev_body (e ∷ older) doc rev h =
-    with_rev (write_to e doc) (length older + 1) rev (write_of_rev older doc rev) (of_doc (as_write e) doc h.0) (rev_body older doc rev h.1)
+    go : (o : Option Entry) → book (suc k) ≡ o → IfSome (write_of_rev_up_to book k doc rev) (λ s. HasDocument s.write.body) → Found o
+    go None is before = before
+    go (Some e) is before = of_write (as_write e) (right (suc k) e is).1 before
 
-alone : (o : Option Sequenced) → IfSome o (λ s. HasDocument s.write.body) → IfSome (option_map (λ w. w.body) (write_alone o)) (λ body. HasDocument body)
+alone : (o : Option Sequenced) → IfSome o (λ s. HasDocument s.write.body) → IfSome (write_alone o) (λ w. HasDocument w.body)
 alone None h = tt
 alone (Some s) h = h
 
-written_body : (es : List Entry) (doc : List ℕ) (o : Option RevId) → HaveDocuments es → IfSome (option_map (λ w. w.body) (written_by_rev es doc o)) (λ body. HasDocument body)
-written_body es doc None h = tt
-written_body es doc (Some rev) h = alone (write_of_rev es doc rev) (rev_body es doc rev h)
+written_body : (book : Book) (k : ℕ) (doc : List ℕ) (o : Option RevId) → AreRight book → IfSome (rev_written_in book k doc o) (λ w. HasDocument w.body)
+written_body book k doc None right = tt
+written_body book k doc (Some rev) right = alone (write_of_rev_up_to book k doc rev) (found_body book k doc rev right)
 
-pub base_body : (es : List Entry) (doc : List ℕ) (ancestors : List RevId) → HaveDocuments es → IfSome (option_map (λ w. w.body) (base_write es doc ancestors)) (λ body. HasDocument body)
-base_body es doc ancestors h = written_body es doc (first_of ancestors) h
+pub base_body : (book : Book) (k : ℕ) (doc : List ℕ) (ancestors : List RevId) → AreRight book → IfSome (base_in book k doc ancestors) (λ w. HasDocument w.body)
+base_body book k doc ancestors right = written_body book k doc (first_of ancestors) right
+
+-- ---- what is handed out
+
+-- the write that was found has a document
+pub found_document : {E : Type 0} (r : Result (Option (Bor Write)) E) (o : Option Write) → IfSome o (λ w. HasDocument w.body) → IfOk r (λ found. option_copied found ≡ o) → IfOk r (λ found. IfSome found (λ write. HasDocument write.now.body))
+found_document (Ok None) o has is = tt
+found_document (Ok (Some b)) o has is = subst (λ (x : Option Write). IfSome x (λ w. HasDocument w.body)) (sym is) has
+found_document (Err e) o has is = tt
+
+-- so has the body that a snapshot has of it
+pub old_document : {E : Type 0} (r : Result Snapshot E) (b : Option (Bor Write)) → IfSome b (λ write. HasDocument write.now.body) → IfOk r (λ s. s.old ≡ option_map (λ w. w.body) (option_copied b)) → IfOk r (λ s. IfSome s.old (λ body. HasDocument body))
+old_document (Ok s) None has is = subst (λ (x : Option (List ℕ)). IfSome x (λ body. HasDocument body)) (sym is) tt
+old_document (Ok s) (Some w) has is = subst (λ (x : Option (List ℕ)). IfSome x (λ body. HasDocument body)) (sym is) has
+old_document (Err e) b has is = tt

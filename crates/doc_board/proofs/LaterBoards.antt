@@ -1,9 +1,8 @@
 -- what a board says of a document, later books say up to the same number
-use Rattle.std.proofs.Common.{◌≡◌, ◌≤◌, ◌∙◌, ℕ, zero, suc, Bool, true, false, List, [], ◌∷◌, length, reverse, refl, ap, sym, subst, arith, Option, Some, None, nat_eq, if◌then◌else◌}
+use Rattle.std.proofs.Common.{◌≡◌, ◌≤◌, ◌∙◌, ℕ, zero, suc, Bool, true, false, List, length, reverse, refl, ap, sym, subst, arith, Option, Some, None, nat_eq}
 use Rattle.std.proofs.lemmas.Bool.{eqb-true, eqb-false}
 use Rattle.std.proofs.Math.Seq.{take-length}
-use Rattle.std.proofs.lemmas.Option.{none-some, same_Some, slice_get_within}
-use Rattle.sg_history.specs.declared.book.Waiting.{Waiting}
+use Rattle.std.proofs.lemmas.Option.{none-some, same_Some}
 use Rattle.sg_history.specs.declared.entries.Entry.{Entry}
 use Rattle.sg_history.specs.declared.entries.Write.{Write}
 use Rattle.sg_history.specs.Board.{BoardState, board_book}
@@ -13,8 +12,10 @@ use Rattle.sg_history.specs.Current.{Sequenced, sequenced_before, last_write}
 use Rattle.sg_names.specs.declared.rev_id.RevId.{RevId}
 use Rattle.rev_tree.specs.Documents.{sequence_of, tree_in, last_at, base_in, rev_written_in}
 use Rattle.rev_tree.specs.Extension.{first_of}
-use Rattle.doc_board.specs.Boards.{board_top, board_last, board_tree, highest}
+use Rattle.doc_board.specs.Boards.{board_top, board_last, board_tree}
 use Rattle.doc_board.specs.Judging.{board_base}
+use Rattle.doc_board.specs.State.{highest}
+use Rattle.doc_board.proofs.Tops.{none_waits, within}
 
 -- ---- the last write up to a number
 
@@ -48,19 +49,6 @@ first_is book (suc number) doc last h =
     first_case book number doc last (write_at book doc (suc number)) refl (λ e. first_is book number doc last e) h
 
 -- ---- no entry stands above the top
-
-waits_case : (first : Waiting) (others : List Waiting) (number : ℕ) (e : Entry) (b : Bool) → nat_eq first.number number ≡ b → (waiting_at others number ≡ Some e → number ≤ highest others) → (if b then Some first.entry else waiting_at others number) ≡ Some e → number ≤ highest (first ∷ others)
-waits_case first others number e true is rest h = let same : first.number ≡ number = eqb-true first.number number is in omega arith
-waits_case first others number e false is rest h = let low : number ≤ highest others = rest h in omega arith
-
-none_waits : (waiting : List Waiting) (number : ℕ) (e : Entry) → waiting_at waiting number ≡ Some e → number ≤ highest waiting
-none_waits [] number e h = absurd (none-some e h)
-none_waits (first ∷ others) number e h =
-    waits_case first others number e (nat_eq first.number number) refl (λ g. none_waits others number e g) h
-
-within : (log : List Entry) (number : ℕ) (e : Entry) → book_of log number ≡ Some e → number ≤ length log
-within log zero e h = absurd (none-some e h)
-within log (suc place) e h = omega (arith, slice_get_within log place e h)
 
 none_above_top : (board : BoardState) (number : ℕ) (e : Entry) → board_book board number ≡ Some e → number ≤ board_top board
 none_above_top board number e h = go (book_of board.log number) refl h

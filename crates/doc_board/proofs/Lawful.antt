@@ -1,5 +1,5 @@
 -- a write that extends its document's tree follows the rules of a journal
-use Rattle.std.proofs.Common.{bytes_eq, IsTrue, ◌≡◌, ◌<◌, ◌+◌, ℕ, Bool, true, false, ◌&&◌, ◌||◌, not, List, [], ◌∷◌, ◌++◌, map, filter, length, Option, Some, None, refl, sym, ap, ◌∙◌, subst, inl, inr, if◌then◌else◌, option_map}
+use Rattle.std.proofs.Common.{bytes_eq, IsTrue, ◌≡◌, ◌<◌, ℕ, zero, suc, Bool, true, false, ◌&&◌, ◌||◌, not, List, [], ◌∷◌, ◌++◌, map, filter, Option, Some, None, refl, sym, ap, ◌∙◌, subst, inl, inr, if◌then◌else◌, option_map}
 use Rattle.std.specs.Prelude.{is_some, nat_lt}
 use Rattle.std.specs.List.{list_any}
 use Rattle.std.proofs.lemmas.Bool.{and_parts, and_from, or_left, or_right, or_cases, cases_Bool, false_from_ne_true, not-true, not_from_false, both_ways, lt-ltb}
@@ -10,10 +10,12 @@ use Rattle.sg_names.specs.RevId.{same_rev, is_rev}
 use Rattle.sg_history.specs.declared.entries.Entry.{Entry}
 use Rattle.sg_history.specs.declared.entries.Write.{Write}
 use Rattle.sg_history.specs.History.{as_write, of_document, write_to}
-use Rattle.sg_history.specs.Current.{Sequenced, with_rev_or, write_of_rev}
-use Rattle.sg_history.specs.Journal.{falls_from, has_rev, follows_rules, IsRecord, IsEntry, IsEntryBy}
+use Rattle.sg_history.specs.Book.{Book, written_in, writes_up_to, first_of_rev}
+use Rattle.sg_history.specs.Current.{Sequenced, sequenced_before}
+use Rattle.sg_history.specs.Journal.{falls_from, IsRecord, IsEntry, IsEntryBy}
 use Rattle.sg_history.specs.Principals.{Put, as_put}
-use Rattle.doc_board.specs.Lawful.{AreLawful}
+use Rattle.doc_board.specs.Kept.{is_written_by, follows_writes, trees_by}
+use Rattle.doc_board.specs.Lawful.{AreLawful, AreEntries}
 use Rattle.rev_tree.specs.declared.leaf.Leaf.{Leaf}
 use Rattle.rev_tree.specs.declared.tree.Node.{Node}
 use Rattle.rev_tree.specs.Order.{first_leaf, sooner, comes_before}
@@ -22,7 +24,7 @@ use Rattle.rev_tree.specs.Extension.{Recorded, falls}
 use Rattle.rev_tree.specs.Writes.{among, path_of, revisions, Pair, neighbours, pairs, is_parent_in, is_deleted_in, leaves_in, tree_of, only_last_known, AreAccepted}
 use Rattle.rev_tree.proofs.Sames.{same_is_equal, same_itself}
 use Rattle.doc_board.specs.Candidates.{ExtendsTree}
-use Rattle.rev_tree.specs.Documents.{recorded, recorded_before, writes_of, tree_at}
+use Rattle.rev_tree.specs.Documents.{recorded, writes_in, tree_in}
 
 abbrev held : {X : Type 0} → X → Option X → X
 held d None = d
@@ -43,18 +45,6 @@ SameLeaves = (ws : List Recorded) → AreAccepted ws → leaves_of (tree_of ws) 
 -- whether some write has this revision
 abbrev pub is_written : List Recorded → RevId → Bool
 is_written ws rev = list_any (λ (w : Recorded). same_rev w.rev rev) ws
-
-written_next : (o : Option Write) (ws : List Recorded) (seq : ℕ) (other : Option Sequenced) (rev : RevId) → is_written ws rev ≡ is_some other → is_written (recorded_before o ws) rev ≡ is_some (with_rev_or o seq rev other)
-written_next None ws seq other rev h = h
-written_next (Some w) ws seq other rev h = go (same_rev w.rev rev) refl
-  where
-    go : (b : Bool) → same_rev w.rev rev ≡ b → (same_rev w.rev rev || is_written ws rev) ≡ is_some (if same_rev w.rev rev then Some (record { seq = seq; write = w }) else other)
-    go true e = rw e refl
-    go false e = rw e h
-
-same_written : (es : List Entry) (doc : List ℕ) (rev : RevId) → is_written (writes_of es doc) rev ≡ has_rev es doc rev
-same_written [] doc rev = refl
-same_written (e ∷ older) doc rev = written_next (write_to e doc) (writes_of older doc) (length older + 1) (write_of_rev older doc rev) rev (same_written older doc rev)
 
 among-append : (xs ys : List RevId) (rev : RevId) → among (xs ++ ys) rev ≡ (among xs rev || among ys rev)
 among-append xs ys rev = list_any-append (λ (r : RevId). same_rev r rev) xs ys
@@ -148,21 +138,31 @@ won_by same ws rev None accepted h e = absurd (none-some _ e)
 won_by same ws rev (Some won) accepted h e =
     subst (λ (r : RevId). is_written ws r ≡ true) (same_some _ _ e) (winner_is_written same ws won accepted h)
 
-pub follows : SameRevisions → SameLeaves → (w : Write) (es : List Entry) (after : List Node) → AreAccepted (writes_of es w.doc) → ExtendsTree (tree_at es w.doc) w after → w.at < length es + 1 → follows_rules es w ≡ true
-follows same_revisions same_leaves w es after accepted extends judged =
-    let ws : List Recorded = writes_of es w.doc in
+-- what is written by writes with their numbers
+written_by : (ws : List Sequenced) (rev : RevId) → is_written (map (λ written. recorded written.write) ws) rev ≡ is_written_by ws rev
+written_by [] rev = refl
+written_by (x ∷ ws) rev = go (same_rev x.write.rev rev) refl (written_by ws rev)
+  where
+    go : (b : Bool) → same_rev x.write.rev rev ≡ b → is_written (map (λ written. recorded written.write) ws) rev ≡ is_written_by ws rev
+        → (b || is_written (map (λ written. recorded written.write) ws) rev) ≡ is_some (if b then Some x else first_of_rev ws rev)
+    go true e rest = refl
+    go false e rest = rest
+
+pub follows : SameRevisions → SameLeaves → (w : Write) (ws : List Sequenced) (n : ℕ) (after : List Node) → AreAccepted (map (λ written. recorded written.write) ws) → ExtendsTree (trees_by ws) w after → w.at < n → follows_writes ws n w ≡ true
+follows same_revisions same_leaves w written n after accepted extends judged =
+    let ws : List Recorded = map (λ x. recorded x.write) written in
     let tree : List Node = tree_of ws in
     let parts = and_parts (not (knows tree w.rev) && falls (path_of (recorded w))) (only_last_known tree w.ancestors) extends.accepted in
     let first = and_parts (not (knows tree w.rev)) (falls (path_of (recorded w))) parts.0 in
     let unknown : knows tree w.rev ≡ false = not-true (knows tree w.rev) first.0 in
-    let new : has_rev es w.doc w.rev ≡ false =
-    false_from_ne_true (has_rev es w.doc w.rev) (λ h. both_ways _ unknown (same_revisions ws w.rev accepted ∙ written_among ws w.rev (same_written es w.doc w.rev ∙ h))) in
+    let new : is_written_by written w.rev ≡ false =
+    false_from_ne_true (is_written_by written w.rev) (λ h. both_ways _ unknown (same_revisions ws w.rev accepted ∙ written_among ws w.rev (written_by written w.rev ∙ h))) in
     let won : is_written (recorded w ∷ ws) w.winner ≡ true =
     won_by same_leaves (recorded w ∷ ws) w.winner (winner_of (tree_of (recorded w ∷ ws))) (extends.accepted, accepted) refl (ap (λ (t : List Node). option_map (λ (l : Leaf). l.rev) (winner_of t)) (sym extends.tree) ∙ extends.winner) in
-    let named : (same_rev w.winner w.rev || has_rev es w.doc w.winner) ≡ true =
+    let named : (same_rev w.winner w.rev || is_written_by written w.winner) ≡ true =
     elim (or_cases (same_rev w.rev w.winner) (is_written ws w.winner) won) [
       | inl a ↦ or_left _ _ (swapped w.rev w.winner a)
-      | inr o ↦ or_right (same_rev w.winner w.rev) _ (sym (same_written es w.doc w.winner) ∙ o)
+      | inr o ↦ or_right (same_rev w.winner w.rev) _ (sym (written_by written w.winner) ∙ o)
     ] in
     and_from _ _ (and_from _ _ (and_from _ _ (not_from_false _ new) (falls_too w.rev w.ancestors first.1)) (lt-ltb _ _ judged)) named
 
@@ -173,14 +173,6 @@ recorded_is_lawful [] h = tt
 recorded_is_lawful (e ∷ older) h = (h.0.grammar, h.0.rules, recorded_is_lawful older h.1)
 
 -- ---- the winner's name
-
-named_next : (o : Option Write) (seq : ℕ) (other : Option Sequenced) (rev : RevId) → ((w : Write) → o ≡ Some w → IsTrue (is_rev w.rev)) → (is_some other ≡ true → IsTrue (is_rev rev)) → is_some (with_rev_or o seq rev other) ≡ true → IsTrue (is_rev rev)
-named_next None seq other rev named rest h = rest h
-named_next (Some w) seq other rev named rest h =
-    elim (cases_Bool (same_rev w.rev rev)) [
-      | inl s ↦ subst (λ (r : RevId). IsTrue (is_rev r)) (same_is_equal w.rev rev s) (named w refl)
-      | inr s ↦ rest (rw s at h)
-    ]
 
 -- the write that an entry is has a revision in its grammar
 named_by : (o : Option Write) (p : Option Put) (doc : List ℕ) → IsEntryBy o p → (w : Write) → of_document o doc ≡ Some w → IsTrue (is_rev w.rev)
@@ -194,17 +186,31 @@ named_by (Some x) p doc is w h = go (bytes_eq x.doc doc) h
 write_named : (e : Entry) (doc : List ℕ) → IsEntry e → (w : Write) → write_to e doc ≡ Some w → IsTrue (is_rev w.rev)
 write_named e doc is w h = named_by (as_write e) (as_put e) doc is w h
 
-written_named : (es : List Entry) (doc : List ℕ) (rev : RevId) → AreLawful es → has_rev es doc rev ≡ true → IsTrue (is_rev rev)
-written_named [] doc rev lawful h = absurd (both_ways false refl h)
-written_named (e ∷ older) doc rev lawful h =
-    named_next (write_to e doc) (length older + 1) (write_of_rev older doc rev) rev (write_named e doc lawful.0) (written_named older doc rev lawful.2) h
+written_in_book : (book : Book) (k : ℕ) (doc : List ℕ) (rev : RevId) → AreEntries book → is_written_by (writes_up_to book k doc) rev ≡ true → IsTrue (is_rev rev)
+written_in_book book zero doc rev entries h = absurd (both_ways false refl h)
+written_in_book book (suc k) doc rev entries h =
+    go (book (suc k)) refl (λ rest. written_in_book book k doc rev entries rest) h
+  where
+    go : (o : Option Entry) → book (suc k) ≡ o → (is_written_by (writes_up_to book k doc) rev ≡ true → IsTrue (is_rev rev))
+        → is_written_by (sequenced_before (written_in o doc) (suc k) (writes_up_to book k doc)) rev ≡ true → IsTrue (is_rev rev)
+    go None is rest h = rest h
+    go (Some e) is rest h = pick (write_to e doc) refl h
+      where
+        pick : (o : Option Write) → write_to e doc ≡ o → is_written_by (sequenced_before o (suc k) (writes_up_to book k doc)) rev ≡ true → IsTrue (is_rev rev)
+        pick None none h = rest h
+        pick (Some w) some h =
+            elim (cases_Bool (same_rev w.rev rev)) [
+              | inl s ↦ subst (λ (r : RevId). IsTrue (is_rev r)) (same_is_equal w.rev rev s) (write_named e doc (entries (suc k) e is) w some)
+              | inr s ↦ rest (rw s at h)
+            ]
 
-pub winner_named : SameLeaves → (es : List Entry) (w : Write) (after : List Node) → AreLawful es → AreAccepted (writes_of es w.doc) → ExtendsTree (tree_at es w.doc) w after → IsTrue (is_rev w.rev) → IsTrue (is_rev w.winner)
-winner_named same es w after lawful accepted extends named =
-    let ws : List Recorded = writes_of es w.doc in
+pub winner_named : SameLeaves → (book : Book) (k : ℕ) (w : Write) (after : List Node) → AreEntries book → AreAccepted (writes_in book k w.doc) → ExtendsTree (tree_in book k w.doc) w after → IsTrue (is_rev w.rev) → IsTrue (is_rev w.winner)
+winner_named same book k w after entries accepted extends named =
+    let written : List Sequenced = writes_up_to book k w.doc in
+    let ws : List Recorded = writes_in book k w.doc in
     let won : is_written (recorded w ∷ ws) w.winner ≡ true =
     won_by same (recorded w ∷ ws) w.winner (winner_of (tree_of (recorded w ∷ ws))) (extends.accepted, accepted) refl (ap (λ (t : List Node). option_map (λ (l : Leaf). l.rev) (winner_of t)) (sym extends.tree) ∙ extends.winner) in
     elim (or_cases (same_rev w.rev w.winner) (is_written ws w.winner) won) [
       | inl a ↦ subst (λ (r : RevId). IsTrue (is_rev r)) (same_is_equal w.rev w.winner a) named
-      | inr o ↦ written_named es w.doc w.winner lawful (sym (same_written es w.doc w.winner) ∙ o)
+      | inr o ↦ written_in_book book k w.doc w.winner entries (sym (written_by written w.winner) ∙ o)
     ]

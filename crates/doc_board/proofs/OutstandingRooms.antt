@@ -1,16 +1,17 @@
 -- rooms that are outstanding
-use Rattle.std.proofs.Common.{◌≡◌, ◌+◌, ℕ, Bool, true, false, ◌||◌, List, [], ◌∷◌, ◌++◌, length, Option, Some, None, refl, sym, ap, ◌∙◌, arith, if◌then◌else◌, nat_eq}
+use Rattle.std.proofs.Common.{◌≡◌, ◌≤◌, ◌+◌, ◌*◌, ℕ, Bool, true, false, ◌||◌, List, [], ◌∷◌, ◌++◌, length, Option, Some, None, refl, sym, ap, ◌∙◌, arith, if◌then◌else◌, nat_eq}
 use Rattle.std.specs.Prelude.{is_some}
 use mathlib.Core.Bool.{false≢true}
 use Rattle.std.specs.BTreeMap.{get_by_text}
 use Rattle.std.specs.List.{list_all}
 use Rattle.std.specs.Str.{bytes_eq}
-use Rattle.std.proofs.lemmas.Bool.{and_parts, and_from, or_left, or_right, eq-eqb}
+use Rattle.std.proofs.lemmas.Bool.{and_parts, and_from, or_left, or_right, eqb-true, eq-eqb}
 use Rattle.std.proofs.lemmas.List.Folds.{list_any-append}
 use Rattle.doc_board.specs.declared.document.Document.{Document}
 use Rattle.sg_history.specs.declared.room.RoomFor.{RoomFor}
+use Rattle.doc_board.specs.Boards.{bytes_asked}
 use Rattle.doc_board.specs.Kept.{has_place, or_blank, placed}
-use Rattle.doc_board.specs.Rooms.{same_doc, same_room, is_outstanding, without}
+use Rattle.doc_board.specs.Rooms.{AreSmall, same_doc, same_room, is_outstanding, without}
 use Rattle.std.proofs.lemmas.Slice.Eq.{bytes_eq-Decides}
 use Rattle.doc_board.proofs.Documents.{Documents, same_names}
 
@@ -38,6 +39,39 @@ less_one false out r rooms others h rest = omega (arith, rest h)
 pub one_less : (room : RoomFor) (rooms : List RoomFor) → is_outstanding rooms room ≡ true → length (without room rooms) + 1 ≡ length rooms
 one_less room [] h = absurd (false≢true h)
 one_less room (r ∷ rooms) h = less_one (same_room r room) (is_outstanding rooms room) r rooms (without room rooms) h (one_less room rooms)
+
+bytes_less : (b : Bool) (out : Bool) (r room : RoomFor) (rooms others : List RoomFor) → (b ≡ true → r.bytes ≡ room.bytes) → (b || out) ≡ true → (out ≡ true → bytes_asked others + room.bytes ≡ bytes_asked rooms)
+    → bytes_asked (if b then rooms else r ∷ others) + room.bytes ≡ bytes_asked (r ∷ rooms)
+bytes_less true out r room rooms others same h rest = omega (arith, same refl)
+bytes_less false out r room rooms others same h rest = omega (arith, rest h)
+
+-- there are as many bytes less as the room was made for
+pub asked_less : (room : RoomFor) (rooms : List RoomFor) → is_outstanding rooms room ≡ true → bytes_asked (without room rooms) + room.bytes ≡ bytes_asked rooms
+asked_less room [] h = absurd (false≢true h)
+asked_less room (r ∷ rooms) h =
+    bytes_less (same_room r room) (is_outstanding rooms room) r room rooms (without room rooms) (λ e. eqb-true r.bytes room.bytes (and_parts (same_doc r.doc room.doc) (nat_eq r.bytes room.bytes) e).1) h (asked_less room rooms)
+
+pub asked_more : (room : RoomFor) (rooms : List RoomFor) → bytes_asked (rooms ++ room ∷ []) ≡ bytes_asked rooms + room.bytes
+asked_more room [] = omega arith
+asked_more room (r ∷ rooms) = omega (arith, asked_more room rooms)
+
+-- ---- rooms for at most so many bytes as a body may have
+
+pub small_sum : (rooms : List RoomFor) → AreSmall rooms → bytes_asked rooms ≤ 20971520 * length rooms
+small_sum [] small = omega arith
+small_sum (r ∷ rooms) small = omega (arith, small.0, small_sum rooms small.1)
+
+pub small_more : (room : RoomFor) (rooms : List RoomFor) → room.bytes ≤ 20971520 → AreSmall rooms → AreSmall (rooms ++ room ∷ [])
+small_more room [] here small = (here, tt)
+small_more room (r ∷ rooms) here small = (small.0, small_more room rooms here small.1)
+
+pub small_without : (room : RoomFor) (rooms : List RoomFor) → AreSmall rooms → AreSmall (without room rooms)
+small_without room [] small = tt
+small_without room (r ∷ rooms) small = go (same_room r room) (small_without room rooms small.1)
+  where
+    go : (b : Bool) → AreSmall (without room rooms) → AreSmall (if b then rooms else r ∷ without room rooms)
+    go true rest = small.1
+    go false rest = (small.0, rest)
 
 -- ---- places of documents
 

@@ -1,4 +1,4 @@
--- The board of a log with its outstanding rooms, as plain data; and what a board says of a document.
+-- A board as plain data: its log, the entries that wait, and its outstanding rooms; and what a board says of a document.
 use Rattle.std.specs.Prelude.{ℕ, ◌+◌, max, List, [], ◌∷◌, length, Option, Some, None}
 use Rattle.sg_history.specs.declared.book.Waiting.{Waiting}
 use Rattle.sg_history.specs.declared.entries.Entry.{Entry}
@@ -8,9 +8,9 @@ use Rattle.sg_history.specs.Board.{BoardState, board_book}
 use Rattle.sg_history.specs.History.{as_write}
 use Rattle.rev_tree.specs.declared.tree.Node.{Node}
 use Rattle.rev_tree.specs.Documents.{tree_in, last_in}
-use Rattle.doc_board.specs.State.{State}
+use Rattle.doc_board.specs.State.{State, highest}
 
--- ---- the board of a log
+-- ---- a board as plain data
 
 -- how many bytes the body of a write has, where there is one
 abbrev pub body_size : Option Write → ℕ
@@ -27,17 +27,20 @@ abbrev pub bytes_asked : List RoomFor → ℕ
 bytes_asked [] = 0
 bytes_asked (room ∷ rooms) = room.bytes + bytes_asked rooms
 
--- the board of a log beside which nothing waits, with the rooms that are outstanding; no side map is kept and no fault is counted
+-- the bytes of all bodies of entries that wait
+abbrev pub bytes_waiting : List Waiting → ℕ
+bytes_waiting [] = 0
+bytes_waiting (first ∷ others) = body_size (as_write first.entry) + bytes_waiting others
+
+-- the bytes of all bodies of a board, and those that its rooms were made for
+abbrev pub bytes_on : State → ℕ
+bytes_on s = bytes_stored s.log + bytes_waiting s.pending + bytes_asked s.rooms
+
+-- the board of a log with the entries that wait and the rooms that are outstanding; no side map is kept and no fault is counted
 abbrev pub board_of : State → BoardState
-board_of s =
-    record { log = s.log; pending = []; rooms = s.rooms; bytes = bytes_stored s.log + bytes_asked s.rooms; side = []; faults = 0 }
+board_of s = record { log = s.log; pending = s.pending; rooms = s.rooms; bytes = bytes_on s; side = []; faults = 0 }
 
 -- ---- what a board says of a document
-
--- the greatest number of entries that wait
-abbrev pub highest : List Waiting → ℕ
-highest [] = 0
-highest (first ∷ others) = max first.number (highest others)
 
 -- the greatest number at which a board has an entry
 abbrev pub board_top : BoardState → ℕ

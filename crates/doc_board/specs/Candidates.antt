@@ -47,10 +47,10 @@ pub record ExtendsTree (before : List Node) (w : Write) (after : List Node) : Ty
   pub tree : after ≡ with_write before (recorded w)
   pub winner : option_map (λ l. l.rev) (winner_of after) ≡ Some w.winner
 
--- a candidate is in its grammar, its body is a document, it was judged before it is stored, and it extends the tree that its document has where that was not written since
+-- a candidate is in its grammar, its body is a document, it was judged and its document last written before the number at which it is stored, and it extends the tree that its document has where that was not written since
 abbrev pub MayBeStored : State → ℕ → Candidate → Type 0
 MayBeStored s number (candidate.Write w tree base) =
-    IsEntry (entry.Write w) × ((doc : Tree) × IsDocument w.body doc) × (w.at < number) × (base ≡ last_on s w.doc → ExtendsTree (tree_on s w.doc) w tree)
+    IsEntry (entry.Write w) × ((doc : Tree) × IsDocument w.body doc) × (w.at < number) × (base < number) × (base ≡ last_on s w.doc → ExtendsTree (tree_on s w.doc) w tree)
 MayBeStored s number (candidate.Plain e) = IsEntry e × (is_write e ≡ false)
 
 -- the room was made for the candidate's document, or for none, and for at least so many bytes

@@ -1,12 +1,16 @@
 pub mod Answers
+pub mod Based
 pub mod Boards
 pub mod Candidates
 pub mod Contexts
 pub mod Judging
 pub mod Kept
 pub mod Lawful
+pub mod Limits
 pub mod Offers
 pub mod Outcomes
+pub mod Outstanding
 pub mod Recorded
 pub mod Rooms
 pub mod State
+pub mod Steps

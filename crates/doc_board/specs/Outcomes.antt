@@ -1,5 +1,5 @@
 -- The outcome of a revision that is proposed, by a board: the first of the answers that is due.
-use Rattle.std.specs.Prelude.{◌≡◌, ◌≤◌, ◌<◌, ℕ, Bool, true, false, List, length, reverse, take, option_map, Option, Some, Ok, Err, IsTrue}
+use Rattle.std.specs.Prelude.{◌≡◌, ◌≤◌, ◌<◌, ℕ, Bool, true, false, List, length, reverse, take, option_map, Option, Some, None, Ok, Err, IsTrue}
 use Rattle.sg_names.specs.Grammar.{is_doc_id}
 use Rattle.sg_names.specs.RevId.{is_rev}
 use Rattle.sg_names.specs.Revs.{is_revs}
@@ -17,9 +17,11 @@ use Rattle.sync_meaning.specs.declared.effects.Effects.{Effects}
 use Rattle.sync_meaning.specs.declared.fault.Stop.TheVariants.{Deny}
 use Rattle.doc_board.specs.declared.outcome.Outcome.{Outcome}
 use Rattle.doc_board.specs.declared.outcome.Outcome.TheVariants as outcome
+use Rattle.doc_board.specs.declared.candidate.NoRoom.TheVariants as no_room
 use Rattle.doc_board.specs.Answers.{proposer_exists}
 use Rattle.doc_board.specs.Boards.{board_tree}
 use Rattle.doc_board.specs.Judging.{IsSaid, body_or_empty}
+use Rattle.doc_board.specs.Limits.{refusal}
 use Rattle.doc_board.specs.Recorded.{HasDocument}
 
 -- ---- the revision itself
@@ -78,7 +80,7 @@ IsWinner board doc leaf = option_map (λ w. w.rev) (winner_of (board_tree board 
 abbrev pub IsAccepted : Program → Option (List ℕ) → Revision → BoardState → Type 0
 IsAccepted program by r board = (effects : Effects) × IsSaid program by r board (Ok effects)
 
--- the outcome of a revision that is proposed, under a program and strictness or not, by a user or by the administrator; out of memory may come at any
+-- the outcome of a revision that is proposed, under a program and strictness or not, by a user or by the administrator, as far as it is judged; out of memory may come at any
 abbrev pub IsOutcome : Program → Bool → Option (List ℕ) → Revision → BoardState → Outcome → Type 0
 IsOutcome program strict by r board (outcome.Bad400 bad) = IsBadField r bad
 IsOutcome program strict by r board (outcome.TooLarge413 bytes) = IsTooLarge r bytes
@@ -88,7 +90,27 @@ IsOutcome program strict by r board (outcome.BadHistory400 at) = IsJudged strict
 IsOutcome program strict by r board (outcome.Conflict409 at leaf) = IsJudged strict by r board makes_conflict at × IsWinner board r.doc leaf
 IsOutcome program strict by r board (outcome.Denied403 at rule) = IsJudged strict by r board extends_tree at × IsSaid program by r board (Err (Deny rule))
 IsOutcome program strict by r board (outcome.Stored sequence at) = IsJudged strict by r board extends_tree at × IsAccepted program by r board × (at < sequence)
+IsOutcome program strict by r board (outcome.Full503 at places) = IsJudged strict by r board extends_tree at × IsAccepted program by r board
+IsOutcome program strict by r board (outcome.LogFull509 at entries bytes) = IsJudged strict by r board extends_tree at × IsAccepted program by r board
 IsOutcome program strict by r board outcome.Memory507 = Unit {0}
+
+-- the bytes that a revision asks a board for: those of the body that is stored
+abbrev pub bytes_of : Revision → ℕ
+bytes_of r = length (body_or_empty r.body)
+
+-- how an outcome goes with the limits of a board, for so many bytes: what is stored is refused no room, and a room is refused with the board's own sums
+abbrev pub IsByLimits : ℕ → BoardState → Outcome → Type 0
+IsByLimits bytes board (outcome.Bad400 bad) = Unit {0}
+IsByLimits bytes board (outcome.TooLarge413 size) = Unit {0}
+IsByLimits bytes board (outcome.UserGone401 at) = Unit {0}
+IsByLimits bytes board (outcome.Known at) = Unit {0}
+IsByLimits bytes board (outcome.BadHistory400 at) = Unit {0}
+IsByLimits bytes board (outcome.Conflict409 at leaf) = Unit {0}
+IsByLimits bytes board (outcome.Denied403 at rule) = Unit {0}
+IsByLimits bytes board (outcome.Stored sequence at) = refusal board bytes ≡ None
+IsByLimits bytes board (outcome.Full503 at places) = refusal board bytes ≡ Some (no_room.Full503 places)
+IsByLimits bytes board (outcome.LogFull509 at entries sum) = refusal board bytes ≡ Some (no_room.LogFull509 entries sum)
+IsByLimits bytes board outcome.Memory507 = Unit {0}
 
 -- ---- the write that is stored
 

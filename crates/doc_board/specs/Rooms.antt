@@ -1,5 +1,5 @@
 -- the rooms that are outstanding
-use Rattle.std.specs.Prelude.{ℕ, Bool, true, false, ◌&&◌, nat_eq, List, [], ◌∷◌, Option, Some, None, if◌then◌else◌}
+use Rattle.std.specs.Prelude.{◌≤◌, ℕ, Bool, true, false, ◌&&◌, nat_eq, List, [], ◌∷◌, Option, Some, None, if◌then◌else◌}
 use Rattle.std.specs.List.{list_any}
 use Rattle.std.specs.Str.{bytes_eq}
 use Rattle.sg_history.specs.declared.room.RoomFor.{RoomFor}
@@ -26,3 +26,8 @@ without room (r ∷ rooms) = if same_room r room then rooms else r ∷ without r
 -- the room that is made for a document, or for none, and for a body of so many bytes
 abbrev pub room_for : Option (List ℕ) → ℕ → RoomFor
 room_for doc bytes = record { doc = doc; bytes = bytes }
+
+-- each of these rooms is for at most so many bytes as a body may have
+abbrev pub AreSmall : List RoomFor → Type 0
+AreSmall [] = Unit {0}
+AreSmall (room ∷ rooms) = (room.bytes ≤ 20971520) × AreSmall rooms

@@ -1,84 +1,116 @@
 //! The board: the log, each document's tree, and the rooms that are outstanding.
 
-ghost use Rattle.std.specs.Prelude.{◌≡◌, ◌≢◌, ◌≤◌, ◌<◌, ◌+◌, ◌-◌, ◌*◌, ◌++◌, ◌∷◌, [], ℕ, List, true, false, length, reverse, is_some, Some, option_map, OnOk, OnErr, IfOk, IfSome, IsTrue, Err};
+ghost use Rattle.std.specs.Prelude.{◌≡◌, ◌≢◌, ◌≤◌, ◌<◌, ◌+◌, ◌-◌, ◌*◌, ◌++◌, ◌∷◌, [], ℕ, List, false, true, length, reverse, is_some, Some, None, option_map, OnOk, OnErr, IfOk, IfSome, IsTrue, Err};
 ghost use Rattle.std.specs.Option.{option_copied};
+ghost use Rattle.sg_history.specs.Book.{waiting_at};
 ghost use Rattle.sg_history.specs.History.{entries_of, among};
 ghost use Rattle.sg_history.specs.Principals as principals;
+ghost use Rattle.pending_front.specs.Storing.{MayStore};
 ghost use Rattle.rev_tree.specs.Writes.{AreAccepted};
+ghost use Rattle.rev_tree.specs.Documents.{tree_when, deletes};
 ghost use Rattle.doc_board.specs.Answers.{IsStep, proposer_exists};
 ghost use Rattle.doc_board.specs.Contexts.{IsContext};
 ghost use Rattle.sg_history.specs.declared.entries.Entry.TheVariants as kinds;
+ghost use Rattle.doc_board.specs.declared.candidate.Commit.TheVariants as kinds_of_commit;
+ghost use Rattle.doc_board.specs.Boards.{board_of};
 ghost use Rattle.doc_board.specs.Candidates.{MayBeStored, ExtendsTree, Fits, IfStored, IfStale, is_stale, entry_of, made_at, last_of};
 ghost use Rattle.sg_history.specs.Journal.{IsEntry};
 ghost use Rattle.sg_history.specs.Line.{is_write};
-ghost use Rattle.doc_board.specs.Lawful.{AreLawful};
+ghost use Rattle.doc_board.specs.Lawful.{AreLawful, AreEntries};
+ghost use Rattle.doc_board.specs.Limits as limits;
+ghost use Rattle.doc_board.specs.Limits.{IsRefusedBy};
 ghost use Rattle.doc_board.specs.Recorded.{HasDocument, AreFollowing, IsFirstBad};
 ghost use Rattle.doc_board.specs.Rooms.{is_outstanding, room_for, without};
-ghost use Rattle.doc_board.specs.State.{newest_first, writes_on, tree_on, last_on, base_on};
-ghost use Rattle.rev_tree.specs.Documents.{tree_at, tree_when, last_at, base_write, deletes};
+ghost use Rattle.doc_board.specs.State.{newest_first, book_on, writes_on, tree_on, last_on, base_on};
+ghost use Rattle.doc_board.specs.Steps.{history_on, stored_at, swapped_to, with_entry};
 
+use crate::base::base_of;
 use crate::candidate::{Candidate, Commit, NoRoom};
 use crate::document::{self, Document, Documents};
 use crate::granted::{channels_at_end, context_at_end};
-use crate::open::{OpenFault, documents_of};
-use crate::room::{self, Room};
-use crate::snapshot::{Snapshot, snapshot_of};
+use crate::open::{OpenFault, bytes_of, documents_of};
+use crate::room::{self, OutstandingRooms, Room};
+use crate::snapshot::{Proposer, Snapshot, proposer_exists, snapshot_of};
+use crate::waiting::{Bases, keep_base, make_places, release};
 use grant_history::GrantHistory;
+use pending_front::Pending;
+use pending_front::laws::storing;
 use repl_messages::Revision;
 use rev_tree::Tree;
 use rev_tree::laws::{histories, trees_of_writes};
-use sg_history::{Channels, DocId, Entry, Log, LogReads, Name, Number, RoomFor, Write};
+use sg_history::laws::books;
+use sg_history::{Channels, DocId, Entry, Log, LogReads, Name, Number, RevId, RoomFor, Write};
 use sg_outside::Memory;
-use std::alloc::{AllocError, Global};
-use std::collections::BTreeMap;
+use std::alloc::Global;
+use std::collections::{BTreeMap, HashMap};
 use std::marker::Model;
+use sync_meaning::Context;
 
-/// The log, with each document's tree of revisions, the rooms that are outstanding, and the history of its grants, which has
-/// an index of the log. What is stored allocates nothing then: a room has it beforehand. The grants are brought up to
-/// the log by the calls that may take memory. Contracts see up to which place of the log they are, and how many entries
-/// were read for them, which stands still at its type's end.
+/// The most places among entries that wait: those of entries that do, and two for each room that is outstanding.
+const MOST_PLACES: u64 = 20_000;
+
+/// The most entries of a log, with those places.
+const MOST_ENTRIES: u64 = 4_000_000;
+
+/// The most bytes of all bodies, with those that rooms were made for.
+const MOST_BYTES: u64 = 2_147_483_648;
+
+/// The log, with the entries that wait for their places in it, each document's tree of revisions, the rooms that are outstanding,
+/// and the history of its grants, which has an index of the log. What is stored allocates nothing then: a room has it
+/// beforehand. The grants are brought up to the log by the calls that may take memory. Contracts see up to which place of the log
+/// they are, and how many entries were read for them, which stands still at its type's end.
 #[derive(Drop)]
 pub struct Board {
+    alloc: Global,
     log: Log,
+    pending: Pending,
     documents: Documents,
-    rooms: Vec<RoomFor>,
+    bases: Bases,
+    rooms: OutstandingRooms,
+    stored: u64,
     grants: GrantHistory,
     reads: u64,
 }
 
 impl Model for Board {
-    ghost use Rattle.std.specs.Prelude.{◌≤◌, reverse, length, IsTrue};
-    ghost use Rattle.std.specs.List.{list_all};
+    ghost use Rattle.std.specs.Prelude.{nat_eq};
+    ghost use Rattle.std.specs.HashMap.{get, spare};
     ghost use Rattle.sg_history.specs.History.{entries_of};
     ghost use Rattle.grant_history.specs.Stands.{StandsFor};
-    ghost use Rattle.doc_board.specs.Kept.{IsKept};
+    ghost use Rattle.doc_board.specs.Kept.{IsBoard};
     ghost use Rattle.doc_board.specs.State.{State};
 
     ghost Value = { State };
 
     ghost view = { λ b. record {
       log = entries_of b.log;
-      rooms = b.rooms.items;
+      pending = b.pending.waiting;
+      rooms = b.rooms;
       known = b.grants.applied;
       reads = b.reads;
     } };
 
-    ghost invariant = { λ b. IsKept b.log.entries b.documents b.rooms.items
-        × StandsFor b.grants b.log.entries.list };
+    ghost invariant = { λ b. IsBoard b.log.entries b.pending b.documents (get nat_eq b.bases)
+        (spare b.bases) b.rooms b.stored × StandsFor b.grants b.log.entries.list };
 }
 
 impl Board {
     /// An empty board.
     pub fn new(alloc: Global) -> Result<Board, Memory>
         ensures log { IfOk result (λ board. board.log ≡ []) }
+        ensures pending { IfOk result (λ board. board.pending ≡ []) }
         ensures rooms { IfOk result (λ board. board.rooms ≡ []) }
         ensures known { IfOk result (λ board. board.known ≡ 0) }
         ensures reads { IfOk result (λ board. board.reads ≡ 0) }
     {
         Ok(Board {
+            alloc,
             log: Log::new(alloc),
+            pending: Pending::new(alloc),
             documents: BTreeMap::new(alloc),
-            rooms: Vec::new(alloc),
+            bases: HashMap::new(alloc),
+            rooms: OutstandingRooms::new(),
+            stored: 0,
             grants: GrantHistory::new(alloc),
             reads: 0,
         })
@@ -88,6 +120,7 @@ impl Board {
     pub fn open(alloc: Global, log: Log) -> Result<Board, OpenFault>
         requires { AreLawful (reverse (entries_of log)) }
         ensures log { IfOk result (λ board. board.log ≡ entries_of log) }
+        ensures pending { IfOk result (λ board. board.pending ≡ []) }
         ensures rooms { IfOk result (λ board. board.rooms ≡ []) }
         ensures known { IfOk result (λ board. board.known ≡ 0) }
         ensures reads { IfOk result (λ board. board.reads ≡ 0) }
@@ -95,11 +128,18 @@ impl Board {
         ensures bad { (sequence : ℕ) → result ≡ Err (OpenFault.Bad sequence) → IsFirstBad
             (entries_of log) sequence }
     {
+        histories();
+        books();
         let documents = documents_of(alloc, log.entries.as_slice())?;
+        let stored = bytes_of(log.entries.as_slice());
         Ok(Board {
+            alloc,
             log,
+            pending: Pending::new(alloc),
             documents,
-            rooms: Vec::new(alloc),
+            bases: HashMap::new(alloc),
+            rooms: OutstandingRooms::new(),
+            stored,
             grants: GrantHistory::new(alloc),
             reads: 0,
         })
@@ -107,12 +147,13 @@ impl Board {
 
     /// Where the board takes its memory.
     pub fn allocator(&self) -> Global {
-        *self.rooms.allocator()
+        self.alloc
     }
 
-    /// The log's length. Allocates nothing.
+    /// The log's length, next to which no entry waits. Allocates nothing.
     pub fn front(&self) -> u64
         ensures front { result ≡ length self.now.log }
+        ensures next { waiting_at self.now.pending (length self.now.log + 1) ≡ None }
         ensures below { result < 9223372036854775808 }
     {
         self.log.entries.as_slice().len() as u64
@@ -122,18 +163,18 @@ impl Board {
     pub fn log(&self) -> &Log
         ensures log { entries_of result.now ≡ self.now.log }
         ensures lawful { AreLawful (newest_first self.now) }
+        ensures entries { AreEntries (book_on self.now) }
         ensures accepted { (doc : List ℕ) → AreAccepted (writes_on self.now doc) }
     {
-        histories();
+        books();
         &self.log
     }
 
-    /// The tree that the writes of a document make; none where it was never written. Allocates nothing.
+    /// The tree that the writes of a document make, those that wait among them; none where it was never written. Allocates nothing.
     pub fn tree(&self, doc: &DocId) -> Option<&Tree>
         ensures tree { option_copied result ≡ tree_when (writes_on self.now doc.now) }
         ensures accepted { AreAccepted (writes_on self.now doc.now) }
     {
-        histories();
         document::tree_of(document::document_of(&self.documents, doc))
     }
 
@@ -141,13 +182,13 @@ impl Board {
     fn last_write(&self, doc: &DocId) -> u64
         ensures { result ≡ last_on self.now doc.now }
     {
-        histories();
         document::last_of(document::document_of(&self.documents, doc))
     }
 
     /// Brings the grants up to the end of the log. Out of memory they are up to some place before it.
     fn apply_grants(&mut self) -> Result<(), Memory>
         ensures log { self.new.log ≡ self.old.log }
+        ensures pending { self.new.pending ≡ self.old.pending }
         ensures rooms { self.new.rooms ≡ self.old.rooms }
         ensures known { OnOk result (self.new.known ≡ length self.old.log) }
         ensures reads { self.new.reads
@@ -163,6 +204,7 @@ impl Board {
     /// The channels of a user at the end of the log, each once; none where the user does not exist.
     pub fn channels(&mut self, user: &Name) -> Result<Option<Channels>, Memory>
         ensures log { self.new.log ≡ self.old.log }
+        ensures pending { self.new.pending ≡ self.old.pending }
         ensures rooms { self.new.rooms ≡ self.old.rooms }
         ensures known { OnOk result (self.new.known ≡ length self.old.log) }
         ensures reads { self.new.reads
@@ -177,8 +219,69 @@ impl Board {
         channels_at_end(&self.grants, user)
     }
 
-    /// What is needed to judge a revision that is proposed, by a user or by the administrator. At most two entries of the log
-    /// are read for the grants of each one that came since they were known.
+    /// The write on which a revision is based, of those that wait too.
+    fn base_of(&self, last: u64, doc: &DocId, ancestors: &[RevId]) -> Result<Option<&Write>, Memory>
+        requires known { self.now.known ≡ length self.now.log }
+        requires last { last ≡ last_on self.now doc.now }
+        ensures base { IfOk result (λ found. option_copied found
+            ≡ base_on self.now doc.now ancestors.now) }
+        ensures document { IfOk result (λ found. IfSome found
+            (λ write. HasDocument write.now.body)) }
+    {
+        books();
+        let index = self.grants.index();
+        base_of(
+            &self.log,
+            &self.pending,
+            &self.bases,
+            index,
+            last,
+            doc,
+            ancestors,
+        )
+    }
+
+    /// The same in a context, where the grants are at the end of the log.
+    fn snapshot_in(
+        &self,
+        revision: &Revision,
+        strict: bool,
+        by: Option<&Name>,
+        context: Context,
+    ) -> Result<Snapshot, Memory>
+        requires known { self.now.known ≡ length self.now.log }
+        ensures at { IfOk result (λ s. s.at ≡ length self.now.log) }
+        ensures last { IfOk result (λ s. s.last ≡ last_on self.now revision.now.doc) }
+        ensures step { IfOk result
+            (λ s. IsStep (tree_on self.now revision.now.doc) revision.now strict s.step) }
+        ensures old { IfOk result (λ s. s.old ≡ option_map (λ w. w.body)
+            (base_on self.now revision.now.doc revision.now.ancestors)) }
+        ensures old_document { IfOk result (λ s. IfSome s.old (λ body. HasDocument body)) }
+        ensures old_deleted { IfOk result (λ s. s.old_deleted ≡ deletes
+            (base_on self.now revision.now.doc revision.now.ancestors)) }
+        ensures user { IfOk result (λ s. s.user_exists ≡ proposer_exists (newest_first self.now)
+            (option_copied by.entry)) }
+        ensures context { IfOk result (λ s. s.context ≡ context) }
+    {
+        let document = document::document_of(&self.documents, &revision.doc);
+        let last = document::last_of(document);
+        let base = self.base_of(last, &revision.doc, revision.ancestors.as_slice())?;
+        let exists = proposer_exists(self.grants.index(), self.log.entries.as_slice(), by);
+        let proposer = Proposer { exists, context };
+        snapshot_of(
+            self.alloc,
+            self.front(),
+            document,
+            base,
+            revision,
+            strict,
+            proposer,
+        )
+    }
+
+    /// What is needed to judge a revision that is proposed, by a user or by the administrator: of the document all writes, those that
+    /// wait among them, and the grants at the end of the log. At most two entries of the log are read for the grants of each one
+    /// that came since they were known.
     pub fn snapshot(
         &mut self,
         revision: &Revision,
@@ -186,6 +289,7 @@ impl Board {
         by: Option<&Name>,
     ) -> Result<Snapshot, Memory>
         ensures log { self.new.log ≡ self.old.log }
+        ensures pending { self.new.pending ≡ self.old.pending }
         ensures rooms { self.new.rooms ≡ self.old.rooms }
         ensures known { OnOk result (self.new.known ≡ length self.old.log) }
         ensures reads { self.new.reads
@@ -204,45 +308,55 @@ impl Board {
         ensures context { IfOk result (λ s. IsContext (newest_first self.old)
             (option_copied by.entry) s.context) }
     {
-        histories();
-        let alloc = *self.rooms.allocator();
         self.apply_grants()?;
-        let context = context_at_end(alloc, &self.grants, by)?;
-        snapshot_of(
-            alloc,
-            &self.log,
-            &self.documents,
-            self.grants.index(),
-            revision,
-            strict,
-            by,
-            context,
-        )
+        let context = context_at_end(self.alloc, &self.grants, by)?;
+        self.snapshot_in(revision, strict, by, context)
     }
 
-    fn make_room(&mut self, doc: Option<&DocId>, bytes: u64) -> Result<RoomFor, AllocError>
+    /// Why there is no room for a body of so many bytes, before memory is asked for.
+    fn refusal(&self, body_bytes: u64) -> Option<NoRoom>
+        ensures { result ≡ limits.refusal (board_of self.now) body_bytes }
+    {
+        let places = self.pending.len() + 2 * self.rooms.count();
+        if places >= MOST_PLACES - 1 {
+            return Some(NoRoom::Full503 { places });
+        }
+        let entries = self.front() + places;
+        let asked = self.rooms.asked().saturating_add(body_bytes);
+        let bytes = self.stored.saturating_add(asked);
+        if entries >= MOST_ENTRIES - 1 || bytes > MOST_BYTES {
+            return Some(NoRoom::LogFull509 { entries, bytes });
+        }
+        None
+    }
+
+    fn make_room(&mut self, doc: Option<&DocId>, bytes: u64) -> Result<RoomFor, Memory>
+        requires few { length self.old.pending + 2 * length self.old.rooms < 19999 }
+        requires small { bytes ≤ 20971520 }
         ensures log { self.new.log ≡ self.old.log }
+        ensures pending { self.new.pending ≡ self.old.pending }
         ensures ok { OnOk result (self.new.rooms ≡ self.old.rooms ++ room_for
             (option_copied doc.entry) bytes ∷ []) }
         ensures err { OnErr result (self.new.rooms ≡ self.old.rooms) }
         ensures room { IfOk result (λ room. room ≡ room_for (option_copied doc.entry) bytes) }
-        ensures out { IfOk result (λ room. IsTrue (is_outstanding self.new.rooms room)) }
         ensures known { self.new.known ≡ self.old.known }
         ensures reads { self.new.reads ≡ self.old.reads }
     {
-        let alloc = *self.rooms.allocator();
-        let made_for = room::room_for(alloc, doc, bytes)?;
-        let kept_for = room::room_for(alloc, doc, bytes)?;
-        self.log.entries.reserve(2 * (self.rooms.len() + 1))?;
-        document::make_place_for(alloc, &mut self.documents, doc)?;
-        self.rooms.push(kept_for)?;
+        let made_for = room::room_for(self.alloc, doc, bytes)?;
+        let places = 2 * (self.rooms.count() + 1);
+        make_places(&mut self.log, &mut self.pending, &mut self.bases, places)?;
+        document::make_place_for(self.alloc, &mut self.documents, doc)?;
+        self.rooms.add(&made_for);
         Ok(made_for)
     }
 
-    /// Room for one entry: for a write of a document with a body of at most so many bytes, or for an entry that is no write.
+    /// Room for one entry: for a write of a document with a body of at most so many bytes, or for an entry that is no write. It is
+    /// refused where too many places are taken, or else too many entries or bytes, and at last where memory is short.
     pub fn room(&mut self, doc: Option<&DocId>, body_bytes: u64) -> Result<Room, NoRoom>
         requires { body_bytes ≤ 20971520 }
         ensures log { self.new.log ≡ self.old.log }
+        ensures pending { self.new.pending ≡ self.old.pending }
+        ensures refused { IsRefusedBy (limits.refusal (board_of self.old) body_bytes) result }
         ensures ok { OnOk result (self.new.rooms ≡ self.old.rooms ++ room_for
             (option_copied doc.entry) body_bytes ∷ []) }
         ensures err { OnErr result (self.new.rooms ≡ self.old.rooms) }
@@ -252,66 +366,80 @@ impl Board {
         ensures known { self.new.known ≡ self.old.known }
         ensures reads { self.new.reads ≡ self.old.reads }
     {
+        if let Some(why) = self.refusal(body_bytes) {
+            return Err(why);
+        }
         match self.make_room(doc, body_bytes) {
             Ok(made_for) => Ok(Room::new(made_for)),
             Err(_) => Err(NoRoom::Memory),
         }
     }
 
-    fn store_plain(&mut self, room: Room, entry: Entry)
+    fn store_plain(&mut self, room: Room, number: u64, entry: Entry)
+        requires number { MayStore self.old.log self.old.pending number }
         requires out { IsTrue (is_outstanding self.old.rooms room.made_for) }
         requires entry { IsEntry entry }
         requires plain { is_write entry ≡ false }
-        ensures log { self.new.log ≡ self.old.log ++ entry ∷ [] }
+        ensures stored { history_on self.new ≡ stored_at self.old number entry }
+        ensures book { book_on self.new ≡ with_entry number entry (book_on self.old) }
         ensures rooms { self.new.rooms ≡ without room.made_for self.old.rooms }
         ensures known { self.new.known ≡ self.old.known }
         ensures reads { self.new.reads ≡ self.old.reads }
     {
+        storing();
         grant_history::laws::extended(&self.grants);
-        room.close(&mut self.rooms);
-        self.log.entries.put(entry);
+        self.rooms.end(room);
+        self.pending.put(number, entry);
+        release(&mut self.log, &mut self.pending, &mut self.bases);
     }
 
-    fn store_write(&mut self, room: Room, sequence: u64, entry: Write, tree: Tree)
-        requires sequence { sequence ≡ length self.old.log + 1 }
+    fn store_write(&mut self, room: Room, number: u64, entry: Write, tree: Tree, base: u64)
+        requires number { MayStore self.old.log self.old.pending number }
         requires out { IsTrue (is_outstanding self.old.rooms room.made_for) }
         requires doc { room.made_for.doc ≡ Some entry.doc }
         requires entry { IsEntry (kinds.Write entry) }
         requires body { HasDocument entry.body }
-        requires at { entry.at < sequence }
+        requires at { entry.at < number }
+        requires base { base ≡ last_on self.old entry.doc }
+        requires above { base < number }
         requires extends { ExtendsTree (tree_on self.old entry.doc) entry tree }
-        ensures log { self.new.log ≡ self.old.log ++ kinds.Write entry ∷ [] }
+        ensures stored { history_on self.new ≡ stored_at self.old number (kinds.Write entry) }
+        ensures book { book_on self.new
+            ≡ with_entry number (kinds.Write entry) (book_on self.old) }
         ensures rooms { self.new.rooms ≡ without room.made_for self.old.rooms }
         ensures known { self.new.known ≡ self.old.known }
         ensures reads { self.new.reads ≡ self.old.reads }
     {
+        storing();
         trees_of_writes();
-        histories();
         grant_history::laws::extended(&self.grants);
-        let document = Document {
-            last: sequence,
-            tree,
-        };
-        room.close(&mut self.rooms);
+        let document = Document { last: number, tree };
+        self.rooms.end(room);
+        self.stored = self.stored.saturating_add(entry.body.len() as u64);
         document::put(&mut self.documents, &entry.doc, document);
-        self.log.entries.put(Entry::Write(entry));
+        keep_base(&mut self.bases, number, base);
+        self.pending.put(number, Entry::Write(entry));
+        release(&mut self.log, &mut self.pending, &mut self.bases);
     }
 
-    /// Stores a candidate at a sequence in a room, or hands all back where its document was written since. Allocates nothing.
+    /// Stores a candidate at a number that is held, in a room, or hands all back where its document was written since. It waits
+    /// under its number; then the entries that come next are moved to the log. Allocates nothing.
     pub fn commit(&mut self, room: Room, number: Number, candidate: Candidate) -> Commit
-        requires number { number.value ≡ length self.old.log + 1 }
+        requires number { MayStore self.old.log self.old.pending number.value }
         requires out { IsTrue (is_outstanding self.old.rooms room.made_for) }
         requires fits { Fits room.made_for candidate }
         requires candidate { MayBeStored self.old number.value candidate }
         ensures stale { IfStale result (λ r n c last. is_stale self.old candidate ≡ true) }
-        ensures stored { IfStored result (λ sequence at. is_stale self.old candidate ≡ false) }
+        ensures fresh { IfStored result (λ sequence at. is_stale self.old candidate ≡ false) }
         ensures back { IfStale result (λ r n c last. (r ≡ room) × (n ≡ number) × (c ≡ candidate)
             × (last ≡ last_of self.old candidate)) }
         ensures same { IfStale result (λ r n c last. self.new ≡ self.old) }
         ensures answer { IfStored result (λ sequence at. (sequence ≡ number.value)
             × (at ≡ made_at candidate (length self.old.log))) }
-        ensures log { IfStored result (λ sequence at. self.new.log ≡ self.old.log
-            ++ entry_of candidate ∷ []) }
+        ensures stored { IfStored result (λ sequence at. history_on self.new
+            ≡ stored_at self.old number.value (entry_of candidate)) }
+        ensures book { IfStored result (λ sequence at. book_on self.new
+            ≡ with_entry number.value (entry_of candidate) (book_on self.old)) }
         ensures rooms { IfStored result
             (λ sequence at. self.new.rooms ≡ without room.made_for self.old.rooms) }
         ensures known { self.new.known ≡ self.old.known }
@@ -320,11 +448,9 @@ impl Board {
         match candidate {
             Candidate::Plain(entry) => {
                 let at = self.front();
-                self.store_plain(room, entry);
-                Commit::Stored {
-                    sequence: number.spend(),
-                    at,
-                }
+                let sequence = number.spend();
+                self.store_plain(room, sequence, entry);
+                Commit::Stored { sequence, at }
             }
             Candidate::Write { entry, tree, base } => {
                 let last = self.last_write(&entry.doc);
@@ -338,22 +464,130 @@ impl Board {
                 }
                 let at = entry.at;
                 let sequence = number.spend();
-                self.store_write(room, sequence, entry, tree);
+                self.store_write(room, sequence, entry, tree, base);
                 Commit::Stored { sequence, at }
             }
         }
     }
 
-    /// Gives up a sequence and the room for its entry: it stays unused. Allocates nothing.
-    pub fn void(&mut self, room: Room, number: Number)
-        requires number { number.value ≡ length self.old.log + 1 }
+    /// Puts that a number is given up among the entries that wait, in the place of a room that ends, and leaves the other place.
+    fn swap_plain(&mut self, room: Room, spent: u64, fresh: u64, entry: Entry)
+        requires spent { MayStore self.old.log self.old.pending spent }
+        requires fresh { MayStore self.old.log self.old.pending fresh }
+        requires apart { spent ≢ fresh }
         requires out { IsTrue (is_outstanding self.old.rooms room.made_for) }
-        ensures log { self.new.log ≡ self.old.log ++ kinds.Unused ∷ [] }
+        requires entry { IsEntry entry }
+        requires plain { is_write entry ≡ false }
+        ensures stored { history_on self.new ≡ swapped_to self.old spent fresh entry }
+        ensures book { book_on self.new
+            ≡ with_entry fresh entry (with_entry spent kinds.Unused (book_on self.old)) }
         ensures rooms { self.new.rooms ≡ without room.made_for self.old.rooms }
         ensures known { self.new.known ≡ self.old.known }
         ensures reads { self.new.reads ≡ self.old.reads }
     {
-        number.spend();
-        self.store_plain(room, Entry::Unused);
+        storing();
+        grant_history::laws::extended(&self.grants);
+        self.rooms.end(room);
+        self.pending.put(spent, Entry::Unused);
+        self.pending.put(fresh, entry);
+        release(&mut self.log, &mut self.pending, &mut self.bases);
+    }
+
+    fn swap_write(
+        &mut self,
+        room: Room,
+        spent: u64,
+        fresh: u64,
+        entry: Write,
+        tree: Tree,
+        base: u64,
+    )
+        requires spent { MayStore self.old.log self.old.pending spent }
+        requires fresh { MayStore self.old.log self.old.pending fresh }
+        requires apart { spent ≢ fresh }
+        requires out { IsTrue (is_outstanding self.old.rooms room.made_for) }
+        requires doc { room.made_for.doc ≡ Some entry.doc }
+        requires entry { IsEntry (kinds.Write entry) }
+        requires body { HasDocument entry.body }
+        requires at { entry.at < fresh }
+        requires base { base ≡ last_on self.old entry.doc }
+        requires above { base < fresh }
+        requires extends { ExtendsTree (tree_on self.old entry.doc) entry tree }
+        ensures stored { history_on self.new ≡ swapped_to self.old spent fresh
+            (kinds.Write entry) }
+        ensures book { book_on self.new ≡ with_entry fresh (kinds.Write entry)
+            (with_entry spent kinds.Unused (book_on self.old)) }
+        ensures rooms { self.new.rooms ≡ without room.made_for self.old.rooms }
+        ensures known { self.new.known ≡ self.old.known }
+        ensures reads { self.new.reads ≡ self.old.reads }
+    {
+        storing();
+        trees_of_writes();
+        grant_history::laws::extended(&self.grants);
+        let document = Document { last: fresh, tree };
+        self.rooms.end(room);
+        self.stored = self.stored.saturating_add(entry.body.len() as u64);
+        document::put(&mut self.documents, &entry.doc, document);
+        keep_base(&mut self.bases, fresh, base);
+        self.pending.put(spent, Entry::Unused);
+        self.pending.put(fresh, Entry::Write(entry));
+        release(&mut self.log, &mut self.pending, &mut self.bases);
+    }
+
+    /// Gives up a number that a write has overtaken, so that it stays unused, and stores a candidate at another, in a room. Its
+    /// document was not written since the candidate was made. Allocates nothing.
+    pub fn swap_commit(
+        &mut self,
+        room: Room,
+        spent: Number,
+        fresh: Number,
+        candidate: Candidate,
+    ) -> Commit
+        requires spent { MayStore self.old.log self.old.pending spent.value }
+        requires fresh { MayStore self.old.log self.old.pending fresh.value }
+        requires apart { spent.value ≢ fresh.value }
+        requires out { IsTrue (is_outstanding self.old.rooms room.made_for) }
+        requires fits { Fits room.made_for candidate }
+        requires candidate { MayBeStored self.old fresh.value candidate }
+        requires current { is_stale self.old candidate ≡ false }
+        ensures answer { result ≡ kinds_of_commit.Stored fresh.value
+            (made_at candidate (length self.old.log)) }
+        ensures stored { history_on self.new
+            ≡ swapped_to self.old spent.value fresh.value (entry_of candidate) }
+        ensures book { book_on self.new ≡ with_entry fresh.value (entry_of candidate)
+            (with_entry spent.value kinds.Unused (book_on self.old)) }
+        ensures rooms { self.new.rooms ≡ without room.made_for self.old.rooms }
+        ensures known { self.new.known ≡ self.old.known }
+        ensures reads { self.new.reads ≡ self.old.reads }
+    {
+        let spent = spent.spend();
+        let sequence = fresh.spend();
+        match candidate {
+            Candidate::Plain(entry) => {
+                let at = self.front();
+                self.swap_plain(room, spent, sequence, entry);
+                Commit::Stored { sequence, at }
+            }
+            Candidate::Write { entry, tree, base } => {
+                let at = entry.at;
+                self.swap_write(room, spent, sequence, entry, tree, base);
+                Commit::Stored { sequence, at }
+            }
+        }
+    }
+
+    /// Gives up a number that is held and the room for its entry: it stays unused. Allocates nothing.
+    pub fn void(&mut self, room: Room, number: Number)
+        requires number { MayStore self.old.log self.old.pending number.value }
+        requires out { IsTrue (is_outstanding self.old.rooms room.made_for) }
+        ensures stored { history_on self.new ≡ stored_at self.old number.value kinds.Unused }
+        ensures book { book_on self.new
+            ≡ with_entry number.value kinds.Unused (book_on self.old) }
+        ensures rooms { self.new.rooms ≡ without room.made_for self.old.rooms }
+        ensures known { self.new.known ≡ self.old.known }
+        ensures reads { self.new.reads ≡ self.old.reads }
+    {
+        let number = number.spend();
+        self.store_plain(room, number, Entry::Unused);
     }
 }

@@ -32,6 +32,11 @@ pub enum Commit {
 /// Why there is no room.
 #[derive(Clone, Copy, Debug, PartialEq, Eq)]
 pub enum NoRoom {
+    /// So many places are taken: those of entries that wait, and two for each room that is outstanding.
+    Full503 { places: u64 },
+    /// The log with those places has so many entries, and all bodies with those that rooms were made for, and the one that
+    /// is asked for, so many bytes.
+    LogFull509 { entries: u64, bytes: u64 },
     /// Memory ran out.
     Memory,
 }

@@ -1,9 +1,15 @@
 //! Laws of boards' logs. Each is the contract of a function that does nothing.
 
-ghost use Rattle.std.specs.Prelude.{◌≡◌, ◌≤◌, ℕ, reverse, List, Option, IsTrue};
+ghost use Rattle.std.specs.Prelude.{◌≡◌, ◌≢◌, ◌≤◌, ◌<◌, ◌+◌, ◌++◌, ◌∷◌, [], ℕ, false, length, reverse, List, Option, IsTrue};
 ghost use Rattle.sg_history.specs.declared.entries.Entry.{Entry};
 ghost use Rattle.sg_history.specs.Board.{BoardState, board_book};
-ghost use Rattle.sg_history.specs.Book.{Book, Later};
+ghost use Rattle.sg_history.specs.Book.{Book, Later, book_of};
+ghost use Rattle.pending_front.specs.Storing.{MayStore};
+ghost use Rattle.sg_history.specs.World as step;
+ghost use Rattle.sg_history.specs.World.{IsHeld, IsSound, MayStep, world_after, without_number};
+ghost use Rattle.sg_history.specs.declared.entries.Entry.TheVariants as kinds;
+ghost use Rattle.doc_board.specs.declared.candidate.Candidate.{Candidate};
+ghost use Rattle.doc_board.specs.Steps.{history_on, stored_at, swapped_to, world_on};
 ghost use Rattle.sg_history.specs.Journal.{IsRecord};
 ghost use Rattle.sg_history.specs.declared.entries.Write.{Write};
 ghost use Rattle.sg_names.specs.RevId.{is_rev};
@@ -15,14 +21,14 @@ ghost use Rattle.repl_messages.specs.declared.revision.Revision.{Revision};
 ghost use Rattle.sync_syntax.specs.declared.tree.Program.{Program};
 ghost use Rattle.sync_meaning.specs.declared.effects.Effects.{Effects};
 ghost use Rattle.sync_meaning.specs.Acts.{Found};
-ghost use Rattle.doc_board.specs.Candidates.{ExtendsTree};
-ghost use Rattle.doc_board.specs.Lawful.{AreLawful};
+ghost use Rattle.doc_board.specs.Candidates.{ExtendsTree, MayBeStored, entry_of, is_stale};
+ghost use Rattle.doc_board.specs.Lawful.{AreLawful, AreEntries};
 ghost use Rattle.doc_board.specs.Boards.{board_of, board_last, board_tree};
 ghost use Rattle.doc_board.specs.Judging.{IsSaid, board_base};
 ghost use Rattle.doc_board.specs.Offers.{nodes_or_none};
-ghost use Rattle.doc_board.specs.State.{State, newest_first, writes_on, tree_on, last_on, base_on};
+ghost use Rattle.doc_board.specs.State.{State, book_on, writes_on, tree_on, last_on, base_on};
 
-use rev_tree::laws::{histories, later_books, trees_of_writes};
+use rev_tree::laws::{later_books, trees_of_writes};
 
 /// The entries of a journal are lawful.
 pub fn recorded()
@@ -31,15 +37,14 @@ pub fn recorded()
 
 /// The winner that a write names is a revision in its grammar, where the write's own is one.
 pub fn winners()
-    ensures { (s : State) (w : Write) (after : List Node) → AreLawful (newest_first s)
+    ensures { (s : State) (w : Write) (after : List Node) → AreEntries (book_on s)
         → AreAccepted (writes_on s w.doc) → ExtendsTree (tree_on s w.doc) w after
         → IsTrue (is_rev w.rev) → IsTrue (is_rev w.winner) }
 {
     trees_of_writes();
-    histories();
 }
 
-/// The board of a log and its outstanding rooms says of a document what the log says: its last write, its tree, which has no
+/// A board as plain data says of a document what its book says: its last write, its tree, which has no
 /// revisions where the document was never written, and the write on which a revision is based.
 pub fn boards()
     ensures last { (s : State) (doc : List ℕ) → board_last (board_of s) doc ≡ last_on s doc }
@@ -74,3 +79,43 @@ pub fn verdicts()
         (first second : Found Effects)
         → IsSaid program by r board first → IsSaid program by r board second → first ≡ second }
 {}
+
+/// Where nothing waits at a board, the number next to its log's end may be stored at, and is above the last write of each document; an
+/// entry that is stored there is the log's next one, and nothing waits then; and the board's book is that of its log.
+pub fn alone()
+    ensures next { (s : State) → s.pending ≡ [] → MayStore s.log s.pending (length s.log + 1) }
+    ensures above { (s : State) (doc : List ℕ) → s.pending ≡ []
+        → last_on s doc < length s.log + 1 }
+    ensures stored { (s : State) (number : ℕ) (e : Entry) → s.pending ≡ []
+        → number ≡ length s.log + 1
+        → stored_at s number e ≡ record { log = s.log ++ e ∷ []; pending = [] } }
+    ensures book { (s : State) → s.pending ≡ [] → book_on s ≡ book_of s.log }
+{}
+
+/// That a candidate which is not stale is stored at a held number, that a held number is given up, and that both are done at once, are
+/// steps of the world of a board and the numbers that are held, and may be made there. A held number may be stored at.
+pub fn steps()
+    ensures stored { (s now : State) (count number : ℕ) (held : List ℕ) (e : Entry)
+        → history_on now ≡ stored_at s number e
+        → world_after (world_on s count held) (step.store number e)
+        ≡ world_on now count (without_number number held) }
+    ensures swapped { (s now : State) (count spent number : ℕ) (held : List ℕ) (e : Entry)
+        → history_on now ≡ swapped_to s spent number e
+        → world_after (world_on s count held) (step.swap spent number e)
+        ≡ world_on now count (without_number number (without_number spent held)) }
+    ensures store { (s : State) (count number : ℕ) (held : List ℕ) (c : Candidate)
+        → IsHeld (world_on s count held) number → MayBeStored s number c
+        → is_stale s c ≡ false → MayStep (world_on s count held) (step.store number (entry_of c)) }
+    ensures give_up { (s : State) (count number : ℕ) (held : List ℕ)
+        → IsHeld (world_on s count held) number
+        → MayStep (world_on s count held) (step.store number kinds.Unused) }
+    ensures swap { (s : State) (count spent number : ℕ) (held : List ℕ) (c : Candidate)
+        → IsHeld (world_on s count held) spent → IsHeld (world_on s count held) number
+        → spent ≢ number → MayBeStored s number c → is_stale s c ≡ false
+        → MayStep (world_on s count held) (step.swap spent number (entry_of c)) }
+    ensures held { (s : State) (count : ℕ) (held : List ℕ) (number : ℕ)
+        → IsSound (world_on s count held) → IsHeld (world_on s count held) number
+        → MayStore s.log s.pending number }
+{
+    pending_front::laws::world();
+}

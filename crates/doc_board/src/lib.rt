@@ -1,6 +1,7 @@
 //! The documents of the gateway: the log, and the tree of revisions of each document.
 #![tactic(auto)]
 
+mod base;
 mod board;
 mod candidate;
 mod document;
@@ -11,6 +12,7 @@ mod open;
 pub mod outcome;
 mod room;
 mod snapshot;
+mod waiting;
 
 pub use board::Board;
 pub use candidate::{Candidate, Commit, NoRoom};

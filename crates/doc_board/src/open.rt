@@ -1,10 +1,12 @@
 //! A board of a log that was recorded.
 
-ghost use Rattle.std.specs.Prelude.{◌≡◌, ◌≢◌, ◌∷◌, ℕ, List, true, false, reverse, option_map, Some, Err, IfOk, IfSome, IfNone};
+ghost use Rattle.std.specs.Prelude.{◌≡◌, ◌≢◌, ◌∷◌, ℕ, min, List, true, false, reverse, option_map, Some, Err, IfOk, IfSome, IfNone};
 ghost use Rattle.std.specs.BTreeMap.{get_by_text};
 ghost use Rattle.sg_history.specs.declared.entries.Entry.TheVariants as kinds;
+ghost use Rattle.sg_history.specs.History.{as_write};
 ghost use Rattle.rev_tree.specs.Tree.{winner_of};
 ghost use Rattle.rev_tree.specs.Writes.{AreAccepted};
+ghost use Rattle.doc_board.specs.Boards.{body_size, bytes_stored};
 ghost use Rattle.doc_board.specs.Candidates.{ExtendsTree};
 ghost use Rattle.doc_board.specs.Kept.{AreKept, kept_nodes};
 ghost use Rattle.doc_board.specs.Recorded.{HasDocument, IsNextWrite, MayFollow, Follows, AreFollowing, IsFirstBad};
@@ -177,4 +179,25 @@ pub(crate) fn documents_of(alloc: Global, entries: &[Entry]) -> Result<Documents
         }
     }
     Ok(documents)
+}
+
+/// How many bytes the body of an entry has, where it is a write.
+fn size_of(entry: &Entry) -> u64
+    ensures { result ≡ body_size (as_write entry.now) }
+{
+    match entry.as_write() {
+        None => 0,
+        Some(write) => write.body.len() as u64,
+    }
+}
+
+/// The bytes of all bodies of recorded entries, or the greatest number of 64 bits.
+pub(crate) fn bytes_of(entries: &[Entry]) -> u64
+    ensures { result ≡ min (bytes_stored entries.now) 18446744073709551615 }
+{
+    let mut bytes: u64 = 0;
+    for entry in entries {
+        bytes = bytes.saturating_add(size_of(entry));
+    }
+    bytes
 }

@@ -26,6 +26,11 @@ pub enum Outcome {
     Denied403 { at: u64, rule: Rule },
     /// It is stored at this sequence.
     Stored { sequence: u64, at: u64 },
+    /// The board has no room for it: so many places among the entries that wait are taken, two for each room among them.
+    Full503 { at: u64, places: u64 },
+    /// The board has no room for it: the log with those places has so many entries; and all bodies with those that rooms were
+    /// made for, and its own, have so many bytes, or 2^64 - 1 where there are more.
+    LogFull509 { at: u64, entries: u64, bytes: u64 },
     /// Out of memory.
     Memory507,
 }

@@ -1,46 +1,19 @@
 //! Rooms: the places that are kept free for entries that are to be stored.
 
-ghost use Rattle.std.specs.Prelude.{◌≡◌, ◌<◌, ◌+◌, ◌++◌, take, drop, length, IfOk, IfSome, IfNone, IsTrue, false};
+ghost use Rattle.std.specs.Prelude.{◌≡◌, ◌≤◌, ◌<◌, ◌++◌, ◌∷◌, [], length, IfOk, IsTrue};
 ghost use Rattle.std.specs.Option.{option_copied};
+ghost use Rattle.doc_board.specs.Boards.{bytes_asked};
 ghost use Rattle.doc_board.specs.Rooms as rooms;
 
 use sg_history::{DocId, RoomFor};
 use std::alloc::{AllocError, Global};
+use std::marker::Model;
+use std::snapshot::Snapshot;
 
 /// Room for one entry. It can't be let go: it ends where the board stores the entry.
 #[non_exhaustive]
 pub struct Room {
     pub made_for: RoomFor,
-}
-
-fn same_doc(a: &Option<DocId>, b: &Option<DocId>) -> bool
-    ensures { result ≡ rooms.same_doc a.now b.now }
-{
-    match (a, b) {
-        (None, None) => true,
-        (Some(a), Some(b)) => a.equals(b),
-        _ => false,
-    }
-}
-
-fn same_room(a: &RoomFor, b: &RoomFor) -> bool
-    ensures { result ≡ rooms.same_room a.now b.now }
-{
-    same_doc(&a.doc, &b.doc) && a.bytes == b.bytes
-}
-
-fn place_of(list: &[RoomFor], room: &RoomFor) -> Option<usize>
-    ensures some { IfSome result (λ i. i < length list.now) }
-    ensures place { IfSome result (λ i. take i list.now ++ drop (i + 1) list.now
-        ≡ rooms.without room.now list.now) }
-    ensures none { IfNone result (rooms.is_outstanding list.now room.now ≡ false) }
-{
-    for (i, r) in list.iter().enumerate() {
-        if same_room(r, room) {
-            return Some(i);
-        }
-    }
-    None
 }
 
 impl Room {
@@ -50,16 +23,122 @@ impl Room {
     {
         Room { made_for }
     }
+}
 
-    /// Ends the room: takes what it was made for out of the outstanding rooms.
-    pub(crate) fn close(self, list: &mut Vec<RoomFor>)
-        requires { IsTrue (rooms.is_outstanding list.old.items self.made_for) }
-        ensures { list.new.items ≡ rooms.without self.made_for list.old.items }
+/// Rooms that were made and that ended, the last one first. It has no bytes of them.
+#[derive(Drop)]
+enum Links {
+    Nothing,
+    Made(Snapshot<Links>, Snapshot<RoomFor>),
+    Ended(Snapshot<Links>, Snapshot<RoomFor>),
+}
+
+/// Which rooms are outstanding. It keeps nothing of them: only clauses see them.
+#[derive(Drop)]
+pub(crate) struct RoomList {
+    links: Links,
+}
+
+impl Model for RoomList {
+    ghost use Rattle.std.specs.Prelude.{List};
+    ghost use Rattle.sg_history.specs.declared.room.RoomFor.{RoomFor};
+    ghost use Rattle.doc_board.specs.Outstanding.{rooms_in};
+
+    ghost Value = { List RoomFor };
+
+    ghost view = { λ l. rooms_in l.links };
+}
+
+impl RoomList {
+    fn new() -> RoomList
+        ensures { result ≡ [] }
     {
-        let Room { made_for } = self;
-        if let Some(place) = place_of(list.as_slice(), &made_for) {
-            list.remove(place);
+        RoomList {
+            links: Links::Nothing,
         }
+    }
+
+    fn add(&mut self, made_for: &RoomFor)
+        ensures { self.new ≡ self.old ++ made_for.now ∷ [] }
+    {
+        self.links = Links::Made(Snapshot::of(&self.links), Snapshot::of(made_for));
+    }
+
+    fn end(&mut self, made_for: &RoomFor)
+        ensures { self.new ≡ rooms.without made_for.now self.old }
+    {
+        self.links = Links::Ended(Snapshot::of(&self.links), Snapshot::of(made_for));
+    }
+}
+
+/// The rooms that are outstanding: how many there are, and for how many bytes they were made. Which they are only clauses see.
+#[derive(Drop)]
+pub(crate) struct OutstandingRooms {
+    list: RoomList,
+    count: u64,
+    asked: u64,
+}
+
+impl Model for OutstandingRooms {
+    ghost use Rattle.std.specs.Prelude.{◌≡◌, List, length};
+    ghost use Rattle.sg_history.specs.declared.room.RoomFor.{RoomFor};
+    ghost use Rattle.doc_board.specs.Boards.{bytes_asked};
+    ghost use Rattle.doc_board.specs.Rooms.{AreSmall};
+
+    ghost Value = { List RoomFor };
+
+    ghost view = { λ o. o.list };
+
+    ghost invariant = { λ o. (o.count ≡ length o.list)
+        × (o.asked ≡ bytes_asked o.list) × AreSmall o.list };
+}
+
+impl OutstandingRooms {
+    /// None. Allocates nothing.
+    pub(crate) fn new() -> OutstandingRooms
+        ensures { result ≡ [] }
+    {
+        OutstandingRooms {
+            list: RoomList::new(),
+            count: 0,
+            asked: 0,
+        }
+    }
+
+    /// How many there are.
+    pub(crate) fn count(&self) -> u64
+        ensures { result ≡ length self.now }
+    {
+        self.count
+    }
+
+    /// For how many bytes they were made.
+    pub(crate) fn asked(&self) -> u64
+        ensures { result ≡ bytes_asked self.now }
+    {
+        self.asked
+    }
+
+    /// One room more. Allocates nothing.
+    pub(crate) fn add(&mut self, made_for: &RoomFor)
+        requires few { length self.old < 1000000 }
+        requires small { made_for.now.bytes ≤ 20971520 }
+        ensures { self.new ≡ self.old ++ made_for.now ∷ [] }
+    {
+        self.list.add(made_for);
+        self.count += 1;
+        self.asked += made_for.bytes;
+    }
+
+    /// A room ends. Allocates nothing.
+    pub(crate) fn end(&mut self, room: Room)
+        requires { IsTrue (rooms.is_outstanding self.old room.made_for) }
+        ensures { self.new ≡ rooms.without room.made_for self.old }
+    {
+        let Room { made_for } = room;
+        self.list.end(&made_for);
+        self.count -= 1;
+        self.asked -= made_for.bytes;
     }
 }
 

@@ -1,21 +1,19 @@
 //! What a board says of a revision that is proposed.
 
-ghost use Rattle.std.specs.Prelude.{◌≡◌, length, reverse, option_map, IfOk, IfSome};
+ghost use Rattle.std.specs.Prelude.{◌≡◌, reverse, option_map, IfOk};
 ghost use Rattle.std.specs.Option.{option_copied};
-ghost use Rattle.sg_history.specs.History.{entries_of};
 ghost use Rattle.doc_board.specs.Answers as answers;
 ghost use Rattle.doc_board.specs.Answers.{IsStep};
 ghost use Rattle.doc_board.specs.Kept as kept;
-ghost use Rattle.doc_board.specs.Recorded.{HasDocument};
 ghost use Rattle.log_index.specs.Index.{Indexes};
-ghost use Rattle.rev_tree.specs.Documents.{tree_at, last_at, base_write, deletes};
+ghost use Rattle.rev_tree.specs.Documents.{deletes};
 
-use crate::document::{self, Document, Documents};
+use crate::document::{self, Document};
 use log_index::LogIndex;
-use log_views::{user_exists, write_of_rev};
+use log_views::user_exists;
 use repl_messages::Revision;
 use rev_tree::{Extended, Tree};
-use sg_history::{DocId, Entry, Log, Name, RevId, Write};
+use sg_history::{Entry, Name, Write};
 use sg_outside::{Bytes, Memory};
 use std::alloc::{AllocError, Global};
 use sync_meaning::Context;
@@ -67,23 +65,6 @@ fn step_of(tree: &Tree, revision: &Revision, strict: bool) -> Result<Extended, A
     }
 }
 
-/// The write of the first of these ancestors; none where that one was never written.
-fn base_of<'a>(
-    index: &LogIndex,
-    entries: &'a [Entry],
-    doc: &DocId,
-    ancestors: &[RevId],
-) -> Result<Option<&'a Write>, Memory>
-    requires { Indexes index.now (reverse entries.now) }
-    ensures { IfOk result (λ found. option_copied found
-        ≡ base_write (reverse entries.now) doc.now ancestors.now) }
-{
-    match ancestors.first() {
-        None => Ok(None),
-        Some(parent) => write_of_rev(index, entries, doc, parent),
-    }
-}
-
 fn body_of(alloc: Global, write: Option<&Write>) -> Result<Option<Bytes>, AllocError>
     ensures { IfOk result (λ body. body ≡ option_map (λ w. w.body) (option_copied write.entry)) }
 {
@@ -103,7 +84,7 @@ fn is_deletion(write: Option<&Write>) -> bool
 }
 
 /// Whether the one who proposes a revision exists at the end of the log: the user, or the administrator, who does.
-fn proposer_exists(index: &LogIndex, entries: &[Entry], by: Option<&Name>) -> bool
+pub(crate) fn proposer_exists(index: &LogIndex, entries: &[Entry], by: Option<&Name>) -> bool
     requires { Indexes index.now (reverse entries.now) }
     ensures { result ≡ answers.proposer_exists (reverse entries.now) (option_copied by.entry) }
 {
@@ -113,44 +94,41 @@ fn proposer_exists(index: &LogIndex, entries: &[Entry], by: Option<&Name>) -> bo
     }
 }
 
-/// What a board with this log, these documents and this index of the log says of a revision that is proposed in a context.
+/// Whether the one who proposes a revision exists, and who that is.
+#[derive(Drop)]
+pub(crate) struct Proposer {
+    pub(crate) exists: bool,
+    pub(crate) context: Context,
+}
+
+/// What a board says of a revision that is proposed, at a front, with what it keeps of the document, the write on which the revision
+/// is based, and the one who proposes it.
 pub(crate) fn snapshot_of(
     alloc: Global,
-    log: &Log,
-    documents: &Documents,
-    index: &LogIndex,
+    at: u64,
+    document: Option<&Document>,
+    base: Option<&Write>,
     revision: &Revision,
     strict: bool,
-    by: Option<&Name>,
-    context: Context,
+    by: Proposer,
 ) -> Result<Snapshot, Memory>
-    requires kept { kept.AreKept (reverse (entries_of log.now)) documents.now }
-    requires bodies { kept.HaveDocuments (reverse (entries_of log.now)) }
-    requires indexes { Indexes index.now (reverse (entries_of log.now)) }
-    ensures at { IfOk result (λ s. s.at ≡ length (entries_of log.now)) }
-    ensures last { IfOk result (λ s. s.last ≡ last_at
-        (reverse (entries_of log.now)) revision.now.doc) }
-    ensures step { IfOk result (λ s. IsStep (tree_at
-        (reverse (entries_of log.now)) revision.now.doc) revision.now strict s.step) }
-    ensures old { IfOk result (λ s. s.old ≡ option_map (λ w. w.body)
-        (base_write (reverse (entries_of log.now)) revision.now.doc revision.now.ancestors)) }
-    ensures old_document { IfOk result (λ s. IfSome s.old (λ body. HasDocument body)) }
-    ensures old_deleted { IfOk result (λ s. s.old_deleted ≡ deletes
-        (base_write (reverse (entries_of log.now)) revision.now.doc revision.now.ancestors)) }
-    ensures user { IfOk result (λ s. s.user_exists ≡ answers.proposer_exists
-        (reverse (entries_of log.now)) (option_copied by.entry)) }
-    ensures context { IfOk result (λ s. s.context ≡ context) }
+    ensures at { IfOk result (λ s. s.at ≡ at) }
+    ensures last { IfOk result (λ s. s.last ≡ kept.kept_last (option_copied document.entry)) }
+    ensures step { IfOk result (λ s. IsStep (kept.kept_nodes (option_copied document.entry))
+        revision.now strict s.step) }
+    ensures old { IfOk result (λ s. s.old ≡ option_map (λ w. w.body) (option_copied base.entry)) }
+    ensures old_deleted { IfOk result (λ s. s.old_deleted ≡ deletes (option_copied base.entry)) }
+    ensures user { IfOk result (λ s. s.user_exists ≡ by.exists) }
+    ensures context { IfOk result (λ s. s.context ≡ by.context) }
 {
-    let entries = log.entries.as_slice();
-    let document = document::document_of(documents, &revision.doc);
-    let base = base_of(index, entries, &revision.doc, revision.ancestors.as_slice())?;
+    let Proposer { exists, context } = by;
     Ok(Snapshot {
-        at: entries.len() as u64,
+        at,
         last: document::last_of(document),
         step: step_in(alloc, document, revision, strict)?,
         old: body_of(alloc, base)?,
         old_deleted: is_deletion(base),
-        user_exists: proposer_exists(index, entries, by),
+        user_exists: exists,
         context,
     })
 }

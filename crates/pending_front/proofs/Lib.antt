@@ -1,5 +1,5 @@
 pub mod Putting
 pub mod Releasing
-pub mod Heaps
+pub mod Numbered
 pub mod Worlds
 pub mod Storing

@@ -9,7 +9,7 @@ use Rattle.sg_history.specs.declared.entries.Entry.{Entry}
 use Rattle.sg_history.specs.Book.{book_of, book_with, entry_or, waiting_at}
 use Rattle.sg_history.specs.History.{Extends}
 use Rattle.sg_history.specs.World.{Released, release, rises_from}
-use Rattle.pending_front.specs.Pending.{AreBeyond, lowest}
+use Rattle.pending_front.specs.Pending.{AreBeyond}
 use Rattle.pending_front.proofs.Putting.{at_first, at_other, rises_first, rises_rest, rises_join, rises_free}
 
 pub get_other : {X : Type 0} (xs : List X) (x : X) (k : ℕ) → k ≢ length xs → slice_get (xs ++ x ∷ []) k ≡ slice_get xs k
@@ -107,11 +107,17 @@ moves log old new n e is next =
     ∙ ap (λ (b : Bool). if b then release (log ++ e ∷ []) new else record { log = log; pending = record { number = n; entry = e } ∷ new }) (eq-eqb n (length log + 1) next))
 
 -- none that moves
-pub stays : (log : List Entry) (ws : List Waiting) → lowest ws ≢ Some (length log + 1) → release log ws ≡ record { log = log; pending = ws }
-stays log [] ne = refl
-stays log (f ∷ fs) ne =
+pub stays : (log : List Entry) (ws : List Waiting) → waiting_at ws (length log + 1) ≡ None → release log ws ≡ record { log = log; pending = ws }
+stays log [] none = refl
+stays log (f ∷ fs) none =
     ap (λ (b : Bool). if b then release (log ++ f.entry ∷ []) fs else record { log = log; pending = f ∷ fs })
-    (ne_eqb f.number (length log + 1) (λ e. ne (ap (λ (n : ℕ). Some n) e)))
+    (ne_eqb f.number (length log + 1) (λ e. absurd (none-some _ (sym none ∙ at_first f fs (length log + 1) e))))
+
+-- after one that moves none waits at a place of the log
+pub moves_beyond : (log : List Entry) (old new : List Waiting) (n : ℕ) (e : Entry) → old ≡ record { number = n; entry = e } ∷ new → n ≡ length log + 1 → IsTrue (rises_from 0 old) → AreBeyond (log ++ e ∷ []) new
+moves_beyond log old new n e is next up place from low =
+    let rest = rises_rest 0 (record { number = n; entry = e }) new (subst (λ (ws : List Waiting). IsTrue (rises_from 0 ws)) is up) in
+    rises_free n new place rest (omega (arith, low, next, one_longer log e))
 
 -- none that is left
 pub none_left : (log : List Entry) (ws : List Waiting) → length ws ≡ 0 → ◌≡◌ {A = Released} (record { log = log; pending = ws }) (release log ws)

@@ -1,10 +1,10 @@
--- Waiting entries as a heap keeps them, and by rising numbers.
-use Rattle.std.specs.Prelude.{List, [], ◌∷◌}
+-- Waiting entries as a map keeps them under their numbers, and by rising numbers.
+use Rattle.std.specs.Prelude.{ℕ, List, [], ◌∷◌}
 use Rattle.sg_history.specs.declared.book.Waiting.{Waiting}
+use Rattle.sg_history.specs.declared.entries.Entry.{Entry}
 use Rattle.sg_history.specs.World.{put_waiting}
-use Rattle.pending_front.specs.declared.by_number.ByNumber.{ByNumber}
 
--- the entries of a heap, by rising numbers
-abbrev pub rising : List ByNumber → List Waiting
+-- the entries of a map, by rising numbers
+abbrev pub rising : List (ℕ × Entry) → List Waiting
 rising [] = []
-rising (first ∷ others) = put_waiting first.waiting (rising others)
+rising (first ∷ others) = put_waiting (record { number = first.0; entry = first.1 }) (rising others)

@@ -1,5 +1,5 @@
 -- Entries that wait for their places in a log, with the places that were reserved for more.
-use Rattle.std.specs.Prelude.{◌≡◌, ◌≤◌, ℕ, List, [], ◌∷◌, length, Option, Some, None}
+use Rattle.std.specs.Prelude.{◌≡◌, ◌≤◌, ℕ, List, length, None}
 use Rattle.sg_history.specs.declared.book.Waiting.{Waiting}
 use Rattle.sg_history.specs.declared.entries.Entry.{Entry}
 use Rattle.sg_history.specs.Book.{waiting_at}
@@ -12,8 +12,3 @@ pub record Reserved : Type 0 where
 -- no entry waits under a number that is a place of the log
 abbrev pub AreBeyond : List Entry → List Waiting → Type 0
 AreBeyond log waiting = (place : ℕ) → 1 ≤ place → place ≤ length log → waiting_at waiting place ≡ None
-
--- the lowest number under which an entry waits, if one does
-abbrev pub lowest : List Waiting → Option ℕ
-lowest [] = None
-lowest (first ∷ others) = Some first.number

@@ -2,7 +2,6 @@
 //! released to its end in the order of their numbers.
 #![tactic(auto)]
 
-mod by_number;
 pub mod laws;
 mod pending;
 

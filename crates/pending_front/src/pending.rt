@@ -1,39 +1,37 @@
 //! Entries that wait for their places in a log, with the places that were reserved for more.
 
-ghost use Rattle.std.specs.Prelude.{◌≡◌, ◌≢◌, ◌≤◌, ◌<◌, ◌+◌, ◌∷◌, [], ℕ, true, false, length, Some, None, IfSome, IfNone, OnOk, OnErr, IsTrue, if◌then◌else◌};
+ghost use Rattle.std.specs.Prelude.{◌≡◌, ◌≤◌, ◌<◌, ◌+◌, ◌∷◌, [], ℕ, true, false, length, Some, None, IfSome, IfNone, OnOk, OnErr, IsTrue, if◌then◌else◌};
+ghost use Rattle.std.specs.Option.{option_copied};
 ghost use Rattle.sg_history.specs.Book.{book_with, waiting_at};
+ghost use Rattle.sg_history.specs.History.{Extends};
 ghost use Rattle.sg_history.specs.World.{put_waiting, release, rises_from};
-ghost use Rattle.pending_front.specs.Pending.{AreBeyond, lowest};
+ghost use Rattle.pending_front.specs.Pending.{AreBeyond};
 
-use crate::by_number::ByNumber;
-use sg_history::{Entry, Log, Waiting};
+use sg_history::{Entry, Log};
 use sg_outside::Memory;
 use std::alloc::Global;
-use std::collections::BinaryHeap;
+use std::collections::HashMap;
 use std::marker::Model;
 
 /// Entries that wait for their places in a log, with the places that were reserved for more. Contracts see the entries by
-/// rising numbers, and the spare places as a number. An entry is put, and the lowest one taken, in as many steps as the
-/// logarithm of their count.
+/// rising numbers, and the spare places as a number. An entry is put, found and taken by its number, however many wait.
 #[derive(Drop)]
 pub struct Pending {
-    heap: BinaryHeap<ByNumber>,
+    held: HashMap<u64, Entry>,
 }
 
 impl Model for Pending {
-    ghost use Rattle.std.specs.Prelude.{◌-◌, IsTrue};
-    ghost use Rattle.std.specs.BinaryHeap.{IsHeap, heap_items, heap_len, heap_capacity};
-    ghost use Rattle.std.specs.Ordering.{nat_cmp};
+    ghost use Rattle.std.specs.Prelude.{IsTrue};
+    ghost use Rattle.std.specs.HashMap.{spare as places};
     ghost use Rattle.sg_history.specs.World.{rises_from};
     ghost use Rattle.pending_front.specs.ByNumber.{rising};
     ghost use Rattle.pending_front.specs.Pending.{Reserved};
 
     ghost Value = { Reserved };
 
-    ghost view = { λ p. record { waiting = rising (heap_items p.heap); spare = heap_capacity p.heap - heap_len p.heap } };
+    ghost view = { λ p. record { waiting = rising p.held.entries; spare = places p.held } };
 
-    ghost invariant = { λ p. IsHeap (λ x y. nat_cmp y.waiting.number x.waiting.number) (heap_items p.heap)
-        × IsTrue (rises_from 0 (rising (heap_items p.heap))) };
+    ghost invariant = { λ p. IsTrue (rises_from 0 (rising p.held.entries)) };
 }
 
 impl Pending {
@@ -42,7 +40,7 @@ impl Pending {
         ensures { result.waiting ≡ [] }
     {
         Pending {
-            heap: BinaryHeap::new(alloc),
+            held: HashMap::new(alloc),
         }
     }
 
@@ -51,7 +49,7 @@ impl Pending {
         ensures count { result ≡ length self.now.waiting }
         ensures rises { IsTrue (rises_from 0 self.now.waiting) }
     {
-        self.heap.len() as u64
+        self.held.len() as u64
     }
 
     /// Makes room for `more` further entries, counted from the ones that are there. Room that is there stays.
@@ -61,7 +59,7 @@ impl Pending {
         ensures spare { self.old.spare ≤ self.new.spare }
         ensures full { OnErr result (self.old.spare < more) }
     {
-        self.heap.reserve(more as usize)
+        self.held.reserve(more as usize)
     }
 
     /// Puts an entry into a reserved place, under a number under which none waits. Allocates nothing.
@@ -73,57 +71,35 @@ impl Pending {
             ≡ put_waiting (record { number = sequence; entry = entry }) self.old.waiting }
         ensures spare { self.old.spare ≤ self.new.spare + 1 }
     {
-        let waiting = Waiting {
-            number: sequence,
-            entry,
-        };
-        let _ = self.heap.push(ByNumber { waiting });
+        let _ = self.held.insert(sequence, entry);
     }
 
-    /// The lowest number under which an entry waits, if one does.
-    fn lowest(&self) -> Option<u64>
-        ensures { result ≡ lowest self.now.waiting }
+    /// The entry that waits under a number, if one does. Allocates nothing.
+    pub fn at(&self, number: u64) -> Option<&Entry>
+        ensures { option_copied result ≡ waiting_at self.now.waiting number }
     {
-        match self.heap.peek() {
-            Some(first) => Some(first.waiting.number),
-            None => None,
-        }
+        self.held.get(&number)
     }
 
-    /// Takes the entry with the lowest number, if one waits.
-    fn take_lowest(&mut self) -> Option<Waiting>
-        ensures some { IfSome result (λ w. self.old.waiting ≡ w ∷ self.new.waiting) }
-        ensures none { IfNone result (self.old.waiting ≡ []) }
-        ensures same { IfNone result (self.new ≡ self.old) }
-        ensures spare { IfSome result (λ w. self.new.spare ≡ self.old.spare + 1) }
-    {
-        match self.heap.pop() {
-            Some(first) => Some(first.waiting),
-            None => None,
-        }
-    }
-
-    /// Takes the entry of this number, where it is the lowest under which one waits.
+    /// Takes the entry that waits under a number, if one does, where none waits under a lower one.
     fn take(&mut self, number: u64) -> Option<Entry>
+        requires lowest { (lower : ℕ) → 1 ≤ lower → lower < number
+            → waiting_at self.old.waiting lower ≡ None }
         ensures some { IfSome result (λ e. self.old.waiting
             ≡ record { number = number; entry = e } ∷ self.new.waiting) }
-        ensures none { IfNone result (lowest self.old.waiting ≢ Some number) }
-        ensures same { IfNone result (self.new ≡ self.old) }
-        ensures spare { IfSome result (λ e. self.new.spare ≡ self.old.spare + 1) }
+        ensures none { IfNone result (waiting_at self.old.waiting number ≡ None) }
+        ensures same { IfNone result (self.new.waiting ≡ self.old.waiting) }
+        ensures spare { self.old.spare ≤ self.new.spare }
+        ensures rises { IsTrue (rises_from 0 self.old.waiting) }
     {
-        if self.lowest() != Some(number) {
-            return None;
-        }
-        match self.take_lowest() {
-            Some(first) => Some(first.entry),
-            None => None,
-        }
+        self.held.remove(&number)
     }
 
     /// Moves the entry that comes next to the log's end, if it waits, and answers whether it did.
-    #[tactic(auto, using(crate::proofs::Releasing::moves, crate::proofs::Releasing::stays))]
+    #[tactic(auto, using(crate::proofs::Releasing::moves))]
     fn move_next(&mut self, log: &mut Log) -> bool
         requires room { length self.old.waiting ≤ log.old.entries.spare }
+        requires beyond { AreBeyond log.old.entries.list self.old.waiting }
         ensures same { release log.new.entries.list self.new.waiting
             ≡ release log.old.entries.list self.old.waiting }
         ensures last { result ≡ false → release log.new.entries.list self.new.waiting
@@ -132,9 +108,10 @@ impl Pending {
             ≡ length log.old.entries.list + (if result then 1 else 0) }
         ensures left { length self.new.waiting + (if result then 1 else 0)
             ≡ length self.old.waiting }
-        ensures spare { self.new.spare ≡ self.old.spare + (if result then 1 else 0) }
+        ensures spare { self.old.spare ≤ self.new.spare }
         ensures log_spare { log.new.entries.spare + (if result then 1 else 0)
             ≡ log.old.entries.spare }
+        ensures beyond { AreBeyond log.new.entries.list self.new.waiting }
     {
         let next = log.entries.as_slice().len() as u64 + 1;
         let Some(entry) = self.take(next) else {
@@ -147,11 +124,13 @@ impl Pending {
     /// Moves the entries that come next to the log's end, as long as one waits, and answers how many it moved.
     fn move_all(&mut self, log: &mut Log) -> u64
         requires room { length self.old.waiting ≤ log.old.entries.spare }
+        requires beyond { AreBeyond log.old.entries.list self.old.waiting }
         ensures rises { IsTrue (rises_from 0 self.old.waiting) }
         ensures released { record { log = log.new.entries.list; pending = self.new.waiting }
             ≡ release log.old.entries.list self.old.waiting }
         ensures moved { length log.new.entries.list ≡ length log.old.entries.list + result }
-        ensures spare { self.new.spare ≡ self.old.spare + result }
+        ensures left { length self.new.waiting + result ≡ length self.old.waiting }
+        ensures spare { self.old.spare ≤ self.new.spare }
         ensures log_spare { log.new.entries.spare + result ≡ log.old.entries.spare }
     {
         let mut moved = 0;
@@ -178,7 +157,9 @@ impl Pending {
         ensures beyond { AreBeyond log.new.entries.list self.new.waiting }
         ensures book { book_with log.new.entries.list self.new.waiting
             ≡ book_with log.old.entries.list self.old.waiting }
-        ensures spare { self.new.spare ≡ self.old.spare + result }
+        ensures left { length self.new.waiting + result ≡ length self.old.waiting }
+        ensures extends { Extends log.old.entries.list log.new.entries.list }
+        ensures spare { self.old.spare ≤ self.new.spare }
         ensures log_spare { log.new.entries.spare + result ≡ log.old.entries.spare }
     {
         self.move_all(log)

@@ -1,13 +1,26 @@
-use Rattle.std.proofs.Common.{◌∙◌, sym, subst, List, length}
-use Rattle.rev_tree.specs.Extension.{Recorded}
+use Rattle.std.proofs.Common.{subst}
+use Rattle.doc_board.specs.Lawful.{AreLawful, AreEntries}
+use Rattle.doc_board.specs.State.{State, newest_first, book_on, top_of, writes_on}
+use Rattle.sg_history.specs.Book.{book_with}
 use Rattle.rev_tree.specs.Writes.{AreAccepted}
-use Rattle.rev_tree.specs.Documents.{writes_of}
-use Rattle.doc_board.specs.State.{State, newest_first}
-use Rattle.doc_board.proofs.OnBoards.{whole}
+use Rattle.doc_board.proofs.Histories.{lawful_log, in_log_book}
+use Rattle.doc_board.proofs.Tops.{none_above_top}
 use Rattle.doc_board.proofs.board.Board.log.Goals as goal
+
+pub returns-clause-lawful : goal.returns-clause-lawful
+returns-clause-lawful c =
+    let log = c.self.inside.log.entries.list in
+    let waiting = c.self.inside.pending.waiting in
+    subst (λ (s : State). AreLawful (newest_first s)) c.self.view_is
+    (lawful_log c.books.ensures.of_rev log (book_with log waiting) (in_log_book log waiting) c.self.invariant.0.standing.kept.right)
+
+pub returns-clause-entries : goal.returns-clause-entries
+returns-clause-entries c =
+    subst (λ (s : State). AreEntries (book_on s)) c.self.view_is (λ number e is. (c.self.invariant.0.standing.kept.right number e is).0)
 
 pub returns-clause-accepted : goal.returns-clause-accepted
 returns-clause-accepted c = λ doc.
-    let h = c.args.self.now.log in
-    let same = c.histories.ensures.writes h (length h) doc ∙ whole (λ es. writes_of es doc) h in
-    subst (λ (ws : List Recorded). AreAccepted ws) (sym same) (subst (λ (s : State). AreAccepted (writes_of (newest_first s) doc)) c.self.view_is (c.self.invariant.0.accepted doc))
+    let log = c.self.inside.log.entries.list in
+    let waiting = c.self.inside.pending.waiting in
+    subst (λ (s : State). AreAccepted (writes_on s doc)) c.self.view_is
+    (c.self.invariant.0.standing.kept.accepted (top_of log waiting) (none_above_top log waiting) doc)

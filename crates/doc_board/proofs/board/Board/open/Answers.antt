@@ -1,8 +1,25 @@
-use Rattle.doc_board.proofs.Stored.{kept_open}
+use Rattle.std.proofs.Common.{List, reverse, nat_eq, subst, ap, ◌∙◌, ◌≡◌}
+use Rattle.std.specs.Prelude.{min}
+use Rattle.std.specs.HashMap.{get, spare}
+use Rattle.sg_history.specs.declared.entries.Entry.{Entry}
+use Rattle.rev_tree.specs.Documents.{writes_of}
+use Rattle.rev_tree.specs.Writes.{AreAccepted}
+use Rattle.doc_board.specs.Boards.{bytes_stored}
+use Rattle.doc_board.specs.Kept.{AreKept}
+use Rattle.doc_board.specs.Recorded.{AreFollowing}
+use Rattle.doc_board.proofs.Bodies.{following_bodies}
+use Rattle.doc_board.proofs.Opening.{opened}
 use Rattle.doc_board.proofs.board.Board.open.Goals as goal
 
 pub invariant_of-result : goal.invariant_of-result
-invariant_of-result c = rw c.new.ensures.items (
-  kept_open c.args.log.entries c.as_slice.result.now c.in_ok-documents.documents c.as_slice.ensures c.in_ok-documents.ensures.kept c.in_ok-documents.ensures.accepted c.in_ok-documents.ensures.following c.requires,
-  c.new-2.ensures.stands c.args.log.entries.list,
-)
+invariant_of-result c =
+    let h = c.args.log.entries in
+    let es : List Entry = c.as_slice.result.now in
+    let same : es ≡ h.list = c.as_slice.ensures in
+    let kept = subst (λ (x : List Entry). AreKept (reverse x) c.in_ok-documents.documents) same c.in_ok-documents.ensures.kept in
+    let accepted = subst (λ (x : List Entry). (doc : _) → AreAccepted (writes_of (reverse x) doc)) same c.in_ok-documents.ensures.accepted in
+    let following = subst (λ (x : List Entry). AreFollowing (reverse x)) same c.in_ok-documents.ensures.following in (
+      opened c.histories.ensures.writes c.histories.ensures.last c.books.ensures.of_rev h c.in_ok-documents.documents c.new.result (get nat_eq c.new-2.result) (spare c.new-2.result) c.bytes_of-stored.result c.new-3.result c.new.ensures c.new-3.ensures kept accepted (following_bodies (reverse h.list) following) c.requires
+          (c.bytes_of-stored.ensures ∙ ap (λ (x : List Entry). min (bytes_stored x) 18446744073709551615) c.as_slice-2.ensures),
+      c.new-4.ensures.stands h.list,
+    )

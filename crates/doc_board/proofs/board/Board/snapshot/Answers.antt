@@ -1,43 +1,35 @@
-use Rattle.std.proofs.Common.{◌≡◌, ◌∙◌, ℕ, ap, sym, subst, List, length, reverse, option_map, IfOk, Option}
+use Rattle.std.proofs.Common.{◌≡◌, ℕ, ap, subst, List, option_map, reverse, IfOk, Option}
+use Rattle.std.specs.Option.{option_copied}
 use Rattle.sg_history.specs.declared.entries.Entry.{Entry}
 use Rattle.sg_history.specs.declared.entries.Write.{Write}
 use Rattle.rev_tree.specs.declared.tree.Node.{Node}
-use Rattle.rev_tree.specs.Documents.{tree_at, last_at, base_write, deletes}
-use Rattle.doc_board.specs.Answers.{IsStep}
-use Rattle.doc_board.specs.State.{State}
-use Rattle.doc_board.proofs.OnBoards.{whole}
+use Rattle.sg_history.specs.Book.{book_with}
+use Rattle.rev_tree.specs.Documents.{deletes, last_in, tree_in, base_in}
+use Rattle.doc_board.specs.Answers.{IsStep, proposer_exists}
+use Rattle.doc_board.specs.State.{top_of}
+use Rattle.doc_board.proofs.SameOn.{same_on}
 use Rattle.doc_board.proofs.board.Board.snapshot.Goals as goal
 
 pub returns-clause-last : goal.returns-clause-last
 returns-clause-last c =
-    let h = c.args.self.now.log in
-    let log = ap (λ (s : State). s.log) c.self-2.view_is ∙ c.apply_grants.ensures.log in
-    let doc = c.args.revision.now.doc in
-    let same = c.histories.ensures.last h (length h) doc ∙ whole (λ es. last_at es doc) h in
-    subst (λ (n : ℕ). IfOk c.snapshot_of.result (λ s. s.last ≡ n)) (sym same) (subst (λ (es : List Entry). IfOk c.snapshot_of.result (λ s. s.last ≡ last_at (reverse es) doc)) log c.snapshot_of.ensures.last)
+    let is = same_on (λ log ws. last_in (book_with log ws) (top_of log ws) c.args.revision.now.doc) c.args.self.now c.apply_grants.new.self c.apply_grants.ensures.log c.apply_grants.ensures.pending in
+    subst (λ (n : ℕ). IfOk c.snapshot_in.result (λ s. s.last ≡ n)) is c.snapshot_in.ensures.last
 
 pub returns-clause-step : goal.returns-clause-step
 returns-clause-step c =
-    let h = c.args.self.now.log in
-    let log = ap (λ (s : State). s.log) c.self-2.view_is ∙ c.apply_grants.ensures.log in
-    let doc = c.args.revision.now.doc in
-    let same = c.histories.ensures.trees h (length h) doc ∙ whole (λ es. tree_at es doc) h in
-    subst (λ (t : List Node). IfOk c.snapshot_of.result (λ s. IsStep t c.args.revision.now c.args.strict s.step)) (sym same) (subst (λ (es : List Entry). IfOk c.snapshot_of.result (λ s. IsStep (tree_at (reverse es) doc) c.args.revision.now c.args.strict s.step)) log c.snapshot_of.ensures.step)
+    let is = same_on (λ log ws. tree_in (book_with log ws) (top_of log ws) c.args.revision.now.doc) c.args.self.now c.apply_grants.new.self c.apply_grants.ensures.log c.apply_grants.ensures.pending in
+    subst (λ (t : List Node). IfOk c.snapshot_in.result (λ s. IsStep t c.args.revision.now c.args.strict s.step)) is c.snapshot_in.ensures.step
 
 pub returns-clause-old : goal.returns-clause-old
 returns-clause-old c =
-    let h = c.args.self.now.log in
-    let log = ap (λ (s : State). s.log) c.self-2.view_is ∙ c.apply_grants.ensures.log in
-    let doc = c.args.revision.now.doc in
-    let ancestors = c.args.revision.now.ancestors in
-    let same = c.histories.ensures.based h (length h) doc ancestors ∙ whole (λ es. base_write es doc ancestors) h in
-    subst (λ (o : Option Write). IfOk c.snapshot_of.result (λ s. s.old ≡ option_map (λ w. w.body) o)) (sym same) (subst (λ (es : List Entry). IfOk c.snapshot_of.result (λ s. s.old ≡ option_map (λ w. w.body) (base_write (reverse es) doc ancestors))) log c.snapshot_of.ensures.old)
+    let is = same_on (λ log ws. base_in (book_with log ws) (top_of log ws) c.args.revision.now.doc c.args.revision.now.ancestors) c.args.self.now c.apply_grants.new.self c.apply_grants.ensures.log c.apply_grants.ensures.pending in
+    subst (λ (o : Option Write). IfOk c.snapshot_in.result (λ s. s.old ≡ option_map (λ w. w.body) o)) is c.snapshot_in.ensures.old
 
 pub returns-clause-old_deleted : goal.returns-clause-old_deleted
 returns-clause-old_deleted c =
-    let h = c.args.self.now.log in
-    let log = ap (λ (s : State). s.log) c.self-2.view_is ∙ c.apply_grants.ensures.log in
-    let doc = c.args.revision.now.doc in
-    let ancestors = c.args.revision.now.ancestors in
-    let same = c.histories.ensures.based h (length h) doc ancestors ∙ whole (λ es. base_write es doc ancestors) h in
-    subst (λ (o : Option Write). IfOk c.snapshot_of.result (λ s. s.old_deleted ≡ deletes o)) (sym same) (subst (λ (es : List Entry). IfOk c.snapshot_of.result (λ s. s.old_deleted ≡ deletes (base_write (reverse es) doc ancestors))) log c.snapshot_of.ensures.old_deleted)
+    let is = same_on (λ log ws. base_in (book_with log ws) (top_of log ws) c.args.revision.now.doc c.args.revision.now.ancestors) c.args.self.now c.apply_grants.new.self c.apply_grants.ensures.log c.apply_grants.ensures.pending in
+    subst (λ (o : Option Write). IfOk c.snapshot_in.result (λ s. s.old_deleted ≡ deletes o)) is c.snapshot_in.ensures.old_deleted
+
+pub returns-clause-user : goal.returns-clause-user
+returns-clause-user c =
+    subst (λ (es : List Entry). IfOk c.snapshot_in.result (λ s. s.user_exists ≡ proposer_exists es (option_copied c.args.by))) (ap (λ (es : List Entry). reverse es) c.apply_grants.ensures.log) c.snapshot_in.ensures.user

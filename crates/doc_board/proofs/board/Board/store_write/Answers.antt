@@ -1,39 +1,111 @@
-use Rattle.std.proofs.Common.{◌≡◌, ◌+◌, ◌++◌, ◌∷◌, [], ◌∙◌, ap, refl, subst, sym, true, List, Option, ℕ, length}
+use Rattle.std.proofs.Common.{◌≡◌, ◌<◌, ◌∙◌, ℕ, List, Option, Some, nat_eq, subst, sym, ap, true, arith, if◌then◌else◌}
+use Rattle.std.specs.HashMap.{get, spare}
+use Rattle.sg_history.specs.declared.book.Waiting.{Waiting}
 use Rattle.sg_history.specs.declared.entries.Entry.{Entry}
 use Rattle.sg_history.specs.declared.entries.Entry.TheVariants as kinds
+use Rattle.sg_history.specs.Book.{book_with}
+use Rattle.sg_history.specs.World.{release}
 use Rattle.grant_history.specs.Stands.{StandsFor}
+use Rattle.pending_front.specs.Storing.{MayStore}
+use Rattle.rev_tree.specs.Documents.{last_in}
 use Rattle.doc_board.specs.Candidates.{ExtendsTree}
 use Rattle.doc_board.specs.Kept.{has_place}
-use Rattle.doc_board.specs.Rooms.{is_outstanding}
-use Rattle.doc_board.specs.State.{State, newest_first}
-use Rattle.rev_tree.specs.declared.tree.Node.{Node}
-use Rattle.rev_tree.specs.Documents.{tree_at}
-use Rattle.doc_board.proofs.OnBoards.{whole}
+use Rattle.doc_board.specs.Rooms.{is_outstanding, without}
+use Rattle.doc_board.specs.State.{State, book_on, top_of, last_on, tree_on}
+use Rattle.doc_board.specs.Steps.{stored_at, with_entry}
+use Rattle.doc_board.proofs.Steps.{ended, waits_write, moved, fewer}
 use Rattle.doc_board.proofs.OutstandingRooms.{outstanding_has_place}
-use Rattle.doc_board.proofs.Stored.{kept_write}
+use Rattle.doc_board.proofs.Tops.{none_above_top}
+use Rattle.doc_board.proofs.NewBooks.{one_put}
 use Rattle.doc_board.proofs.board.Board.store_write.Goals as goal
 
 pub put-requires : goal.put-requires
 put-requires c =
-    let O : State → Type 0 = λ s. is_outstanding s.rooms c.args.room.made_for ≡ true in
-    let P : Option (List ℕ) → Type 0 = λ o. has_place c.self.inside.documents o ≡ true in
-    subst P c.requires.doc (outstanding_has_place c.self.inside.documents c.args.room.made_for c.self.inside.rooms.items c.self.invariant.0.out (subst O (sym c.self.view_is) c.requires.out))
+    let s = c.self.inside in
+    let out = subst (λ (x : State). is_outstanding x.rooms c.args.room.made_for ≡ true) (sym c.self.view_is) c.requires.out in
+    subst (λ (o : Option (List ℕ)). has_place s.documents o ≡ true) c.requires.doc (outstanding_has_place s.documents c.args.room.made_for s.rooms c.self.invariant.0.standing.out out)
 
 pub invariant_of-self : goal.invariant_of-self
 invariant_of-self c =
-    let O : State → Type 0 = λ s. is_outstanding s.rooms c.args.room.made_for ≡ true in
-    let S : State → Type 0 = λ s. c.args.sequence ≡ length s.log + 1 in
-    let E : State → Type 0 = λ s. ExtendsTree (tree_at (newest_first s) c.args.entry.doc) c.args.entry c.args.tree in
-    let h = c.args.self.now.log in
-    let same = c.histories.ensures.trees h (length h) c.args.entry.doc ∙ whole (λ es. tree_at es c.args.entry.doc) h in
-    let extends : E c.args.self.now = subst (λ (t : List Node). ExtendsTree t c.args.entry c.args.tree) same c.requires.extends in
-    let B : List Entry → Type 0 = λ es. StandsFor c.self.inside.grants es in (
-      rw c.close.ensures
-          (kept_write c.trees_of_writes.ensures.revisions c.trees_of_writes.ensures.leaves c.args.entry c.self.inside.log.entries c.put-2.new.self c.self.inside.documents c.put.new.documents c.self.inside.rooms.items c.args.room.made_for c.args.sequence c.args.tree
-          c.self.invariant.0 (subst O (sym c.self.view_is) c.requires.out) c.requires.entry c.requires.body c.requires.at (subst S (sym c.self.view_is) c.requires.sequence) (subst E (sym c.self.view_is) extends) c.put.ensures c.put-2.ensures.list c.put-2.ensures.spare),
-      subst B (sym c.put-2.ensures.list) (c.extended.ensures c.self.inside.log.entries.list (c.self.inside.log.entries.list ++ kinds.Write c.args.entry ∷ []) c.self.invariant.1 (kinds.Write c.args.entry ∷ [], refl)),
+    let s = c.self.inside in
+    let bases = get nat_eq s.bases in
+    let left = without c.args.room.made_for s.rooms in
+    let out = subst (λ (x : State). is_outstanding x.rooms c.args.room.made_for ≡ true) (sym c.self.view_is) c.requires.out in
+    let w = c.args.entry in
+    let log = s.log.entries.list in
+    let waiting = s.pending.waiting in
+    let top = top_of log waiting in
+    let may = subst (λ (x : State). MayStore x.log x.pending c.args.number) (sym c.self.view_is) c.requires.number in
+    let base : c.args.base ≡ last_in (book_with log waiting) top w.doc = subst (λ (x : State). c.args.base ≡ last_on x w.doc) (sym c.self.view_is) c.requires.base in
+    let extends = subst (λ (x : State). ExtendsTree (tree_on x w.doc) w c.args.tree) (sym c.self.view_is) c.requires.extends in
+    let past : last_in (book_with log waiting) top w.doc < c.args.number = subst (λ (n : ℕ). n < c.args.number) base c.requires.above in
+    let first = ended s.log.entries s.pending s.documents bases (spare s.bases) s.rooms s.stored 0 c.args.room.made_for out c.self.invariant.0.standing in
+    let kept_base = λ (m : ℕ). c.keep_base.ensures.bases m ∙ ap (λ (n : ℕ). if nat_eq c.args.number m then Some n else bases m) base in
+    let second = waits_write c.storing.ensures.book c.storing.ensures.beyond c.storing.ensures.free s.log.entries s.pending c.args.number may w top (none_above_top log waiting) past c.args.tree extends
+    c.trees_of_writes.ensures.revisions c.trees_of_writes.ensures.leaves c.put-2.new.self s.documents c.put.new.documents bases (get nat_eq c.keep_base.new.bases) (spare s.bases) (spare c.keep_base.new.bases) left s.stored c.saturating_add-self-inside.result 1
+    c.requires.entry c.requires.body c.requires.at c.put.ensures kept_base c.keep_base.ensures.spare (omega (arith, c.saturating_add-self-inside.ensures, c.len.ensures)) c.put-2.ensures.waiting c.put-2.ensures.spare first in
+    let third = moved s.log.entries c.release.new.log.entries c.put-2.new.self c.release.new.pending c.put.new.documents (get nat_eq c.keep_base.new.bases) (get nat_eq c.release.new.bases) (spare c.keep_base.new.bases) (spare c.release.new.bases) left c.saturating_add-self-inside.result 1
+    c.release.ensures.released c.release.ensures.book c.release.ensures.beyond c.release.ensures.longer c.release.ensures.count c.release.ensures.spare c.release.ensures.log_spare c.release.ensures.bases c.release.ensures.base_spare second in
+    let B : List Entry → Type 0 = λ es. StandsFor s.grants es in (
+      rw c.end.ensures
+          (record {
+            standing = fewer c.release.new.log.entries c.release.new.pending c.put.new.documents (get nat_eq c.release.new.bases) (spare c.release.new.bases) left c.saturating_add-self-inside.result 1 0 (omega arith) third;
+            next = c.release.ensures.next;
+          }),
+      c.extended.ensures s.log.entries.list c.release.new.log.entries.list c.self.invariant.1 c.release.ensures.extends,
     )
 
-pub returns-clause-log : goal.returns-clause-log
-returns-clause-log c =
-    c.put-2.ensures.list ∙ ap (λ (s : State). s.log ++ kinds.Write c.args.entry ∷ []) c.self.view_is
+pub returns-clause-stored : goal.returns-clause-stored
+returns-clause-stored c =
+    c.release.ensures.released
+    ∙ ap (λ (ws : List Waiting). release c.self.inside.log.entries.list ws) c.put-2.ensures.waiting
+    ∙ ap (λ (s : State). stored_at s c.args.number (kinds.Write c.args.entry)) c.self.view_is
+
+pub release-requires-clause-room : goal.release-requires-clause-room
+release-requires-clause-room c =
+    let s = c.self.inside in
+    let bases = get nat_eq s.bases in
+    let left = without c.args.room.made_for s.rooms in
+    let out = subst (λ (x : State). is_outstanding x.rooms c.args.room.made_for ≡ true) (sym c.self.view_is) c.requires.out in
+    let w = c.args.entry in
+    let log = s.log.entries.list in
+    let waiting = s.pending.waiting in
+    let top = top_of log waiting in
+    let may = subst (λ (x : State). MayStore x.log x.pending c.args.number) (sym c.self.view_is) c.requires.number in
+    let base : c.args.base ≡ last_in (book_with log waiting) top w.doc = subst (λ (x : State). c.args.base ≡ last_on x w.doc) (sym c.self.view_is) c.requires.base in
+    let extends = subst (λ (x : State). ExtendsTree (tree_on x w.doc) w c.args.tree) (sym c.self.view_is) c.requires.extends in
+    let past : last_in (book_with log waiting) top w.doc < c.args.number = subst (λ (n : ℕ). n < c.args.number) base c.requires.above in
+    let first = ended s.log.entries s.pending s.documents bases (spare s.bases) s.rooms s.stored 0 c.args.room.made_for out c.self.invariant.0.standing in
+    let kept_base = λ (m : ℕ). c.keep_base.ensures.bases m ∙ ap (λ (n : ℕ). if nat_eq c.args.number m then Some n else bases m) base in
+    let second = waits_write c.storing.ensures.book c.storing.ensures.beyond c.storing.ensures.free s.log.entries s.pending c.args.number may w top (none_above_top log waiting) past c.args.tree extends
+    c.trees_of_writes.ensures.revisions c.trees_of_writes.ensures.leaves c.put-2.new.self s.documents c.put.new.documents bases (get nat_eq c.keep_base.new.bases) (spare s.bases) (spare c.keep_base.new.bases) left s.stored c.saturating_add-self-inside.result 1
+    c.requires.entry c.requires.body c.requires.at c.put.ensures kept_base c.keep_base.ensures.spare (omega (arith, c.saturating_add-self-inside.ensures, c.len.ensures)) c.put-2.ensures.waiting c.put-2.ensures.spare first in
+    omega (arith, second.room_log)
+
+pub release-requires-clause-beyond : goal.release-requires-clause-beyond
+release-requires-clause-beyond c =
+    let s = c.self.inside in
+    let bases = get nat_eq s.bases in
+    let left = without c.args.room.made_for s.rooms in
+    let out = subst (λ (x : State). is_outstanding x.rooms c.args.room.made_for ≡ true) (sym c.self.view_is) c.requires.out in
+    let w = c.args.entry in
+    let log = s.log.entries.list in
+    let waiting = s.pending.waiting in
+    let top = top_of log waiting in
+    let may = subst (λ (x : State). MayStore x.log x.pending c.args.number) (sym c.self.view_is) c.requires.number in
+    let base : c.args.base ≡ last_in (book_with log waiting) top w.doc = subst (λ (x : State). c.args.base ≡ last_on x w.doc) (sym c.self.view_is) c.requires.base in
+    let extends = subst (λ (x : State). ExtendsTree (tree_on x w.doc) w c.args.tree) (sym c.self.view_is) c.requires.extends in
+    let past : last_in (book_with log waiting) top w.doc < c.args.number = subst (λ (n : ℕ). n < c.args.number) base c.requires.above in
+    let first = ended s.log.entries s.pending s.documents bases (spare s.bases) s.rooms s.stored 0 c.args.room.made_for out c.self.invariant.0.standing in
+    let kept_base = λ (m : ℕ). c.keep_base.ensures.bases m ∙ ap (λ (n : ℕ). if nat_eq c.args.number m then Some n else bases m) base in
+    let second = waits_write c.storing.ensures.book c.storing.ensures.beyond c.storing.ensures.free s.log.entries s.pending c.args.number may w top (none_above_top log waiting) past c.args.tree extends
+    c.trees_of_writes.ensures.revisions c.trees_of_writes.ensures.leaves c.put-2.new.self s.documents c.put.new.documents bases (get nat_eq c.keep_base.new.bases) (spare s.bases) (spare c.keep_base.new.bases) left s.stored c.saturating_add-self-inside.result 1
+    c.requires.entry c.requires.body c.requires.at c.put.ensures kept_base c.keep_base.ensures.spare (omega (arith, c.saturating_add-self-inside.ensures, c.len.ensures)) c.put-2.ensures.waiting c.put-2.ensures.spare first in
+    second.beyond
+
+pub returns-clause-book : goal.returns-clause-book
+returns-clause-book c =
+    let s = c.self.inside in
+    let may = subst (λ (x : State). MayStore x.log x.pending c.args.number) (sym c.self.view_is) c.requires.number in
+    one_put c.storing.ensures.book s.log.entries.list c.release.new.log.entries.list s.pending.waiting c.put-2.new.self.waiting c.release.new.pending.waiting c.args.number (kinds.Write c.args.entry) may c.put-2.ensures.waiting c.release.ensures.book
+    ∙ ap (λ (x : State). with_entry c.args.number (kinds.Write c.args.entry) (book_on x)) c.self.view_is

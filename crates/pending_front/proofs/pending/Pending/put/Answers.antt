@@ -1,27 +1,31 @@
-use Rattle.std.proofs.Common.{◌≡◌, ◌<◌, None, ◌∙◌, sym, ap, subst, arith}
-use Rattle.std.specs.BinaryHeap.{heap_items, heap_len, heap_capacity}
+use Rattle.std.proofs.Common.{◌≡◌, ◌<◌, ◌∷◌, ◌∙◌, ℕ, cond, None, Some, nat_eq, sym, ap, subst}
+use Rattle.std.specs.Prelude.{IsOk, IsPermutation}
+use Rattle.std.specs.Map.{lookup}
 use Rattle.sg_history.specs.Book.{waiting_at}
 use Rattle.sg_history.specs.World.{put_waiting}
 use Rattle.pending_front.specs.ByNumber.{rising}
 use Rattle.pending_front.specs.Pending.{Reserved}
-use Rattle.pending_front.proofs.Heaps.{pushed, pushed_rises, ok_gives}
+use Rattle.pending_front.proofs.Numbered.{ok_gives, put_moved, put_in, put_in_rises}
 use Rattle.pending_front.proofs.pending.Pending.put.Goals as goal
 
-has_room : (c : goal.Joined-push) → heap_len c.self.inside.heap < heap_capacity c.self.inside.heap
-has_room c = let room = subst (λ (r : Reserved). 0 < r.spare) (sym c.self.view_is) c.requires.place in omega arith
-
-is_free : (c : goal.Joined-push) → waiting_at (rising (heap_items c.self.inside.heap)) c.args.sequence ≡ None
+is_free : (c : goal.Joined-insert) → waiting_at (rising c.self.inside.held.entries) c.args.sequence ≡ None
 is_free c = subst (λ (r : Reserved). waiting_at r.waiting c.args.sequence ≡ None) (sym c.self.view_is) c.requires.free
+
+is_put : (c : goal.Joined-insert) → IsOk c.insert.result
+is_put c = c.insert.ensures.succeeds (subst (λ (r : Reserved). 0 < r.spare) (sym c.self.view_is) c.requires.place)
+
+is_moved : (c : goal.Joined-insert) → IsPermutation ((c.args.sequence, c.args.entry) ∷ c.self.inside.held.entries) c.insert.new.self.entries
+is_moved c =
+    put_moved c.insert.result c.args.sequence c.args.entry c.self.inside.held.entries c.insert.new.self.entries (is_put c) c.insert.ensures.old c.insert.ensures.entries c.self.invariant (is_free c)
+
+is_found : (c : goal.Joined-insert) → (q : ℕ) → lookup (nat_eq q) c.insert.new.self.entries ≡ cond (nat_eq c.args.sequence q) (Some c.args.entry) (lookup (nat_eq q) c.self.inside.held.entries)
+is_found c = (ok_gives c.insert.result (is_put c) c.insert.ensures.updates).0
 
 pub invariant_of-self : goal.invariant_of-self
 invariant_of-self c =
-    let moved = ok_gives c.push.result (c.push.ensures.succeeds (has_room c)) c.push.ensures.permutation in (
-      ok_gives c.push.result (c.push.ensures.succeeds (has_room c)) c.push.ensures.heap_order c.self.invariant.0,
-      pushed_rises _ _ _ moved c.self.invariant.1 c.requires.from (is_free c),
-    )
+    put_in_rises c.args.sequence c.args.entry c.self.inside.held.entries c.insert.new.self.entries (is_moved c) (is_found c) c.self.invariant c.requires.from (is_free c)
 
 pub returns-clause-waiting : goal.returns-clause-waiting
 returns-clause-waiting c =
-    let moved = ok_gives c.push.result (c.push.ensures.succeeds (has_room c)) c.push.ensures.permutation in
-    pushed _ _ _ moved c.self.invariant.1 c.requires.from (is_free c)
+    put_in c.args.sequence c.args.entry c.self.inside.held.entries c.insert.new.self.entries (is_moved c) (is_found c) c.self.invariant c.requires.from (is_free c)
     ∙ ap (λ (r : Reserved). put_waiting (record { number = c.args.sequence; entry = c.args.entry }) r.waiting) c.self.view_is

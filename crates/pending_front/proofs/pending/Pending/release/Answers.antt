@@ -1,6 +1,7 @@
-use Rattle.std.proofs.Common.{ap}
+use Rattle.std.proofs.Common.{ap, subst, sym}
+use Rattle.sg_history.specs.History.{Extends}
 use Rattle.sg_history.specs.World.{Released}
-use Rattle.pending_front.proofs.Releasing.{left_next, left_beyond, left_book}
+use Rattle.pending_front.proofs.Releasing.{left_next, left_beyond, left_book, released_log}
 use Rattle.pending_front.proofs.pending.Pending.release.Goals as goal
 
 pub returns-clause-log : goal.returns-clause-log
@@ -17,3 +18,6 @@ returns-clause-beyond c = left_beyond _ _ _ _ c.move_all.ensures.released c.move
 
 pub returns-clause-book : goal.returns-clause-book
 returns-clause-book c = left_book _ _ _ _ c.move_all.ensures.released c.move_all.ensures.rises c.requires.beyond
+
+pub returns-clause-extends : goal.returns-clause-extends
+returns-clause-extends c = subst (λ (r : Released). Extends c.args.log.now.entries.list r.log) (sym c.move_all.ensures.released) (released_log c.args.log.now.entries.list c.args.self.now.waiting)
