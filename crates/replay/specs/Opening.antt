@@ -1,5 +1,5 @@
 -- The entries that a configuration begins a history with.
-use Rattle.std.specs.Prelude.{◌≡◌, ℕ, List, [], ◌∷◌, ◌++◌}
+use Rattle.std.specs.Prelude.{◌≡◌, ℕ, List, [], ◌∷◌, ◌++◌, take}
 use Rattle.sg_history.specs.declared.entries.Entry.{Entry}
 use Rattle.sg_history.specs.declared.entries.Entry.TheVariants as entry
 use Rattle.sg_history.specs.History.{among}
@@ -32,10 +32,10 @@ AreOf IsOf [] [] = Unit {0}
 AreOf IsOf (x ∷ xs) (e ∷ es) = IsOf x e × AreOf IsOf xs es
 AreOf IsOf xs es = ⊥
 
--- the puts of the roles, and then of the users
+-- the puts of the roles, and then of the users, as many of them as a log has room for
 pub record IsOpening (its_roles : List ConfigRole) (its_users : List ConfigUser) (opening : List Entry) : Type 0 where
   pub roles : List Entry
   pub users : List Entry
   pub are_roles : AreOf IsRoleEntry its_roles roles
   pub are_users : AreOf IsUserEntry its_users users
-  pub entries : opening ≡ roles ++ users
+  pub entries : opening ≡ take 3999999 (roles ++ users)

@@ -10,14 +10,14 @@ use Rattle.repl_messages.specs.declared.revision.Revision.{Revision}
 use Rattle.sync_syntax.specs.declared.tree.Program.{Program}
 use Rattle.doc_board.specs.declared.outcome.Outcome.{Outcome}
 use Rattle.doc_board.specs.Boards.{board_of}
-use Rattle.doc_board.specs.Outcomes.{IsOutcome}
+use Rattle.doc_board.specs.Outcomes.{IsByLimits, IsOutcome, bytes_of}
 use Rattle.doc_board.specs.State.{State}
 use Rattle.write_path.specs.Commands.{IsBoardCommanded}
 use Rattle.write_path.specs.Proposals.{IsBoardAfter}
 
 -- a board of this log that nobody else has
 abbrev pub alone : List Entry → State
-alone log = record { log = log; rooms = []; known = 0; reads = 0 }
+alone log = record { log = log; pending = []; rooms = []; known = 0; reads = 0 }
 
 abbrev pub ancestors_of : Option RevId → List RevId
 ancestors_of None = []
@@ -34,14 +34,20 @@ revision_of doc parent deleted body = record {
   body = body;
 }
 
--- the revision is judged by a board of the log before, as the administrator's, and stored where that is the outcome
+-- the revision is judged by a board of the log before, as the administrator's, and stored where that is the outcome and the board has room for it
 pub record IsWritten (program : Program) (strict : Bool) (before : List Entry) (r : Revision) (answer : Outcome) (after : List Entry) : Type 0 where
   pub outcome : IsOutcome program strict None r (board_of (alone before)) answer
+  pub limits : IsByLimits (bytes_of r) (board_of (alone before)) answer
   pub board : IsBoardAfter (alone before) (alone after) program None r answer
+
+-- the command's entry is stored where the board of the log before has room for it
+pub record IsCommandRun (before : List Entry) (e : Entry) (answer : Outcome) (after : List Entry) : Type 0 where
+  pub limits : IsByLimits 0 (board_of (alone before)) answer
+  pub board : IsBoardCommanded (alone before) (alone after) e answer
 
 -- a line, with its outcome, between the log before and the log after it
 abbrev pub IsLineRun : Program → Bool → List Entry → AdminLine → Outcome → List Entry → Type 0
-IsLineRun program strict before (line.Command c) answer after = IsBoardCommanded (alone before) (alone after) (entry_of c) answer
+IsLineRun program strict before (line.Command c) answer after = IsCommandRun before (entry_of c) answer after
 IsLineRun program strict before (line.Doc doc parent deleted body) answer after =
     IsWritten program strict before (revision_of doc parent deleted body) answer after
 

@@ -1,5 +1,5 @@
 -- What the functions of a replay hand on to one another. Only proofs need this.
-use Rattle.std.specs.Prelude.{◌≡◌, ◌+◌, ◌++◌, ℕ, Bool, List, [], codes, length, Option, Some}
+use Rattle.std.specs.Prelude.{◌≡◌, ◌≤◌, ◌+◌, ◌++◌, ℕ, Bool, true, false, List, [], codes, length, take, Option, Some}
 use Rattle.sg_outside.specs.Wire.{Traffic}
 use Rattle.sg_history.specs.declared.book.Waiting.{Waiting}
 use Rattle.sg_history.specs.declared.entries.Entry.{Entry}
@@ -11,6 +11,8 @@ use Rattle.gateway_config.specs.declared.config.ConfigRole.{ConfigRole}
 use Rattle.gateway_config.specs.declared.config.ConfigUser.{ConfigUser}
 use Rattle.sync_syntax.specs.declared.tree.Program.{Program}
 use Rattle.doc_board.specs.declared.outcome.Outcome.{Outcome}
+use Rattle.doc_board.specs.declared.outcome.Outcome.TheVariants as outcome
+use Rattle.doc_board.specs.Boards.{bytes_stored}
 use Rattle.write_path.specs.Own.{EndsWith, in_order}
 use Rattle.write_path.specs.Reads.{IsLaterThanAll, Reads}
 use Rattle.write_path.specs.Solo.{Solo}
@@ -25,12 +27,24 @@ use Rattle.replay.specs.Transcript.{Run, ended_lines, outcome_lines, run_text, r
 
 -- no room is outstanding, and all entries of the log are the ground's own
 pub record HasOwnLog (g : Solo) : Type 0 where
+  pub pending : g.board.pending ≡ []
   pub rooms : g.board.rooms ≡ []
   pub log : g.board.log ≡ in_order g.own
 
--- the log has an entry of each of these besides, in their order
+-- a log that has no body, and no more entries than it has room for
+pub record IsOpened (log : List Entry) : Type 0 where
+  pub few : length log ≤ 3999999
+  pub bodies : bytes_stored log ≡ 0
+
+-- whether an opening goes on after a command: its entry is stored, or the log has no room for it
+abbrev pub is_taken : Outcome → Bool
+is_taken (outcome.Stored sequence at) = true
+is_taken (outcome.LogFull509 at entries bytes) = true
+is_taken other = false
+
+-- the log has an entry of each of these besides, in their order, as far as it has room for them
 abbrev pub IsGrownByAll : {X : Type 0} → (X → Entry → Type 0) → List X → List Entry → List Entry → Type 0
-IsGrownByAll IsOf xs before after = (added : List Entry) × AreOf IsOf xs added × (after ≡ before ++ added)
+IsGrownByAll IsOf xs before after = (added : List Entry) × AreOf IsOf xs added × (after ≡ take 3999999 (before ++ added))
 
 -- the lines were run between these logs, and their outcomes printed behind this text, from the line with this number on
 pub record IsScriptRun (program : Program) (strict : Bool) (number : ℕ) (lines : List AdminLine) (before after : List Entry) (text text_after : List ℕ) : Type 0 where

@@ -30,6 +30,8 @@ outcome_text (outcome.BadHistory400 at) = codes "400"
 outcome_text (outcome.Conflict409 at leaf) = codes "409"
 outcome_text (outcome.Denied403 at rule) = codes "403 " ++ in_one_line (rule_text rule)
 outcome_text (outcome.Stored sequence at) = codes "stored " ++ decimal sequence
+outcome_text (outcome.Full503 at places) = codes "503"
+outcome_text (outcome.LogFull509 at entries bytes) = codes "509"
 outcome_text outcome.Memory507 = codes "507"
 
 -- the script's line with this number

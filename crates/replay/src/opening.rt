@@ -1,6 +1,6 @@
-//! The roles and the users of a configuration, put as the first entries of a history.
+//! The roles and the users of a configuration, put as the first entries of a history, as far as it has room for them.
 
-ghost use Rattle.std.specs.Prelude.{◌≡◌, ◌++◌, ◌∷◌, [], IsTrue, IsUtf8, OnOk};
+ghost use Rattle.std.specs.Prelude.{◌≡◌, ◌++◌, ◌∷◌, [], IsTrue, IsUtf8, OnOk, take};
 ghost use Rattle.std.specs.List.{All};
 ghost use Rattle.sg_names.specs.Channels.{channels_text, is_channels};
 ghost use Rattle.sg_names.specs.Grammar.{is_channel_name, is_name};
@@ -8,7 +8,7 @@ ghost use Rattle.sg_names.specs.Names.{is_names, names_text};
 ghost use Rattle.sg_history.specs.Journal.{IsEntry};
 ghost use Rattle.principals.specs.Script.{entry_of};
 ghost use Rattle.replay.specs.Opening.{IsInOrder, IsOpening, IsRoleEntry, IsUserEntry};
-ghost use Rattle.replay.specs.Shape.{HasOwnLog, IsGrownByAll};
+ghost use Rattle.replay.specs.Shape.{HasOwnLog, IsGrownByAll, IsOpened, is_taken};
 
 use crate::script::run_command;
 use gateway_config::{ConfigRole, ConfigRoles, ConfigUser, ConfigUsers};
@@ -81,26 +81,38 @@ fn put_user(user: ConfigUser) -> Command
     Command::PutUser(name, channels_in_order(channels), names_in_order(roles))
 }
 
-/// Runs a command, which stores its entry.
+/// Goes on where a command's entry is stored, and where the log has no room for it.
+fn taken(outcome: &Outcome) -> Result<(), Memory>
+    ensures { OnOk result (IsTrue (is_taken outcome.now)) }
+{
+    match outcome {
+        Outcome::Stored { .. } | Outcome::LogFull509 { .. } => Ok(()),
+        _ => Err(AllocError),
+    }
+}
+
+/// Runs a command, which stores its entry where the log has room for it.
 fn put(ground: &mut SoloGround, command: Command) -> Result<(), Memory>
     requires entry { IsEntry (entry_of command) }
     requires own { HasOwnLog ground.old }
+    requires opened { IsOpened ground.old.board.log }
     ensures log { OnOk result (ground.new.board.log
-        ≡ ground.old.board.log ++ entry_of command ∷ []) }
+        ≡ take 3999999 (ground.old.board.log ++ entry_of command ∷ [])) }
     ensures own { HasOwnLog ground.new }
+    ensures opened { IsOpened ground.new.board.log }
 {
-    match run_command(ground, command) {
-        Outcome::Stored { .. } => Ok(()),
-        _ => Err(AllocError),
-    }
+    let outcome = run_command(ground, command);
+    taken(&outcome)
 }
 
 /// Puts the roles.
 fn put_roles(ground: &mut SoloGround, roles: ConfigRoles) -> Result<(), Memory>
     requires own { HasOwnLog ground.old }
+    requires opened { IsOpened ground.old.board.log }
     ensures roles { OnOk result (IsGrownByAll IsRoleEntry roles ground.old.board.log
         ground.new.board.log) }
     ensures own { HasOwnLog ground.new }
+    ensures opened { IsOpened ground.new.board.log }
 {
     for role in roles.into_vec() {
         put(ground, put_role(role))?;
@@ -111,6 +123,7 @@ fn put_roles(ground: &mut SoloGround, roles: ConfigRoles) -> Result<(), Memory>
 /// Puts the users.
 fn put_users(ground: &mut SoloGround, users: ConfigUsers) -> Result<(), Memory>
     requires own { HasOwnLog ground.old }
+    requires opened { IsOpened ground.old.board.log }
     ensures users { OnOk result (IsGrownByAll IsUserEntry users ground.old.board.log
         ground.new.board.log) }
     ensures own { HasOwnLog ground.new }
@@ -121,7 +134,7 @@ fn put_users(ground: &mut SoloGround, users: ConfigUsers) -> Result<(), Memory>
     Ok(())
 }
 
-/// Puts the roles, and then the users, at a ground without entries.
+/// Puts the roles, and then the users, at a ground without entries, as far as its log has room for them.
 pub fn open(ground: &mut SoloGround, roles: ConfigRoles, users: ConfigUsers) -> Result<(), Memory>
     requires empty { ground.old.board.log ≡ [] }
     requires own { HasOwnLog ground.old }

@@ -47,6 +47,8 @@ fn write_answer(alloc: Global, outcome: &Outcome, out: &mut Bytes) -> Result<(),
         Outcome::UserGone401 { .. } => b"401",
         Outcome::Known { .. } => b"known",
         Outcome::Conflict409 { .. } => b"409",
+        Outcome::Full503 { .. } => b"503",
+        Outcome::LogFull509 { .. } => b"509",
         Outcome::Memory507 => b"507",
     };
     out.extend_from_slice(word)

@@ -3,8 +3,7 @@
 ghost use Rattle.std.specs.Prelude.{◌≡◌, false, IsTrue, IfOk, OnOk};
 ghost use Rattle.sg_history.specs.Journal.{IsEntry};
 ghost use Rattle.principals.specs.Script.{AreLines, IsLine, entry_of, is_parent};
-ghost use Rattle.write_path.specs.Commands.{IsBoardCommanded};
-ghost use Rattle.replay.specs.Script.{IsLineRun, IsWritten, alone, ancestors_of, revision_of};
+ghost use Rattle.replay.specs.Script.{IsCommandRun, IsLineRun, IsWritten, ancestors_of, revision_of};
 ghost use Rattle.replay.specs.Shape.{HasOwnLog, IsScriptRun};
 
 use crate::outcome_text::write_outcome;
@@ -72,8 +71,8 @@ fn propose(
 pub(crate) fn run_command(ground: &mut SoloGround, command: Command) -> Outcome
     requires entry { IsEntry (entry_of command) }
     requires own { HasOwnLog ground.old }
-    ensures commanded { IsBoardCommanded (alone ground.old.board.log) (alone ground.new.board.log)
-        (entry_of command) result }
+    ensures commanded { IsCommandRun ground.old.board.log (entry_of command) result
+        ground.new.board.log }
     ensures own { HasOwnLog ground.new }
 {
     write_path::laws::own_entries();

@@ -296,6 +296,8 @@ outcome_is m asker (outcome.BadHistory400 at) fronts = refusal m asker fronts er
 outcome_is m asker (outcome.Conflict409 at leaf) fronts = refusal m asker fronts (errors.Conflict409 leaf)
 outcome_is m asker (outcome.Denied403 at rule) fronts = refusal m asker fronts (errors.Denied403 (rule_text rule))
 outcome_is m asker (outcome.Stored sequence at) fronts = accepted m asker fronts
+outcome_is m asker (outcome.Full503 at places) fronts = refusal m asker fronts errors.PendingFull503
+outcome_is m asker (outcome.LogFull509 at entries bytes) fronts = refusal m asker fronts errors.LogFull509
 outcome_is m asker outcome.Memory507 fronts = refusal m asker fronts errors.Memory507
 
 bodied : (m : Machine) (b : Bodies) (awaited : Pending) → AwaitsBy m.feed awaited (event.Bodies b) → Conducted m (due_with awaited) (b.front ∷ []) (on_bodies m b awaited)

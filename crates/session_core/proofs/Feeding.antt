@@ -400,6 +400,8 @@ outcome_none asker (outcome.BadHistory400 at) = reply_none asker kinds.Err _ ref
 outcome_none asker (outcome.Conflict409 at leaf) = reply_none asker kinds.Err _ refl
 outcome_none asker (outcome.Denied403 at rule) = reply_none asker kinds.Err _ refl
 outcome_none asker (outcome.Stored sequence at) = reply_none asker kinds.Rpy _ refl
+outcome_none asker (outcome.Full503 at places) = reply_none asker kinds.Err _ refl
+outcome_none asker (outcome.LogFull509 at entries bytes) = reply_none asker kinds.Err _ refl
 outcome_none asker outcome.Memory507 = reply_none asker kinds.Err _ refl
 
 judged_stay : (h : List Entry) (user : List ℕ) (version : Version) (asked : Subscription) (messages : List Message) (fronts : List ℕ) (m : Machine) (r : Running) (o : Outcome) (awaited : Pending)

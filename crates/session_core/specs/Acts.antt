@@ -78,6 +78,8 @@ outcome_act asker (outcome.BadHistory400 at) = refusal_act asker errors.BadHisto
 outcome_act asker (outcome.Conflict409 at leaf) = refusal_act asker (errors.Conflict409 leaf)
 outcome_act asker (outcome.Denied403 at rule) = refusal_act asker (errors.Denied403 (rule_text rule))
 outcome_act asker (outcome.Stored sequence at) = acceptance_act asker
+outcome_act asker (outcome.Full503 at places) = refusal_act asker errors.PendingFull503
+outcome_act asker (outcome.LogFull509 at entries bytes) = refusal_act asker errors.LogFull509
 outcome_act asker outcome.Memory507 = refusal_act asker errors.Memory507
 
 -- ---- requests

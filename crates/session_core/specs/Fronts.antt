@@ -19,6 +19,8 @@ judged_at (outcome.BadHistory400 at) = at ∷ []
 judged_at (outcome.Conflict409 at leaf) = at ∷ []
 judged_at (outcome.Denied403 at rule) = at ∷ []
 judged_at (outcome.Stored sequence at) = at ∷ []
+judged_at (outcome.Full503 at places) = at ∷ []
+judged_at (outcome.LogFull509 at entries bytes) = at ∷ []
 judged_at outcome.Memory507 = []
 
 -- the look by which an event answers, if it does by one

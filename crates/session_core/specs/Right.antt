@@ -15,7 +15,7 @@ use Rattle.repl_messages.specs.Looks.{IsFed, AreBodies, SeenUpTo}
 use Rattle.doc_board.specs.declared.outcome.Outcome.{Outcome}
 use Rattle.doc_board.specs.declared.outcome.Outcome.TheVariants as outcome
 use Rattle.doc_board.specs.Offers.{answer_to}
-use Rattle.doc_board.specs.Outcomes.{IsOutcome, IsBadField, IsTooLarge, IsWriteOf}
+use Rattle.doc_board.specs.Outcomes.{IsOutcome, IsBadField, IsTooLarge, IsWriteOf, IsByLimits, bytes_of}
 use Rattle.session_core.specs.declared.act.Want.{Want}
 use Rattle.session_core.specs.declared.act.Want.TheVariants as want
 use Rattle.session_core.specs.declared.event.Event.{Event}
@@ -34,12 +34,23 @@ pub record IsJudgedIn (h : List Entry) (program : Program) (strict : Bool) (by :
   pub later : Later (board_book board) (book_of h)
   pub outcome : IsOutcome program strict by r board answer
 
--- besides, the history has the write of the revision at its sequence
+-- the outcome goes with the limits of a board than which the history is later
+pub record IsRoomedIn (h : List Entry) (r : Revision) (answer : Outcome) : Type 0 where
+  pub board : BoardState
+  pub later : Later (board_book board) (book_of h)
+  pub limits : IsByLimits (bytes_of r) board answer
+
+-- the revision is judged by one board, and refused a room by the sums of one
+abbrev pub IsRefusedIn : List Entry → Program → Bool → Option (List ℕ) → Revision → Outcome → Type 0
+IsRefusedIn h program strict by r answer = IsJudgedIn h program strict by r answer × IsRoomedIn h r answer
+
+-- the outcome of a stored revision is that by a board than which the history is later, and one had room for it; the history has the write of the revision at its sequence
 pub record IsStoredIn (h : List Entry) (program : Program) (strict : Bool) (by : Option (List ℕ)) (r : Revision) (sequence at : ℕ) : Type 0 where
   pub judged : IsJudgedIn h program strict by r (outcome.Stored sequence at)
   pub write : Write
   pub is_write : IsWriteOf program by r judged.board write
   pub there : book_of h sequence ≡ Some (entry.Write write)
+  pub room : IsRoomedIn h r (outcome.Stored sequence at)
 
 -- the outcome of a revision that was proposed: by the revision itself where that is refused, else by a board; out of memory none
 abbrev pub IsProposedIn : List Entry → Program → Bool → Option (List ℕ) → Revision → Outcome → Type 0
@@ -51,6 +62,8 @@ IsProposedIn h program strict by r (outcome.BadHistory400 at) = IsJudgedIn h pro
 IsProposedIn h program strict by r (outcome.Conflict409 at leaf) = IsJudgedIn h program strict by r (outcome.Conflict409 at leaf)
 IsProposedIn h program strict by r (outcome.Denied403 at rule) = IsJudgedIn h program strict by r (outcome.Denied403 at rule)
 IsProposedIn h program strict by r (outcome.Stored sequence at) = IsStoredIn h program strict by r sequence at
+IsProposedIn h program strict by r (outcome.Full503 at places) = IsRefusedIn h program strict by r (outcome.Full503 at places)
+IsProposedIn h program strict by r (outcome.LogFull509 at entries bytes) = IsRefusedIn h program strict by r (outcome.LogFull509 at entries bytes)
 IsProposedIn h program strict by r outcome.Memory507 = Unit {0}
 
 -- the event is the history's answer to what was wanted, for a session of this user whose revisions are judged by this program

@@ -106,6 +106,8 @@ pub(crate) fn answer_outcome(
         Outcome::BadHistory400 { .. } => refuse(alloc, asker, ErrorKind::BadHistory400),
         Outcome::Conflict409 { leaf, .. } => refuse(alloc, asker, ErrorKind::Conflict409 { leaf }),
         Outcome::Denied403 { rule, .. } => deny(alloc, asker, &rule),
+        Outcome::Full503 { .. } => refuse(alloc, asker, ErrorKind::PendingFull503),
+        Outcome::LogFull509 { .. } => refuse(alloc, asker, ErrorKind::LogFull509),
         Outcome::Memory507 => refuse(alloc, asker, ErrorKind::Memory507),
     }
 }

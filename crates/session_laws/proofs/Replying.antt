@@ -194,6 +194,8 @@ outcome_is m asker (outcome.BadHistory400 at) = refusal m asker errors.BadHistor
 outcome_is m asker (outcome.Conflict409 at leaf) = refusal m asker (errors.Conflict409 leaf)
 outcome_is m asker (outcome.Denied403 at rule) = refusal m asker (errors.Denied403 (rule_text rule))
 outcome_is m asker (outcome.Stored sequence at) = accepted m asker
+outcome_is m asker (outcome.Full503 at places) = refusal m asker errors.PendingFull503
+outcome_is m asker (outcome.LogFull509 at entries bytes) = refusal m asker errors.LogFull509
 outcome_is m asker outcome.Memory507 = refusal m asker errors.Memory507
 
 judged_to : (m : Machine) (o : Outcome) (awaited : Pending) → AwaitsBy m.feed awaited (event.Judged o) → Answers (owed awaited) (on_judged m o awaited)

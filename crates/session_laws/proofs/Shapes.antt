@@ -88,6 +88,8 @@ outcome_none asker (outcome.BadHistory400 at) = refusal_none asker errors.BadHis
 outcome_none asker (outcome.Conflict409 at leaf) = refusal_none asker (errors.Conflict409 leaf)
 outcome_none asker (outcome.Denied403 at rule) = refusal_none asker (errors.Denied403 (rule_text rule))
 outcome_none asker (outcome.Stored sequence at) = reply_none asker kinds.Rpy _ refl
+outcome_none asker (outcome.Full503 at places) = refusal_none asker errors.PendingFull503
+outcome_none asker (outcome.LogFull509 at entries bytes) = refusal_none asker errors.LogFull509
 outcome_none asker outcome.Memory507 = refusal_none asker errors.Memory507
 
 -- ---- what holds between steps

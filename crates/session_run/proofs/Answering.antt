@@ -36,13 +36,14 @@ use Rattle.session_core.specs.declared.look.Look.{Look}
 use Rattle.session_core.specs.declared.look.Purpose.{Purpose}
 use Rattle.session_core.specs.declared.look.Purpose.TheVariants as purposes
 use Rattle.session_core.specs.Fronts.{judged_at, look_of, stored_by, front_by, looks_of, fronts_of, stored_of, RiseBetween}
-use Rattle.session_core.specs.Right.{AreAsked, IsJudgedIn, IsProposedIn, IsRight, AreRight}
+use Rattle.doc_board.specs.Outcomes.{bytes_of}
+use Rattle.session_core.specs.Right.{AreAsked, IsJudgedIn, IsRefusedIn, IsRoomedIn, IsProposedIn, IsRight, AreRight}
 use Rattle.session_core.specs.Steps.{Step, wanted_after}
 use Rattle.write_path.specs.Asks.{AskedAt}
 use Rattle.write_path.specs.Bodies.{BodiesAt}
 use Rattle.write_path.specs.Feed.{FeedAt}
 use Rattle.write_path.specs.Proposals as proposals
-use Rattle.write_path.specs.Proposals.{IsAnswered, IsStored}
+use Rattle.write_path.specs.Proposals.{IsAnswered, IsRefused, IsRoomed, IsStored}
 use Rattle.write_path.specs.Reads.{Reads, WasRead, IsOneOf, HasLength, IsLaterThanAll}
 use Rattle.session_run.specs.Judged.{IsJudgedEntry, AreJudged}
 use Rattle.session_run.specs.Answered as answered
@@ -129,6 +130,16 @@ judged_later : Laws → (before after : Moment) (program : Program) (strict : Bo
 judged_later laws before after program strict by r answer h later was =
     record { board = was.board; later = laws.since before.read after.read was.board h was.was_read later; outcome = was.outcome }
 
+roomed_later : Laws → (before after : Moment) (r : Revision) (answer : Outcome) (h : List Entry) → IsLaterThanAll after.read h
+    → IsRoomed before.read after.read before.recorded (bytes_of r) answer → IsRoomedIn h r answer
+roomed_later laws before after r answer h later was =
+    record { board = was.board; later = laws.since before.read after.read was.board h was.was_read later; limits = was.limits }
+
+refused_later : Laws → (before after : Moment) (program : Program) (strict : Bool) (by : Option (List ℕ)) (r : Revision) (answer : Outcome) (h : List Entry) → IsLaterThanAll after.read h
+    → IsRefused before.read after.read before.own after.own before.recorded program strict by r answer → IsRefusedIn h program strict by r answer
+refused_later laws before after program strict by r answer h later was =
+    (judged_later laws before after program strict by r answer h later was.judged, roomed_later laws before after r answer h later was.room)
+
 stored_later : Laws → (before after : Moment) (program : Program) (strict : Bool) (by : Option (List ℕ)) (r : Revision) (sequence at : ℕ) (h : List Entry) → IsLaterThanAll after.read h
     → IsStored before.read after.read before.own after.own before.recorded program strict by r sequence at → IsProposedIn h program strict by r (outcome.Stored sequence at)
 stored_later laws before after program strict by r sequence at h later was = record {
@@ -136,6 +147,7 @@ stored_later laws before after program strict by r sequence at h later was = rec
   write = was.write;
   is_write = was.is_write;
   there = (laws.since before.read after.read was.holding h was.was_read later).kept sequence _ was.there;
+  room = roomed_later laws before after r (outcome.Stored sequence at) h later was.room;
 }
 
 proposed_later : Laws → (before after : Moment) (program : Program) (strict : Bool) (by : Option (List ℕ)) (r : Revision) (answer : Outcome) (h : List Entry) → IsLaterThanAll after.read h
@@ -149,6 +161,8 @@ proposed_later laws before after program strict by r (outcome.Conflict409 at lea
 proposed_later laws before after program strict by r (outcome.Denied403 at rule) h later was =
     judged_later laws before after program strict by r (outcome.Denied403 at rule) h later was.1
 proposed_later laws before after program strict by r (outcome.Stored sequence at) h later was = stored_later laws before after program strict by r sequence at h later was
+proposed_later laws before after program strict by r (outcome.Full503 at places) h later was = refused_later laws before after program strict by r (outcome.Full503 at places) h later was
+proposed_later laws before after program strict by r (outcome.LogFull509 at entries bytes) h later was = refused_later laws before after program strict by r (outcome.LogFull509 at entries bytes) h later was
 proposed_later laws before after program strict by r outcome.Memory507 h later was = tt
 
 -- the entries that are own since, with their numbers, each the write of a revision of this user that the program accepts
@@ -239,6 +253,10 @@ proposed_rise laws before after program strict by r (outcome.Denied403 at rule) 
     judged_rise laws before after program strict by r (outcome.Denied403 at rule) at reads was.1 was.1.outcome.0.front
 proposed_rise laws before after program strict by r (outcome.Stored sequence at) reads was =
     (one_front laws before after at was.judged reads was.was_judged was.outcome.0.front, one_length before.recorded at was.judged was.has_length was.outcome.0.front)
+proposed_rise laws before after program strict by r (outcome.Full503 at places) reads was =
+    judged_rise laws before after program strict by r (outcome.Full503 at places) at reads was.judged was.judged.outcome.0.front
+proposed_rise laws before after program strict by r (outcome.LogFull509 at entries bytes) reads was =
+    judged_rise laws before after program strict by r (outcome.LogFull509 at entries bytes) at reads was.judged was.judged.outcome.0.front
 proposed_rise laws before after program strict by r outcome.Memory507 reads was = (reads.rises, no_front before.recorded)
 
 stored_own : (before after : Moment) (program : Program) (strict : Bool) (user : List ℕ) (r : Revision) (sequence at : ℕ)
@@ -272,6 +290,8 @@ proposed_own before after program strict user r (outcome.BadHistory400 at) was =
 proposed_own before after program strict user r (outcome.Conflict409 at leaf) was = ([], was.0, refl, tt)
 proposed_own before after program strict user r (outcome.Denied403 at rule) was = ([], was.0, refl, tt)
 proposed_own before after program strict user r (outcome.Stored sequence at) was = stored_own before after program strict user r sequence at was
+proposed_own before after program strict user r (outcome.Full503 at places) was = ([], was.own, refl, tt)
+proposed_own before after program strict user r (outcome.LogFull509 at entries bytes) was = ([], was.own, refl, tt)
 proposed_own before after program strict user r outcome.Memory507 was = ([], was, refl, tt)
 
 judged_look : (before after : Moment) (program : Program) (strict : Bool) (by : Option (List ℕ)) (r : Revision) (answer : Outcome) (at : ℕ)
@@ -292,6 +312,10 @@ proposed_looks before after program strict by r (outcome.Denied403 at rule) read
     judged_look before after program strict by r (outcome.Denied403 at rule) at was.1 was.1.outcome.0.front
 proposed_looks before after program strict by r (outcome.Stored sequence at) reads was =
     one_look before.read after.read (record { front = at; purpose = purposes.Push }) was.judged was.was_judged was.outcome.0.front
+proposed_looks before after program strict by r (outcome.Full503 at places) reads was =
+    judged_look before after program strict by r (outcome.Full503 at places) at was.judged was.judged.outcome.0.front
+proposed_looks before after program strict by r (outcome.LogFull509 at entries bytes) reads was =
+    judged_look before after program strict by r (outcome.LogFull509 at entries bytes) at was.judged was.judged.outcome.0.front
 proposed_looks before after program strict by r outcome.Memory507 reads was = (reads.added, reads.read)
 
 proposed_answer : Laws → (before after : Moment) (user : List ℕ) (program : Program) (strict : Bool) (r : Revision) (answer : Outcome) → answered.IsProposed before user program (strict || r.noconflicts) r answer after
@@ -435,6 +459,8 @@ looks_rise low high (event.Judged (outcome.BadHistory400 at)) rise = rise
 looks_rise low high (event.Judged (outcome.Conflict409 at leaf)) rise = rise
 looks_rise low high (event.Judged (outcome.Denied403 at rule)) rise = rise
 looks_rise low high (event.Judged (outcome.Stored sequence at)) rise = rise
+looks_rise low high (event.Judged (outcome.Full503 at places)) rise = rise
+looks_rise low high (event.Judged (outcome.LogFull509 at entries bytes)) rise = rise
 looks_rise low high (event.Judged outcome.Memory507) rise = rise
 
 numbers_on : (first second : List Waiting) → map (λ (w : Waiting). w.number) (first ++ second) ≡ map (λ (w : Waiting). w.number) first ++ map (λ (w : Waiting). w.number) second

@@ -173,6 +173,8 @@ outcome_none asker (outcome.BadHistory400 at) = reply_none asker kinds.Err _ ref
 outcome_none asker (outcome.Conflict409 at leaf) = reply_none asker kinds.Err _ refl
 outcome_none asker (outcome.Denied403 at rule) = reply_none asker kinds.Err _ refl
 outcome_none asker (outcome.Stored sequence at) = reply_none asker kinds.Rpy _ refl
+outcome_none asker (outcome.Full503 at places) = reply_none asker kinds.Err _ refl
+outcome_none asker (outcome.LogFull509 at entries bytes) = reply_none asker kinds.Err _ refl
 outcome_none asker outcome.Memory507 = reply_none asker kinds.Err _ refl
 
 judged_none : (m : Machine) (o : Outcome) (awaited : Pending) → ActsCarryNone (on_judged m o awaited).acts

@@ -167,6 +167,8 @@ more_stored m (outcome.BadHistory400 at) = ap Some (omega arith)
 more_stored m (outcome.Conflict409 at leaf) = ap Some (omega arith)
 more_stored m (outcome.Denied403 at rule) = ap Some (omega arith)
 more_stored m (outcome.Stored sequence at) = ap Some (omega arith)
+more_stored m (outcome.Full503 at places) = ap Some (omega arith)
+more_stored m (outcome.LogFull509 at entries bytes) = ap Some (omega arith)
 more_stored m outcome.Memory507 = ap Some (omega arith)
 
 more_by : (m : ℕ) (e : Event) → length_after (Some m) e ≡ Some (m + length (stored_by e))

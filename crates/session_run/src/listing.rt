@@ -94,7 +94,9 @@ fn judged_at(outcome: &Outcome) -> Option<u64>
         | Outcome::UserGone401 { at }
         | Outcome::BadHistory400 { at }
         | Outcome::Conflict409 { at, .. }
-        | Outcome::Denied403 { at, .. } => Some(*at),
+        | Outcome::Denied403 { at, .. }
+        | Outcome::Full503 { at, .. }
+        | Outcome::LogFull509 { at, .. } => Some(*at),
         Outcome::Bad400 { .. } | Outcome::TooLarge413 { .. } | Outcome::Memory507 => None,
     }
 }

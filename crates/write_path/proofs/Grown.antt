@@ -2,19 +2,19 @@
 use Rattle.std.proofs.Common.{◌≡◌, ◌≤◌, ◌+◌, ◌-◌, ◌*◌, ℕ, suc, List, [], ◌∷◌, ◌++◌, length, Some, refl, sym, ap, ◌∙◌, subst, arith}
 use Rattle.std.proofs.lemmas.List.{length-append}
 use Rattle.std.proofs.lemmas.Option.{none-some}
+use Rattle.sg_history.specs.declared.book.Waiting.{Waiting}
 use Rattle.sg_history.specs.declared.entries.Entry.{Entry}
-use Rattle.sg_history.specs.declared.entries.Entry.TheVariants as entry
 use Rattle.sg_history.specs.declared.entries.Write.{Write}
 use Rattle.sg_history.specs.declared.room.RoomFor.{RoomFor}
 use Rattle.sg_history.specs.Board.{SideValue, After, board_book, board_count, side_at}
-use Rattle.sg_history.specs.Book.{Book, Later, book_of}
+use Rattle.sg_history.specs.Book.{Book, Later, book_of, book_with}
 use Rattle.sg_history.specs.History.{Extends, as_write}
 use Rattle.rev_tree.specs.declared.tree.Node.{Node}
 use Rattle.rev_tree.specs.Documents.{tree_in, last_in}
-use Rattle.doc_board.specs.Boards.{board_of, bytes_stored, bytes_asked, body_size}
+use Rattle.doc_board.specs.Boards.{board_of, bytes_stored, bytes_waiting, bytes_asked, body_size}
 use Rattle.doc_board.specs.Judging.{body_or_empty}
 use Rattle.doc_board.specs.Candidates.{ExtendsTree}
-use Rattle.doc_board.specs.State.{State, tree_on, last_on}
+use Rattle.doc_board.specs.State.{State, tree_on, last_on, top_of}
 use Rattle.write_path.proofs.OneRead.{same_book}
 
 -- a history that extends another has the later book
@@ -38,8 +38,10 @@ bounded stored asked more later_stored later_asked count later_count a b c d = o
 no_side : (text : List ℕ) (old : SideValue) → side_at [] text ≡ Some old → ⊥
 no_side text old h = none-some old h
 
-pub after_entry : Extended → (s t : State) (e : Entry) → t.log ≡ s.log ++ e ∷ [] → t.rooms ≡ s.rooms → body_size (as_write e) ≤ 20971520 → After (board_of s) (board_of t)
-after_entry extended s t e log rooms size =
+pub after_entry : Extended → (s t : State) (e : Entry) → s.pending ≡ [] → t.pending ≡ s.pending → t.log ≡ s.log ++ e ∷ [] → t.rooms ≡ s.rooms → body_size (as_write e) ≤ 20971520 → After (board_of s) (board_of t)
+after_entry extended s t e alone pending log rooms size =
+    let waits : length t.pending ≡ length s.pending = ap (λ (ws : List Waiting). length ws) pending in
+    let waiting : bytes_waiting t.pending ≡ bytes_waiting s.pending = ap (λ (ws : List Waiting). bytes_waiting ws) pending in
     let more : length t.log ≡ length s.log + 1 = ap (λ (es : List Entry). length es) log ∙ one_longer s.log e in
     let same : length t.rooms ≡ length s.rooms = ap (λ (rs : List RoomFor). length rs) rooms in
     let count : board_count (board_of t) ≡ board_count (board_of s) + 1 = omega arith in
@@ -47,10 +49,10 @@ after_entry extended s t e log rooms size =
     let asked : bytes_asked t.rooms ≡ bytes_asked s.rooms = ap (λ (rs : List RoomFor). bytes_asked rs) rooms in
     let on : Later (book_of s.log) (book_of t.log) = extended s.log t.log (e ∷ [], log) in
     record {
-      book = subst (λ (book : Book). Later (board_book (board_of s)) book) (sym (same_book t)) (subst (λ (book : Book). Later book (book_of t.log)) (sym (same_book s)) on);
+      book = subst (λ (book : Book). Later (board_book (board_of s)) book) (sym (same_book t (pending ∙ alone))) (subst (λ (book : Book). Later book (book_of t.log)) (sym (same_book s alone)) on);
       log = (e ∷ [], log);
       count = omega arith;
-      bytes = bounded (bytes_stored s.log) (bytes_asked s.rooms) (body_size (as_write e)) (bytes_stored t.log) (bytes_asked t.rooms) (board_count (board_of s)) (board_count (board_of t)) stored asked count size;
+      bytes = bounded (bytes_stored s.log + bytes_waiting s.pending) (bytes_asked s.rooms) (body_size (as_write e)) (bytes_stored t.log + bytes_waiting t.pending) (bytes_asked t.rooms) (board_count (board_of s)) (board_count (board_of t)) (omega (arith, stored, waiting)) asked count size;
       side = λ text old h. absurd (no_side text old h);
       faults = omega arith;
     }
@@ -68,9 +70,12 @@ at_end es e = ap (λ (n : ℕ). book_of (es ++ e ∷ []) n) (suc_of (length es))
 
 -- ---- boards with the same log
 
-pub extends_still : (s t : State) (w : Write) (tree : List Node) → t.log ≡ s.log → ExtendsTree (tree_on s w.doc) w tree → ExtendsTree (tree_on t w.doc) w tree
-extends_still s t w tree same h =
-    subst (λ (es : List Entry). ExtendsTree (tree_in (book_of es) (length es) w.doc) w tree) (sym same) h
+pub extends_still : (s t : State) (w : Write) (tree : List Node) → t.log ≡ s.log → t.pending ≡ s.pending → ExtendsTree (tree_on s w.doc) w tree → ExtendsTree (tree_on t w.doc) w tree
+extends_still s t w tree same pending h =
+    subst (λ (es : List Entry). ExtendsTree (tree_in (book_with es t.pending) (top_of es t.pending) w.doc) w tree) (sym same)
+    (subst (λ (ws : List Waiting). ExtendsTree (tree_in (book_with s.log ws) (top_of s.log ws) w.doc) w tree) (sym pending) h)
 
-pub last_still : (s t : State) (doc : List ℕ) → t.log ≡ s.log → last_on s doc ≡ last_on t doc
-last_still s t doc same = ap (λ (es : List Entry). last_in (book_of es) (length es) doc) (sym same)
+pub last_still : (s t : State) (doc : List ℕ) → t.log ≡ s.log → t.pending ≡ s.pending → last_on s doc ≡ last_on t doc
+last_still s t doc same pending =
+    ap (λ (es : List Entry). last_in (book_with es s.pending) (top_of es s.pending) doc) (sym same)
+    ∙ ap (λ (ws : List Waiting). last_in (book_with t.log ws) (top_of t.log ws) doc) (sym pending)

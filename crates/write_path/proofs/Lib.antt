@@ -1,4 +1,5 @@
 pub mod AllRows
+pub mod Again
 pub mod Alone
 pub mod BoardBodies
 pub mod BodyLaws
@@ -13,6 +14,7 @@ pub mod OneRead
 pub mod OwnEnds
 pub mod Proposed
 pub mod ReadLaws
+pub mod Rooms
 pub mod RowsSay
 pub mod Said
 pub mod Same

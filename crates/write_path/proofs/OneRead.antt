@@ -1,9 +1,10 @@
 -- What one read of a board leaves.
-use Rattle.std.proofs.Common.{◌≡◌, List, [], ◌∷◌, length, refl, inl, arith, subst, Result, Ok, Err, IfOk, Option, Some, None}
+use Rattle.std.proofs.Common.{◌≡◌, List, [], ◌∷◌, length, refl, inl, arith, ap, ◌∙◌, subst, Result, Ok, Err, IfOk, Option, Some, None}
 use Rattle.std.proofs.Math.Path.{fun_ext}
+use Rattle.sg_history.specs.declared.book.Waiting.{Waiting}
 use Rattle.sg_history.specs.declared.entries.Entry.{Entry}
 use Rattle.sg_history.specs.Board.{BoardState, board_book}
-use Rattle.sg_history.specs.Book.{Book, Later, book_of, entry_or}
+use Rattle.sg_history.specs.Book.{Book, Later, book_of, book_with, entry_or}
 use Rattle.doc_board.specs.Boards.{board_of}
 use Rattle.doc_board.specs.State.{State}
 use Rattle.write_path.specs.Reads.{Reads, WasRead, IsAfterAll, IsLaterThanAll}
@@ -27,10 +28,10 @@ nothing_else : (o : Option Entry) → entry_or o None ≡ o
 nothing_else None = refl
 nothing_else (Some e) = refl
 
-pub same_book : (s : State) → board_book (board_of s) ≡ book_of s.log
-same_book s = fun_ext (λ number. nothing_else (book_of s.log number))
+pub same_book : (s : State) → s.pending ≡ [] → board_book (board_of s) ≡ book_of s.log
+same_book s alone = ap (λ (ws : List Waiting). book_with s.log ws) alone ∙ fun_ext (λ number. nothing_else (book_of s.log number))
 
-pub history_later : (read : List BoardState) (s : State) → IsAfterAll read (board_of s) → IsLaterThanAll read s.log
-history_later [] s all = tt
-history_later (b ∷ others) s all =
-    (subst (λ (book : Book). Later (board_book b) book) (same_book s) all.0.book, history_later others s all.1)
+pub history_later : (read : List BoardState) (s : State) → s.pending ≡ [] → IsAfterAll read (board_of s) → IsLaterThanAll read s.log
+history_later [] s alone all = tt
+history_later (b ∷ others) s alone all =
+    (subst (λ (book : Book). Later (board_book b) book) (same_book s alone) all.0.book, history_later others s alone all.1)

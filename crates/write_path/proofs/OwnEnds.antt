@@ -35,11 +35,15 @@ ends_proposed opened s t own program by r (outcome.Conflict409 at leaf) left end
 ends_proposed opened s t own program by r (outcome.Denied403 at rule) left ends = left.log ∙ ends
 ends_proposed opened s t own program by r (outcome.Stored sequence at) left ends =
     stored_more opened s t own (entry.Write left.write) sequence left.log (at_sequence s t (entry.Write left.write) sequence left.log left.next) ends
+ends_proposed opened s t own program by r (outcome.Full503 at places) left ends = left.log ∙ ends
+ends_proposed opened s t own program by r (outcome.LogFull509 at entries bytes) left ends = left.log ∙ ends
 ends_proposed opened s t own program by r outcome.Memory507 left ends = left.log ∙ ends
 
 pub ends_commanded : (opened : List Entry) (s t : State) (own : List Waiting) (e : Entry) (answer : Outcome) → IsBoardCommanded s t e answer → s.log ≡ opened ++ in_order own → t.log ≡ opened ++ in_order (own_after own t.log answer)
 ends_commanded opened s t own e (outcome.Stored sequence at) left ends =
     stored_more opened s t own e sequence left.log (at_sequence s t e sequence left.log left.next) ends
+ends_commanded opened s t own e (outcome.Full503 at places) left ends = left.0.log ∙ ends
+ends_commanded opened s t own e (outcome.LogFull509 at entries bytes) left ends = left.0.log ∙ ends
 ends_commanded opened s t own e outcome.Memory507 left ends = left.log ∙ ends
 ends_commanded opened s t own e (outcome.Bad400 field) left ends = absurd left
 ends_commanded opened s t own e (outcome.TooLarge413 bytes) left ends = absurd left

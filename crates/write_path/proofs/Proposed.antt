@@ -12,9 +12,9 @@ use Rattle.sync_syntax.specs.declared.tree.Program.{Program}
 use Rattle.doc_board.specs.declared.outcome.Outcome.{Outcome}
 use Rattle.doc_board.specs.declared.outcome.Outcome.TheVariants as outcome
 use Rattle.doc_board.specs.Boards.{board_of}
-use Rattle.doc_board.specs.Outcomes.{IsOutcome}
+use Rattle.doc_board.specs.Outcomes.{IsOutcome, IsByLimits, bytes_of}
 use Rattle.doc_board.specs.State.{State}
-use Rattle.write_path.specs.Proposals.{IsAnswered, IsProposed, IsAsBefore, IsBoardAfter, Stores, recorded_after}
+use Rattle.write_path.specs.Proposals.{IsAnswered, IsRoomed, IsProposed, IsAsBefore, IsBoardAfter, Stores, recorded_after}
 use Rattle.write_path.specs.Reads.{IsAfterAll, Reads, WasRead}
 use Rattle.write_path.specs.Own.{own_before, own_after}
 use Rattle.write_path.proofs.Grown.{Extended, after_entry, small_body, at_end}
@@ -28,26 +28,29 @@ Itself = (b : BoardState) → After b b
 
 -- ---- the board after an answer
 
--- boards with the same log and rooms are one board
+-- boards with the same log, the same that waits and the same rooms are one board
 pub same_board : (s t : State) → IsAsBefore s t → board_of t ≡ board_of s
 same_board s t e =
-    ap (λ (es : List Entry). board_of (record { log = es; rooms = t.rooms; known = 0; reads = 0 })) e.log
-    ∙ ap (λ (rooms : List RoomFor). board_of (record { log = s.log; rooms = rooms; known = 0; reads = 0 })) e.rooms
+    ap (λ (es : List Entry). board_of (record { log = es; pending = t.pending; rooms = t.rooms; known = 0; reads = 0 })) e.log
+    ∙ ap (λ (ws : List Waiting). board_of (record { log = s.log; pending = ws; rooms = t.rooms; known = 0; reads = 0 })) e.pending
+    ∙ ap (λ (rooms : List RoomFor). board_of (record { log = s.log; pending = s.pending; rooms = rooms; known = 0; reads = 0 })) e.rooms
 
 pub same_after : Itself → (s t : State) → IsAsBefore s t → After (board_of s) (board_of t)
 same_after itself s t e = subst (λ (b : BoardState). After (board_of s) b) (sym (same_board s t e)) (itself (board_of s))
 
-pub after_answer : Extended → Itself → (s t : State) (program : Program) (strict : Bool) (by : Option (List ℕ)) (r : Revision) (answer : Outcome) → IsOutcome program strict by r (board_of s) answer → IsBoardAfter s t program by r answer → After (board_of s) (board_of t)
-after_answer extended itself s t program strict by r (outcome.Bad400 field) is left = same_after itself s t left
-after_answer extended itself s t program strict by r (outcome.TooLarge413 bytes) is left = same_after itself s t left
-after_answer extended itself s t program strict by r (outcome.UserGone401 at) is left = same_after itself s t left
-after_answer extended itself s t program strict by r (outcome.Known at) is left = same_after itself s t left
-after_answer extended itself s t program strict by r (outcome.BadHistory400 at) is left = same_after itself s t left
-after_answer extended itself s t program strict by r (outcome.Conflict409 at leaf) is left = same_after itself s t left
-after_answer extended itself s t program strict by r (outcome.Denied403 at rule) is left = same_after itself s t left
-after_answer extended itself s t program strict by r (outcome.Stored sequence at) is left =
-    after_entry extended s t (entry.Write left.write) left.log left.rooms (subst (λ (body : List ℕ). length body ≤ 20971520) (sym left.is_write.body) (small_body r.body is.0.formed.size))
-after_answer extended itself s t program strict by r outcome.Memory507 is left = same_after itself s t left
+pub after_answer : Extended → Itself → (s t : State) (program : Program) (strict : Bool) (by : Option (List ℕ)) (r : Revision) (answer : Outcome) → s.pending ≡ [] → IsOutcome program strict by r (board_of s) answer → IsBoardAfter s t program by r answer → After (board_of s) (board_of t)
+after_answer extended itself s t program strict by r (outcome.Bad400 field) alone is left = same_after itself s t left
+after_answer extended itself s t program strict by r (outcome.TooLarge413 bytes) alone is left = same_after itself s t left
+after_answer extended itself s t program strict by r (outcome.UserGone401 at) alone is left = same_after itself s t left
+after_answer extended itself s t program strict by r (outcome.Known at) alone is left = same_after itself s t left
+after_answer extended itself s t program strict by r (outcome.BadHistory400 at) alone is left = same_after itself s t left
+after_answer extended itself s t program strict by r (outcome.Conflict409 at leaf) alone is left = same_after itself s t left
+after_answer extended itself s t program strict by r (outcome.Denied403 at rule) alone is left = same_after itself s t left
+after_answer extended itself s t program strict by r (outcome.Stored sequence at) alone is left =
+    after_entry extended s t (entry.Write left.write) alone left.pending left.log left.rooms (subst (λ (body : List ℕ). length body ≤ 20971520) (sym left.is_write.body) (small_body r.body is.0.formed.size))
+after_answer extended itself s t program strict by r (outcome.Full503 at places) alone is left = same_after itself s t left
+after_answer extended itself s t program strict by r (outcome.LogFull509 at entries bytes) alone is left = same_after itself s t left
+after_answer extended itself s t program strict by r outcome.Memory507 alone is left = same_after itself s t left
 
 pub no_rooms : (s t : State) (program : Program) (by : Option (List ℕ)) (r : Revision) (answer : Outcome) → s.rooms ≡ [] → IsBoardAfter s t program by r answer → t.rooms ≡ []
 no_rooms s t program by r (outcome.Bad400 field) none left = left.rooms ∙ none
@@ -58,7 +61,22 @@ no_rooms s t program by r (outcome.BadHistory400 at) none left = left.rooms ∙ 
 no_rooms s t program by r (outcome.Conflict409 at leaf) none left = left.rooms ∙ none
 no_rooms s t program by r (outcome.Denied403 at rule) none left = left.rooms ∙ none
 no_rooms s t program by r (outcome.Stored sequence at) none left = left.rooms ∙ none
+no_rooms s t program by r (outcome.Full503 at places) none left = left.rooms ∙ none
+no_rooms s t program by r (outcome.LogFull509 at entries bytes) none left = left.rooms ∙ none
 no_rooms s t program by r outcome.Memory507 none left = left.rooms ∙ none
+
+pub none_waits : (s t : State) (program : Program) (by : Option (List ℕ)) (r : Revision) (answer : Outcome) → s.pending ≡ [] → IsBoardAfter s t program by r answer → t.pending ≡ []
+none_waits s t program by r (outcome.Bad400 field) none left = left.pending ∙ none
+none_waits s t program by r (outcome.TooLarge413 bytes) none left = left.pending ∙ none
+none_waits s t program by r (outcome.UserGone401 at) none left = left.pending ∙ none
+none_waits s t program by r (outcome.Known at) none left = left.pending ∙ none
+none_waits s t program by r (outcome.BadHistory400 at) none left = left.pending ∙ none
+none_waits s t program by r (outcome.Conflict409 at leaf) none left = left.pending ∙ none
+none_waits s t program by r (outcome.Denied403 at rule) none left = left.pending ∙ none
+none_waits s t program by r (outcome.Stored sequence at) none left = left.pending ∙ none
+none_waits s t program by r (outcome.Full503 at places) none left = left.pending ∙ none
+none_waits s t program by r (outcome.LogFull509 at entries bytes) none left = left.pending ∙ none
+none_waits s t program by r outcome.Memory507 none left = left.pending ∙ none
 
 pub same_length : (s t : State) → IsAsBefore s t → Some (length t.log) ≡ Some (length s.log)
 same_length s t e = ap (λ (es : List Entry). Some (length es)) e.log
@@ -73,6 +91,8 @@ recorded_then s t program by r (outcome.Conflict409 at leaf) left = same_length 
 recorded_then s t program by r (outcome.Denied403 at rule) left = same_length s t left
 recorded_then s t program by r (outcome.Stored sequence at) left =
     ap (λ (es : List Entry). Some (length es)) left.log ∙ ap (λ (n : ℕ). Some n) (length-append s.log (entry.Write left.write ∷ []))
+recorded_then s t program by r (outcome.Full503 at places) left = same_length s t left
+recorded_then s t program by r (outcome.LogFull509 at entries bytes) left = same_length s t left
 recorded_then s t program by r outcome.Memory507 left = same_length s t left
 
 -- ---- two reads, of which the second is of a board that comes after the first
@@ -105,24 +125,28 @@ answered : (before after : List BoardState) (s t : State) (program : Program) (s
 answered before after s t program strict by r answer read is =
     record { board = board_of s; was_read = first_read before after (board_of s) (board_of t) read; has_length = refl; outcome = is }
 
+abbrev pub roomed : (before after : List BoardState) (s t : State) (bytes : ℕ) (answer : Outcome) → after ≡ board_of t ∷ board_of s ∷ before → IsByLimits bytes (board_of s) answer → IsRoomed before after (Some (length s.log)) bytes answer
+roomed before after s t bytes answer read limits =
+    record { board = board_of s; was_read = first_read before after (board_of s) (board_of t) read; has_length = refl; limits = limits }
+
 pub at_sequence : (s t : State) (e : Entry) (sequence : ℕ) → t.log ≡ s.log ++ e ∷ [] → sequence ≡ length s.log + 1 → book_of t.log sequence ≡ Some e
 at_sequence s t e sequence log next =
     ap (λ (n : ℕ). book_of t.log n) next ∙ ap (λ (es : List Entry). book_of es (length s.log + 1)) log ∙ at_end s.log e
 
-proposed : (before after : List BoardState) (own : List Waiting) (s t : State) (program : Program) (strict : Bool) (by : Option (List ℕ)) (r : Revision) (answer : Outcome) → after ≡ board_of t ∷ board_of s ∷ before → IsOutcome program strict by r (board_of s) answer → IsBoardAfter s t program by r answer → IsProposed before after own (own_after own t.log answer) (Some (length s.log)) program strict by r answer
-proposed before after own s t program strict by r (outcome.Bad400 field) read is left = (refl, is)
-proposed before after own s t program strict by r (outcome.TooLarge413 bytes) read is left = (refl, is)
-proposed before after own s t program strict by r (outcome.UserGone401 at) read is left =
+proposed : (before after : List BoardState) (own : List Waiting) (s t : State) (program : Program) (strict : Bool) (by : Option (List ℕ)) (r : Revision) (answer : Outcome) → s.pending ≡ [] → after ≡ board_of t ∷ board_of s ∷ before → IsOutcome program strict by r (board_of s) answer → IsByLimits (bytes_of r) (board_of s) answer → IsBoardAfter s t program by r answer → IsProposed before after own (own_after own t.log answer) (Some (length s.log)) program strict by r answer
+proposed before after own s t program strict by r (outcome.Bad400 field) alone read is limits left = (refl, is)
+proposed before after own s t program strict by r (outcome.TooLarge413 bytes) alone read is limits left = (refl, is)
+proposed before after own s t program strict by r (outcome.UserGone401 at) alone read is limits left =
     (refl, answered before after s t program strict by r (outcome.UserGone401 at) read is)
-proposed before after own s t program strict by r (outcome.Known at) read is left =
+proposed before after own s t program strict by r (outcome.Known at) alone read is limits left =
     (refl, answered before after s t program strict by r (outcome.Known at) read is)
-proposed before after own s t program strict by r (outcome.BadHistory400 at) read is left =
+proposed before after own s t program strict by r (outcome.BadHistory400 at) alone read is limits left =
     (refl, answered before after s t program strict by r (outcome.BadHistory400 at) read is)
-proposed before after own s t program strict by r (outcome.Conflict409 at leaf) read is left =
+proposed before after own s t program strict by r (outcome.Conflict409 at leaf) alone read is limits left =
     (refl, answered before after s t program strict by r (outcome.Conflict409 at leaf) read is)
-proposed before after own s t program strict by r (outcome.Denied403 at rule) read is left =
+proposed before after own s t program strict by r (outcome.Denied403 at rule) alone read is limits left =
     (refl, answered before after s t program strict by r (outcome.Denied403 at rule) read is)
-proposed before after own s t program strict by r (outcome.Stored sequence at) read is left =
+proposed before after own s t program strict by r (outcome.Stored sequence at) alone read is limits left =
     let there : book_of t.log sequence ≡ Some (entry.Write left.write) = at_sequence s t (entry.Write left.write) sequence left.log left.next in
     record {
       judged = board_of s;
@@ -134,12 +158,17 @@ proposed before after own s t program strict by r (outcome.Stored sequence at) r
       own = ap (λ (o : Option Entry). own_before o sequence own) there;
       holding = board_of t;
       was_read = second_read before after (board_of s) (board_of t) read;
-      there = ap (λ (book : Book). book sequence) (same_book t) ∙ there;
+      there = ap (λ (book : Book). book sequence) (same_book t (left.pending ∙ alone)) ∙ there;
+      room = roomed before after s t (bytes_of r) (outcome.Stored sequence at) read limits;
     }
-proposed before after own s t program strict by r outcome.Memory507 read is left = refl
+proposed before after own s t program strict by r (outcome.Full503 at places) alone read is limits left =
+    record { own = refl; judged = answered before after s t program strict by r (outcome.Full503 at places) read is; room = roomed before after s t (bytes_of r) (outcome.Full503 at places) read limits }
+proposed before after own s t program strict by r (outcome.LogFull509 at entries bytes) alone read is limits left =
+    record { own = refl; judged = answered before after s t program strict by r (outcome.LogFull509 at entries bytes) read is; room = roomed before after s t (bytes_of r) (outcome.LogFull509 at entries bytes) read limits }
+proposed before after own s t program strict by r outcome.Memory507 alone read is limits left = refl
 
-pub stores : Extended → Itself → Again → (before after : List BoardState) (own later_own : List Waiting) (s t : State) (program : Program) (strict : Bool) (by : Option (List ℕ)) (r : Revision) (answer : Outcome) → after ≡ board_of t ∷ board_of s ∷ before → later_own ≡ own_after own t.log answer → IsAfterAll before (board_of s) → IsOutcome program strict by r (board_of s) answer → IsBoardAfter s t program by r answer → Stores before after (length s.log) (length t.log) own later_own (Some (length s.log)) program strict by r answer
-stores extended itself again before after own later_own s t program strict by r answer read owns all is left = record {
-  reads = two_reads again before after (board_of s) (board_of t) read all (after_answer extended itself s t program strict by r answer is left);
-  proposed = subst (λ (o : List Waiting). IsProposed before after own o (Some (length s.log)) program strict by r answer) (sym owns) (proposed before after own s t program strict by r answer read is left);
+pub stores : Extended → Itself → Again → (before after : List BoardState) (own later_own : List Waiting) (s t : State) (program : Program) (strict : Bool) (by : Option (List ℕ)) (r : Revision) (answer : Outcome) → s.pending ≡ [] → after ≡ board_of t ∷ board_of s ∷ before → later_own ≡ own_after own t.log answer → IsAfterAll before (board_of s) → IsOutcome program strict by r (board_of s) answer → IsByLimits (bytes_of r) (board_of s) answer → IsBoardAfter s t program by r answer → Stores before after (length s.log) (length t.log) own later_own (Some (length s.log)) program strict by r answer
+stores extended itself again before after own later_own s t program strict by r answer alone read owns all is limits left = record {
+  reads = two_reads again before after (board_of s) (board_of t) read all (after_answer extended itself s t program strict by r answer alone is left);
+  proposed = subst (λ (o : List Waiting). IsProposed before after own o (Some (length s.log)) program strict by r answer) (sym owns) (proposed before after own s t program strict by r answer alone read is limits left);
 }

@@ -6,12 +6,12 @@ use Rattle.sg_history.specs.Board.{BoardState, board_book}
 use Rattle.doc_board.specs.declared.outcome.Outcome.{Outcome}
 use Rattle.doc_board.specs.declared.outcome.Outcome.TheVariants as outcome
 use Rattle.doc_board.specs.State.{State}
-use Rattle.write_path.specs.Proposals.{IsAsBefore}
+use Rattle.write_path.specs.Proposals.{IsAsBefore, IsRoomed}
 use Rattle.write_path.specs.Reads.{Reads, WasRead, HasLength}
 
 -- ---- at any ground
 
--- the entry is the one that is own since; it stands at its sequence in the book of a board that was read in between, and `at` is the length of the log of one before, which has the recorded length
+-- the entry is the one that is own since; it stands at its sequence in the book of a board that was read in between, and `at` is the length of the log of one before, which has the recorded length; and one more had room for it
 pub record IsCommandStored (before after : List BoardState) (own_before own_after : List Waiting) (recorded : Option ℕ) (e : Entry) (sequence at : ℕ) : Type 0 where
   pub own : own_after ≡ record { number = sequence; entry = e } ∷ own_before
   pub holding : BoardState
@@ -22,11 +22,22 @@ pub record IsCommandStored (before after : List BoardState) (own_before own_afte
   pub has_length : HasLength recorded earlier
   pub front : at ≡ length earlier.log
   pub next : at < sequence
+  pub room : IsRoomed before after recorded 0 (outcome.Stored sequence at)
 
--- the entry is stored, or memory was short and nothing is own that was not
+-- the entry was refused a room by the sums of a board that was read in between, whose log has the length `at`; nothing is own that was not
+pub record IsCommandRefused (before after : List BoardState) (own_before own_after : List Waiting) (recorded : Option ℕ) (at : ℕ) (answer : Outcome) : Type 0 where
+  pub own : own_after ≡ own_before
+  pub room : IsRoomed before after recorded 0 answer
+  pub front : at ≡ length room.board.log
+
+-- the entry is stored or refused a room, or memory was short and nothing is own that was not
 abbrev pub IsCommanded : List BoardState → List BoardState → List Waiting → List Waiting → Option ℕ → Entry → Outcome → Type 0
 IsCommanded before after own_before own_after recorded e (outcome.Stored sequence at) =
     IsCommandStored before after own_before own_after recorded e sequence at
+IsCommanded before after own_before own_after recorded e (outcome.Full503 at places) =
+    IsCommandRefused before after own_before own_after recorded at (outcome.Full503 at places)
+IsCommanded before after own_before own_after recorded e (outcome.LogFull509 at entries bytes) =
+    IsCommandRefused before after own_before own_after recorded at (outcome.LogFull509 at entries bytes)
 IsCommanded before after own_before own_after recorded e outcome.Memory507 = own_after ≡ own_before
 IsCommanded before after own_before own_after recorded e other = ⊥
 
@@ -37,15 +48,18 @@ pub record Commands (before after : List BoardState) (lowest_before lowest_after
 
 -- ---- at a board with one owner
 
--- the log has the entry besides, at this sequence, which is its end; the rooms are as before
+-- the log has the entry besides, at this sequence, which is its end; what waits and the rooms are as before
 pub record IsGrownBy (before after : State) (e : Entry) (sequence at : ℕ) : Type 0 where
   pub next : sequence ≡ length before.log + 1
   pub front : at ≡ length before.log
   pub log : after.log ≡ before.log ++ e ∷ []
+  pub pending : after.pending ≡ before.pending
   pub rooms : after.rooms ≡ before.rooms
 
 -- what the board is after the answer: with the command's entry where that was stored, else as before
 abbrev pub IsBoardCommanded : State → State → Entry → Outcome → Type 0
 IsBoardCommanded before after e (outcome.Stored sequence at) = IsGrownBy before after e sequence at
+IsBoardCommanded before after e (outcome.Full503 at places) = IsAsBefore before after × (at ≡ length before.log)
+IsBoardCommanded before after e (outcome.LogFull509 at entries bytes) = IsAsBefore before after × (at ≡ length before.log)
 IsBoardCommanded before after e outcome.Memory507 = IsAsBefore before after
 IsBoardCommanded before after e other = ⊥

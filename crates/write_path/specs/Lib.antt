@@ -6,6 +6,7 @@ pub mod Feed
 pub mod Own
 pub mod Proposals
 pub mod Reads
+pub mod Retry
 pub mod Shape
 pub mod Solo
 pub mod Trail

@@ -9,7 +9,7 @@ use Rattle.sync_syntax.specs.declared.tree.Program.{Program}
 use Rattle.doc_board.specs.declared.outcome.Outcome.{Outcome}
 use Rattle.doc_board.specs.declared.outcome.Outcome.TheVariants as outcome
 use Rattle.doc_board.specs.Boards.{board_of}
-use Rattle.doc_board.specs.Outcomes.{IsOutcome, IsBadField, IsTooLarge, IsWriteOf}
+use Rattle.doc_board.specs.Outcomes.{IsOutcome, IsBadField, IsTooLarge, IsWriteOf, IsByLimits, bytes_of}
 use Rattle.doc_board.specs.State.{State}
 use Rattle.write_path.specs.Reads.{Reads, WasRead, HasLength}
 
@@ -22,11 +22,19 @@ pub record IsAnswered (before after : List BoardState) (recorded : Option ℕ) (
   pub has_length : HasLength recorded board
   pub outcome : IsOutcome program strict by r board answer
 
--- the write of the revision, judged by one board that was read in between, is the one entry that is own since; it stands at its sequence in the book of another board that was read in between
+-- the answer goes with the limits of a board that was read in between, whose log has the recorded length, for so many bytes
+pub record IsRoomed (before after : List BoardState) (recorded : Option ℕ) (bytes : ℕ) (answer : Outcome) : Type 0 where
+  pub board : BoardState
+  pub was_read : WasRead before after board
+  pub has_length : HasLength recorded board
+  pub limits : IsByLimits bytes board answer
+
+-- the write of the revision, judged by one board that was read in between, is the one entry that is own since; it stands at its sequence in the book of another board that was read in between; and one more had room for it
 pub record IsStored (before after : List BoardState) (own_before own_after : List Waiting) (recorded : Option ℕ) (program : Program) (strict : Bool) (by : Option (List ℕ)) (r : Revision) (sequence at : ℕ) : Type 0 where
   pub judged : BoardState
   pub was_judged : WasRead before after judged
   pub has_length : HasLength recorded judged
+  pub room : IsRoomed before after recorded (bytes_of r) (outcome.Stored sequence at)
   pub outcome : IsOutcome program strict by r judged (outcome.Stored sequence at)
   pub write : Write
   pub is_write : IsWriteOf program by r judged write
@@ -34,6 +42,12 @@ pub record IsStored (before after : List BoardState) (own_before own_after : Lis
   pub holding : BoardState
   pub was_read : WasRead before after holding
   pub there : board_book holding sequence ≡ Some (entry.Write write)
+
+-- the revision was judged by a board that was read in between, and refused a room by the sums of one; nothing is own that was not
+pub record IsRefused (before after : List BoardState) (own_before own_after : List Waiting) (recorded : Option ℕ) (program : Program) (strict : Bool) (by : Option (List ℕ)) (r : Revision) (answer : Outcome) : Type 0 where
+  pub own : own_after ≡ own_before
+  pub judged : IsAnswered before after recorded program strict by r answer
+  pub room : IsRoomed before after recorded (bytes_of r) answer
 
 -- what is answered: without a board where the revision itself is refused, else by a board that was read in between; and what is own since: the stored write, at every other answer nothing more
 abbrev pub IsProposed : List BoardState → List BoardState → List Waiting → List Waiting → Option ℕ → Program → Bool → Option (List ℕ) → Revision → Outcome → Type 0
@@ -51,6 +65,10 @@ IsProposed before after own_before own_after recorded program strict by r (outco
     (own_after ≡ own_before) × IsAnswered before after recorded program strict by r (outcome.Denied403 at rule)
 IsProposed before after own_before own_after recorded program strict by r (outcome.Stored sequence at) =
     IsStored before after own_before own_after recorded program strict by r sequence at
+IsProposed before after own_before own_after recorded program strict by r (outcome.Full503 at places) =
+    IsRefused before after own_before own_after recorded program strict by r (outcome.Full503 at places)
+IsProposed before after own_before own_after recorded program strict by r (outcome.LogFull509 at entries bytes) =
+    IsRefused before after own_before own_after recorded program strict by r (outcome.LogFull509 at entries bytes)
 IsProposed before after own_before own_after recorded program strict by r outcome.Memory507 = own_after ≡ own_before
 
 -- what proposing does to the boards read, to the lowest front and to the own entries, and what it answers
@@ -66,16 +84,18 @@ recorded_after (Some n) answer = Some n
 
 -- ---- at a board with one owner
 
--- the log and the rooms are as before
+-- the log, what waits and the rooms are as before
 pub record IsAsBefore (before after : State) : Type 0 where
   pub log : after.log ≡ before.log
+  pub pending : after.pending ≡ before.pending
   pub rooms : after.rooms ≡ before.rooms
 
--- the log has the write of the revision besides, at this sequence, which is its end; the rooms are as before
+-- the log has the write of the revision besides, at this sequence, which is its end; what waits and the rooms are as before
 pub record IsGrown (before after : State) (program : Program) (by : Option (List ℕ)) (r : Revision) (sequence : ℕ) : Type 0 where
   pub write : Write
   pub next : sequence ≡ length before.log + 1
   pub log : after.log ≡ before.log ++ entry.Write write ∷ []
+  pub pending : after.pending ≡ before.pending
   pub rooms : after.rooms ≡ before.rooms
   pub is_write : IsWriteOf program by r (board_of before) write
 
@@ -89,4 +109,6 @@ IsBoardAfter before after program by r (outcome.BadHistory400 at) = IsAsBefore b
 IsBoardAfter before after program by r (outcome.Conflict409 at leaf) = IsAsBefore before after
 IsBoardAfter before after program by r (outcome.Denied403 at rule) = IsAsBefore before after
 IsBoardAfter before after program by r (outcome.Stored sequence at) = IsGrown before after program by r sequence
+IsBoardAfter before after program by r (outcome.Full503 at places) = IsAsBefore before after
+IsBoardAfter before after program by r (outcome.LogFull509 at entries bytes) = IsAsBefore before after
 IsBoardAfter before after program by r outcome.Memory507 = IsAsBefore before after

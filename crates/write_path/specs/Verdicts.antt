@@ -47,9 +47,11 @@ pub record IsBasis (s : State) (by : Option (List ℕ)) (r : Revision) (basis : 
   pub documents : IfSome basis.old (λ body. HasDocument body)
   pub context : IsContext (reverse s.log) by basis.context
 
--- the outcome of a revision that extends its document's tree, judged at this front: it is stored where the program accepts it, and denied by its rule where it denies
+-- the outcome of a revision that extends its document's tree, judged at this front: it is stored or refused a room where the program accepts it, and denied by its rule where it denies
 abbrev pub IsDecided : Program → Option (List ℕ) → Revision → BoardState → ℕ → Outcome → Type 0
 IsDecided program by r board front (outcome.Stored sequence at) = IsAccepted program by r board × (at ≡ front) × (front < sequence)
+IsDecided program by r board front (outcome.Full503 at places) = IsAccepted program by r board × (at ≡ front)
+IsDecided program by r board front (outcome.LogFull509 at entries bytes) = IsAccepted program by r board × (at ≡ front)
 IsDecided program by r board front (outcome.Denied403 at rule) = IsSaid program by r board (Err (stop.Deny rule)) × (at ≡ front)
 IsDecided program by r board front outcome.Memory507 = Unit {0}
 IsDecided program by r board front other = ⊥

@@ -149,6 +149,7 @@ fn body_of(alloc: Global, look: &Look<'_>, most: u64, row: &Row) -> Result<Body,
         → IsViewer look.now.viewer (reverse look.now.entries.now) }
     ensures { IfOk result (λ body. body ≡ by_look.looked look.now most row.now) }
 {
+    doc_board::laws::boards();
     let now = state(look.index, look.entries, &row.doc);
     let shown = shown(&look.channels, look.filter, now);
     let tree = look.board.tree(&row.doc);

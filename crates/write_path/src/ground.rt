@@ -105,7 +105,8 @@ pub trait Ground: Drop {
             program.now (strict || revision.noconflicts) (option_copied by.entry) revision result }
         ensures recorded { recorded self.new ≡ recorded_after (recorded self.old) result };
 
-    /// Puts or drops a user or a role: stores the command's entry, which is in its grammar, or answers that memory is short.
+    /// Puts or drops a user or a role: stores the command's entry, which is in its grammar, or answers that there is no room for it,
+    /// or that memory is short.
     fn command(&mut self, command: Command) -> Outcome
         requires { IsEntry (entry_of command) }
         ensures commands { Commands (read self.old) (read self.new) (lowest_front self.old)

@@ -1,6 +1,6 @@
 //! Proposals: a revision is read, judged by the board, and stored.
 
-ghost use Rattle.std.specs.Prelude.{◌≡◌, ◌≢◌, ◌≤◌, ◌+◌, ◌++◌, ◌∷◌, ◌||◌, [], true, false, length, take, option_map, Some, Ok, IfOk, IfErr, IfSome, IfNone, IsTrue, IsUtf8};
+ghost use Rattle.std.specs.Prelude.{◌≡◌, ◌≢◌, ◌≤◌, ◌+◌, ◌++◌, ◌∷◌, ◌||◌, [], true, false, length, take, option_map, Some, Ok, IfOk, IfErr, IfSome, OnErr, IsTrue, IsUtf8};
 ghost use Rattle.std.specs.Option.{option_copied};
 ghost use Rattle.sg_names.specs.Grammar.{is_name, is_doc_id};
 ghost use Rattle.sg_names.specs.RevId as names;
@@ -16,17 +16,19 @@ ghost use Rattle.doc_board.specs.Answers.{IsNewTree, IsStep, proposer_exists};
 ghost use Rattle.doc_board.specs.Boards.{board_of, board_tree};
 ghost use Rattle.doc_board.specs.Candidates.{ExtendsTree};
 ghost use Rattle.doc_board.specs.Judging.{IsSaid, body_or_empty};
-ghost use Rattle.doc_board.specs.Outcomes.{IsOutcome, IsWellFormed};
+ghost use Rattle.doc_board.specs.Limits.{refusal};
+ghost use Rattle.doc_board.specs.Outcomes.{IsByLimits, IsOutcome, IsWellFormed, bytes_of};
 ghost use Rattle.doc_board.specs.Recorded.{HasDocument};
 ghost use Rattle.doc_board.specs.State.{newest_first, tree_on, last_on};
 ghost use Rattle.write_path.specs.Proposals.{IsAsBefore, IsBoardAfter};
-ghost use Rattle.write_path.specs.Shape.{IsRefusal, IsWritten, IsStoredOrMemory};
+ghost use Rattle.write_path.specs.Shape.{IsRefusal, IsStoredBut, IsStoredOrNot, IsWritten};
 ghost use Rattle.write_path.specs.Verdicts.{IsBasis, IsDecided};
 
 use crate::judging::{Basis, document_in, said_of};
+use crate::refused::without_room;
 use crate::texts::pass_effects;
-use doc_board::laws::{boards, winners};
-use doc_board::{Board, Candidate, Commit, MOST_BODY_BYTES, Outcome, Snapshot};
+use doc_board::laws::{alone, boards, winners};
+use doc_board::{Board, Candidate, Commit, MOST_BODY_BYTES, NoRoom, Outcome, Snapshot};
 use json_doc::Doc;
 use repl_messages::{Field, Revision};
 use rev_tree::{Extended, Tree};
@@ -129,7 +131,7 @@ fn winner_of(alloc: Global, tree: &Tree) -> Result<RevId, AllocError>
 
 /// The write of a revision that was judged at a front, with so many of its ancestors, the tree after it, and the effects with
 /// which it is accepted.
-fn write_of(
+pub(crate) fn write_of(
     alloc: Global,
     by: Option<&Name>,
     revision: Revision,
@@ -167,15 +169,16 @@ fn write_of(
 /// What the board said of a revision that it has room for: at which front, after which last write of its document, and with
 /// which tree and so many of its ancestors.
 #[derive(Drop)]
-struct Judged {
-    at: u64,
-    base: u64,
-    tree: Tree,
-    kept: u64,
+pub(crate) struct Judged {
+    pub at: u64,
+    pub base: u64,
+    pub tree: Tree,
+    pub kept: u64,
 }
 
-/// Stores a write that the board judged in this turn: its sequence, or none where memory is short.
-fn store(board: &mut Board, entry: Write, tree: Tree, base: u64) -> Option<u64>
+/// Stores a write that the board judged in this turn: its sequence, or why there is no room for it.
+fn store(board: &mut Board, entry: Write, tree: Tree, base: u64) -> Result<u64, NoRoom>
+    requires pending { board.old.pending ≡ [] }
     requires rooms { board.old.rooms ≡ [] }
     requires entry { IsEntry (kinds.Write entry) }
     requires size { length entry.body ≤ 20971520 }
@@ -183,19 +186,20 @@ fn store(board: &mut Board, entry: Write, tree: Tree, base: u64) -> Option<u64>
     requires at { entry.at ≡ length board.old.log }
     requires base { base ≡ last_on board.old entry.doc }
     requires extends { ExtendsTree (tree_on board.old entry.doc) entry tree }
-    ensures sequence { IfSome result (λ sequence. sequence ≡ length board.old.log + 1) }
-    ensures stored { IfSome result
+    ensures sequence { IfOk result (λ sequence. sequence ≡ length board.old.log + 1) }
+    ensures stored { IfOk result
         (λ sequence. board.new.log ≡ board.old.log ++ kinds.Write entry ∷ []) }
-    ensures none { IfNone result (board.new.log ≡ board.old.log) }
+    ensures none { OnErr result (board.new.log ≡ board.old.log) }
+    ensures refused { IsStoredBut (refusal (board_of board.old) (length entry.body)) result }
+    ensures pending { board.new.pending ≡ [] }
     ensures rooms { board.new.rooms ≡ [] }
 {
+    alone();
     let bytes = entry.body.len() as u64;
-    let Ok(room) = board.room(Some(&entry.doc), bytes) else {
-        return None;
-    };
+    let room = board.room(Some(&entry.doc), bytes)?;
     let number = Number::new(board.front() + 1);
     match board.commit(room, number, Candidate::Write { entry, tree, base }) {
-        Commit::Stored { sequence, at: _at } => Some(sequence),
+        Commit::Stored { sequence, at: _at } => Ok(sequence),
         Commit::Stale {
             room,
             number,
@@ -217,6 +221,7 @@ fn store_revision(
     judged: Judged,
     effects: Effects,
 ) -> Outcome
+    requires pending { board.old.pending ≡ [] }
     requires rooms { board.old.rooms ≡ [] }
     requires formed { IsWellFormed revision }
     requires at { judged.at ≡ length board.old.log }
@@ -224,7 +229,8 @@ fn store_revision(
     requires tree { IsNewTree (board_tree (board_of board.old) revision.doc) revision
         judged.tree judged.kept }
     requires effects { AreEffects effects }
-    ensures answer { IsStoredOrMemory result judged.at }
+    ensures answer { IsStoredOrNot result judged.at }
+    ensures limits { IsByLimits (bytes_of revision) (board_of board.old) result }
     ensures board { (program : Program)
         → IsSaid program (option_copied by.entry) revision (board_of board.old) (Ok effects)
         → IsBoardAfter board.old board.new program (option_copied by.entry) revision result }
@@ -242,8 +248,8 @@ fn store_revision(
         return Outcome::Memory507;
     };
     match store(board, entry, tree, base) {
-        None => Outcome::Memory507,
-        Some(sequence) => Outcome::Stored { sequence, at },
+        Ok(sequence) => Outcome::Stored { sequence, at },
+        Err(why) => without_room(at, why),
     }
 }
 
@@ -258,6 +264,7 @@ fn store_accepted(
     basis: Basis,
     judged: Judged,
 ) -> Outcome
+    requires pending { board.old.pending ≡ [] }
     requires rooms { board.old.rooms ≡ [] }
     requires formed { IsWellFormed revision }
     requires document { IsDocument revision.body (node_tree doc) }
@@ -268,6 +275,7 @@ fn store_accepted(
         judged.tree judged.kept }
     ensures answer { IsDecided program.now (option_copied by.entry) revision
         (board_of board.old) judged.at result }
+    ensures limits { IsByLimits (bytes_of revision) (board_of board.old) result }
     ensures board { IsBoardAfter board.old board.new program.now (option_copied by.entry)
         revision result }
 {
@@ -281,7 +289,7 @@ fn store_accepted(
 }
 
 /// What is needed to judge a revision, by the trees of the board, which has the same log and rooms then.
-fn snapshot_of(
+pub(crate) fn snapshot_of(
     board: &mut Board,
     revision: &Revision,
     strict: bool,
@@ -301,8 +309,8 @@ fn snapshot_of(
     board.snapshot(revision, strict, by)
 }
 
-/// Has the board and the program judge a revision that is well formed, and stores it where it extends its document's tree and
-/// the program accepts it.
+/// Has the board and the program judge a revision that is well formed, and stores it where it extends its document's tree, the
+/// program accepts it, and the board has room for it.
 fn judge(
     alloc: Global,
     board: &mut Board,
@@ -312,11 +320,13 @@ fn judge(
     revision: Revision,
     doc: Doc,
 ) -> Outcome
+    requires pending { board.old.pending ≡ [] }
     requires rooms { board.old.rooms ≡ [] }
     requires formed { IsWellFormed revision }
     requires document { IsDocument revision.body (node_tree doc) }
     ensures outcome { IsOutcome program.now strict (option_copied by.entry) revision
         (board_of board.old) result }
+    ensures limits { IsByLimits (bytes_of revision) (board_of board.old) result }
     ensures board { IsBoardAfter board.old board.new program.now (option_copied by.entry)
         revision result }
 {
@@ -358,8 +368,8 @@ fn judge(
 }
 
 /// Proposes a revision to a board, by a user or by the administrator: it is stored where it is well formed, its proposer
-/// exists, it extends its document's tree, and the program accepts it; under `strict` it may make no conflict, nor where the
-/// revision says so.
+/// exists, it extends its document's tree, the program accepts it, and the board has room for it; under `strict` it may make no
+/// conflict, nor where the revision says so.
 pub fn propose_to(
     alloc: Global,
     board: &mut Board,
@@ -368,9 +378,11 @@ pub fn propose_to(
     strict: bool,
     revision: Revision,
 ) -> Outcome
-    requires { board.old.rooms ≡ [] }
+    requires pending { board.old.pending ≡ [] }
+    requires rooms { board.old.rooms ≡ [] }
     ensures outcome { IsOutcome program.now (strict || revision.noconflicts)
         (option_copied by.entry) revision (board_of board.old) result }
+    ensures limits { IsByLimits (bytes_of revision) (board_of board.old) result }
     ensures board { IsBoardAfter board.old board.new program.now (option_copied by.entry)
         revision result }
 {

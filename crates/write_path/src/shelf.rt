@@ -21,7 +21,7 @@ impl Shelf {
     }
 }
 
-// Nothing waits at it, and it has no side map and no fault.
+// It has no side map and no fault.
 impl Kept for Shelf {
     ghost use Rattle.doc_board.specs.Boards.{board_of};
 

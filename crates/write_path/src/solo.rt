@@ -5,7 +5,7 @@ ghost use Rattle.std.specs.Option.{option_copied};
 ghost use Rattle.sg_history.specs.Journal.{IsEntry};
 ghost use Rattle.principals.specs.Script.{entry_of};
 ghost use Rattle.doc_board.specs.Boards.{board_of};
-ghost use Rattle.doc_board.specs.Outcomes.{IsOutcome};
+ghost use Rattle.doc_board.specs.Outcomes.{IsByLimits, IsOutcome, bytes_of};
 ghost use Rattle.write_path.specs.Commands.{Commands, IsBoardCommanded};
 ghost use Rattle.write_path.specs.Own.{EndsWith, own_after};
 ghost use Rattle.write_path.specs.Proposals.{Stores, IsBoardAfter, recorded_after};
@@ -29,9 +29,9 @@ use std::alloc::Global;
 use std::marker::Model;
 use sync_resolve::Resolved;
 
-/// A ground that owns its shelf and waits for nobody. No room is outstanding between its calls. Each look for bodies
-/// applies the log to a history of grants, which has an index of the log, too. Its log ends with the entries that it has
-/// stored.
+/// A ground that owns its shelf and waits for nobody. Nothing waits at its board, and no room is outstanding between its calls.
+/// Each look for bodies applies the log to a history of grants, which has an index of the log, too. Its log ends with the
+/// entries that it has stored.
 #[derive(Drop)]
 pub struct SoloGround {
     shelf: Shelf,
@@ -54,13 +54,14 @@ impl Model for SoloGround {
 
     ghost invariant = { λ g. IsAfterAll g.read (board_of g.shelf.board)
         × (g.shelf.board.rooms ≡ []) × StandsFor g.grants g.shelf.board.log
-        × EndsWith g.shelf.board.log g.own };
+        × EndsWith g.shelf.board.log g.own × (g.shelf.board.pending ≡ []) };
 }
 
 impl SoloGround {
-    /// A ground over a shelf, whose board it has not read. Allocates nothing.
+    /// A ground over a shelf at whose board nothing waits, which it has not read. Allocates nothing.
     pub fn new(shelf: Shelf) -> SoloGround
-        requires { shelf.board.rooms ≡ [] }
+        requires pending { shelf.board.pending ≡ [] }
+        requires rooms { shelf.board.rooms ≡ [] }
         ensures board { result.board ≡ shelf.board }
         ensures read { result.read ≡ [] }
         ensures own { result.own ≡ [] }
@@ -75,9 +76,10 @@ impl SoloGround {
     }
 
     /// The shelf, whose board comes after all that were read, so that its history counts for them, and ends with the entries that
-    /// were stored, in their order; no room is outstanding.
+    /// were stored, in their order; nothing waits, and no room is outstanding.
     pub fn into_inner(self) -> Shelf
         ensures board { result.board ≡ self.board }
+        ensures pending { result.board.pending ≡ [] }
         ensures rooms { result.board.rooms ≡ [] }
         ensures after { IsAfterAll self.read (board_of result.board) }
         ensures later { IsLaterThanAll self.read result.board.log }
@@ -162,7 +164,8 @@ impl Ground for SoloGround {
         ensures outcome { IsOutcome program.now (strict || revision.noconflicts)
             (option_copied by.entry) revision (board_of self.old.board) result }
         ensures own { self.new.own ≡ own_after self.old.own self.new.board.log result }
-        // The log and the rooms are as before at every answer other than Stored.
+        ensures limits { IsByLimits (bytes_of revision) (board_of self.old.board) result }
+        // The log, what waits and the rooms are as before at every answer other than Stored.
         ensures board { IsBoardAfter self.old.board self.new.board program.now
             (option_copied by.entry) revision result }
     {
@@ -184,7 +187,8 @@ impl Ground for SoloGround {
         ensures recorded { Some (length self.new.board.log)
             ≡ recorded_after (Some (length self.old.board.log)) result }
         ensures own { self.new.own ≡ own_after self.old.own self.new.board.log result }
-        // The log and the rooms are as before where memory is short.
+        ensures limits { IsByLimits 0 (board_of self.old.board) result }
+        // The log, what waits and the rooms are as before at every answer other than Stored.
         ensures board { IsBoardCommanded self.old.board self.new.board (entry_of command) result }
     {
         sg_history::laws::boards();

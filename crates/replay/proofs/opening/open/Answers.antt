@@ -1,9 +1,13 @@
-use Rattle.std.proofs.Common.{◌++◌, ◌∙◌, List, ap}
+use Rattle.std.proofs.Common.{◌++◌, ◌∙◌, List, arith, ap, refl, subst, sym, take}
 use Rattle.std.proofs.lemmas.Result.{on_ok_weaker}
 use Rattle.sg_history.specs.declared.entries.Entry.{Entry}
 use Rattle.replay.specs.Opening.{IsOpening, IsRoleEntry, IsUserEntry}
-use Rattle.replay.specs.Shape.{IsGrownByAll}
+use Rattle.replay.specs.Shape.{IsGrownByAll, IsOpened}
+use Rattle.replay.proofs.Growing.{cut_again}
 use Rattle.replay.proofs.opening.open.Goals as goal
+
+pub put_roles-requires-clause-opened : goal.put_roles-requires-clause-opened
+put_roles-requires-clause-opened c = subst (λ (log : List Entry). IsOpened log) (sym c.requires.empty) (record { few = omega arith; bodies = refl })
 
 pub returns-clause-opening : goal.returns-clause-opening
 returns-clause-opening c =
@@ -15,6 +19,6 @@ returns-clause-opening c =
       users = users.0;
       are_roles = roles.1;
       are_users = users.1;
-      entries = users.2 ∙ ap (λ (l : List Entry). l ++ users.0) (roles.2 ∙ ap (λ (l : List Entry). l ++ roles.0) c.requires.empty);
+      entries = users.2 ∙ ap (λ (l : List Entry). take 3999999 (l ++ users.0)) (roles.2 ∙ ap (λ (l : List Entry). take 3999999 (l ++ roles.0)) c.requires.empty) ∙ cut_again 3999999 roles.0 users.0;
     } in
     on_ok_weaker c.put_users.result whole c.put_users.ensures.users

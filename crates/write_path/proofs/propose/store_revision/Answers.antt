@@ -14,7 +14,7 @@ store-requires-clause-entry c =
     let on : ExtendsTree (tree_on s w.doc) w c.args.judged.tree =
     extends_on s (option_copied c.args.by) c.args.revision c.args.judged.at c.args.judged.tree c.args.judged.kept c.args.effects w (c.boards.ensures.trees s c.args.revision.doc) c.requires.tree c.in-Ok.ensures.write in
     let named : IsTrue (is_rev w.rev) = subst (λ (rev : RevId). IsTrue (is_rev rev)) (sym c.in-Ok.ensures.write.rev) c.requires.formed.named.rev in
-    c.in-Ok.ensures.entry (c.winners.ensures s w c.args.judged.tree c.log.ensures.lawful (c.log.ensures.accepted w.doc) on named)
+    c.in-Ok.ensures.entry (c.winners.ensures s w c.args.judged.tree c.log.ensures.entries (c.log.ensures.accepted w.doc) on named)
 
 pub store-requires-clause-extends : goal.store-requires-clause-extends
 store-requires-clause-extends c =
