@@ -29,7 +29,8 @@ pub fn log_of(alloc: Global, lines: &str) -> Result<Log, Fail>
 
 /// The board of such a journal.
 pub fn board_of(alloc: Global, lines: &str) -> Result<Board, Fail>
-    ensures { IfOk result (λ board. board.rooms ≡ []) }
+    ensures pending { IfOk result (λ board. board.pending ≡ []) }
+    ensures rooms { IfOk result (λ board. board.rooms ≡ []) }
 {
     let log = log_of(alloc, lines)?;
     Ok(Board::open(alloc, log)?)

@@ -1,15 +1,9 @@
-//! Tests of the board and of grounds.
+//! Tests of the board.
 #![tactic(auto)]
 
 #[cfg(test)]
 mod boards;
 #[cfg(test)]
-mod commands;
-#[cfg(test)]
-mod grounds;
-#[cfg(test)]
 mod journals;
 #[cfg(test)]
-mod programs;
-#[cfg(test)]
-mod proposals;
+mod waiting;

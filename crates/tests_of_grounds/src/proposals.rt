@@ -73,6 +73,14 @@ fn denied_text(alloc: Global, at: u64, rule: &Rule) -> Result<String, Fail> {
     Ok(format!(in alloc; "denied at {at}: {}", rule.as_str())?)
 }
 
+fn full_text(alloc: Global, at: u64, places: u64) -> Result<String, Fail> {
+    Ok(format!(in alloc; "full at {at} with {places} places")?)
+}
+
+fn log_full_text(alloc: Global, at: u64, entries: u64, bytes: u64) -> Result<String, Fail> {
+    Ok(format!(in alloc; "log full at {at} with {entries} entries and {bytes} bytes")?)
+}
+
 pub fn outcome_text(alloc: Global, outcome: &Outcome) -> Result<String, Fail> {
     match outcome {
         Outcome::Bad400 { field } => worded(alloc, "bad", field.as_str()),
@@ -83,6 +91,8 @@ pub fn outcome_text(alloc: Global, outcome: &Outcome) -> Result<String, Fail> {
         Outcome::Conflict409 { at, leaf } => conflict_text(alloc, *at, leaf),
         Outcome::Denied403 { at, rule } => denied_text(alloc, *at, rule),
         Outcome::Stored { sequence, at } => stored_text(alloc, *sequence, *at),
+        Outcome::Full503 { at, places } => full_text(alloc, *at, *places),
+        Outcome::LogFull509 { at, entries, bytes } => log_full_text(alloc, *at, *entries, *bytes),
         Outcome::Memory507 => worded(alloc, "out of", "memory"),
     }
 }

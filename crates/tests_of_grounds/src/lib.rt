@@ -1,0 +1,13 @@
+//! Tests of grounds.
+#![tactic(auto)]
+
+#[cfg(test)]
+mod commands;
+#[cfg(test)]
+mod grounds;
+#[cfg(test)]
+mod journals;
+#[cfg(test)]
+mod programs;
+#[cfg(test)]
+mod proposals;
