@@ -10,7 +10,7 @@ use crate::slots::Slots;
 use json_doc::DocText;
 use sqlite_items::{Boxed, Items};
 use std::alloc::Global;
-use sync_meaning::{Scope, Shared, Slot};
+use sync_meaning::{Scope, Slot, Text};
 use sync_syntax::tree::{Expr, Operator, Suffix};
 use sync_tokens::Place;
 
@@ -29,7 +29,7 @@ pub(crate) fn slot_of(
 fn text(alloc: Global, place: Place, text: &DocText) -> Result<Code, Memory>
     ensures { IfOk result (λ made. made ≡ Code.Text place text.now) }
 {
-    Ok(Code::Text(place, Shared::new(alloc, text.copy(alloc)?)?))
+    Ok(Code::Text(place, Text::from_str(alloc, text.as_str())?))
 }
 
 /// The code of an expression.

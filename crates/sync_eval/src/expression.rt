@@ -19,7 +19,7 @@ use sqlite_items::Items;
 use std::alloc::Global;
 use sync_code::{Code, Tail};
 use sync_meaning::{
-    Builtin, FaultKind, Method, Rule, RuleKind, Shared, Slot, State, Stop, Target, Value, bounded,
+    Builtin, FaultKind, Method, Rule, RuleKind, Slot, State, Stop, Target, Text, Value, bounded,
     built_in, by_method, combined, indexed, listed, member, prefixed, truth,
 };
 use sync_syntax::tree::{Operator, Prefix};
@@ -182,7 +182,7 @@ fn literal(state: &mut State, place: Place, found: Result<Value, Stop>) -> Resul
 
 /// What a text of the program evaluates to.
 #[tactic(auto, unfolding(sync_meaning::specs::Expressions::literal))]
-fn text(state: &mut State, place: Place, text: &Shared<DocText>) -> Result<Value, Stop>
+fn text(state: &mut State, place: Place, text: &Text) -> Result<Value, Stop>
     ensures { Does (spec.literal place (Ok (Value.Text text.now)) state.old) result state.new }
 {
     state.visit(place)?;

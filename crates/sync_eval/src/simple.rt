@@ -37,7 +37,7 @@ pub(crate) fn place_of_simple(simple: &Plain) -> Place
 
 /// The text that an object has under `forbidden`.
 #[tactic(auto, unfolding(sync_meaning::specs::Statements::forbidden_in))]
-fn forbidden_in(value: &Value) -> Option<&DocText>
+fn forbidden_in(value: &Value) -> Option<&str>
     ensures { option_map (λ text. text.now) result ≡ spec.forbidden_in value.now }
 {
     match value {
@@ -55,7 +55,7 @@ fn thrown(alloc: Global, place: Place, value: &Value) -> Stop
     ensures { result ≢ Stop.Memory → result ≡ spec.thrown place value.now }
 {
     match forbidden_in(value) {
-        Some(text) => match text.copy(alloc) {
+        Some(text) => match DocText::from_str(alloc, text) {
             Ok(text) => Stop::Deny(Rule {
                 kind: RuleKind::Forbidden(text),
                 place,

@@ -7,5 +7,6 @@ pub mod Expressions
 pub mod Statements
 pub mod Meaning
 pub mod Texts
+pub mod Kept
 pub mod Laws
 pub mod formers

@@ -17,11 +17,11 @@ use sync_tokens::Place;
 
 /// The text that a value is.
 #[tactic(auto, unfolding(crate::specs::Builtins::text_in))]
-pub fn text_in(value: &Value) -> Option<&DocText>
+pub fn text_in(value: &Value) -> Option<&str>
     ensures { option_map (λ text. text.now) result ≡ spec.text_in value.now }
 {
     match value {
-        Value::Text(text) => Some(text.get()),
+        Value::Text(text) => Some(text.as_str()),
         _ => None,
     }
 }
@@ -36,7 +36,7 @@ fn texts_of(alloc: Global, values: &[Value]) -> Result<Option<Items<DocText>>, M
         let Some(text) = text_in(value) else {
             return Ok(None);
         };
-        found.push(text.copy(alloc)?)?;
+        found.push(DocText::from_str(alloc, text)?)?;
         left = rest;
     }
     Ok(Some(found))
@@ -51,7 +51,7 @@ fn texts_in(alloc: Global, place: Place, value: &Value) -> Result<Items<DocText>
         Value::Undefined | Value::Null => Some(Items::new(alloc)),
         Value::Text(text) => {
             let mut one = Items::new(alloc);
-            one.push(text.get().copy(alloc)?)?;
+            one.push(DocText::from_str(alloc, text.as_str())?)?;
             Some(one)
         }
         Value::List(values) => texts_of(alloc, values.get().as_slice())?,

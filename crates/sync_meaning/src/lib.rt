@@ -14,6 +14,7 @@ mod operators;
 mod scope;
 mod shared;
 mod state;
+mod text;
 mod value;
 mod variables;
 
@@ -28,6 +29,7 @@ pub use operators::{added, bounded, combined, integer_in, prefixed, subtracted, 
 pub use scope::Scope;
 pub use shared::Shared;
 pub use state::{Context, State};
+pub use text::Text;
 pub use value::{Value, last_named, value_of};
 pub use variables::{Slot, Variable, Variables};
 

@@ -88,7 +88,7 @@ pub fn member(place: Place, name: &str, value: &Value) -> Result<Value, Stop>
         Value::Undefined | Value::Null => Err(Stop::fault(FaultKind::NullMember, place)),
         Value::Object(members) => { Ok(or_undefined(last_named(name, members.get().as_slice()))?) }
         Value::List(values) => Ok(length_or(name, values.get().len())?),
-        Value::Text(text) => Ok(length_or(name, units(text.get().as_str().as_bytes())?)?),
+        Value::Text(text) => Ok(length_or(name, units(text.as_str().as_bytes())?)?),
         _ => Ok(Value::Undefined),
     }
 }
@@ -111,7 +111,7 @@ pub fn indexed(place: Place, value: &Value, index: &Value) -> Result<Value, Stop
     match (value, index) {
         (Value::Undefined | Value::Null, _) => Err(Stop::fault(FaultKind::NullMember, place)),
         (Value::Object(members), Value::Text(name)) => Ok(or_undefined(last_named(
-            name.get().as_str(),
+            name.as_str(),
             members.get().as_slice(),
         ))?),
         (Value::List(values), Value::Integer(at)) => Ok(item_at(values.get().as_slice(), *at)?),
@@ -203,10 +203,7 @@ fn begins_with(place: Place, text: &Value, front: &Value) -> Result<Value, Stop>
 {
     match (text, front) {
         (Value::Text(a), Value::Text(b)) => Ok(Value::Bool(
-            a.get()
-                .as_str()
-                .as_bytes()
-                .starts_with(b.get().as_str().as_bytes()),
+            a.as_str().as_bytes().starts_with(b.as_str().as_bytes()),
         )),
         _ => Err(Stop::fault(FaultKind::TypeFault, place)),
     }

@@ -31,7 +31,7 @@ pub fn truth(place: Place, value: &Value) -> Result<bool, Stop>
         Value::Bool(truth) => Ok(*truth),
         Value::Integer(n) => Ok(*n != 0),
         Value::Opaque => Err(Stop::fault(FaultKind::TypeFault, place)),
-        Value::Text(text) => Ok(0 < text.get().len()),
+        Value::Text(text) => Ok(0 < text.len()),
         Value::List(_) | Value::Object(_) => Ok(true),
     }
 }
@@ -58,7 +58,7 @@ fn joined(alloc: Global, place: Place, first: &str, second: &str) -> Result<Valu
     }
     let mut text = DocText::from_str(alloc, first)?;
     text.push_str(second)?;
-    Ok(Value::text(alloc, text)?)
+    Ok(Value::text(alloc, text.as_str())?)
 }
 
 /// The decimal of an integer.
@@ -76,19 +76,14 @@ pub fn added(alloc: Global, place: Place, x: &Value, y: &Value) -> Result<Value,
 {
     match (x, y) {
         (Value::Integer(a), Value::Integer(b)) => bounded(place, *a as i128 + *b as i128),
-        (Value::Text(a), Value::Text(b)) => joined(
-            alloc,
-            place,
-            a.get().as_str(),
-            b.get().as_str(),
-        ),
+        (Value::Text(a), Value::Text(b)) => joined(alloc, place, a.as_str(), b.as_str()),
         (Value::Text(a), Value::Integer(b)) => {
             let b = decimal_of(alloc, *b)?;
-            joined(alloc, place, a.get().as_str(), b.as_str())
+            joined(alloc, place, a.as_str(), b.as_str())
         }
         (Value::Integer(a), Value::Text(b)) => {
             let a = decimal_of(alloc, *a)?;
-            joined(alloc, place, a.as_str(), b.get().as_str())
+            joined(alloc, place, a.as_str(), b.as_str())
         }
         _ => Err(Stop::fault(FaultKind::TypeFault, place)),
     }
@@ -142,7 +137,7 @@ fn compared(place: Place, x: &Value, y: &Value) -> Result<Ordering, Stop>
     match (x, y) {
         (Value::Integer(a), Value::Integer(b)) => Ok(a.cmp(b)),
         (Value::Text(a), Value::Text(b)) => {
-            Ok(a.get().as_str().as_bytes().cmp(b.get().as_str().as_bytes()))
+            Ok(a.as_str().as_bytes().cmp(b.as_str().as_bytes()))
         },
         _ => Err(Stop::fault(FaultKind::TypeFault, place)),
     }
@@ -164,7 +159,7 @@ pub(crate) fn same(x: &Value, y: &Value) -> bool
         (Value::Undefined, Value::Undefined) | (Value::Null, Value::Null) => true,
         (Value::Bool(a), Value::Bool(b)) => { if *a { *b } else { !*b } }
         (Value::Integer(a), Value::Integer(b)) => *a == *b,
-        (Value::Text(a), Value::Text(b)) => a.get().as_str() == b.get().as_str(),
+        (Value::Text(a), Value::Text(b)) => a.as_str() == b.as_str(),
         _ => false,
     }
 }
@@ -221,6 +216,26 @@ fn strictly_equal(place: Place, x: &Value, y: &Value) -> Result<bool, Stop>
 }
 
 /// What an operator makes of both operands. `||` and `&&` come here with the second one alone.
+fn of_both(alloc: Global, place: Place, op: Operator, x: &Value, y: &Value) -> Result<Value, Stop>
+    ensures { Gives (spec.combined place op x.now y.now) result }
+{
+    match op {
+        Operator::Add => added(alloc, place, x, y),
+        Operator::Subtract => subtracted(place, x, y),
+        Operator::Multiply => multiplied(place, x, y),
+        Operator::Less => Ok(Value::Bool(compared(place, x, y)?.is_lt())),
+        Operator::LessOrEqual => Ok(Value::Bool(!compared(place, x, y)?.is_gt())),
+        Operator::Greater => Ok(Value::Bool(compared(place, x, y)?.is_gt())),
+        Operator::GreaterOrEqual => Ok(Value::Bool(!compared(place, x, y)?.is_lt())),
+        Operator::Equal => Ok(Value::Bool(loosely_equal(place, x, y)?)),
+        Operator::NotEqual => Ok(Value::Bool(!loosely_equal(place, x, y)?)),
+        Operator::Same => Ok(Value::Bool(strictly_equal(place, x, y)?)),
+        Operator::NotSame => Ok(Value::Bool(!strictly_equal(place, x, y)?)),
+        Operator::Or | Operator::And => Ok(y.share()?),
+    }
+}
+
+/// The same of operands that nothing else needs.
 pub fn combined(
     alloc: Global,
     place: Place,
@@ -230,20 +245,7 @@ pub fn combined(
 ) -> Result<Value, Stop>
     ensures { Gives (spec.combined place op x y) result }
 {
-    match op {
-        Operator::Add => added(alloc, place, &x, &y),
-        Operator::Subtract => subtracted(place, &x, &y),
-        Operator::Multiply => multiplied(place, &x, &y),
-        Operator::Less => Ok(Value::Bool(compared(place, &x, &y)?.is_lt())),
-        Operator::LessOrEqual => Ok(Value::Bool(!compared(place, &x, &y)?.is_gt())),
-        Operator::Greater => Ok(Value::Bool(compared(place, &x, &y)?.is_gt())),
-        Operator::GreaterOrEqual => Ok(Value::Bool(!compared(place, &x, &y)?.is_lt())),
-        Operator::Equal => Ok(Value::Bool(loosely_equal(place, &x, &y)?)),
-        Operator::NotEqual => Ok(Value::Bool(!loosely_equal(place, &x, &y)?)),
-        Operator::Same => Ok(Value::Bool(strictly_equal(place, &x, &y)?)),
-        Operator::NotSame => Ok(Value::Bool(!strictly_equal(place, &x, &y)?)),
-        Operator::Or | Operator::And => Ok(y),
-    }
+    of_both(alloc, place, op, &x, &y)
 }
 
 /// What `typeof` gives.
@@ -267,6 +269,6 @@ pub fn prefixed(alloc: Global, place: Place, op: Prefix, x: &Value) -> Result<Va
     match op {
         Prefix::Not => Ok(Value::Bool(!truth(place, x)?)),
         Prefix::Negate => negated(place, x),
-        Prefix::Typeof => Ok(Value::text(alloc, DocText::from_str(alloc, kind_name(x))?)?),
+        Prefix::Typeof => Ok(Value::text(alloc, kind_name(x))?),
     }
 }

@@ -7,12 +7,13 @@ ghost use Rattle.sync_meaning.specs.Values.{value_of, values_of, members_of, las
 
 use crate::Memory;
 use crate::shared::Shared;
+use crate::text::Text;
 use json_doc::{DocText, Members, Node};
 use sqlite_items::Items;
 use std::alloc::Global;
 
 /// A value. Of an opaque number nothing is known but that it is a number. Of two members of one
-/// name the later counts. Its texts, lists and members are shared, so that no copy of them is made.
+/// name the later counts. Its lists, members and longer texts are shared, so that no copy of them is made.
 #[derive(Debug, Drop)]
 pub enum Value {
     Undefined,
@@ -20,7 +21,7 @@ pub enum Value {
     Bool(bool),
     Integer(i64),
     Opaque,
-    Text(Shared<DocText>),
+    Text(Text),
     List(Shared<Items<Value>>),
     Object(Shared<Items<(DocText, Value)>>),
 }
@@ -43,10 +44,10 @@ impl Value {
     }
 
     /// A text.
-    pub fn text(alloc: Global, text: DocText) -> Result<Value, Memory>
-        ensures { IfOk result (λ made. made ≡ Value.Text text) }
+    pub fn text(alloc: Global, text: &str) -> Result<Value, Memory>
+        ensures { IfOk result (λ made. made ≡ Value.Text text.now) }
     {
-        Ok(Value::Text(Shared::new(alloc, text)?))
+        Ok(Value::Text(Text::from_str(alloc, text)?))
     }
 
     /// A list of these.
@@ -85,7 +86,7 @@ pub fn value_of(alloc: Global, node: &Node) -> Result<Value, Memory>
         Node::Bool(truth) => Ok(Value::Bool(*truth)),
         Node::Int(n) => Ok(Value::Integer(*n)),
         Node::Opaque => Ok(Value::Opaque),
-        Node::Text(text) => Value::text(alloc, text.copy(alloc)?),
+        Node::Text(text) => Value::text(alloc, text.as_str()),
         Node::List(nodes) => Value::list(alloc, values_of(alloc, nodes.as_slice())?),
         Node::Object(members) => Value::object(alloc, members_of(alloc, members)?),
     }
@@ -95,13 +96,13 @@ pub fn value_of(alloc: Global, node: &Node) -> Result<Value, Memory>
 fn values_of(alloc: Global, nodes: &[Node]) -> Result<Items<Value>, Memory>
     ensures { IfOk result (λ values. values ≡ values_of (row_trees nodes.now)) }
 {
-    let mut made = Items::new(alloc);
+    let mut made = Vec::with_capacity(alloc, nodes.len())?;
     let mut left = nodes;
     while let [node, rest @ ..] = left {
         made.push(value_of(alloc, node)?)?;
         left = rest;
     }
-    Ok(made)
+    Ok(Items::from_vec(made))
 }
 
 #[cycle(convert)]

@@ -15,7 +15,7 @@ decreases-members_of l = field_sizes (members_fields l.members.now)
 
 abbrev pub invariant-values_of-loop-left : goal.invariant-values_of-loop-left
 invariant-values_of-loop-left l =
-    (values_of (row_trees l.fn.nodes) ≡ l.made ++ values_of (row_trees l.left)) × (sizes (row_trees l.left) ≤ sizes (row_trees l.fn.nodes))
+    (values_of (row_trees l.fn.nodes) ≡ l.made.items ++ values_of (row_trees l.left)) × (sizes (row_trees l.left) ≤ sizes (row_trees l.fn.nodes))
 
 abbrev pub decreases-values_of-loop-left : goal.decreases-values_of-loop-left
 decreases-values_of-loop-left l = length l.left
