@@ -7,6 +7,7 @@ mod Loops
 mod Names
 mod Ordered
 mod Passes
+mod Winners
 mod PeriodSpans
 mod Places
 mod RowLists

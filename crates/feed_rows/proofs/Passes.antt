@@ -1,5 +1,5 @@
 -- what a pass knows after one entry more
-use Rattle.std.proofs.Common.{◌≡◌, ℕ, ◌+◌, refl, sym, ◌∙◌, ap, subst, Bool, true, false, ◌||◌, if◌then◌else◌, List, [], ◌∷◌, ◌++◌, length, map, Option, Some, None}
+use Rattle.std.proofs.Common.{◌≡◌, ℕ, refl, sym, ◌∙◌, ap, subst, Bool, true, false, ◌||◌, if◌then◌else◌, List, [], ◌∷◌, ◌++◌, map, Option, Some, None}
 use Rattle.std.proofs.Math.Path.{fun_ext}
 use Rattle.std.specs.Prelude.{slice_get, slice_set}
 use Rattle.std.specs.Borrow.{Bor}
@@ -8,21 +8,18 @@ use Rattle.std.specs.List.{list_any}
 use Rattle.std.specs.Str.{bytes_eq}
 use Rattle.std.proofs.lemmas.List.{map-append, map-id}
 use Rattle.std.proofs.lemmas.Simd.{map-map}
-use Rattle.sg_names.specs.RevId.{same_rev}
 use Rattle.sg_history.specs.declared.entries.Entry.{Entry}
 use Rattle.sg_history.specs.declared.entries.Entry.TheVariants as entry
 use Rattle.sg_history.specs.declared.entries.Write.{Write}
 use Rattle.sg_history.specs.History.{as_write, of_document, document_of, write_to, documents, among}
-use Rattle.sg_history.specs.Current.{Sequenced, current, current_after, sequenced_or, last_write, write_or, with_rev_or, write_of_rev, write_alone}
 use Rattle.sg_history.specs.Feed.{row_of}
 use Rattle.feed_rows.specs.declared.document.Document.{Document}
 use Rattle.feed_rows.specs.declared.pass.Pass.{Pass}
 use Rattle.feed_rows.specs.declared.shown.Viewer.{Viewer}
-use Rattle.feed_rows.specs.Latest.{written_as}
-use Rattle.feed_rows.specs.Index.{IsIndex, IsWriteIndex, winner_among, alone_or}
+use Rattle.feed_rows.specs.Index.{IsIndex}
 use Rattle.feed_rows.specs.Known.{Known, known_at, known_in, blank, add_blank, there, written_names, distinct_of, add_name}
 use Rattle.feed_rows.specs.PassAt.{PassAt}
-use Rattle.feed_rows.proofs.Names.{any_distinct, distinct_names, get_there, set_there, placed_among, text_is_itself, other_texts}
+use Rattle.feed_rows.proofs.Names.{any_distinct, distinct_names, get_there, set_there, placed_among, other_texts}
 use Rattle.feed_rows.proofs.Steps.{current_same, current_never, row_never, since_other, writes_other}
 
 -- a search over what a function gives
@@ -53,7 +50,6 @@ unwritten e es viewer pass none known =
           ∙ ap (λ (f : List ℕ → Known). map f (written_names es)) (fun_ext (λ n. known_same e es viewer.user.now viewer.filter.now n (writes_none e n none)))
           ∙ ap (map (known_at (e ∷ es) viewer.user.now viewer.filter.now)) names;
       places = subst (λ (ns : List (List ℕ)). IsIndex ns pass.places) names known.places;
-      writes = λ doc rev. known.writes doc rev ∙ sym (ap (λ (w : Option Write). write_alone (with_rev_or w (length es + 1) rev (write_of_rev es doc rev))) (writes_none e doc none));
     }
 
 -- a document that was never written
@@ -90,20 +86,6 @@ pub names_are : (f : List ℕ → Known) (items : List Document) (names : List (
 names_are f items names named h =
     sym (map-map (λ (k : Known). k.name) known_in items) ∙ ap (map (λ (k : Known). k.name)) h ∙ map-map (λ (k : Known). k.name) f names
     ∙ ap (λ (g : List ℕ → List ℕ). map g names) (fun_ext named) ∙ map-id names
-
--- what a document is after a write, by the index of writes
-pub latest_is : (w : Write) (es : List Entry) (writes : BTreeMap (Bor (List ℕ) × ℕ × Bor (List ℕ)) (Bor Write)) → IsWriteIndex es writes → Some (written_as (length es + 1) (winner_among writes w)) ≡ current (entry.Write w ∷ es) w.doc
-latest_is w es writes is =
-    let last : Sequenced = record { seq = length es + 1; write = w } in
-    ap (λ (o : Option Write). Some (written_as (length es + 1) (if same_rev w.rev w.winner then w else alone_or o w))) (is w.doc w.winner)
-    ∙ ap (λ (x : Write). Some (written_as (length es + 1) x)) (chosen (same_rev w.rev w.winner) (write_of_rev es w.doc w.winner))
-    ∙ sym (ap (λ (b : Bool). current_after (entry.Write w ∷ es) w.doc (sequenced_or (if b then Some w else None) (length es + 1) (last_write es w.doc))) (text_is_itself w.doc)
-    ∙ ap (λ (b : Bool). Some (written_as (length es + 1) (write_or (with_rev_or (if b then Some w else None) (length es + 1) w.winner (write_of_rev es w.doc w.winner)) last).write)) (text_is_itself w.doc))
-  where
-    chosen : (b : Bool) (o : Option Sequenced) → (if b then w else alone_or (write_alone o) w) ≡ (write_or (if b then Some (record { seq = length es + 1; write = w }) else o) (record { seq = length es + 1; write = w })).write
-    chosen true o = refl
-    chosen false None = refl
-    chosen false (Some other) = refl
 
 -- a pass that gave a written document its place
 module _ (w : Write) (es : List Entry) (viewer : Viewer) (before : Pass) (known : PassAt es viewer before) (k : ℕ) (placed : List Document) (documents_are : map known_in placed ≡ add_blank w.doc (map known_in before.documents.items)) (at : slice_get (map (λ d. d.name.now) placed) k ≡ Some w.doc) where

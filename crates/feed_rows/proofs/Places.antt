@@ -57,3 +57,7 @@ reverse_next xs i e h is =
     next [] n lt at = absurd (omega (arith, lt))
     next (y ∷ ys) zero lt at = ap (λ (x : Entry). x ∷ []) (sym at)
     next (y ∷ ys) (suc n) lt at = ap (λ (l : List Entry). y ∷ l) (next ys n (omega (arith, lt)) at)
+
+pub take_all : (xs : List Entry) → take (length xs) xs ≡ xs
+take_all [] = refl
+take_all (x ∷ xs) = ap (λ (l : List Entry). x ∷ l) (take_all xs)

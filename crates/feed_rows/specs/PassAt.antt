@@ -8,7 +8,7 @@ use Rattle.sg_history.specs.Principals.{has_channel}
 use Rattle.feed_rows.specs.declared.document.Latest.{Latest}
 use Rattle.feed_rows.specs.declared.pass.Pass.{Pass}
 use Rattle.feed_rows.specs.declared.shown.Viewer.{Viewer}
-use Rattle.feed_rows.specs.Index.{IsIndex, IsWriteIndex}
+use Rattle.feed_rows.specs.Index.{IsIndex}
 use Rattle.feed_rows.specs.Known.{known_at, known_in, written_names}
 use Rattle.feed_rows.specs.Latest.{winner_in}
 use Rattle.feed_rows.specs.Spans.{RiseAll, has_at}
@@ -38,4 +38,3 @@ pub record PassAt (es : List Entry) (viewer : Viewer) (pass : Pass) : Type 0 whe
   pub documents : map known_in pass.documents.items
       ≡ map (known_at es viewer.user.now viewer.filter.now) (written_names es)
   pub places : IsIndex (written_names es) pass.places
-  pub writes : IsWriteIndex es pass.writes

@@ -6,6 +6,7 @@ ghost use Rattle.sg_history.specs.declared.entries.Entry.{Entry};
 ghost use Rattle.sg_history.specs.declared.row.Row.{Row};
 ghost use Rattle.sg_history.specs.Feed as feed;
 ghost use Rattle.sg_history.specs.View.{Shown};
+ghost use Rattle.grant_history.specs.Winners.{AreWinners};
 ghost use Rattle.feed_rows.specs.Known.{known_at, known_in, row_in};
 ghost use Rattle.feed_rows.specs.Ordered.{asked_rows, insert_asked, under_key};
 ghost use Rattle.feed_rows.specs.PassAt.{IsViewer};
@@ -148,20 +149,23 @@ fn values_of(alloc: Global, rows: BTreeMap<(u64, u64), Row>) -> Result<Vec<Row>,
     rows.into_values().collect(alloc)
 }
 
-/// The rows of a user's changes feed at the end of some entries, by one pass over them.
+/// The rows of a user's changes feed at the end of some entries, by one pass over them, given the winners
+/// at them.
 pub fn rows_of_pass(
     alloc: Global,
     viewer: &Viewer<'_>,
     entries: &[Entry],
+    winners: &[u64],
     since: &Key,
     options: &Options,
 ) -> Result<Vec<Row>, AllocError>
+    requires winners { AreWinners entries.now winners.now (length entries.now) }
     requires viewer { IsViewer viewer.now (reverse entries.now) }
     requires filter { options.now.filter ≡ viewer.now.filter.now }
     ensures { IfOk result (λ rows. rows.items ≡ feed.feed
         (reverse entries.now) viewer.now.user.now since.now options.now) }
 {
-    let pass = pass_over(alloc, viewer, entries)?;
+    let pass = pass_over(alloc, viewer, entries, winners)?;
     let documents = pass.documents.as_slice();
     let found = map_of(alloc, viewer, options, since, entries, documents)?;
     let rows = values_of(alloc, found)?;

@@ -11,7 +11,7 @@ ghost use Rattle.feed_rows.specs.PassAt.{IsViewer};
 use crate::asked::rows_of_pass;
 use crate::shown::Viewer;
 use crate::spans::spans_in;
-use grant_history::{Period, periods_up_to};
+use grant_history::{Period, periods_by, winners_of};
 use sg_history::{Channels, Key, Log, Name, Options, Rows};
 use std::alloc::{AllocError, Global};
 
@@ -51,9 +51,10 @@ pub fn rows(
     ensures { IfOk result (λ rows. rows ≡ feed.feed
         (past (entries_of log.now) front) user.now since.now options.now) }
 {
-    let periods = periods_up_to(alloc, log, front, user)?;
-    let viewer = viewer_of(alloc, user, &options.filter, periods.as_slice())?;
     let entries = &log.entries.as_slice()[..front as usize];
-    let rows = rows_of_pass(alloc, &viewer, entries, since, options)?;
+    let winners = winners_of(alloc, entries)?;
+    let periods = periods_by(alloc, entries, winners.as_slice(), user)?;
+    let viewer = viewer_of(alloc, user, &options.filter, periods.as_slice())?;
+    let rows = rows_of_pass(alloc, &viewer, entries, winners.as_slice(), since, options)?;
     Ok(Rows::from_vec(rows))
 }

@@ -141,3 +141,11 @@ module _ (store : Store) (entries : List Entry) (front : ℕ) (high : front ≤ 
         have_places = all.have_places;
         apart = all.apart;
       }
+
+take_all : (entries : List Entry) → take (length entries) entries ≡ entries
+take_all [] = refl
+take_all (e ∷ entries) = ap (λ (es : List Entry). e ∷ es) (take_all entries)
+
+-- what is kept of entries is kept of as many of them as they are
+pub whole_store : (store : Store) (entries : List Entry) → StoreAt store entries (length entries) → StoreAt store (take (length entries) entries) (length (take (length entries) entries))
+whole_store store entries is = subst (λ (es : List Entry). StoreAt store es (length es)) (sym (take_all entries)) is

@@ -25,4 +25,5 @@ mod winners;
 
 pub use history::{GrantHistory, Periods};
 pub use periods::Period;
-pub use whole::periods_up_to;
+pub use whole::periods_by;
+pub use winners::winners_of;

@@ -1,8 +1,8 @@
-//! Who had what over all of a log, without an index of it beside that.
+//! Who had what at each place of some entries, by the winners at them.
 
 ghost use Rattle.std.specs.Prelude.{◌≡◌, ◌≤◌, ◌<◌, ◌+◌, ℕ, List, length, IfOk, OnOk, Some, slice_get};
 ghost use Rattle.sg_history.specs.declared.entries.Entry.{Entry};
-ghost use Rattle.sg_history.specs.History.{entries_of, past};
+ghost use Rattle.sg_history.specs.History.{past};
 ghost use Rattle.sg_history.specs.Principals.{has_channel};
 ghost use Rattle.sg_history.specs.Current.{current};
 ghost use Rattle.log_index.specs.Places.{document_at};
@@ -16,9 +16,8 @@ use crate::given::of_write;
 use crate::history::Periods;
 use crate::ledger::{Ledger, Source};
 use crate::store::Store;
-use crate::winners::winners_of;
 use log_views::write_at;
-use sg_history::{Entry, Log, Name};
+use sg_history::{Entry, Name};
 use sg_outside::Memory;
 use std::alloc::Global;
 
@@ -74,25 +73,29 @@ fn ledger_of(alloc: Global, entries: &[Entry], winners: &[u64]) -> Result<Ledger
 }
 
 /// Who had what at each place of these entries.
-fn store_of(alloc: Global, entries: &[Entry]) -> Result<Store, Memory>
+fn store_of(alloc: Global, entries: &[Entry], winners: &[u64]) -> Result<Store, Memory>
+    requires { AreWinners entries.now winners.now (length entries.now) }
     ensures { IfOk result (λ store. StoreAt store entries.now (length entries.now)) }
 {
-    let winners = winners_of(alloc, entries)?;
-    let ledger = ledger_of(alloc, entries, winners.as_slice())?;
+    let ledger = ledger_of(alloc, entries, winners)?;
     Ok(ledger.store)
 }
 
-/// The periods in which a user has channels, up to a place of a log; one that lasts then has no end.
-/// They rise by channel, by bytes, and those of a channel by where they begin. It takes less memory
-/// than a history of grants that is asked for them: the log's index is given back before it is found
-/// who has what.
-pub fn periods_up_to(alloc: Global, log: &Log, front: u64, user: &Name) -> Result<Periods, Memory>
-    requires { front ≤ length (entries_of log.now) }
+/// The periods in which a user has channels, up to the end of these entries, by the winners at them; one
+/// that lasts then has no end. They rise by channel, by bytes, and those of a channel by where they
+/// begin. It takes less memory than a history of grants that is asked for them.
+pub fn periods_by(
+    alloc: Global,
+    entries: &[Entry],
+    winners: &[u64],
+    user: &Name,
+) -> Result<Periods, Memory>
+    requires { AreWinners entries.now winners.now (length entries.now) }
     ensures periods { IfOk result (λ periods. ArePeriods periods
-        (λ c k. has_channel (past (entries_of log.now) k) user.now c) front) }
+        (λ c k. has_channel (past entries.now k) user.now c) (length entries.now)) }
     ensures in_order { IfOk result (λ periods. AreInOrder periods) }
 {
-    let store = store_of(alloc, &log.entries.as_slice()[..front as usize])?;
+    let store = store_of(alloc, entries, winners)?;
     let periods = store.periods(alloc, user)?;
     Ok(Periods::from_vec(periods))
 }

@@ -1,22 +1,26 @@
-use Rattle.std.proofs.Common.{◌+◌, ◌<◌, List, subst, length, arith}
-use Rattle.sg_history.specs.declared.entries.Entry.{Entry}
-use Rattle.feed_rows.specs.PassAt.{Dated}
+use Rattle.std.proofs.Common.{◌∙◌, ◌+◌, ◌<◌, sym, length, arith}
+use Rattle.std.specs.Prelude.{slice_index_or}
+use Rattle.std.proofs.lemmas.Option.{same_Some, slice_get-get_or}
+use Rattle.grant_history.specs.Winners.{winning_at}
 use Rattle.feed_rows.specs.Spans.{has_at}
-use Rattle.feed_rows.proofs.Places.{dated_within, reverse_next}
+use Rattle.feed_rows.proofs.Places.{dated_within}
 use Rattle.feed_rows.proofs.pass.pass_over.Goals as goal
 
 pub loop-i-init : goal.loop-i-init
 loop-i-init c = c.start-pass.ensures c.args.viewer.now
 
+pub take-requires-clause-winning : goal.take-requires-clause-winning
+take-requires-clause-winning c =
+    let winners = c.args.winners.now in
+    let i = c.loop-i.i in
+    let below : i < length winners = omega (arith, c.loop-i-test.true) in
+    same_Some (slice_index_or winners i 0) (winning_at c.args.entries.now i)
+    (sym (slice_get-get_or winners i 0 below) ∙ c.requires.winners.at i (omega (arith, below, c.requires.winners.count)))
+
 pub take-requires-clause-viewer : goal.take-requires-clause-viewer
 take-requires-clause-viewer c =
-    let has = has_at c.args.viewer.now.spans in
-    let user = c.args.viewer.now.user.now in
-    let entries = c.args.entries.now in
-    let i = c.loop-i.i in
-    let e = c.index-entries-i.result in
-    let within : i < length entries = omega arith in
+    let viewer = c.args.viewer.now in
     record {
-      rise = c.requires.rise;
-      dated = subst (λ (es : List Entry). Dated has user es) (reverse_next entries i e within c.index-entries-i.is) (dated_within has user entries (i + 1) c.requires.dated);
+      rise = c.requires.viewer.rise;
+      dated = dated_within (has_at viewer.spans) viewer.user.now c.args.entries.now (c.loop-i.i + 1) c.requires.viewer.dated;
     }

@@ -1,16 +1,11 @@
-use Rattle.std.proofs.Common.{◌+◌, ◌∙◌, refl, sym, ap, subst, reverse, length, List, ℕ, Some, None, if◌then◌else◌}
-use Rattle.std.specs.Str.{bytes_eq}
+use Rattle.std.proofs.Common.{◌+◌, ◌∙◌, refl, sym, ap, subst, reverse, length, List, ℕ}
 use Rattle.std.proofs.lemmas.List.{length-reverse}
-use Rattle.sg_history.proofs.AloneWrites.{alone_next}
-use Rattle.sg_history.specs.declared.entries.Write.{Write}
-use Rattle.sg_history.specs.Current.{rev_or, write_of_rev}
 use Rattle.feed_rows.specs.declared.document.Latest.{Latest}
-use Rattle.feed_rows.specs.Latest.{written_as}
-use Rattle.feed_rows.specs.Index.{IsIndex, winner_among}
+use Rattle.feed_rows.specs.Index.{IsIndex}
 use Rattle.feed_rows.specs.Known.{known_at}
 use Rattle.feed_rows.specs.PassAt.{IsWritten}
 use Rattle.feed_rows.proofs.Indexes.{below}
-use Rattle.feed_rows.proofs.Passes.{names_are, latest_is, was, brought, index_is}
+use Rattle.feed_rows.proofs.Passes.{names_are, was, brought, index_is}
 use Rattle.feed_rows.proofs.pass.take_write.Goals as goal
 
 pub place_for-requires : goal.place_for-requires
@@ -30,22 +25,15 @@ returns c =
     let known = c.requires.known in
     let k = c.in_ok-place.place in
     let placed = c.place_for.new.documents.items in
-    let latest : Latest = record { seq = length c.args.older.now + 1; write = c.winner_of.result } in
+    let latest : Latest = record { seq = length c.args.older.now + 1; write = c.args.winner } in
     let written : IsWritten viewer es w latest = record {
       is_viewer = c.requires.viewer;
       seq = ap (λ (n : ℕ). n + 1) (sym (length-reverse c.args.older.now));
-      winner =
-          ap (λ (x : Write). Some (written_as (length c.args.older.now + 1) x)) c.winner_of.ensures
-          ∙ ap (λ (n : ℕ). Some (written_as (n + 1) (winner_among before.writes w))) (sym (length-reverse c.args.older.now))
-          ∙ latest_is w es before.writes known.writes;
+      winner = c.requires.winner;
     } in
     record {
       documents =
           c.bring_up_at.ensures es w written (was w es viewer before known k placed c.in_ok-place.ensures.documents c.in_ok-place.ensures.place)
           ∙ brought w es viewer before known k placed c.in_ok-place.ensures.documents c.in_ok-place.ensures.place;
       places = index_is w es viewer before known k placed c.in_ok-place.ensures.documents c.in_ok-place.ensures.place c.place_for.new.places c.in_ok-place.ensures.places;
-      writes = λ doc rev.
-          c.in_ok-add_write.ensures doc rev
-          ∙ ap (rev_or (if bytes_eq w.doc doc then Some w else None) rev) (known.writes doc rev)
-          ∙ sym (alone_next (if bytes_eq w.doc doc then Some w else None) (length es + 1) rev (write_of_rev es doc rev));
     }
