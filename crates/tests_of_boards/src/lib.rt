@@ -1,9 +1,17 @@
-//! Tests of the board.
+//! Tests of boards, and of what of sessions no recorded session shows.
 #![tactic(auto)]
 
 #[cfg(test)]
 mod boards;
 #[cfg(test)]
-mod journals;
+mod ends;
+#[cfg(test)]
+mod fresh;
+#[cfg(test)]
+mod machine;
+#[cfg(test)]
+mod programs;
+#[cfg(test)]
+mod tries;
 #[cfg(test)]
 mod waiting;

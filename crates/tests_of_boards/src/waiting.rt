@@ -6,9 +6,8 @@ ghost use Rattle.doc_board.specs.Rooms as rooms;
 ghost use Rattle.tests_of_boards.specs.Frees.{AreAlike, AreFree, Stays, StaysBelow};
 
 use doc_board::{Board, Candidate, Commit, NoRoom};
-use sg_history::{Entry, Name, Number};
+use sg_history::{Entry, Name, Number, TextFault};
 use std::alloc::Global;
-use std::test::Fail;
 
 /// Gives up a number in a room that is made for it: the front after it, none where there is no room.
 fn given_up(board: &mut Board, number: u64) -> Option<u64>
@@ -66,29 +65,41 @@ fn fronts(board: &mut Board, first: Name, second: Name) -> (Option<u64>, Option<
     (first, second, given_up(board, 2))
 }
 
-#[test]
-fn the_lowest_number_last(rt: HostRuntime) -> Result<(), Fail> {
-    let alloc = rt.alloc();
-    let mut board = Board::new(alloc)?;
-    let (ann, bob, eve) = (
-        Name::parse(alloc, "ann")?,
-        Name::parse(alloc, "bob")?,
-        Name::parse(alloc, "eve")?,
-    );
-    assert!(rt; dropped(&mut board, ann, 1) == Some(1));
-    assert!(rt; fronts(&mut board, bob, eve) == (Some(1), Some(1), Some(4)));
-    assert!(rt;
-        matches!(
-            board.log().entries.as_slice(),
-            [
-                Entry::DropUser(_),
-                Entry::Unused,
-                Entry::DropUser(_),
-                Entry::DropUser(_)
-            ]
-        )
-    );
-    Ok(())
+/// The names of three users.
+fn names(alloc: Global) -> Result<(Name, Name, Name), TextFault> {
+    let ann = Name::parse(alloc, "ann")?;
+    let bob = Name::parse(alloc, "bob")?;
+    Ok((ann, bob, Name::parse(alloc, "eve")?))
+}
+
+/// Whether of four entries the second alone is unused.
+fn second_is_unused(entries: &[Entry]) -> bool {
+    matches!(
+        entries,
+        [
+            Entry::DropUser(_),
+            Entry::Unused,
+            Entry::DropUser(_),
+            Entry::DropUser(_)
+        ]
+    )
+}
+
+/// At a new board the front is 1 after an entry was stored at 1, stays there after others were at 4 and 3, and is 4 once 2 was given up,
+/// which is unused.
+pub fn ends_with_the_lowest(alloc: Global, board: &mut Board) -> bool
+    requires log { board.old.log ≡ [] }
+    requires pending { board.old.pending ≡ [] }
+    requires rooms { board.old.rooms ≡ [] }
+{
+    let Ok((ann, bob, eve)) = names(alloc) else {
+        return false;
+    };
+    let first = dropped(board, ann, 1);
+    let others = fronts(board, bob, eve);
+    first == Some(1)
+        && others == (Some(1), Some(1), Some(4))
+        && second_is_unused(board.log().entries.as_slice())
 }
 
 /// Asks for a room for a body of so many bytes, and gives it up at a number: what it was refused for.
@@ -132,19 +143,17 @@ fn filled(board: &mut Board, count: u64, bytes: u64, last: u64, number: u64) -> 
     why
 }
 
-#[test]
-fn too_many_bytes_are_asked_for(rt: HostRuntime) -> Result<(), Fail> {
-    let mut board = Board::new(rt.alloc())?;
-    let refused = filled(&mut board, 102, 20_971_520, 8_388_609, 1);
-    assert!(rt;
-        refused
-            == Some(NoRoom::LogFull509 {
-                entries: 204,
-                bytes: 2_147_483_649
-            })
-    );
-    assert!(rt; board.front() == 102);
-    Ok(())
+/// At a new board rooms for 102 bodies of 20,971,520 bytes are made, and none for one of 8,388,609: the sums are told.
+pub fn asks_too_much(board: &mut Board) -> bool
+    requires log { board.old.log ≡ [] }
+    requires pending { board.old.pending ≡ [] }
+    requires rooms { board.old.rooms ≡ [] }
+{
+    let full = NoRoom::LogFull509 {
+        entries: 204,
+        bytes: 2_147_483_649,
+    };
+    filled(board, 102, 20_971_520, 8_388_609, 1) == Some(full) && board.front() == 102
 }
 
 /// Gives up so many numbers from this one on: the front after the last one.
@@ -164,18 +173,10 @@ fn all_given_up(board: &mut Board, number: u64, count: u64) -> Option<u64>
     front
 }
 
-/// What a board says while its first number is held.
-#[derive(Drop, PartialEq, Eq)]
-struct WhileHeld {
-    /// The front after an entry was stored at the second number, after 19,995 more were given up, and after one more was.
-    fronts: (Option<u64>, Option<u64>, Option<u64>),
-    /// Why there is no other room then.
-    why: Option<NoRoom>,
-    /// The front after the first number was given up.
-    last: u64,
-}
-
-fn held(board: &mut Board, user: Name) -> Option<WhileHeld>
+/// Stores an entry at the second number while the first is held, gives up 19,996 numbers behind it, and at last the first: the fronts
+/// after an entry was stored, after all numbers but one were given up, and after that one was; why there is no other room then; and the
+/// front at last.
+fn held(board: &mut Board, user: Name) -> Option<([Option<u64>; 3], Option<NoRoom>, u64)>
     requires free { AreFree board.old 1 }
     requires alike { board.old.rooms ≡ [] }
 {
@@ -187,25 +188,19 @@ fn held(board: &mut Board, user: Name) -> Option<WhileHeld>
     let third = given_up(board, 19_998);
     let why = refused(board, 0, 0, 19_999);
     board.void(room, Number::new(1));
-    Some(WhileHeld {
-        fronts: (first, second, third),
-        why,
-        last: board.front(),
-    })
+    Some(([first, second, third], why, board.front()))
 }
 
-/// While the first number is held the front stays; with 19,998 places taken a room is made, and none with one more.
-#[test]
-fn a_number_that_is_held(rt: HostRuntime) -> Result<(), Fail> {
-    let alloc = rt.alloc();
-    let mut board = Board::new(alloc)?;
-    let held = held(&mut board, Name::parse(alloc, "ann")?);
-    assert!(rt;
-        held == Some(WhileHeld {
-            fronts: (Some(0), Some(0), Some(0)),
-            why: Some(NoRoom::Full503 { places: 19_999 }),
-            last: 19_998,
-        })
-    );
-    Ok(())
+/// At a new board the front stays at 0 while the first number is held; with 19,998 places taken a room is made, and none with one more; and
+/// the front is 19,998 once the first number is given up.
+pub fn holds_a_number(alloc: Global, board: &mut Board) -> bool
+    requires log { board.old.log ≡ [] }
+    requires pending { board.old.pending ≡ [] }
+    requires rooms { board.old.rooms ≡ [] }
+{
+    let Ok(user) = Name::parse(alloc, "ann") else {
+        return false;
+    };
+    let full = NoRoom::Full503 { places: 19_999 };
+    held(board, user) == Some(([Some(0); 3], Some(full), 19_998))
 }

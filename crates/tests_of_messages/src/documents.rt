@@ -1,174 +1,193 @@
 //! Documents and what they are read as.
 
-use crate::table::{hex_of, parts_of};
+use crate::table::{meant, number_of, parts_of, write_many};
 use json_doc::{Doc, DocFault, DocText, Members, Node, Nodes, read_doc};
+use sg_history::{write_decimal, write_hex};
 use sg_outside::Bytes;
 use std::alloc::{AllocError, Global};
-use std::collections::BTreeMap;
 use std::test::Fail;
 
-/// Which kind of node it is, in a word.
-fn kind(node: Option<&Node>) -> &'static str {
-    match node {
-        None => "none",
-        Some(Node::Null) => "null",
-        Some(Node::Bool(_)) => "bool",
-        Some(Node::Int(_)) => "int",
-        Some(Node::Opaque) => "opaque",
-        Some(Node::Text(_)) => "text",
-        Some(Node::List(_)) => "list",
-        Some(Node::Object(_)) => "object",
-    }
-}
-
-fn int_of(node: Option<&Node>) -> Option<i64> {
-    match node {
-        Some(Node::Int(number)) => Some(*number),
-        _ => None,
-    }
-}
-
-/// The document `{"a":VALUE}`.
-fn with_member(alloc: Global, value: &str) -> Result<Doc, DocFault> {
-    let text = format!(in alloc; "{{\"a\":{value}}}")?;
-    read_doc(alloc, text.as_bytes())
-}
-
-/// The bytes of a text in which `/` stands for a line feed and `~` for the byte FF.
-fn meant(alloc: Global, text: &str) -> Result<Bytes, AllocError> {
-    let mut bytes = Bytes::new(alloc);
-    for byte in text.as_bytes() {
-        bytes.push(match *byte {
-            b'/' => b'\n',
-            b'~' => 0xff,
-            byte => byte,
-        })?;
-    }
-    Ok(bytes)
-}
-
-/// Documents, one a line, with why each is refused, and values of members, with their kind and integer, or the bytes of a text.
+/// Documents, one a line, with why each is refused, or the members of the copy of what is read, in order: the name and what it is,
+/// an integer with its number, a text with its bytes in hexadecimal, and a list or an object with what is in it. A document is also
+/// given as how many lists in one another its member `a` is.
 const READ: &str = "\
-doc |None\n\
-doc {}|None\n\
-doc  \t\r/{ } |None\n\
-doc {\"\":1}|None\n\
-doc {\"a_\":1}|None\n\
-doc {\"a\":{\"_x\":1},\"b\":[{\"_id\":2}]}|None\n\
-doc {\"_attachments\":{}}|None\n\
-doc  |Some(NotJson)\n\
-doc /\t|Some(NotJson)\n\
-doc {|Some(NotJson)\n\
-doc {}x|Some(NotJson)\n\
-doc {}{}|Some(NotJson)\n\
-doc {\"a\":1,}|Some(NotJson)\n\
-doc {'a':1}|Some(NotJson)\n\
-doc {\"a\":01}|Some(NotJson)\n\
-doc {\"a\":NaN}|Some(NotJson)\n\
-doc {\"a\":1e999}|Some(NotJson)\n\
-doc [1e999]|Some(NotJson)\n\
-doc {\"a\":\"\\ud800\"}|Some(NotJson)\n\
-doc {\"a\":\"\u{1}\"}|Some(NotJson)\n\
-doc {\"a\":\"~\"}|Some(NotJson)\n\
-doc \u{feff}{}|Some(NotJson)\n\
-doc {\"_id\":}|Some(NotJson)\n\
-doc []|Some(NotObject)\n\
-doc null|Some(NotObject)\n\
-doc true|Some(NotObject)\n\
-doc 1|Some(NotObject)\n\
-doc \"{}\"|Some(NotObject)\n\
-doc [{\"_id\":1}]|Some(NotObject)\n\
-doc {\"_id\":1}|Some(Reserved)\n\
-doc {\"_\":1}|Some(Reserved)\n\
-doc {\"_attachments\":{},\"_attachments2\":1}|Some(Reserved)\n\
-doc {\"_Attachments\":1}|Some(Reserved)\n\
-doc {\"z\":1,\"\\u005frev\":1}|Some(Reserved)\n\
-value 0|int Some(0)\n\
-value -1|int Some(-1)\n\
-value 9007199254740991|int Some(9007199254740991)\n\
-value -9007199254740991|int Some(-9007199254740991)\n\
-value 9007199254740992|opaque None\n\
-value -9007199254740992|opaque None\n\
-value 9223372036854775808|opaque None\n\
-value -9223372036854775808|opaque None\n\
-value 18446744073709551616|opaque None\n\
-value -0|opaque None\n\
-value 1.0|opaque None\n\
-value 1e3|opaque None\n\
-value -0.5E-2|opaque None\n\
-value 1e308|opaque None\n\
-value {\"_x\":true,\"_x\":7}|object None\n\
-inner {\"_x\":true,\"_x\":7}|int Some(7)\n\
-text \"\"|\n\
-text \"plain _id\"|706c61696e205f6964\n\
-text \"\\u00e9\\n\"|c3a90a\n\
-text \"\\ud83d\\ude00\"|f09f9880\n\
-text \"a\\u0000b\"|610062\n\
-nested 126|None\n\
-nested 127|Some(NotJson)\n\
-nested 200000|Some(NotJson)";
+doc |\n\
+doc {}|\n\
+doc  \t\r/{ } |\n\
+doc {\"\":1}| int 1;\n\
+doc {\"a_\":1}|a_ int 1;\n\
+doc {\"a\":{\"_x\":1},\"b\":[{\"_id\":2}]}|a object(_x int 1;);b list(object;);\n\
+doc {\"_attachments\":{}}|_attachments object();\n\
+doc  |NotJson\n\
+doc /\t|NotJson\n\
+doc {|NotJson\n\
+doc {}x|NotJson\n\
+doc {}{}|NotJson\n\
+doc {\"a\":1,}|NotJson\n\
+doc {'a':1}|NotJson\n\
+doc {\"a\":01}|NotJson\n\
+doc {\"a\":NaN}|NotJson\n\
+doc {\"a\":1e999}|NotJson\n\
+doc [1e999]|NotJson\n\
+doc {\"a\":\"\\ud800\"}|NotJson\n\
+doc {\"a\":\"\u{1}\"}|NotJson\n\
+doc {\"a\":\"~\"}|NotJson\n\
+doc \u{feff}{}|NotJson\n\
+doc {\"_id\":}|NotJson\n\
+doc []|NotObject\n\
+doc null|NotObject\n\
+doc true|NotObject\n\
+doc 1|NotObject\n\
+doc \"{}\"|NotObject\n\
+doc [{\"_id\":1}]|NotObject\n\
+doc {\"_id\":1}|Reserved\n\
+doc {\"_\":1}|Reserved\n\
+doc {\"_attachments\":{},\"_attachments2\":1}|Reserved\n\
+doc {\"_Attachments\":1}|Reserved\n\
+doc {\"z\":1,\"\\u005frev\":1}|Reserved\n\
+doc {\"a\":0}|a int 0;\n\
+doc {\"a\":-1}|a int -1;\n\
+doc {\"a\":9007199254740991}|a int 9007199254740991;\n\
+doc {\"a\":-9007199254740991}|a int -9007199254740991;\n\
+doc {\"a\":9007199254740992}|a opaque;\n\
+doc {\"a\":-9007199254740992}|a opaque;\n\
+doc {\"a\":9223372036854775808}|a opaque;\n\
+doc {\"a\":-9223372036854775808}|a opaque;\n\
+doc {\"a\":18446744073709551616}|a opaque;\n\
+doc {\"a\":-0}|a opaque;\n\
+doc {\"a\":1.0}|a opaque;\n\
+doc {\"a\":1e3}|a opaque;\n\
+doc {\"a\":-0.5E-2}|a opaque;\n\
+doc {\"a\":1e308}|a opaque;\n\
+doc {\"a\":{\"_x\":true,\"_x\":7}}|a object(_x int 7;);\n\
+doc {\"a\":\"\"}|a text ;\n\
+doc {\"a\":\"plain _id\"}|a text 706c61696e205f6964;\n\
+doc {\"a\":\"\\u00e9\\n\"}|a text c3a90a;\n\
+doc {\"a\":\"\\ud83d\\ude00\"}|a text f09f9880;\n\
+doc {\"a\":\"a\\u0000b\"}|a text 610062;\n\
+doc {\"b\":1, \"a\":[null,true,{\"_x\":[]},\"t\",2.5], \"\":3, \"b\":2, \"B\":false}| int 3;B false;a list(null;true;object;text 74;opaque;);b int 2;\n\
+nested 126|a list(list;);\n\
+nested 127|NotJson\n\
+nested 200000|NotJson";
 
-fn fault_text(alloc: Global, text: &str) -> Result<String, AllocError> {
-    let bytes = meant(alloc, text)?;
-    let fault = read_doc(alloc, bytes.as_slice()).err();
-    format!(in alloc; "{fault:?}")
+fn write_int(number: i64, text: &mut Bytes) -> Result<(), AllocError> {
+    text.extend_from_slice(if number < 0 { b"int -" } else { b"int " })?;
+    write_decimal(number.unsigned_abs(), text)
 }
 
-fn node_text(alloc: Global, node: Option<&Node>) -> Result<String, AllocError> {
-    format!(in alloc; "{} {:?}", kind(node), int_of(node))
+fn write_text(found: &DocText, text: &mut Bytes) -> Result<(), AllocError> {
+    text.extend_from_slice(b"text ")?;
+    write_hex(found.as_str().as_bytes(), text)
 }
 
-fn value_text(alloc: Global, value: &str) -> Result<String, DocFault> {
-    let doc = with_member(alloc, value)?;
-    Ok(node_text(alloc, doc.get("a"))?)
-}
-
-fn inner_text(alloc: Global, value: &str) -> Result<String, DocFault> {
-    let doc = with_member(alloc, value)?;
-    let inner = doc.get("a").and_then(|node| node.get("_x"));
-    Ok(node_text(alloc, inner)?)
-}
-
-/// The bytes of a member that is a text, in hexadecimal.
-fn characters_text(alloc: Global, value: &str) -> Result<String, DocFault> {
-    let doc = with_member(alloc, value)?;
-    match doc.get("a") {
-        Some(Node::Text(found)) => Ok(hex_of(alloc, found.as_str().as_bytes())?),
-        _ => Ok(String::from_str(alloc, "no text")?),
+/// What a node is, apart from what is in it.
+fn write_kind(node: &Node, text: &mut Bytes) -> Result<(), AllocError> {
+    match node {
+        Node::Null => text.extend_from_slice(b"null"),
+        Node::Bool(is) => text.extend_from_slice(if *is { b"true" } else { b"false" }),
+        Node::Int(number) => write_int(*number, text),
+        Node::Opaque => text.extend_from_slice(b"opaque"),
+        Node::Text(found) => write_text(found, text),
+        Node::List(_) => text.extend_from_slice(b"list"),
+        Node::Object(_) => text.extend_from_slice(b"object"),
     }
+}
+
+fn write_items(items: &Nodes, text: &mut Bytes) -> Result<(), AllocError> {
+    text.push(b'(')?;
+    for item in items.as_slice() {
+        write_kind(item, text)?;
+        text.push(b';')?;
+    }
+    text.push(b')')
+}
+
+fn write_inner(members: &Members, text: &mut Bytes) -> Result<(), AllocError> {
+    text.push(b'(')?;
+    for (name, node) in members.iter() {
+        write_named(name, text)?;
+        write_kind(node, text)?;
+        text.push(b';')?;
+    }
+    text.push(b')')
+}
+
+fn write_named(name: &str, text: &mut Bytes) -> Result<(), AllocError> {
+    text.extend_from_slice(name.as_bytes())?;
+    text.push(b' ')
+}
+
+/// What a node is, with what is in it.
+fn write_node(node: &Node, text: &mut Bytes) -> Result<(), AllocError> {
+    write_kind(node, text)?;
+    match node {
+        Node::List(items) => write_items(items, text),
+        Node::Object(members) => write_inner(members, text),
+        _ => Ok(()),
+    }
+}
+
+fn write_members(members: &Members, text: &mut Bytes) -> Result<(), AllocError> {
+    for (name, node) in members.iter() {
+        write_named(name, text)?;
+        write_node(node, text)?;
+        text.push(b';')?;
+    }
+    Ok(())
+}
+
+fn write_copy(alloc: Global, doc: &Doc, text: &mut Bytes) -> Result<(), AllocError> {
+    let copy = doc.copy(alloc)?;
+    write_members(copy.members(), text)
+}
+
+fn write_read(alloc: Global, bytes: &[u8], text: &mut Bytes) -> Result<(), AllocError> {
+    match read_doc(alloc, bytes) {
+        Ok(doc) => write_copy(alloc, &doc, text),
+        Err(DocFault::NotJson) => text.extend_from_slice(b"NotJson"),
+        Err(DocFault::NotObject) => text.extend_from_slice(b"NotObject"),
+        Err(DocFault::Reserved) => text.extend_from_slice(b"Reserved"),
+        Err(DocFault::Memory) => text.extend_from_slice(b"Memory"),
+    }
+}
+
+/// What a text is read as.
+fn write_doc(alloc: Global, doc: &str, text: &mut Bytes) -> Result<(), AllocError> {
+    let bytes = meant(alloc, doc)?;
+    write_read(alloc, bytes.as_slice(), text)
 }
 
 /// An object that holds as many lists in one another, so that one construct more is open.
-fn nested(alloc: Global, lists: usize) -> Result<Doc, DocFault> {
-    let text = lists_text(alloc, lists)?;
-    with_member(alloc, text.as_str())
+fn write_lists(count: u64, bytes: &mut Bytes) -> Result<(), AllocError> {
+    bytes.extend_from_slice(b"{\"a\":")?;
+    write_many(b'[', count, bytes)?;
+    write_many(b']', count, bytes)?;
+    bytes.push(b'}')
 }
 
-/// So many lists in one another.
-fn lists_text(alloc: Global, lists: usize) -> Result<String, AllocError> {
-    let opened = "[".repeat(alloc, lists)?;
-    let closed = "]".repeat(alloc, lists)?;
-    format!(in alloc; "{opened}{closed}")
+fn write_nested(alloc: Global, count: u64, text: &mut Bytes) -> Result<(), AllocError> {
+    let mut bytes = Bytes::new(alloc);
+    write_lists(count, &mut bytes)?;
+    write_read(alloc, bytes.as_slice(), text)
 }
 
-fn nested_text(alloc: Global, lists: &str) -> Result<String, Fail> {
-    let fault = nested(alloc, lists.parse()?).err();
-    Ok(format!(in alloc; "{fault:?}")?)
-}
-
-fn answer(alloc: Global, call: &str, input: &str) -> Result<String, Fail> {
+fn write_answer(
+    alloc: Global,
+    call: &str,
+    input: &str,
+    text: &mut Bytes,
+) -> Result<(), AllocError> {
     match call {
-        "doc" => Ok(fault_text(alloc, input)?),
-        "value" => Ok(value_text(alloc, input)?),
-        "inner" => Ok(inner_text(alloc, input)?),
-        "text" => Ok(characters_text(alloc, input)?),
-        _ => nested_text(alloc, input),
+        "doc" => write_doc(alloc, input, text),
+        _ => write_nested(alloc, number_of(input), text),
     }
 }
 
-fn is_right(alloc: Global, line: &str) -> Result<bool, Fail> {
-    let (call, input, want) = parts_of(line).ok_or("no line of the table")?;
-    Ok(answer(alloc, call, input)?.as_str() == want)
+fn is_right(alloc: Global, line: &str) -> Result<bool, AllocError> {
+    let mut text = Bytes::new(alloc);
+    let (call, input, want) = parts_of(line);
+    write_answer(alloc, call, input, &mut text)?;
+    Ok(text.as_slice() == want.as_bytes())
 }
 
 #[test]
@@ -179,179 +198,78 @@ fn what_is_read(rt: HostRuntime) -> Result<(), Fail> {
     Ok(())
 }
 
-/// Each member's name and kind, in order.
-fn members_text(alloc: Global, members: &Members) -> Result<String, AllocError> {
-    let mut text = String::new(alloc);
-    for (name, node) in members.iter() {
-        let kind = kind(Some(node));
-        text.push_str(format!(in alloc; "{}:{kind} ", name.as_str())?.as_str())?;
-    }
-    Ok(text)
-}
-
-/// Each node's kind, in order.
-fn items_text(alloc: Global, items: &Nodes) -> Result<String, AllocError> {
-    let mut text = String::new(alloc);
-    for item in items.as_slice() {
-        text.push_str(kind(Some(item)))?;
-        text.push_str(" ")?;
-    }
-    Ok(text)
-}
-
-const ORDERED: &str = r#"{"b":1, "a":[null,true,{"_x":[]},"t",2.5], "":3, "b":2, "B":false}"#;
-
-fn ordered(alloc: Global) -> Result<Doc, DocFault> {
-    read_doc(alloc, ORDERED.as_bytes())
-}
-
-/// A copy of that document.
-fn copied(alloc: Global) -> Result<Doc, DocFault> {
-    let doc = ordered(alloc)?;
-    Ok(doc.copy(alloc)?)
-}
-
-fn members_are_in_order(alloc: Global) -> Result<bool, DocFault> {
-    let doc = copied(alloc)?;
-    let text = members_text(alloc, doc.members())?;
-    Ok(text.as_str() == ":int B:bool a:list b:int ")
-}
-
-fn are_in_order(alloc: Global, node: Option<&Node>) -> Result<bool, AllocError> {
+/// A node that may not be there.
+fn write_some(node: Option<&Node>, text: &mut Bytes) -> Result<(), AllocError> {
     match node {
-        Some(Node::List(items)) => {
-            Ok(items_text(alloc, items)?.as_str() == "null bool object text opaque ")
-        }
-        _ => Ok(false),
+        Some(node) => write_kind(node, text),
+        None => text.extend_from_slice(b"none"),
     }
-}
-
-fn items_are_in_order(alloc: Global) -> Result<bool, DocFault> {
-    let doc = copied(alloc)?;
-    Ok(are_in_order(alloc, doc.get("a"))?)
-}
-
-/// Of equal members the last one wins.
-fn last_wins(alloc: Global) -> Result<bool, DocFault> {
-    let doc = ordered(alloc)?;
-    Ok(
-        int_of(doc.get("b")) == Some(2)
-            && int_of(doc.as_node().get("")) == Some(3)
-            && kind(doc.get("c")) == "none"
-            && doc.as_node().is_object(),
-    )
-}
-
-fn deep_is_copied(alloc: Global) -> Result<bool, DocFault> {
-    let deep = nested(alloc, 126)?;
-    let copy = deep.copy(alloc)?;
-    Ok(kind(copy.get("a")) == "list")
-}
-
-#[test]
-fn members_and_items_stand_in_order(rt: HostRuntime) -> Result<(), Fail> {
-    let alloc = rt.alloc();
-    assert!(rt; members_are_in_order(alloc)?);
-    assert!(rt; items_are_in_order(alloc)?);
-    assert!(rt; last_wins(alloc)?);
-    assert!(rt; deep_is_copied(alloc)?);
-    Ok(())
-}
-
-fn text_is_made(alloc: Global) -> Result<bool, AllocError> {
-    let mut text = DocText::new(alloc);
-    let empty = text.is_empty();
-    text.push_str("caf\u{e9}")?;
-    Ok(empty && text.len() == 5 && text.copy(alloc)?.as_str() == "caf\u{e9}")
-}
-
-fn text_is_given_back(alloc: Global) -> Result<bool, AllocError> {
-    let text = DocText::from_str(alloc, "caf\u{e9}")?;
-    Ok(DocText::from(text.into_string()).as_str() == "caf\u{e9}")
 }
 
 fn push_two(alloc: Global, nodes: &mut Nodes) -> Result<(), AllocError> {
-    let text = DocText::from_str(alloc, "x")?;
-    nodes.push(Node::Text(text))?;
+    let mut word = DocText::from_str(alloc, "caf")?;
+    word.push_str("\u{e9}")?;
+    nodes.push(Node::Text(word))?;
     nodes.push(Node::Int(4))
 }
 
+/// A copy of a list of two.
 fn list(alloc: Global) -> Result<Nodes, AllocError> {
     let mut nodes = Nodes::new(alloc);
     push_two(alloc, &mut nodes)?;
-    Ok(nodes)
-}
-
-/// A copy of that list.
-fn copied_list(alloc: Global) -> Result<Nodes, AllocError> {
-    let nodes = list(alloc)?;
     nodes.copy(alloc)
-}
-
-fn list_is_made(alloc: Global) -> Result<bool, AllocError> {
-    let nodes = Nodes::from(copied_list(alloc)?.into_vec());
-    let last = int_of(nodes.as_slice().last());
-    Ok(Nodes::new(alloc).is_empty() && nodes.len() == 2 && last == Some(4))
 }
 
 fn insert(alloc: Global, members: &mut Members, name: &str, node: Node) -> Result<(), AllocError> {
     let name = String::from_str(alloc, name)?;
-    members.insert(name, node)?;
-    Ok(())
+    members.insert(name, node)
 }
 
-fn insert_list(alloc: Global, members: &mut Members) -> Result<(), AllocError> {
-    let nodes = list(alloc)?;
-    insert(alloc, members, "n", Node::List(nodes))
+fn insert_three(alloc: Global, members: &mut Members, items: Nodes) -> Result<(), AllocError> {
+    insert(alloc, members, "n", Node::List(items))?;
+    insert(alloc, members, "m", Node::Opaque)?;
+    insert(alloc, members, "m", Node::Null)
 }
 
-fn insert_three(alloc: Global, members: &mut Members) -> Result<(), AllocError> {
-    insert_list(alloc, members)?;
-    insert(alloc, members, "m", Node::Null)?;
-    insert(alloc, members, "n", Node::Bool(true))
-}
-
-/// Two members, of which the second is put twice.
-fn members(alloc: Global) -> Result<Members, AllocError> {
+/// A copy of members, of which one was inserted twice.
+fn members(alloc: Global, items: Nodes) -> Result<Members, AllocError> {
     let mut members = Members::new(alloc);
-    insert_three(alloc, &mut members)?;
-    Ok(members)
-}
-
-/// A copy of these members.
-fn copied_members(alloc: Global) -> Result<Members, AllocError> {
-    let members = members(alloc)?;
+    insert_three(alloc, &mut members, items)?;
     members.copy(alloc)
 }
 
-fn members_are_made(alloc: Global) -> Result<bool, AllocError> {
-    let map: BTreeMap<String, Node> = copied_members(alloc)?.into_map();
-    let members = Members::from(map);
-    Ok(Members::new(alloc).is_empty() && members.len() == 2)
-}
-
 /// A copy of an object with these members.
-fn copied_object(alloc: Global) -> Result<Node, AllocError> {
-    let object = Node::Object(members(alloc)?);
+fn object(alloc: Global, items: Nodes) -> Result<Node, AllocError> {
+    let object = Node::Object(members(alloc, items)?);
     object.copy(alloc)
 }
 
-fn object_is_made(alloc: Global) -> Result<bool, AllocError> {
-    let object = copied_object(alloc)?;
-    Ok(
-        kind(object.get("m")) == "null"
-            && kind(object.get("n")) == "bool"
-            && kind(Node::Opaque.get("n")) == "none",
-    )
+/// What is in an object that is made, and two of its members.
+fn write_object(alloc: Global, items: Nodes, text: &mut Bytes) -> Result<(), AllocError> {
+    let object = object(alloc, items)?;
+    write_node(&object, text)?;
+    write_some(object.get("m"), text)?;
+    write_some(object.get("o"), text)
+}
+
+/// A list that is made, and an object with it.
+fn write_made(alloc: Global, text: &mut Bytes) -> Result<(), AllocError> {
+    let items = list(alloc)?;
+    write_items(&items, text)?;
+    write_object(alloc, items, text)
+}
+
+fn made(alloc: Global) -> Result<Bytes, AllocError> {
+    let mut text = Bytes::new(alloc);
+    write_made(alloc, &mut text)?;
+    Ok(text)
 }
 
 #[test]
-fn values_are_made_and_given_back(rt: HostRuntime) -> Result<(), Fail> {
-    let alloc = rt.alloc();
-    assert!(rt; text_is_made(alloc)?);
-    assert!(rt; text_is_given_back(alloc)?);
-    assert!(rt; list_is_made(alloc)?);
-    assert!(rt; members_are_made(alloc)?);
-    assert!(rt; object_is_made(alloc)?);
+fn values_are_made(rt: HostRuntime) -> Result<(), Fail> {
+    let text = made(rt.alloc())?;
+    assert!(rt;
+        text.as_slice() == b"(text 636166c3a9;int 4;)object(m null;n list;)nullnone".as_slice()
+    );
     Ok(())
 }

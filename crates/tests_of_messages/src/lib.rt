@@ -1,4 +1,4 @@
-//! Tests of frames, messages and their texts, of documents, of trees of revisions and of recorded sessions.
+//! Tests of documents, of frames and their payloads, of requests of checkpoints, and of recorded sessions.
 #![tactic(auto)]
 
 #[cfg(test)]
@@ -13,5 +13,3 @@ mod records;
 mod table;
 #[cfg(test)]
 mod texts;
-#[cfg(test)]
-mod trees;

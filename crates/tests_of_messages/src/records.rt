@@ -1,32 +1,19 @@
 //! A recorded session gives its wire, and each fault comes once.
 
-use crate::table::hex_of;
+use crate::table::{cut, meant, write_all};
 use record_file::{Item, Items, Recorded, read_record};
-use sg_history::{BadLine, ReadLog};
-use sg_outside::{Bytes, Got, MemWire, Memory, Wire};
+use repl_messages::Version;
+use sg_history::{BadLine, Name, ReadLog, Why, write_decimal, write_hex};
+use sg_outside::Bytes;
 use std::alloc::{AllocError, Global};
 use std::test::Fail;
 
-/// The bytes of a text in which `|` stands for a TAB, `/` for a line feed and `~` for the byte FF.
-fn tabbed(alloc: Global, text: &str) -> Result<Bytes, Memory> {
-    let mut bytes = Bytes::new(alloc);
-    for byte in text.as_bytes() {
-        bytes.push(match *byte {
-            b'|' => b'\t',
-            b'/' => b'\n',
-            b'~' => 0xff,
-            byte => byte,
-        })?;
-    }
-    Ok(bytes)
-}
-
-/// Texts, one a line: before each what it is read as. Of a recorded session that is the user, the version, how many items there
-/// are, and what its wire gives first; of another text the first bad line and what is bad there.
+/// Texts, one a line: before each what it is read as. Of a recorded session that is the user, the version and the items; of another
+/// text the first bad line and what is bad there.
 const READ: &str = "\
-ann Three 1 idle end end end ;sgsession 1/user|ann|3/idle/\n\
-\u{e9} Two 3 0108 idle ff end ;sgsession 1/user|\u{e9}|2/0108/idle/ff/\n\
-ann Two 0 end end end end ;sgsession 1/user|ann|2/\n\
+ann Three idle ;sgsession 1/user|ann|3/idle/\n\
+\u{e9} Two 0108 idle ff ;sgsession 1/user|\u{e9}|2/0108/idle/ff/\n\
+ann Two ;sgsession 1/user|ann|2/\n\
 1 Head;\n\
 1 Head;/\n\
 1 Head;sgsession 2/\n\
@@ -55,50 +42,81 @@ ann Two 0 end end end end ;sgsession 1/user|ann|2/\n\
 5 Field(1);sgsession 1/user|ann|2/idle/00/0A/|/\n\
 5 Fields;sgsession 1/user|ann|2/idle/00/00|/x";
 
-/// What was received, in a word.
-fn got_text(alloc: Global, got: &Got) -> Result<String, AllocError> {
-    match got {
-        Got::Frame(frame) => hex_of(alloc, frame.as_slice()),
-        Got::Idle => String::from_str(alloc, "idle"),
-        Got::End => String::from_str(alloc, "end"),
-        _ => String::from_str(alloc, "other"),
+fn write_user(user: &Name, version: Version, text: &mut Bytes) -> Result<(), AllocError> {
+    let version: &[u8] = match version {
+        Version::Two => b" Two ",
+        Version::Three => b" Three ",
+    };
+    write_all(&[user.as_bytes(), version], text)
+}
+
+fn write_item(item: &Item, text: &mut Bytes) -> Result<(), AllocError> {
+    match item {
+        Item::Frame(frame) => write_hex(frame.as_slice(), text),
+        Item::Idle => text.extend_from_slice(b"idle"),
     }
 }
 
-/// The first four that a wire gives.
-fn wire_text(alloc: Global, mut wire: MemWire) -> Result<String, AllocError> {
-    let mut text = String::new(alloc);
-    for _ in 0..4 {
-        text.push_str(got_text(alloc, &wire.recv())?.as_str())?;
-        text.push_str(" ")?;
+fn write_items(items: &[Item], text: &mut Bytes) -> Result<(), AllocError> {
+    for item in items {
+        write_item(item, text)?;
+        text.push(b' ')?;
     }
-    Ok(text)
+    Ok(())
 }
 
-fn recorded_text(alloc: Global, recorded: Recorded) -> Result<String, AllocError> {
-    let Recorded {
-        user,
-        version,
-        items,
-    } = recorded;
-    let count = items.as_slice().len();
-    let wire = wire_text(alloc, items.into_wire(alloc)?)?;
-    format!(in alloc; "{} {version:?} {count} {wire}", user.as_str())
+fn write_recorded(recorded: &Recorded, text: &mut Bytes) -> Result<(), AllocError> {
+    write_user(&recorded.user, recorded.version, text)?;
+    write_items(recorded.items.as_slice(), text)
+}
+
+/// A number in brackets.
+fn write_number(number: u64, text: &mut Bytes) -> Result<(), AllocError> {
+    text.push(b'(')?;
+    write_decimal(number, text)?;
+    text.push(b')')
+}
+
+/// What is wrong with a line.
+fn write_why(why: &Why, text: &mut Bytes) -> Result<(), AllocError> {
+    match why {
+        Why::Head => text.extend_from_slice(b"Head"),
+        Why::Ending => text.extend_from_slice(b"Ending"),
+        Why::Kind => text.extend_from_slice(b"Kind"),
+        Why::Fields => text.extend_from_slice(b"Fields"),
+        Why::Field(number) => {
+            text.extend_from_slice(b"Field")?;
+            write_number(*number, text)
+        }
+        _ => text.extend_from_slice(b"other"),
+    }
+}
+
+fn write_bad(place: u64, why: &Why, text: &mut Bytes) -> Result<(), AllocError> {
+    write_decimal(place, text)?;
+    text.push(b' ')?;
+    write_why(why, text)
+}
+
+fn write_read(alloc: Global, record: &[u8], text: &mut Bytes) -> Result<(), AllocError> {
+    match read_record(alloc, record) {
+        Ok(recorded) => write_recorded(&recorded, text),
+        Err(ReadLog::Bad(BadLine { place, why })) => write_bad(place, &why, text),
+        Err(_) => text.extend_from_slice(b"no answer"),
+    }
 }
 
 /// What a text is read as.
-fn read_text(alloc: Global, text: &str) -> Result<String, AllocError> {
-    let bytes = tabbed(alloc, text)?;
-    match read_record(alloc, bytes.as_slice()) {
-        Ok(recorded) => recorded_text(alloc, recorded),
-        Err(ReadLog::Bad(BadLine { place, why })) => format!(in alloc; "{place} {why:?}"),
-        Err(_) => String::from_str(alloc, "no answer"),
-    }
+fn read_text(alloc: Global, record: &str) -> Result<Bytes, AllocError> {
+    let record = meant(alloc, record)?;
+    let mut text = Bytes::new(alloc);
+    write_read(alloc, record.as_slice(), &mut text)?;
+    Ok(text)
 }
 
-fn is_right(alloc: Global, line: &str) -> Result<bool, Fail> {
-    let (want, text) = line.split_once(';').ok_or("no line of the table")?;
-    Ok(read_text(alloc, text)?.as_str() == want)
+fn is_right(alloc: Global, line: &str) -> Result<bool, AllocError> {
+    let (want, text) = cut(line, ';');
+    Ok(read_text(alloc, text)?.as_slice() == want.as_bytes())
 }
 
 #[test]

@@ -1,9 +1,16 @@
+//! Texts of the sync language that are programs, and texts with their first fault.
+
+use crate::texts::{cut, joined, number_of, write_two};
+use json_doc::DocText;
+use sg_outside::Bytes;
 use std::alloc::{AllocError, Global};
 use std::test::Fail;
-use sync_syntax::{ParseFault, SyntaxFault, SyntaxWhy, parse};
+use sync_print::print;
+use sync_syntax::tree::Program;
+use sync_syntax::{ParseFault, Place, SyntaxFault, SyntaxWhy, parse};
 
 /// Programs, with an empty line between each two.
-pub(crate) const PROGRAMS: &str = "\
+const PROGRAMS: &str = "\
 function(doc, oldDoc) { channel(doc.channels); }\n\n\
 function sync(doc) {}\n\n\
 function(doc) {};\n\n\
@@ -31,10 +38,38 @@ function(doc) { a === b == c !== d != e < f <= g > h >= i && j || k }\n\n\
 function(doc) { for (let x of a ? b : c) for (;;) { break; } }\n\n\
 function(doc) { a - - b; a - -b * -(c) }";
 
+/// The program that a text is.
+pub fn program(alloc: Global, text: &str) -> Result<Program, Fail> {
+    match parse(alloc, text) {
+        Ok(program) => Ok(program),
+        Err(_) => Err(Fail::from("no program")),
+    }
+}
+
+/// A program printed.
+fn printed(alloc: Global, program: &Program) -> Result<DocText, Fail> {
+    let mut text = DocText::new(alloc);
+    print(alloc, program, &mut text)?;
+    Ok(text)
+}
+
+/// What is printed of the program that a text is.
+fn printed_of(alloc: Global, text: &str) -> Result<DocText, Fail> {
+    let program = program(alloc, text)?;
+    printed(alloc, &program)
+}
+
+/// Whether what is printed of a program is a program of which the same is printed.
+fn comes_back(alloc: Global, text: &str) -> Result<bool, Fail> {
+    let first = printed_of(alloc, text)?;
+    let again = printed_of(alloc, first.as_str())?;
+    Ok(first.as_str() == again.as_str())
+}
+
 #[test]
-fn programs_are_read(rt: HostRuntime) -> Result<(), Fail> {
+fn programs_come_back(rt: HostRuntime) -> Result<(), Fail> {
     for text in PROGRAMS.split("\n\n") {
-        assert!(rt; parse(rt.alloc(), text).is_ok(), "at {text}");
+        assert!(rt; comes_back(rt.alloc(), text)?, "{text}");
     }
     Ok(())
 }
@@ -101,108 +136,126 @@ const FAULTS: &str = "\
 2 5 unexpected|function(doc) {\r\n  x @y }@}";
 
 /// What is wrong, in words.
-fn why_text(why: SyntaxWhy) -> &'static str {
+fn why_word(why: SyntaxWhy) -> &'static [u8] {
     match why {
-        SyntaxWhy::Range => "range",
-        SyntaxWhy::BadText => "bad text",
-        SyntaxWhy::Unexpected => "unexpected",
-        SyntaxWhy::TooDeep => "too deep",
-        SyntaxWhy::TooLong => "too long",
+        SyntaxWhy::Range => b" range",
+        SyntaxWhy::BadText => b" bad text",
+        SyntaxWhy::Unexpected => b" unexpected",
+        SyntaxWhy::TooDeep => b" too deep",
+        SyntaxWhy::TooLong => b" too long",
     }
 }
 
-/// The first fault of a text, as its line, its column and its kind.
-fn fault_text(alloc: Global, text: &str) -> Result<String, AllocError> {
-    match parse(alloc, text) {
-        Err(ParseFault::Bad(SyntaxFault { place, why })) => {
-            format!(in alloc; "{} {} {}", place.line, place.column, why_text(why))
-        }
-        _ => String::from_str(alloc, "none"),
+fn write_bad(place: Place, why: SyntaxWhy, text: &mut Bytes) -> Result<(), AllocError> {
+    write_two(u64::from(place.line), b' ', u64::from(place.column), text)?;
+    text.extend_from_slice(why_word(why))
+}
+
+/// The first fault of a text, as its line, its column and its kind; nothing of a program.
+fn write_fault(alloc: Global, found: &str, text: &mut Bytes) -> Result<(), AllocError> {
+    match parse(alloc, found) {
+        Ok(_) => Ok(()),
+        Err(ParseFault::Bad(SyntaxFault { place, why })) => write_bad(place, why, text),
+        Err(ParseFault::Memory) => text.extend_from_slice(b"no answer"),
     }
 }
 
-/// What stands before a fault, from it on, and in its place in a program.
-fn parts(text: &str) -> (&str, &str, &str) {
-    let mut parts = text.split('@');
-    (
-        parts.next().unwrap_or(""),
-        parts.next().unwrap_or(""),
-        parts.next().unwrap_or(""),
-    )
+/// The same of three texts in one.
+fn write_joined(
+    alloc: Global,
+    one: &str,
+    two: &str,
+    three: &str,
+    text: &mut Bytes,
+) -> Result<(), AllocError> {
+    let found = joined(alloc, one, two, three)?;
+    write_fault(alloc, found.as_str(), text)
 }
 
+/// The first fault of a text, and that of what begins as it and goes on as a program.
+fn write_both(alloc: Global, case: &str, text: &mut Bytes) -> Result<(), AllocError> {
+    let (before, rest) = cut(case, '@');
+    let (fault, other) = cut(rest, '@');
+    write_joined(alloc, before, fault, "", text)?;
+    write_joined(alloc, before, other, "", text)
+}
+
+fn is_right(alloc: Global, case: &str) -> Result<bool, AllocError> {
+    let (want, case) = cut(case, '|');
+    let mut text = Bytes::new(alloc);
+    write_both(alloc, case, &mut text)?;
+    Ok(text.as_slice() == want.as_bytes())
+}
+
+/// The first fault is reported at its token, and none late: what stands before it begins a program.
 #[test]
 fn the_first_fault_is_reported_at_its_token(rt: HostRuntime) -> Result<(), Fail> {
-    let alloc = rt.alloc();
     for case in FAULTS.split("\n\n") {
-        let (want, text) = case.split_once('|').ok_or("no case of the table")?;
-        let (before, fault, _) = parts(text);
-        let whole = format!(in alloc; "{before}{fault}")?;
-        assert!(rt;
-            fault_text(alloc, whole.as_str())?.as_str() == want,
-            "{case}"
-        );
+        assert!(rt; is_right(rt.alloc(), case)?, "{case}");
     }
     Ok(())
 }
 
-/// What stands before the first fault begins a program.
-#[test]
-fn no_fault_is_reported_late(rt: HostRuntime) -> Result<(), Fail> {
-    let alloc = rt.alloc();
-    for case in FAULTS.split("\n\n") {
-        let (_, text) = case.split_once('|').ok_or("no case of the table")?;
-        let (before, _, other) = parts(text);
-        let program = format!(in alloc; "{before}{other}")?;
-        assert!(rt; parse(alloc, program.as_str()).is_ok(), "{case}");
-    }
-    Ok(())
-}
+/// Programs of so many opening parentheses, `1` and so many closing ones, one a line, and texts of so many blanks, with their first
+/// faults: at most 100 are open, and a text has at most 65,536 bytes.
+const LARGE: &str = "\
+97 97|\n\
+98 98|1 119 too deep\n\
+101 101|1 119 too deep\n\
+10000 10000|1 119 too deep\n\
+60000 0|1 119 too deep\n\
+blank 65536|1 65537 unexpected\n\
+blank 65537|1 1 too long";
 
-fn write_all(text: &mut String, sign: &str, count: usize) -> Result<(), AllocError> {
+fn push_many(sign: &str, count: u64, text: &mut String) -> Result<(), AllocError> {
     for _ in 0..count {
         text.push_str(sign)?;
     }
     Ok(())
 }
 
-fn write_nested(text: &mut String, open: usize, close: usize) -> Result<(), AllocError> {
-    text.push_str("function(doc) { x = ")?;
-    write_all(text, "(", open)?;
-    text.push_str("1")?;
-    write_all(text, ")", close)?;
-    text.push_str(" }")
-}
-
-/// A program that opens so many parentheses around `1`, and closes so many.
-fn nested(rt: &HostRuntime, open: usize, close: usize) -> Result<String, Fail> {
-    let mut text = String::new(rt.alloc());
-    write_nested(&mut text, open, close)?;
+/// So many times a sign.
+fn many(alloc: Global, sign: &str, count: u64) -> Result<String, AllocError> {
+    let mut text = String::new(alloc);
+    push_many(sign, count, &mut text)?;
     Ok(text)
 }
 
-#[test]
-fn at_most_100_are_open(rt: HostRuntime) -> Result<(), Fail> {
-    let alloc = rt.alloc();
-    let fits = nested(&rt, 97, 97)?;
-    assert!(rt; parse(alloc, fits.as_str()).is_ok());
-    for (open, close) in [(98, 98), (101, 101), (10_000, 10_000), (60_000, 0)] {
-        let text = nested(&rt, open, close)?;
-        let fault = fault_text(alloc, text.as_str())?;
-        assert!(rt; fault.as_str() == "1 119 too deep", "at {open}");
+fn nested(alloc: Global, open: u64, close: u64) -> Result<String, AllocError> {
+    let opening = many(alloc, "(", open)?;
+    let closing = many(alloc, ")", close)?;
+    joined(alloc, opening.as_str(), "1", closing.as_str())
+}
+
+fn write_nested(alloc: Global, open: u64, close: u64, text: &mut Bytes) -> Result<(), AllocError> {
+    let inner = nested(alloc, open, close)?;
+    write_joined(alloc, "function(doc) { x = ", inner.as_str(), " }", text)
+}
+
+fn write_blank(alloc: Global, count: u64, text: &mut Bytes) -> Result<(), AllocError> {
+    let blank = many(alloc, " ", count)?;
+    write_fault(alloc, blank.as_str(), text)
+}
+
+fn write_large(alloc: Global, case: &str, text: &mut Bytes) -> Result<(), AllocError> {
+    let (one, two) = cut(case, ' ');
+    if one == "blank" {
+        return write_blank(alloc, number_of(two), text);
     }
-    Ok(())
+    write_nested(alloc, number_of(one), number_of(two), text)
+}
+
+fn is_large(alloc: Global, line: &str) -> Result<bool, AllocError> {
+    let (case, want) = cut(line, '|');
+    let mut text = Bytes::new(alloc);
+    write_large(alloc, case, &mut text)?;
+    Ok(text.as_slice() == want.as_bytes())
 }
 
 #[test]
-fn a_text_has_at_most_65536_bytes(rt: HostRuntime) -> Result<(), Fail> {
-    let alloc = rt.alloc();
-    let mut text = String::new(alloc);
-    for _ in 0..65_536 {
-        text.push_str(" ")?;
+fn large_texts(rt: HostRuntime) -> Result<(), Fail> {
+    for line in LARGE.split('\n') {
+        assert!(rt; is_large(rt.alloc(), line)?, "{line}");
     }
-    assert!(rt; fault_text(alloc, text.as_str())?.as_str() == "1 65537 unexpected");
-    text.push_str(" ")?;
-    assert!(rt; fault_text(alloc, text.as_str())?.as_str() == "1 1 too long");
     Ok(())
 }

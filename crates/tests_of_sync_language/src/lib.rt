@@ -1,11 +1,11 @@
-//! Tests of the sync language.
+//! Tests of the sync language, and of configurations.
 #![tactic(auto)]
 
 #[cfg(test)]
-mod faults;
+mod configurations;
 #[cfg(test)]
-mod meanings;
+mod faults;
 #[cfg(test)]
 mod names;
 #[cfg(test)]
-mod printed;
+mod texts;

@@ -1,12 +1,17 @@
-use crate::meanings::program;
+//! Functions of the sync language with the first fault of their names.
+
+use crate::faults::program;
+use crate::texts::{cut, joined, write_two};
+use sg_outside::Bytes;
 use std::alloc::{AllocError, Global};
 use std::test::Fail;
-use sync_resolve::{ResolveFault, Resolved, resolve};
+use sync_resolve::{ResolveFault, resolve};
 use sync_syntax::Place;
+use sync_syntax::tree::Program;
 
-/// Bodies with the first fault of their names. A body stands on the second line of its function, whose parameters
-/// are `doc` and `old`.
-const BODIES: &str = "\
+/// Functions with the first fault of their names, one a line. A body stands on the second line of its function, whose parameters
+/// are `doc` and `old`; a text that begins with `function` is whole.
+const FUNCTIONS: &str = "\
 channel(doc.channels)#resolved\n\
 channel(x)#unknown name at 2:9\n\
 channel(doc); x#unknown name at 2:15\n\
@@ -99,10 +104,7 @@ return x#unknown name at 2:8\n\
 throw x#unknown name at 2:7\n\
 if (x) ; y#unknown name at 2:5\n\
 for (; doc; x++) ; y#unknown name at 2:13\n\
-for (; x;) ;#unknown name at 2:8";
-
-/// Texts of functions with the same.
-const TEXTS: &str = "\
+for (; x;) ;#unknown name at 2:8\n\
 function(doc) { channel(x); }#unknown name at 1:25\n\
 function(doc) { requireUser(); }#wrong count at 1:17\n\
 function(doc, doc) {}#resolved\n\
@@ -112,70 +114,48 @@ function channel(doc) { channel(doc.c); }#resolved\n\
 function sync(doc) { sync(doc) }#unknown name at 1:22\n\
 function(doc) { oldDoc }#unknown name at 1:17";
 
-/// The kind of a fault.
-fn kind(fault: &ResolveFault) -> &'static str {
-    match fault {
-        ResolveFault::UnknownName(_) => "unknown name",
-        ResolveFault::WrongCount(_) => "wrong count",
-        ResolveFault::Redeclared(_) => "redeclared",
-        ResolveFault::ConstWritten(_) => "const written",
-        ResolveFault::Memory => "no memory",
+fn write_fault(what: &[u8], place: Place, text: &mut Bytes) -> Result<(), AllocError> {
+    text.extend_from_slice(what)?;
+    write_two(u64::from(place.line), b':', u64::from(place.column), text)
+}
+
+/// The first fault of the names of a program.
+fn write_found(alloc: Global, program: Program, text: &mut Bytes) -> Result<(), AllocError> {
+    match resolve(alloc, program) {
+        Ok(_) => text.extend_from_slice(b"resolved"),
+        Err(ResolveFault::UnknownName(place)) => write_fault(b"unknown name at ", place, text),
+        Err(ResolveFault::WrongCount(place)) => write_fault(b"wrong count at ", place, text),
+        Err(ResolveFault::Redeclared(place)) => write_fault(b"redeclared at ", place, text),
+        Err(ResolveFault::ConstWritten(place)) => write_fault(b"const written at ", place, text),
+        Err(ResolveFault::Memory) => text.extend_from_slice(b"no memory"),
     }
 }
 
-/// Where a fault stands.
-fn place(fault: &ResolveFault) -> Place {
-    match fault {
-        ResolveFault::UnknownName(place)
-        | ResolveFault::WrongCount(place)
-        | ResolveFault::Redeclared(place)
-        | ResolveFault::ConstWritten(place) => *place,
-        ResolveFault::Memory => Place { line: 0, column: 0 },
+/// The text of a function.
+fn function(alloc: Global, body: &str) -> Result<String, AllocError> {
+    if body.starts_with("function") {
+        return String::from_str(alloc, body);
     }
+    joined(alloc, "function(doc, old) {\n", body, "\n}")
 }
 
-fn fault_text(alloc: Global, fault: &ResolveFault) -> Result<String, AllocError> {
-    let what = kind(fault);
-    let place = place(fault);
-    let line = place.line;
-    let column = place.column;
-    format!(in alloc; "{what} at {line}:{column}")
+fn program_of(alloc: Global, body: &str) -> Result<Program, Fail> {
+    let text = function(alloc, body)?;
+    program(alloc, text.as_str())
 }
 
-fn found_text(alloc: Global, found: Result<Resolved, ResolveFault>) -> Result<String, AllocError> {
-    match found {
-        Ok(_) => String::from_str(alloc, "resolved"),
-        Err(fault) => fault_text(alloc, &fault),
-    }
-}
-
-/// Whether the names of a text have this first fault.
-fn has(alloc: Global, text: &str, want: &str) -> Result<bool, Fail> {
-    let found = resolve(alloc, program(alloc, text)?);
-    Ok(found_text(alloc, found)?.as_str() == want)
+fn is_right(alloc: Global, line: &str) -> Result<bool, Fail> {
+    let (body, want) = cut(line, '#');
+    let program = program_of(alloc, body)?;
+    let mut text = Bytes::new(alloc);
+    write_found(alloc, program, &mut text)?;
+    Ok(text.as_slice() == want.as_bytes())
 }
 
 #[test]
-fn names_of_bodies(rt: HostRuntime) -> Result<(), Fail> {
-    let alloc = rt.alloc();
-    for line in BODIES.split('\n') {
-        let mut parts = line.split('#');
-        let body = parts.next().unwrap_or("");
-        let want = parts.next().unwrap_or("");
-        let text = format!(in alloc; "function(doc, old) {{\n{body}\n}}")?;
-        assert!(rt; has(alloc, text.as_str(), want)?, "{line}");
-    }
-    Ok(())
-}
-
-#[test]
-fn names_of_texts(rt: HostRuntime) -> Result<(), Fail> {
-    let alloc = rt.alloc();
-    for line in TEXTS.split('\n') {
-        let mut parts = line.split('#');
-        let text = parts.next().unwrap_or("");
-        let want = parts.next().unwrap_or("");
-        assert!(rt; has(alloc, text, want)?, "{line}");
+fn names_of_functions(rt: HostRuntime) -> Result<(), Fail> {
+    for line in FUNCTIONS.split('\n') {
+        assert!(rt; is_right(rt.alloc(), line)?, "{line}");
     }
     Ok(())
 }

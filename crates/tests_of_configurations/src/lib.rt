@@ -1,5 +1,0 @@
-//! Tests of the gateway's configuration.
-#![tactic(auto)]
-
-#[cfg(test)]
-mod configurations;

@@ -1,7 +1,0 @@
-//! Tests of what no clause says of grants in time.
-#![tactic(auto)]
-
-#[cfg(test)]
-mod grants;
-#[cfg(test)]
-mod sorted;

@@ -1,0 +1,152 @@
+//! Worked journals, and what is answered of them.
+
+use crate::feeds::{write_all_channels, write_feed_of};
+use crate::grants::{write_periods_of, write_state_of};
+use crate::texts::{cut, tabbed};
+use sg_history::{Log, TextFault, read_journal};
+use sg_outside::Bytes;
+use std::alloc::Global;
+use std::test::Fail;
+
+/// Worked journals, one a line, each after its name.
+const JOURNALS: &str = "\
+none=sgjournal 1;\n\
+first=sgjournal 1;U|ann|A|-;W|d1|1-a|-|0|7b7d|-|1|1-a|A|-|-;W|d2|1-b|-|0|7b7d|-|2|1-b|B|-|-;W|d3|1-c|-|0|7b7d|-|3|1-c|!|-|-;\n\
+backfill=sgjournal 1;U|ann|A|-;W|d1|1-a|-|0|7b7d|-|1|1-a|B|-|-;W|d2|1-b|-|0|7b7d|-|2|1-b|B|-|-;W|d3|1-c|-|0|7b7d|-|3|1-c|A|-|-;U|ann|A,B|-;\n\
+revocation=sgjournal 1;U|ann|A|-;W|d1|1-a|-|0|7b7d|-|1|1-a|B|-|-;U|ann|A,B|-;U|ann|A|-;\n\
+removal=sgjournal 1;U|ann|A|-;W|d1|1-a|-|0|7b7d|-|1|1-a|A|-|-;W|d2|1-b|-|0|7b7d|-|2|1-b|A|-|-;W|d1|2-a|1-a|0|7b7d|-|3|2-a|B|-|-;W|d2|2-b|1-b|1|7b7d|-|4|2-b|-|-|-;\n\
+deleted=sgjournal 1;U|ann|A|-;W|d1|1-a|-|0|7b7d|-|1|1-a|A|-|-;W|d2|1-b|-|0|7b7d|-|2|1-b|A|-|-;W|d1|2-a|1-a|0|7b7d|-|3|2-a|B|-|-;W|d2|2-b|1-b|1|7b7d|-|4|2-b|-|-|-;W|d3|1-c|-|1|7b7d|-|5|1-c|A|-|-;\n\
+document_grant=sgjournal 1;U|ann|A|-;W|d1|1-a|-|0|7b7d|-|1|1-a|B|-|-;W|g|1-g|-|0|7b7d|-|2|1-g|A|ann=B|-;W|g|2-g|1-g|1|7b7d|-|3|2-g|A|-|-;\n\
+earlier_conflict=sgjournal 1;U|ann|A|-;W|d1|1-a|-|0|7b7d|-|1|1-a|A|-|-;W|d1|1-b|-|0|7b7d|-|2|1-b|B|-|-;\n\
+conflict=sgjournal 1;U|ann|A|-;W|d1|1-a|-|0|7b7d|-|1|1-a|A|-|-;W|d1|1-b|-|0|7b7d|-|2|1-b|B|-|-;W|d1|2-c|1-b|1|7b7d|-|3|1-a|-|-|-;\n\
+everything=sgjournal 1;U|bob|*|-;W|d1|1-a|-|0|7b7d|-|1|1-a|A|-|-;W|d2|1-b|-|0|7b7d|-|2|1-b|-|-|-;\n\
+leaves_and_returns=sgjournal 1;U|ann|A|-;W|d1|1-a|-|0|7b7d|-|1|1-a|A|-|-;W|d1|2-a|1-a|0|7b7d|-|2|2-a|B|-|-;W|d1|3-a|2-a|0|7b7d|-|3|3-a|A|-|-;\n\
+grants_itself=sgjournal 1;U|ann|-|-;W|d1|1-a|-|0|7b7d|-|1|1-a|C|ann=C|-;\n\
+dropped_user=sgjournal 1;U|bob|*|-;W|d1|1-a|-|0|7b7d|-|1|1-a|A|-|-;W|d2|1-b|-|0|7b7d|-|2|1-b|-|-|-;DU|bob;\n\
+dropped_and_put_again=sgjournal 1;U|bob|A|-;DU|bob;U|bob|A|-;\n\
+two_grants=sgjournal 1;U|ann|-|-;W|g|1-a|-|0|7b7d|-|1|1-a|-|ann=B|-;W|h|1-b|-|0|7b7d|-|2|1-b|-|ann=B|-;W|g|2-a|1-a|1|7b7d|-|3|2-a|-|-|-;W|h|2-b|1-b|1|7b7d|-|4|2-b|-|-|-;\n\
+grant_and_put=sgjournal 1;U|ann|-|-;W|g|1-a|-|0|7b7d|-|1|1-a|-|ann=B|-;U|ann|B|-;W|g|2-a|1-a|1|7b7d|-|3|2-a|-|-|-;U|ann|-|-;\n\
+named_before_put=sgjournal 1;U|ann|-|staff;R|staff|C;DR|staff;R|staff|D;\n\
+role_that_is_given=sgjournal 1;R|staff|C;U|ann|-|-;W|g|1-a|-|0|7b7d|-|2|1-a|-|role:staff=E|ann=staff;W|g|2-a|1-a|1|7b7d|-|3|2-a|-|-|-;\n\
+two_roles=sgjournal 1;R|one|C;R|two|C;U|ann|-|one,two;U|ann|-|two;DR|two;\n\
+winner=sgjournal 1;U|ann|-|-;W|g|1-a|-|0|7b7d|-|1|1-a|-|ann=A|-;W|g|1-b|-|0|7b7d|-|2|1-b|-|ann=B|-;W|g|2-c|1-b|1|7b7d|-|3|1-a|-|-|-;\n\
+before_the_user=sgjournal 1;W|g|1-a|-|0|7b7d|-|0|1-a|-|ann=A|-;U|ann|-|-;\n\
+comes_and_goes=sgjournal 1;U|ann|-|-;W|g|1-a|-|0|7b7d|-|1|1-a|-|ann=B|-;W|g|2-a|1-a|0|7b7d|-|2|2-a|-|-|-;W|g|3-a|2-a|0|7b7d|-|3|3-a|-|ann=B|-;W|g|4-a|3-a|0|7b7d|-|4|4-a|-|-|-;W|g|5-a|4-a|0|7b7d|-|5|5-a|-|ann=B|-;\n\
+dropped_twice=sgjournal 1;U|bob|A|-;DU|bob;U|bob|A|-;DU|bob;U|bob|B|-;\n\
+each_role_its_own=sgjournal 1;R|one|C;R|two|D;U|ann|-|one,two;DR|two;";
+
+/// The text of a worked journal.
+fn journal_of(name: &str) -> &'static str {
+    for line in JOURNALS.split('\n') {
+        let (named, text) = cut(line, '=');
+        if named == name {
+            return text;
+        }
+    }
+    ""
+}
+
+/// The log of a journal.
+pub fn log_of(alloc: Global, text: &str) -> Result<Log, Fail> {
+    let journal = tabbed(alloc, text)?;
+    Ok(read_journal(alloc, journal.as_slice())?)
+}
+
+/// What is answered of worked journals, one a line: the call, the journal, what is asked, and the answer. It is asked for the periods
+/// of a user, what a user has at a place (channels, a bar and roles), a user's channels at a front, and the feed of a user after a
+/// key: `active` where deleted documents are left out, `revocations` where ended grants are rows, `plain` where neither, and the
+/// channels of a filter.
+const ANSWERS: &str = "\
+periods none ann>\n\
+periods backfill ann>! 1-;A 1-;B 5-;\n\
+periods backfill zed>\n\
+periods revocation ann>! 1-;A 1-;B 3-4;\n\
+periods document_grant ann>! 1-;A 1-;B 3-4;\n\
+periods dropped_user bob>! 1-4;* 1-4;\n\
+periods dropped_and_put_again bob>! 1-2;! 3-;A 1-2;A 3-;\n\
+periods two_grants ann>! 1-;B 2-5;\n\
+periods grant_and_put ann>! 1-;B 2-5;\n\
+periods named_before_put ann>! 1-;C 2-3;D 4-;\n\
+periods role_that_is_given ann>! 2-;C 3-4;E 3-4;\n\
+periods two_roles ann>! 3-;C 3-5;\n\
+periods winner ann>! 1-;A 2-3;A 4-;B 3-4;\n\
+periods before_the_user ann>! 2-;A 2-;\n\
+periods comes_and_goes ann>! 1-;B 2-3;B 4-5;B 6-;\n\
+periods dropped_twice bob>! 1-2;! 3-4;! 5-;A 1-2;A 3-4;B 5-;\n\
+periods each_role_its_own ann>! 3-;C 3-;D 3-4;\n\
+state backfill 0 ann>none\n\
+state backfill 4 ann> ! A|\n\
+state backfill 5 ann> ! A B|\n\
+state backfill 5 bob>none\n\
+state dropped_user 3 bob> ! *|\n\
+state dropped_user 4 bob>none\n\
+state two_grants 4 ann> ! B|\n\
+state two_grants 5 ann> !|\n\
+state named_before_put 1 ann> !|\n\
+state named_before_put 2 ann> ! C| staff\n\
+state named_before_put 3 ann> !|\n\
+state named_before_put 4 ann> ! D| staff\n\
+state role_that_is_given 2 ann> !|\n\
+state role_that_is_given 3 ann> ! C E| staff\n\
+state winner 2 ann> ! A|\n\
+state winner 3 ann> ! B|\n\
+state winner 4 ann> ! A|\n\
+state comes_and_goes 2 ann> ! B|\n\
+state comes_and_goes 3 ann> !|\n\
+state comes_and_goes 4 ann> ! B|\n\
+state comes_and_goes 5 ann> !|\n\
+state dropped_twice 3 bob> ! A|\n\
+state dropped_twice 4 bob>none\n\
+channels backfill 0 ann>none\n\
+channels backfill 4 ann> ! A\n\
+channels backfill 5 ann> ! A B\n\
+channels backfill 5 bob>none\n\
+channels document_grant 3 ann> ! A B\n\
+channels document_grant 4 ann> ! A\n\
+rows first ann 0 revocations>2 d1 1-a 0;4 d3 1-c 0;\n\
+rows deleted ann 0 revocations>6 d3 1-c 1;\n\
+rows deleted ann 0 active+revocations>\n\
+rows deleted ann 3 active+revocations>4 d1 2-a 4;5 d2 2-b 5;6 d3 1-c 1;\n\
+rows revocation ann 2 plain>\n\
+rows backfill ann 0 revocations B>5:2 d1 1-a 0;5:3 d2 1-b 0;\n\
+rows first ann 0 revocations *>2 d1 1-a 0;4 d3 1-c 0;\n\
+rows first ann 0 revocations !>4 d3 1-c 0;\n\
+rows first ann 0 revocations B>";
+
+fn write_answer(
+    alloc: Global,
+    log: &Log,
+    call: &str,
+    asked: &str,
+    text: &mut Bytes,
+) -> Result<(), TextFault> {
+    match call {
+        "periods" => write_periods_of(alloc, log, asked, text),
+        "state" => write_state_of(alloc, log, asked, text),
+        "channels" => write_all_channels(alloc, log, asked, text),
+        _ => write_feed_of(alloc, log, asked, text),
+    }
+}
+
+/// What is asked of a journal, with its name before it.
+fn answer(alloc: Global, call: &str, asked: &str) -> Result<Bytes, Fail> {
+    let (name, asked) = cut(asked, ' ');
+    let log = log_of(alloc, journal_of(name))?;
+    let mut text = Bytes::new(alloc);
+    write_answer(alloc, &log, call, asked, &mut text)?;
+    Ok(text)
+}
+
+fn is_answered_so(alloc: Global, line: &str) -> Result<bool, Fail> {
+    let (asked, want) = cut(line, '>');
+    let (call, asked) = cut(asked, ' ');
+    Ok(answer(alloc, call, asked)?.as_slice() == want.as_bytes())
+}
+
+#[test]
+fn worked_journals(rt: HostRuntime) -> Result<(), Fail> {
+    for line in ANSWERS.split('\n') {
+        assert!(rt; is_answered_so(rt.alloc(), line)?, "{line}");
+    }
+    Ok(())
+}

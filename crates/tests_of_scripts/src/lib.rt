@@ -1,5 +1,0 @@
-//! Tests of administrators' scripts.
-#![tactic(auto)]
-
-#[cfg(test)]
-mod scripts;
