@@ -3,23 +3,19 @@ use Rattle.std.proofs.Common.{◌≡◌, ◌<◌, ◌≤◌, ◌+◌, ◌-◌, �
 use Rattle.std.specs.Prelude.{nat_eq}
 use Rattle.std.specs.List.{list_any}
 use Rattle.std.specs.List.Sorted.{IsPermutation}
-use Rattle.std.specs.Str.{bytes_eq}
 use Rattle.std.proofs.lemmas.Bool.{true≢false}
 use Rattle.std.proofs.lemmas.List.{drop_more, drop_all}
 use Rattle.std.proofs.lemmas.List.Sorted.{list_any-IsPermutation}
-use Rattle.sg_history.specs.Principals.{everyone}
-use Rattle.grant_history.specs.declared.facts.What.TheVariants as what
-use Rattle.grant_history.specs.declared.held.Held.{Held}
-use Rattle.grant_history.specs.declared.evaluate.Giver.{Giver}
+use Rattle.grant_history.specs.declared.givers.Giver.{Giver}
+use Rattle.grant_history.specs.declared.ways.Gift.{Gift}
+use Rattle.grant_history.specs.declared.ways.Ways.{Ways}
 use Rattle.grant_history.specs.declared.spells.Sweep.{Sweep}
 use Rattle.grant_history.specs.declared.track.Span.{Span}
 use Rattle.grant_history.specs.declared.track.Track.{Track}
 use Rattle.grant_history.specs.Cuts.{is_cut, IsSteady, Covers, Rise}
-use Rattle.grant_history.specs.Givers.{giver_has, has_with}
-use Rattle.grant_history.specs.Holdings.{held_in}
-use Rattle.grant_history.specs.Reads.{channel_among}
 use Rattle.grant_history.specs.Spells.{Stays, Swept, spells_have, open_has}
 use Rattle.grant_history.specs.Tracks.{has_place, was_held, held_last, held_at}
+use Rattle.grant_history.specs.Ways.{track_has, gift_has, ways_have}
 use Rattle.grant_history.proofs.Sweeping.{stretched}
 
 cut_parts : (xs ys : List ℕ) (k : ℕ) → is_cut (xs ++ ys) k ≡ false → (is_cut xs k ≡ false) × (is_cut ys k ≡ false)
@@ -104,29 +100,21 @@ covers_both a b one other c e = record {
   steady = λ k h. ap (λ (x : Bool). x && other (k + 1)) (c.steady k h) ∙ ap (λ (x : Bool). one k && x) (e.steady k h);
 }
 
-pub giver_covers : (a b d : List ℕ) (g : Giver) (x : List ℕ) → Covers a b (held_at g.track.now) → Covers b d (λ k. held_in g.of.now.items what.Exists k) → Covers b d (λ k. channel_among g.of.now.items k x) → Covers a d (λ k. giver_has g k x)
-giver_covers a b d g x track exists channel =
-    covers_both a d (held_at g.track.now) (λ k. held_in g.of.now.items what.Exists k && channel_among g.of.now.items k x)
+pub gift_covers : (a b d : List ℕ) (g : Gift) → Covers a b (held_at g.held.now) → Covers b d (track_has g.by.exists) → Covers b d (track_has g.by.channel) → Covers a d (gift_has g)
+gift_covers a b d g track exists channel =
+    covers_both a d (held_at g.held.now) (λ k. track_has g.by.exists k && track_has g.by.channel k)
     (covers_later a b d _ _ track exists)
-    (covers_next a b d _ _ track (covers_both b d (λ k. held_in g.of.now.items what.Exists k) (λ k. channel_among g.of.now.items k x) exists channel))
-
-pub giver_never : (g : Giver) (x : List ℕ) → ((k : ℕ) → channel_among g.of.now.items k x ≡ false) → (k : ℕ) → giver_has g k x ≡ false
-giver_never g x never k = ap (λ (b : Bool). held_at g.track.now k && (held_in g.of.now.items what.Exists k && b)) (never k) ∙ by (held_at g.track.now k) (held_in g.of.now.items what.Exists k)
-  where
-    by : (a b : Bool) → (a && (b && false)) ≡ false
-    by true true = refl
-    by true false = refl
-    by false b = refl
+    (covers_next a b d _ _ track (covers_both b d (track_has g.by.exists) (track_has g.by.channel) exists channel))
 
 -- those of a user: its own, and those of its roles
-pub all_steady : (none a b sorted : List ℕ) (givers : List Giver) (list : List Held) (x : List ℕ) → Covers none a (λ k. held_in list what.Exists k) → Covers none a (λ k. channel_among list k x)
-    → Covers a b (λ k. list_any (λ g. giver_has g k x) givers) → IsPermutation b sorted → IsSteady sorted (λ k. has_with givers list k x)
-all_steady none a b sorted givers list x exists channel roles moved k h =
+pub all_steady : (none a b sorted : List ℕ) (w : Ways) → Covers none a (track_has w.own.exists) → Covers none a (track_has w.own.channel)
+    → Covers a b (λ k. list_any (λ g. gift_has g k) w.gifts.items) → IsPermutation b sorted → IsSteady sorted (ways_have w)
+all_steady none a b sorted w exists channel roles moved k h =
     let unmoved : is_cut b (k + 1) ≡ false = list_any-IsPermutation (nat_eq (k + 1)) b sorted moved ∙ h in
     let before : is_cut a (k + 1) ≡ false = roles.kept (k + 1) unmoved in
-    ap (λ (e : Bool). e && (list_any (λ g. giver_has g (k + 1) x) givers || (channel_among list (k + 1) x || (bytes_eq everyone x || false)))) (exists.steady k before)
-    ∙ ap (λ (r : Bool). held_in list what.Exists k && (r || (channel_among list (k + 1) x || (bytes_eq everyone x || false)))) (roles.steady k unmoved)
-    ∙ ap (λ (c : Bool). held_in list what.Exists k && (list_any (λ g. giver_has g k x) givers || (c || (bytes_eq everyone x || false)))) (channel.steady k before)
+    ap (λ (e : Bool). e && (list_any (λ g. gift_has g (k + 1)) w.gifts.items || (track_has w.own.channel (k + 1) || (w.is_everyone || false)))) (exists.steady k before)
+    ∙ ap (λ (r : Bool). track_has w.own.exists k && (r || (track_has w.own.channel (k + 1) || (w.is_everyone || false)))) (roles.steady k unmoved)
+    ∙ ap (λ (c : Bool). track_has w.own.exists k && (list_any (λ g. gift_has g k) w.gifts.items || (c || (w.is_everyone || false)))) (channel.steady k before)
 
 -- each of these from a place on is greater
 none_later : (cuts : List ℕ) (i m : ℕ) → ((n : ℕ) → i ≤ n → n < length cuts → m < get_or cuts n m) → is_cut (drop i cuts) m ≡ false
@@ -188,7 +176,7 @@ says_all sweep test at s still k = (stretched sweep test at k s (λ j low high. 
         ap test (omega arith) ∙ step ∙ by more
 
 -- what the roles so far, one more and those that are left have
-pub any_end : (test : Giver → Bool) (xs : List Giver) (x : Giver) → list_any test (xs ++ x ∷ []) ≡ (list_any test xs || test x)
+pub any_end : {X : Type 0} (test : X → Bool) (xs : List X) (x : X) → list_any test (xs ++ x ∷ []) ≡ (list_any test xs || test x)
 any_end test [] x = by (test x)
   where
     by : (b : Bool) → (b || false) ≡ b
@@ -200,7 +188,7 @@ any_end test (y ∷ ys) x = ap (λ (b : Bool). test y || b) (any_end test ys x) 
     by true = refl
     by false = refl
 
-pub moves_over : {X : Type 0} (f : Giver → Bool) (test : X → Bool) (all : List X) (i : ℕ) (x : X) (old new : List Giver) → i < length all → x ≡ get_or all i x → list_any f new ≡ (list_any f old || test x)
+pub moves_over : {X Y : Type 0} (f : Y → Bool) (test : X → Bool) (all : List X) (i : ℕ) (x : X) (old new : List Y) → i < length all → x ≡ get_or all i x → list_any f new ≡ (list_any f old || test x)
     → (list_any f new || list_any test (drop (i + 1) all)) ≡ (list_any f old || list_any test (drop i all))
 moves_over {X = X} f test all i x old new within is more =
     ap (λ (b : Bool). b || list_any test (drop (i + 1) all)) more
@@ -210,10 +198,6 @@ moves_over {X = X} f test all i x old new within is more =
     by : (b : Bool) → ((b || test x) || list_any test (drop (i + 1) all)) ≡ (b || (test x || list_any test (drop (i + 1) all)))
     by true = refl
     by false = refl
-
-pub one_over : (test : Giver → Bool) (all : List Giver) (i : ℕ) (x : Giver) (old new : List Giver) → i < length all → x ≡ get_or all i x → list_any test new ≡ (list_any test old || test x)
-    → (list_any test new || list_any test (drop (i + 1) all)) ≡ (list_any test old || list_any test (drop i all))
-one_over test all i x old new within is more = moves_over test test all i x old new within is more
 
 -- one that is kept of a role, and one that is no role
 pub given_more : (f : Giver → Bool) (old new : List Giver) (g : Giver) (held gives : Bool) → new ≡ old ++ g ∷ [] → f g ≡ (held && gives) → list_any f new ≡ (list_any f old || (held && gives))
@@ -227,8 +211,8 @@ given_same f old new held gives is none = ap (λ (l : List Giver). list_any f l)
     by false true = refl
     by false false = refl
 
-pub none_over : (test : Giver → Bool) (all : List Giver) (i : ℕ) (list : List Giver) → length all ≤ i → list_any test list ≡ (list_any test list || list_any test (drop i all))
-none_over test all i list le = by (list_any test list) ∙ ap (λ (l : List Giver). list_any test list || list_any test l) (sym (drop_all i all le))
+pub none_over : {X Y : Type 0} (f : Y → Bool) (test : X → Bool) (all : List X) (i : ℕ) (list : List Y) → length all ≤ i → list_any f list ≡ (list_any f list || list_any test (drop i all))
+none_over {X = X} f test all i list le = by (list_any f list) ∙ ap (λ (l : List X). list_any f list || list_any test l) (sym (drop_all i all le))
   where
     by : (b : Bool) → b ≡ (b || false)
     by true = refl

@@ -1,5 +1,6 @@
 pub mod Dated
 pub mod Tracks
+pub mod Ways
 pub mod Facts
 pub mod Sources
 pub mod Things

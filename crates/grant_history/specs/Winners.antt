@@ -1,4 +1,4 @@
--- The writes of winners, entry by entry. Only proofs need this.
+-- The winners of a log, entry by entry.
 use Rattle.std.specs.Prelude.{◌≡◌, ◌<◌, ◌+◌, ℕ, List, length, Option, Some, None, slice_get}
 use Rattle.sg_history.specs.declared.entries.Entry.{Entry}
 use Rattle.sg_history.specs.declared.entries.Write.{Write}

@@ -4,7 +4,6 @@ ghost use Rattle.std.specs.Prelude.{◌≡◌, ◌<◌, ◌≤◌, ◌&&◌, ◌
 ghost use Rattle.std.specs.List.{list_any};
 ghost use Rattle.std.specs.Option.{option_copied};
 ghost use Rattle.grant_history.specs.declared.facts.What.TheVariants as what;
-ghost use Rattle.grant_history.specs.Cuts.{Covers};
 ghost use Rattle.grant_history.specs.Dated.{Dated};
 ghost use Rattle.grant_history.specs.Holdings.{place_of, count_in, held_in, AreUpTo, one_more, one_less};
 ghost use Rattle.grant_history.specs.Listed.{is_in};
@@ -12,11 +11,13 @@ ghost use Rattle.grant_history.specs.Passing.{fits, given_in, is_given_at, passe
 ghost use Rattle.grant_history.specs.Reads.{channel_among};
 ghost use Rattle.grant_history.specs.declared.held.Held.{Held};
 ghost use Rattle.grant_history.specs.Tracks.{BeginsAt, held_at};
+ghost use Rattle.grant_history.specs.Ways.{track_has};
 
 use crate::blocks::Blocks;
 use crate::facts::What;
 use crate::places::Places;
 use crate::track::Track;
+use crate::ways::ChannelTracks;
 use sg_history::ChannelName;
 use sg_outside::Memory;
 use std::alloc::Global;
@@ -180,54 +181,17 @@ impl Holding {
         }
     }
 
-    /// Whether a channel is held at a place.
-    pub fn holds_channel(&self, channel: &ChannelName, k: u64) -> bool
-        ensures { result ≡ channel_among self.now.items k channel.now }
+    /// When this exists, and when a channel is held.
+    pub fn tracks_of(&self, channel: &ChannelName) -> ChannelTracks<'_>
+        ensures exists { (k : ℕ) → track_has result.exists k
+            ≡ held_in self.now.items what.Exists k }
+        ensures channel { (k : ℕ) → track_has result.channel k
+            ≡ channel_among self.now.items k channel.now }
     {
-        match self.channel_track(channel) {
-            None => false,
-            Some(track) => track.holds(k),
+        ChannelTracks {
+            exists: self.track(&What::Exists),
+            channel: self.channel_track(channel),
         }
-    }
-
-    /// Whether a channel is or was held.
-    pub fn had_channel(&self, channel: &ChannelName) -> bool
-        ensures { result ≡ false → (k : ℕ) → channel_among self.now.items k channel.now ≡ false }
-    {
-        self.channel_track(channel).is_some()
-    }
-
-    /// Adds the places at which it may change whether this exists.
-    fn add_existence(&self, cuts: &mut Vec<u64>) -> Result<(), Memory>
-        ensures { OnOk result (Covers cuts.old.items cuts.new.items
-            (λ k. held_in self.now.items what.Exists k)) }
-    {
-        match self.track(&What::Exists) {
-            None => Ok(()),
-            Some(track) => track.add_cuts(cuts),
-        }
-    }
-
-    /// Adds the places at which it may change whether a channel is held.
-    fn add_channel(&self, cuts: &mut Vec<u64>, channel: &ChannelName) -> Result<(), Memory>
-        ensures { OnOk result (Covers cuts.old.items cuts.new.items
-            (λ k. channel_among self.now.items k channel.now)) }
-    {
-        match self.channel_track(channel) {
-            None => Ok(()),
-            Some(track) => track.add_cuts(cuts),
-        }
-    }
-
-    /// Adds the places at which it may change whether this exists, or a channel is held.
-    pub fn add_cuts(&self, cuts: &mut Vec<u64>, channel: &ChannelName) -> Result<(), Memory>
-        ensures exists { OnOk result (Covers cuts.old.items cuts.new.items
-            (λ k. held_in self.now.items what.Exists k)) }
-        ensures channel { OnOk result (Covers cuts.old.items cuts.new.items
-            (λ k. channel_among self.now.items k channel.now)) }
-    {
-        self.add_existence(cuts)?;
-        self.add_channel(cuts, channel)
     }
 
     /// Begins a block at a place, where much changed since the last one began.

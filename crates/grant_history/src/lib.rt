@@ -4,9 +4,9 @@
 mod blocks;
 mod channels;
 mod cuts;
-mod evaluate;
 mod facts;
 mod given;
+mod givers;
 mod held;
 mod history;
 mod holders;
@@ -20,6 +20,7 @@ pub mod sorted;
 mod spells;
 mod store;
 mod track;
+mod ways;
 mod whole;
 mod winners;
 

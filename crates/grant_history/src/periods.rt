@@ -9,14 +9,16 @@ ghost use Rattle.grant_history.specs.Givers.{has_at_with};
 ghost use Rattle.grant_history.specs.Reads.{list_channel, user_channel};
 ghost use Rattle.grant_history.specs.Sorted.{AreSorted};
 ghost use Rattle.grant_history.specs.Spells.{AreApart, Stays, Swept, spells_have};
+ghost use Rattle.grant_history.specs.Ways.{ways_have};
 
 use crate::channels::channels_ever;
 use crate::cuts::cuts_of;
-use crate::evaluate::{Giver, givers_of, givers_with, has};
+use crate::givers::{Giver, givers_of};
 use crate::held::Holding;
 use crate::holders::Holders;
 use crate::reads::everyone;
 use crate::spells::{Spell, Sweep};
+use crate::ways::{Ways, ways_of};
 use sg_history::{ChannelName, Name};
 use sg_outside::Memory;
 use std::alloc::Global;
@@ -30,52 +32,48 @@ pub struct Period {
 }
 
 /// Goes on to a place, unless it is there, and answers where it is then.
-fn sweep_to(
-    sweep: &mut Sweep,
-    at: u64,
-    k: u64,
-    all: &Holding,
-    givers: &[Giver<'_>],
-    channel: &ChannelName,
-) -> Result<u64, Memory>
-    ensures swept { IfOk result (λ now.
-        Swept sweep.old (has_at_with givers.now all.now.items channel.now) at
-        → Stays (has_at_with givers.now all.now.items channel.now) at k
-        → Swept sweep.new (has_at_with givers.now all.now.items channel.now) now) }
+fn sweep_to(sweep: &mut Sweep, at: u64, k: u64, ways: &Ways<'_>) -> Result<u64, Memory>
+    ensures swept { IfOk result (λ now. Swept sweep.old (ways_have ways.now) at
+        → Stays (ways_have ways.now) at k
+        → Swept sweep.new (ways_have ways.now) now) }
     ensures place { IfOk result (λ now. now ≡ max at k) }
 {
     if k <= at {
         return Ok(at);
     }
-    sweep.turn(k, has(all, givers, channel, k))?;
+    sweep.turn(k, ways.has(k))?;
     Ok(k)
 }
 
-/// The spells in which a user that has or had these things and roles has a channel, of which these
-/// places have each at which that may change.
-fn spells_by(
-    alloc: Global,
-    cuts: &[u64],
-    all: &Holding,
-    givers: &[Giver<'_>],
-    channel: &ChannelName,
-) -> Result<Vec<Spell>, Memory>
-    requires steady { IsSteady cuts.now (has_at_with givers.now all.now.items channel.now) }
+/// The spells in which a user has a channel in any of these ways, of which these places have each at
+/// which that may change.
+fn spells_by(alloc: Global, cuts: &[u64], ways: &Ways<'_>) -> Result<Vec<Spell>, Memory>
+    requires steady { IsSteady cuts.now (ways_have ways.now) }
     requires rise { Rise cuts.now }
     ensures apart { IfOk result (λ list. AreApart list.items) }
     ensures says { IfOk result (λ list. (k : ℕ)
-        → spells_have list.items k ≡ has_at_with givers.now all.now.items channel.now k) }
+        → spells_have list.items k ≡ ways_have ways.now k) }
 {
-    let mut sweep = Sweep::new(alloc, has(all, givers, channel, 0));
+    let mut sweep = Sweep::new(alloc, ways.has(0));
     let mut at = 0;
     for k in cuts {
-        at = sweep_to(&mut sweep, at, *k, all, givers, channel)?;
+        at = sweep_to(&mut sweep, at, *k, ways)?;
     }
     sweep.finish()
 }
 
-/// The spells in which a user that has or had these things and roles has a channel. Each role is
-/// asked at each place at which the answer may change.
+/// The spells in which a user has a channel in any of these ways. Each way is asked at each place at
+/// which the answer may change.
+fn spells_of(alloc: Global, ways: &Ways<'_>) -> Result<Vec<Spell>, Memory>
+    ensures apart { IfOk result (λ list. AreApart list.items) }
+    ensures says { IfOk result (λ list. (k : ℕ)
+        → spells_have list.items k ≡ ways_have ways.now k) }
+{
+    let cuts = cuts_of(alloc, ways)?;
+    spells_by(alloc, cuts.as_slice(), ways)
+}
+
+/// The spells in which a user that has or had these things and roles has a channel.
 fn spells_with(
     alloc: Global,
     all: &Holding,
@@ -86,23 +84,8 @@ fn spells_with(
     ensures says { IfOk result (λ list. (k : ℕ)
         → spells_have list.items k ≡ has_at_with givers.now all.now.items channel.now k) }
 {
-    let cuts = cuts_of(alloc, all, givers, channel)?;
-    spells_by(alloc, cuts.as_slice(), all, givers, channel)
-}
-
-/// The same, where a role that never had the channel is asked nothing.
-fn spells_of(
-    alloc: Global,
-    all: &Holding,
-    givers: &[Giver<'_>],
-    channel: &ChannelName,
-) -> Result<Vec<Spell>, Memory>
-    ensures apart { IfOk result (λ list. AreApart list.items) }
-    ensures says { IfOk result (λ list. (k : ℕ)
-        → spells_have list.items k ≡ has_at_with givers.now all.now.items channel.now k) }
-{
-    let givers = givers_with(alloc, givers, channel)?;
-    spells_with(alloc, all, givers.as_slice(), channel)
+    let ways = ways_of(alloc, all, givers, channel)?;
+    spells_of(alloc, &ways)
 }
 
 /// Puts the spells of a channel behind the periods.
@@ -137,7 +120,7 @@ fn add_channel(
     ensures { OnOk result (Adds periods.old.items periods.new.items channel.now
         (has_at_with givers.now all.now.items channel.now)) }
 {
-    let spells = spells_of(alloc, all, givers, channel)?;
+    let spells = spells_with(alloc, all, givers, channel)?;
     add_spells(alloc, periods, channel, spells.as_slice())
 }
 

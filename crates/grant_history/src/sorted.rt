@@ -1,6 +1,7 @@
 //! Names in their order, each once.
 
 ghost use Rattle.std.specs.Prelude.{◌≡◌, ℕ, List, map};
+ghost use Rattle.std.specs.List.Sorted.{IsPermutation, IsSortedByKey};
 ghost use Rattle.std.specs.Ordering.{nat_cmp};
 ghost use Rattle.std.specs.Cmp.Lexicographic.{slice_cmp};
 ghost use Rattle.sg_history.specs.History.{among};
@@ -41,6 +42,17 @@ impl Named for Name {
     }
 }
 
+/// Sorts names: by merging what stands in order already, and in place where there is no memory for that.
+fn sort<T: Named>(items: &mut Vec<T>)
+    ensures permutation { IsPermutation items.old.items items.new.items }
+    ensures sorted { IsSortedByKey T.name (slice_cmp nat_cmp) items.new.items }
+{
+    match items.sort_by(|a, b| a.order(b)) {
+        Ok(()) => {}
+        Err(_) => items.sort_unstable_by(|a, b| a.order(b)),
+    }
+}
+
 /// Puts names in their order, each once.
 pub fn in_order<T: Named>(items: Vec<T>) -> Vec<T>
     ensures among { (x : List ℕ) → among (map T.name result.items) x
@@ -48,7 +60,7 @@ pub fn in_order<T: Named>(items: Vec<T>) -> Vec<T>
     ensures sorted { AreSorted (map T.name result.items) }
 {
     let mut items = items;
-    items.sort_unstable_by(|a, b| a.order(b));
+    sort(&mut items);
     items.dedup_by(|a, b| a.order(b).is_eq());
     items
 }

@@ -4,7 +4,7 @@ use Rattle.std.proofs.lemmas.Result.{IfOk-weaker}
 use Rattle.sg_history.specs.History.{among}
 use Rattle.sg_history.specs.Principals.{everyone}
 use Rattle.grant_history.specs.declared.facts.What.TheVariants as what
-use Rattle.grant_history.specs.declared.evaluate.Giver.{Giver}
+use Rattle.grant_history.specs.declared.givers.Giver.{Giver}
 use Rattle.std.specs.List.{list_any}
 use Rattle.grant_history.specs.Givers.{giver_has}
 use Rattle.grant_history.specs.Holdings.{held_in}

@@ -1,18 +1,18 @@
 use Rattle.std.proofs.Common.{◌∙◌, ◌+◌, arith, refl, get_or}
 use Rattle.std.proofs.lemmas.Result.{IfOk-weaker}
-use Rattle.grant_history.specs.Givers.{has_at_with}
+use Rattle.grant_history.specs.Ways.{ways_have}
 use Rattle.grant_history.proofs.Cutting.{none_left, rest_after, says_all, stays_before}
 use Rattle.grant_history.proofs.periods.spells_by.Goals as goal
 
 pub loop-k-init : goal.loop-k-init
 loop-k-init c = record {
-  swept = c.new-sweep.ensures (has_at_with c.args.givers.now c.args.all.now.items c.args.channel.now) c.has.ensures;
+  swept = c.new-sweep.ensures (ways_have c.args.ways.now) c.has.ensures;
   rest = λ j le h. c.requires.steady j h;
 }
 
 pub loop-k-preserved : goal.loop-k-preserved
 loop-k-preserved c =
-    let test = has_at_with c.args.givers.now c.args.all.now.items c.args.channel.now in
+    let test = ways_have c.args.ways.now in
     let cuts = c.args.cuts.now in
     let i = c.loop-k.k-index in
     let k = get_or cuts i 0 in
@@ -28,5 +28,5 @@ returns-clause-apart c = IfOk-weaker c.finish.result _ _ (λ list is. (is _ _ c.
 pub returns-clause-says : goal.returns-clause-says
 returns-clause-says c = IfOk-weaker c.finish.result _ _ (λ list is k.
     (is _ _ c.loop-k.invariant.swept).1 k
-    ∙ says_all c.loop-k.sweep (has_at_with c.args.givers.now c.args.all.now.items c.args.channel.now) c.loop-k.at c.loop-k.invariant.swept
+    ∙ says_all c.loop-k.sweep (ways_have c.args.ways.now) c.loop-k.at c.loop-k.invariant.swept
     (λ j le. c.loop-k.invariant.rest j le (none_left c.args.cuts.now c.loop-k.k-index (j + 1) (omega (arith, c.loop-k-test.false)))) k) c.finish.ensures

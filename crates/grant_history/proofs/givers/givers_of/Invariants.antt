@@ -2,7 +2,7 @@ use Rattle.std.proofs.Common.{◌≡◌, ◌||◌, ℕ, List, drop}
 use Rattle.std.specs.List.{list_any}
 use Rattle.grant_history.specs.Givers.{giver_has}
 use Rattle.grant_history.specs.Reads.{by_roles}
-use Rattle.grant_history.proofs.evaluate.givers_of.Given as goal
+use Rattle.grant_history.proofs.givers.givers_of.Given as goal
 
 -- the roles so far with what is left are all
 abbrev pub invariant-loop-held : goal.invariant-loop-held

@@ -1,13 +1,13 @@
-use Rattle.std.proofs.Common.{◌≡◌, ◌∙◌, ℕ, List, Bool, ◌&&◌, ◌||◌, ap, arith}
+use Rattle.std.proofs.Common.{◌≡◌, ◌∙◌, Bool, ◌&&◌, ◌||◌, ap, arith}
 use Rattle.std.specs.List.{list_any}
-use Rattle.grant_history.specs.declared.evaluate.Giver.{Giver}
+use Rattle.grant_history.specs.declared.givers.Giver.{Giver}
 use Rattle.grant_history.specs.declared.held.Held.{Held}
 use Rattle.grant_history.specs.Givers.{giver_has}
 use Rattle.grant_history.specs.Reads.{gives_channel}
 use Rattle.grant_history.specs.Tracks.{held_at}
 use Rattle.grant_history.proofs.Cutting.{moves_over, given_more, given_same}
-use Rattle.grant_history.proofs.evaluate.givers_of.Goals as goal
-use Rattle.grant_history.proofs.evaluate.givers_of.Goals.{in-Some+in_ok-push, in_default}
+use Rattle.grant_history.proofs.givers.givers_of.Goals as goal
+use Rattle.grant_history.proofs.givers.givers_of.Goals.{in-Some+in_ok-push, in_default}
 
 pub loop-held-preserved : goal.loop-held-preserved
 loop-held-preserved c = λ k x.

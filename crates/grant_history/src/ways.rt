@@ -1,0 +1,164 @@
+//! The ways in which a user has one channel: by itself and by its roles. Each name is looked up
+//! once, and the places are then asked of what was found.
+
+ghost use Rattle.std.specs.Prelude.{◌≡◌, ◌||◌, ℕ, IfOk, OnOk};
+ghost use Rattle.std.specs.List.{list_any};
+ghost use Rattle.std.specs.Str.{bytes_eq};
+ghost use Rattle.sg_history.specs.Principals.{everyone};
+ghost use Rattle.grant_history.specs.Cuts.{Covers};
+ghost use Rattle.grant_history.specs.Givers.{giver_has, has_at_with};
+ghost use Rattle.grant_history.specs.Ways.{gift_has, track_has, ways_have};
+
+use crate::givers::Giver;
+use crate::held::Holding;
+use crate::track::Track;
+use sg_history::ChannelName;
+use sg_outside::Memory;
+use std::alloc::Global;
+
+/// When one user or role exists, and when it holds one channel, where it ever did.
+#[derive(Clone, Copy)]
+pub struct ChannelTracks<'a> {
+    pub exists: Option<&'a Track>,
+    pub channel: Option<&'a Track>,
+}
+
+/// A role that a user has or had: when, and when the role exists and holds one channel.
+#[derive(Clone, Copy)]
+pub struct Gift<'a> {
+    pub held: &'a Track,
+    pub by: ChannelTracks<'a>,
+}
+
+/// All ways in which a user has one channel.
+#[derive(Drop)]
+pub struct Ways<'a> {
+    pub own: ChannelTracks<'a>,
+    pub gifts: Vec<Gift<'a>>,
+    pub is_everyone: bool,
+}
+
+/// Whether something is held at a place.
+fn holds(track: Option<&Track>, k: u64) -> bool
+    ensures { result ≡ track_has track.entry k }
+{
+    match track {
+        None => false,
+        Some(track) => track.holds(k),
+    }
+}
+
+/// Adds the places at which it may change whether something is held.
+fn add_cuts(cuts: &mut Vec<u64>, track: Option<&Track>) -> Result<(), Memory>
+    ensures { OnOk result (Covers cuts.old.items cuts.new.items (track_has track.entry)) }
+{
+    match track {
+        None => Ok(()),
+        Some(track) => track.add_cuts(cuts),
+    }
+}
+
+impl<'a> Gift<'a> {
+    fn has(&self, k: u64) -> bool
+        ensures { result ≡ gift_has self.now k }
+    {
+        self.held.holds(k) && holds(self.by.exists, k) && holds(self.by.channel, k)
+    }
+
+    /// Adds the places at which it may change whether the user has the channel by this role.
+    pub fn add_cuts(&self, cuts: &mut Vec<u64>) -> Result<(), Memory>
+        ensures { OnOk result (Covers cuts.old.items cuts.new.items (gift_has self.now)) }
+    {
+        self.held.add_cuts(cuts)?;
+        self.by.add_cuts(cuts)
+    }
+}
+
+impl<'a> ChannelTracks<'a> {
+    /// Adds the places at which it may change whether this exists, or the channel is held.
+    pub fn add_cuts(&self, cuts: &mut Vec<u64>) -> Result<(), Memory>
+        ensures exists { OnOk result (Covers cuts.old.items cuts.new.items
+            (track_has self.now.exists)) }
+        ensures channel { OnOk result (Covers cuts.old.items cuts.new.items
+            (track_has self.now.channel)) }
+    {
+        add_cuts(cuts, self.exists)?;
+        add_cuts(cuts, self.channel)
+    }
+}
+
+/// Puts a role behind others, unless it never had the channel.
+fn add_gift<'a>(
+    gifts: &mut Vec<Gift<'a>>,
+    giver: &Giver<'a>,
+    channel: &ChannelName,
+) -> Result<(), Memory>
+    ensures { OnOk result ((k : ℕ) → list_any (λ g. gift_has g k) gifts.new.items
+        ≡ (list_any (λ g. gift_has g k) gifts.old.items || giver_has giver.now k channel.now)) }
+{
+    let by = giver.of.tracks_of(channel);
+    let held = giver.track;
+    match by.channel {
+        None => Ok(()),
+        Some(_) => {
+            gifts.push(Gift { held, by })?;
+            Ok(())
+        }
+    }
+}
+
+/// The roles of these that have or had a channel.
+fn gifts_of<'a>(
+    alloc: Global,
+    givers: &[Giver<'a>],
+    channel: &ChannelName,
+) -> Result<Vec<Gift<'a>>, Memory>
+    ensures { IfOk result (λ gifts. (k : ℕ) → list_any (λ g. gift_has g k) gifts.items
+        ≡ list_any (λ g. giver_has g k channel.now) givers.now) }
+{
+    let mut gifts = Vec::new(alloc);
+    for giver in givers {
+        add_gift(&mut gifts, giver, channel)?;
+    }
+    Ok(gifts)
+}
+
+fn is_everyone(channel: &ChannelName) -> bool
+    ensures { result ≡ bytes_eq everyone channel.now }
+{
+    b"!".as_slice() == channel.as_bytes()
+}
+
+/// The ways in which a user that has or had these things and roles has a channel.
+pub fn ways_of<'a>(
+    alloc: Global,
+    all: &'a Holding,
+    givers: &[Giver<'a>],
+    channel: &ChannelName,
+) -> Result<Ways<'a>, Memory>
+    ensures { IfOk result (λ ways. (k : ℕ) → ways_have ways k
+        ≡ has_at_with givers.now all.now.items channel.now k) }
+{
+    let gifts = gifts_of(alloc, givers, channel)?;
+    Ok(Ways {
+        own: all.tracks_of(channel),
+        gifts,
+        is_everyone: is_everyone(channel),
+    })
+}
+
+fn has_by(gifts: &[Gift<'_>], k: u64) -> bool
+    ensures { result ≡ list_any (λ g. gift_has g k) gifts.now }
+{
+    gifts.iter().any(|g| g.has(k))
+}
+
+impl<'a> Ways<'a> {
+    /// Whether the user has the channel at a place. Allocates nothing.
+    pub fn has(&self, k: u64) -> bool
+        ensures { result ≡ ways_have self.now k }
+    {
+        holds(self.own.exists, k)
+            && (has_by(self.gifts.as_slice(), k) || holds(self.own.channel, k) || self.is_everyone)
+    }
+}
