@@ -23,7 +23,7 @@ use Rattle.feed_rows.specs.Known.{row_before, since_write}
 use Rattle.feed_rows.specs.LastChange.{Stood, place_by, place_in}
 use Rattle.feed_rows.specs.Latest.{current_in, winner_in, written_as}
 use Rattle.feed_rows.specs.PassAt.{Dated, IsViewer}
-use Rattle.feed_rows.specs.Spans.{has_at}
+use Rattle.grant_history.specs.Periods.{periods_have}
 use Rattle.feed_rows.specs.declared.document.Latest.{Latest}
 use Rattle.feed_rows.specs.declared.shown.Viewer.{Viewer}
 use Rattle.feed_rows.proofs.Settled.{Test, written_stays, written_turns}
@@ -207,7 +207,7 @@ last_by es doc (Some l) c h = (l, refl, ap (λ (x : Current). x.seq) (same_Some 
 module _ (entries : List Entry) (index : LogIndex) (viewer : Viewer) (doc : List ℕ) (to : ℕ) (stood : Option Document) (s : Stood entries index viewer doc to stood) (latest : Latest) (is : current_in (Some latest) ≡ current (past entries to) doc)
     (same : row_before (past entries to) viewer.user.now viewer.filter.now doc ≡ row_of (past entries to) viewer.user.now viewer.filter.now doc) where
   abbrev pub has : List ℕ → ℕ → Bool
-  has = has_at viewer.spans
+  has = periods_have viewer.periods.now
 
   abbrev pub now : Current
   now = winner_in latest
@@ -250,7 +250,7 @@ module _ (entries : List Entry) (index : LogIndex) (viewer : Viewer) (doc : List
   found_was at was = turns false at (λ a b. true≢false (was ∙ b))
 
   pub viewer_before : IsViewer viewer older
-  viewer_before = record { rise = s.is_viewer.rise; dated = dated.1 }
+  viewer_before = record { to_search = s.is_viewer.to_search; dated = dated.1 }
 
   pub stood_so : before_at (reverse entries) latest.seq ≡ document_at older doc
   stood_so = stood_before entries to doc s.within latest.seq last

@@ -8,7 +8,7 @@ mod Names
 mod Ordered
 mod Passes
 mod Winners
-mod PeriodSpans
+mod Searching
 mod Places
 mod RowLists
 mod Settled

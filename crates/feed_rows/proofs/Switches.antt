@@ -1,8 +1,8 @@
 -- what lasts up to a place
 use Rattle.std.proofs.Common.{◌≡◌, ℕ, ◌+◌, ◌<◌, ◌≤◌, refl, sym, ◌∙◌, ap, arith, Bool, true, false, ◌||◌, List, [], ◌∷◌, length, get_or, take, zero, suc}
 use Rattle.std.specs.List.{list_any}
-use Rattle.feed_rows.specs.declared.spans.Lasting.{Lasting}
-use Rattle.feed_rows.specs.Spans.{Lasts}
+use Rattle.feed_rows.specs.declared.lasting.Lasting.{Lasting}
+use Rattle.feed_rows.specs.Lasting.{Lasts}
 
 -- one test for another that answers alike
 pub lasts_same : (p q : ℕ → Bool) (k : ℕ) (l : Lasting) → ((j : ℕ) → p j ≡ q j) → Lasts p k l → Lasts q k l

@@ -5,5 +5,5 @@ pub mod Laws
 pub mod Ordered
 pub mod PassAt
 pub mod Shown
-pub mod Spans
+pub mod Lasting
 pub mod LastChange

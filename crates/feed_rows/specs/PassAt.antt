@@ -11,7 +11,8 @@ use Rattle.feed_rows.specs.declared.shown.Viewer.{Viewer}
 use Rattle.feed_rows.specs.Index.{IsIndex}
 use Rattle.feed_rows.specs.Known.{known_at, known_in, written_names}
 use Rattle.feed_rows.specs.Latest.{winner_in}
-use Rattle.feed_rows.specs.Spans.{RiseAll, has_at}
+use Rattle.grant_history.specs.Periods.{periods_have}
+use Rattle.feed_rows.specs.Lasting.{AreToSearch}
 
 -- a test says which channels the user has at the last place of these entries, the newest first
 abbrev pub IsNow : (List ℕ → ℕ → Bool) → List ℕ → List Entry → Type 0
@@ -22,10 +23,10 @@ abbrev pub Dated : (List ℕ → ℕ → Bool) → List ℕ → List Entry → T
 Dated has user [] = IsNow has user []
 Dated has user (e ∷ older) = IsNow has user (e ∷ older) × Dated has user older
 
--- the spans are those of the user's channels at the places of these entries
+-- the periods are those of the user's channels at the places of these entries
 pub record IsViewer (viewer : Viewer) (es : List Entry) : Type 0 where
-  pub rise : RiseAll viewer.spans
-  pub dated : Dated (has_at viewer.spans) viewer.user.now es
+  pub to_search : AreToSearch viewer.periods.now
+  pub dated : Dated (periods_have viewer.periods.now) viewer.user.now es
 
 -- what a document is after a write
 pub record IsWritten (viewer : Viewer) (es : List Entry) (w : Write) (latest : Latest) : Type 0 where

@@ -1,18 +1,19 @@
--- When a document is shown, by the spans of the user's channels.
+-- When a document is shown, by the periods of the user's channels.
 use Rattle.std.specs.Prelude.{◌≡◌, ◌<◌, ◌≤◌, ◌-◌, ℕ, Bool, List, [], ◌∷◌, Option, Some, None, if◌then◌else◌}
 use Rattle.std.specs.List.{list_any}
 use Rattle.sg_history.specs.declared.entries.Write.{Write}
 use Rattle.sg_history.specs.View.{every, passes}
+use Rattle.grant_history.specs.declared.periods.Period.{Period}
+use Rattle.grant_history.specs.Periods.{periods_have}
 use Rattle.feed_rows.specs.declared.shown.Switch.{Switch}
-use Rattle.feed_rows.specs.Spans.{SpanMap, has_at}
 
 -- the channels under which a document is sought: `*` and its own, where the filter lets one of them through
 abbrev pub sought : Option (List (List ℕ)) → List (List ℕ) → List (List ℕ)
 sought filter channels = if passes filter (every ∷ channels) then every ∷ channels else []
 
 -- whether a document with this winner is shown at a place
-abbrev pub is_shown : SpanMap → Option (List (List ℕ)) → Write → ℕ → Bool
-is_shown spans filter w k = list_any (λ c. has_at spans c k) (sought filter w.channels)
+abbrev pub is_shown : List Period → Option (List (List ℕ)) → Write → ℕ → Bool
+is_shown periods filter w k = list_any (λ c. periods_have periods c k) (sought filter w.channels)
 
 -- the last place after one, up to another, at which a test changed, if it did, and its answer from then on
 abbrev pub IsLastSwitch : (ℕ → Bool) → ℕ → ℕ → Option Switch → Type 0

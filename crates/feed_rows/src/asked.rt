@@ -10,7 +10,7 @@ ghost use Rattle.grant_history.specs.Winners.{AreWinners};
 ghost use Rattle.feed_rows.specs.Known.{known_at, known_in, row_in};
 ghost use Rattle.feed_rows.specs.Ordered.{asked_rows, insert_asked, under_key};
 ghost use Rattle.feed_rows.specs.PassAt.{IsViewer};
-ghost use Rattle.feed_rows.specs.Spans.{RiseAll};
+ghost use Rattle.feed_rows.specs.Lasting.{AreToSearch};
 
 use crate::document::{Change, Document, change_up_to};
 use crate::pass::pass_over;
@@ -107,7 +107,7 @@ fn row_of(
     document: Document<'_>,
     to: u64,
 ) -> Result<Option<Row>, AllocError>
-    requires { RiseAll viewer.now.spans }
+    requires { AreToSearch viewer.now.periods.now }
     ensures { IfOk result (λ row. (es : List Entry) → to ≡ length es → IsViewer viewer.now es
         → known_in document.entry ≡ known_at es viewer.now.user.now viewer.now.filter.now
         document.entry.name.now

@@ -10,7 +10,7 @@ ghost use Rattle.sg_history.specs.declared.entries.Write.{Write};
 ghost use Rattle.feed_rows.specs.Known.{known_at, known_in, row_before, row_in, there};
 ghost use Rattle.feed_rows.specs.Latest.{current_in};
 ghost use Rattle.feed_rows.specs.PassAt.{IsViewer, IsWritten};
-ghost use Rattle.feed_rows.specs.Spans.{RiseAll};
+ghost use Rattle.feed_rows.specs.Lasting.{AreToSearch};
 
 use crate::shown::{Viewer, last_switch, lasting_shown};
 use sg_history::{DocId, Write};
@@ -47,7 +47,7 @@ pub fn change_up_to<'a>(
     change: Option<Change<'a>>,
     to: u64,
 ) -> Option<Change<'a>>
-    requires { RiseAll viewer.now.spans }
+    requires { AreToSearch viewer.now.periods.now }
     ensures { (es : List Entry) (doc : List ℕ) → to ≡ length es → IsViewer viewer.now es
         → current_in latest.entry ≡ current es doc
         → row_in doc change.entry
@@ -70,7 +70,7 @@ pub fn change_up_to<'a>(
 
 /// Whether a document was shown at a place.
 pub fn was_shown(viewer: &Viewer<'_>, latest: Option<Latest<'_>>, k: u64) -> bool
-    requires { RiseAll viewer.now.spans }
+    requires { AreToSearch viewer.now.periods.now }
     ensures { (es : List Entry) (doc : List ℕ) → k ≡ length es → IsViewer viewer.now es
         → current_in latest.entry ≡ current es doc
         → result ≡ is_some (view es viewer.now.user.now viewer.now.filter.now doc) }
@@ -88,7 +88,7 @@ fn change_by_write<'a>(
     change: Option<Change<'a>>,
     latest: Latest<'a>,
 ) -> Option<Change<'a>>
-    requires rise { RiseAll viewer.now.spans }
+    requires to_search { AreToSearch viewer.now.periods.now }
     requires seq { 0 < latest.seq }
     ensures { (es : List Entry) (w : Write) → IsWritten viewer.now es w latest.entry
         → current_in before.entry ≡ current es w.doc
@@ -118,7 +118,7 @@ fn change_by_write<'a>(
 
 /// Brings a document up to a write of it, after which it is this.
 fn bring_up<'a>(viewer: &Viewer<'_>, document: &mut Document<'a>, latest: Latest<'a>)
-    requires rise { RiseAll viewer.now.spans }
+    requires to_search { AreToSearch viewer.now.periods.now }
     requires seq { 0 < latest.seq }
     ensures { (es : List Entry) (w : Write) → IsWritten viewer.now es w latest.entry
         → known_in document.old ≡ known_at es viewer.now.user.now viewer.now.filter.now w.doc
@@ -136,7 +136,7 @@ pub fn bring_up_at<'a>(
     place: usize,
     latest: Latest<'a>,
 )
-    requires rise { RiseAll viewer.now.spans }
+    requires to_search { AreToSearch viewer.now.periods.now }
     requires seq { 0 < latest.seq }
     requires within { place < length documents.old.items }
     ensures { (es : List Entry) (w : Write) → IsWritten viewer.now es w latest.entry

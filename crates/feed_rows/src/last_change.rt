@@ -13,7 +13,7 @@ ghost use Rattle.feed_rows.specs.Known.{row_before};
 ghost use Rattle.feed_rows.specs.LastChange.{IsFound, Stood, place_in};
 ghost use Rattle.feed_rows.specs.Latest.{current_in, written_as};
 ghost use Rattle.feed_rows.specs.PassAt.{IsViewer};
-ghost use Rattle.feed_rows.specs.Spans.{RiseAll};
+ghost use Rattle.feed_rows.specs.Lasting.{AreToSearch};
 
 use crate::document::{Latest, was_shown};
 use crate::shown::{Viewer, last_switch, lasting_shown};
@@ -61,7 +61,7 @@ fn found_by_write(
     entries: &[Entry],
     latest: Latest<'_>,
 ) -> Found
-    requires { RiseAll viewer.now.spans }
+    requires { AreToSearch viewer.now.periods.now }
     ensures { (doc : List ℕ) (to : ℕ) (stood : Option Document)
         → Stood entries.now index.now viewer.now doc to stood
         → current_in (Some latest.entry) ≡ current (past entries.now to) doc
@@ -88,7 +88,7 @@ fn go_back(
     stood: Option<Document>,
     to: u64,
 ) -> Found
-    requires { RiseAll viewer.now.spans }
+    requires { AreToSearch viewer.now.periods.now }
     ensures { (doc : List ℕ) → Stood entries.now index.now viewer.now doc to stood
         → IsFound entries.now viewer.now doc to result }
 {

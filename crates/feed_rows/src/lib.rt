@@ -6,11 +6,11 @@ mod document;
 mod granted;
 mod index;
 mod last_change;
+mod lasting;
 pub mod laws;
 mod pass;
 mod scan;
 mod shown;
-mod spans;
 
 pub use granted::channels_of;
 pub use last_change::changed_last_at;

@@ -5,36 +5,32 @@ ghost use Rattle.sg_history.specs.declared.entries.Entry.{Entry};
 ghost use Rattle.sg_history.specs.History.{entries_of, past};
 ghost use Rattle.sg_history.specs.Principals.{has_channel};
 ghost use Rattle.sg_history.specs.Feed as feed;
-ghost use Rattle.grant_history.specs.Periods.{ArePeriods};
+ghost use Rattle.grant_history.specs.Periods.{AreInOrder, ArePeriods};
 ghost use Rattle.feed_rows.specs.PassAt.{IsViewer};
 
 use crate::asked::rows_of_pass;
 use crate::shown::Viewer;
-use crate::spans::spans_in;
 use grant_history::{Period, periods_by, winners_of};
 use sg_history::{Channels, Key, Log, Name, Options, Rows};
 use std::alloc::{AllocError, Global};
 
-/// A user with a filter, by the periods of the user's channels.
+/// A user with a filter, by the periods of the user's channels. Allocates nothing.
 pub fn viewer_of<'a>(
-    alloc: Global,
     user: &'a Name,
     filter: &'a Option<Channels>,
     periods: &'a [Period],
-) -> Result<Viewer<'a>, AllocError>
-    ensures user { IfOk result (λ viewer. viewer.user.now ≡ user.now) }
-    ensures filter { IfOk result (λ viewer. viewer.filter.now ≡ filter.now) }
-    ensures viewer { IfOk result (λ viewer. (entries : List Entry) (front : ℕ)
-        → front ≤ length entries
+) -> Viewer<'a>
+    ensures user { result.user.now ≡ user.now }
+    ensures filter { result.filter.now ≡ filter.now }
+    ensures viewer { (entries : List Entry) (front : ℕ) → front ≤ length entries
         → ArePeriods periods.now (λ c k. has_channel (past entries k) user.now c) front
-        → IsViewer viewer (past entries front)) }
+        → AreInOrder periods.now → IsViewer result (past entries front) }
 {
-    let spans = spans_in(alloc, periods)?;
-    Ok(Viewer {
+    Viewer {
         user,
         filter,
-        spans,
-    })
+        periods,
+    }
 }
 
 /// The rows of a user's changes feed over the first `front` entries of a log, after a since key, in rising
@@ -54,7 +50,7 @@ pub fn rows(
     let entries = &log.entries.as_slice()[..front as usize];
     let winners = winners_of(alloc, entries)?;
     let periods = periods_by(alloc, entries, winners.as_slice(), user)?;
-    let viewer = viewer_of(alloc, user, &options.filter, periods.as_slice())?;
+    let viewer = viewer_of(user, &options.filter, periods.as_slice());
     let rows = rows_of_pass(alloc, &viewer, entries, winners.as_slice(), since, options)?;
     Ok(Rows::from_vec(rows))
 }

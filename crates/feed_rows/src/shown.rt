@@ -4,19 +4,21 @@ ghost use Rattle.std.specs.Prelude.{◌≡◌, ◌||◌, ◌∷◌, ℕ, Bool, f
 ghost use Rattle.std.specs.List.{list_any};
 ghost use Rattle.sg_history.specs.History.{among};
 ghost use Rattle.sg_history.specs.View as view;
-ghost use Rattle.feed_rows.specs.Spans.{RiseAll, Lasts, has_at};
+ghost use Rattle.grant_history.specs.Periods.{periods_have};
+ghost use Rattle.feed_rows.specs.Lasting.{AreToSearch, Lasts};
 ghost use Rattle.feed_rows.specs.Shown as shown;
 ghost use Rattle.feed_rows.specs.Shown.{IsLastSwitch};
 
-use crate::spans::{Lasting, Spans, channel_lasting};
+use crate::lasting::{Lasting, channel_lasting};
+use grant_history::Period;
 use sg_history::{ChannelName, Channels, Name, Write};
 
-/// A user, with the filter and the spans of the channels that the user has.
-#[derive(Drop)]
+/// A user, with the filter and the periods in which the user has channels.
+#[derive(Clone, Copy)]
 pub struct Viewer<'a> {
     pub user: &'a Name,
     pub filter: &'a Option<Channels>,
-    pub spans: Spans<'a>,
+    pub periods: &'a [Period],
 }
 
 /// The last place at which it changed whether a document is shown, and whether it is shown from then on.
@@ -60,16 +62,16 @@ fn either(first: Lasting, second: Lasting) -> Lasting
 }
 
 /// Whether the user has one of these channels at a place.
-fn lasting_of(spans: &Spans<'_>, channels: &[ChannelName], k: u64) -> Lasting
-    requires { RiseAll spans.now }
-    ensures { Lasts (λ j. list_any (λ c. has_at spans.now c j) channels.now) k result }
+fn lasting_of(periods: &[Period], channels: &[ChannelName], k: u64) -> Lasting
+    requires { AreToSearch periods.now }
+    ensures { Lasts (λ j. list_any (λ c. periods_have periods.now c j) channels.now) k result }
 {
     let mut none = Lasting {
         holds: false,
         since: 0,
     };
     for channel in channels {
-        let one = channel_lasting(spans, channel.as_str(), k);
+        let one = channel_lasting(periods, channel.as_str(), k);
         if one.holds {
             return one;
         }
@@ -80,8 +82,8 @@ fn lasting_of(spans: &Spans<'_>, channels: &[ChannelName], k: u64) -> Lasting
 
 /// Whether a document with this winner is shown at a place.
 pub fn lasting_shown(viewer: &Viewer<'_>, winner: &Write, k: u64) -> Lasting
-    requires { RiseAll viewer.now.spans }
-    ensures { Lasts (λ j. shown.is_shown viewer.now.spans viewer.now.filter.now winner.now j) k
+    requires { AreToSearch viewer.now.periods.now }
+    ensures { Lasts (λ j. shown.is_shown viewer.now.periods.now viewer.now.filter.now winner.now j) k
         result }
 {
     let channels = winner.channels.as_slice();
@@ -91,17 +93,17 @@ pub fn lasting_shown(viewer: &Viewer<'_>, winner: &Write, k: u64) -> Lasting
             since: 0,
         };
     }
-    let every = channel_lasting(&viewer.spans, "*", k);
+    let every = channel_lasting(viewer.periods, "*", k);
     if every.holds {
         return every;
     }
-    either(every, lasting_of(&viewer.spans, channels, k))
+    either(every, lasting_of(viewer.periods, channels, k))
 }
 
 /// The last place after one, up to another, at which it changed whether a document with this winner is shown.
 pub fn last_switch(viewer: &Viewer<'_>, winner: &Write, from: u64, to: u64) -> Option<Switch>
-    requires { RiseAll viewer.now.spans }
-    ensures { IsLastSwitch (λ j. shown.is_shown viewer.now.spans viewer.now.filter.now winner.now j)
+    requires { AreToSearch viewer.now.periods.now }
+    ensures { IsLastSwitch (λ j. shown.is_shown viewer.now.periods.now viewer.now.filter.now winner.now j)
         from to result }
 {
     let now = lasting_shown(viewer, winner, to);

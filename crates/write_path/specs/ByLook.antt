@@ -15,7 +15,7 @@ use Rattle.log_index.specs.declared.index.LogIndex.{LogIndex}
 use Rattle.log_views.specs.Has.{HasChannels, channels_have}
 use Rattle.log_views.specs.States.{winning, view_by}
 use Rattle.grant_history.specs.declared.periods.Period.{Period}
-use Rattle.grant_history.specs.Periods.{ArePeriods}
+use Rattle.grant_history.specs.Periods.{AreInOrder, ArePeriods}
 use Rattle.feed_rows.specs.LastChange.{place_in}
 use Rattle.feed_rows.specs.PassAt.{IsViewer}
 use Rattle.write_path.specs.declared.bodies.Look.{Look}
@@ -51,4 +51,4 @@ pub record LooksIn (index : LogIndex) (board : State) (user : List ℕ) (filter 
   pub filter_is : look.filter.now ≡ filter
   pub of_user : look.viewer.user.now ≡ user
   pub by_filter : look.viewer.filter.now ≡ filter
-  pub viewer : ArePeriods periods (λ c k. has_channel (past board.log k) user c) (length board.log) → IsViewer look.viewer (reverse board.log)
+  pub viewer : ArePeriods periods (λ c k. has_channel (past board.log k) user c) (length board.log) → AreInOrder periods → IsViewer look.viewer (reverse board.log)

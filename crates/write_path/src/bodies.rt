@@ -1,6 +1,6 @@
 //! The bodies of rows at the end of a log.
 
-ghost use Rattle.std.specs.Prelude.{◌≡◌, List, true, length, map, reverse, option_map, Some, IfOk};
+ghost use Rattle.std.specs.Prelude.{◌≡◌, ◌++◌, ◌∷◌, [], List, true, length, map, reverse, option_map, Some, IfOk, OnOk};
 ghost use Rattle.std.specs.List.{list_any};
 ghost use Rattle.std.specs.Option.{option_copied};
 ghost use Rattle.sg_history.specs.declared.entries.Entry as entry;
@@ -11,7 +11,7 @@ ghost use Rattle.sg_history.specs.View.{same_view};
 ghost use Rattle.sg_history.specs.Feed as feed;
 ghost use Rattle.log_index.specs.Index.{Indexes};
 ghost use Rattle.log_views.specs.States.{shown_in};
-ghost use Rattle.grant_history.specs.Periods.{ArePeriods};
+ghost use Rattle.grant_history.specs.Periods.{AreInOrder, ArePeriods};
 ghost use Rattle.grant_history.specs.Stands.{StandsFor};
 ghost use Rattle.feed_rows.specs.PassAt.{IsViewer};
 ghost use Rattle.doc_board.specs.Offers.{nodes_or_none};
@@ -157,6 +157,24 @@ fn body_of(alloc: Global, look: &Look<'_>, most: u64, row: &Row) -> Result<Body,
     body_by(alloc, shown, tree, winner_of(now), is_gone, most, row)
 }
 
+/// Puts what is answered for a row behind other answers.
+fn put_body(
+    alloc: Global,
+    look: &Look<'_>,
+    most: u64,
+    row: &Row,
+    list: &mut BodyList,
+) -> Result<(), Memory>
+    requires index { Indexes look.now.index.now (reverse look.now.entries.now) }
+    requires viewer { bodies.left_by_write row.now.bits ≡ true
+        → IsViewer look.now.viewer (reverse look.now.entries.now) }
+    ensures { OnOk result (list.new ≡ list.old ++ by_look.looked look.now most row.now ∷ []) }
+{
+    let body = body_of(alloc, look, most, row)?;
+    list.push(body)?;
+    Ok(())
+}
+
 fn answers_of(alloc: Global, look: &Look<'_>, most: u64, rows: &[Row]) -> Result<BodyList, Memory>
     requires index { Indexes look.now.index.now (reverse look.now.entries.now) }
     requires viewer { list_any (λ row. bodies.left_by_write row.bits) rows.now ≡ true
@@ -165,7 +183,7 @@ fn answers_of(alloc: Global, look: &Look<'_>, most: u64, rows: &[Row]) -> Result
 {
     let mut list = BodyList::new(alloc);
     for row in rows {
-        list.push(body_of(alloc, look, most, row)?)?;
+        put_body(alloc, look, most, row, &mut list)?;
     }
     Ok(list)
 }
@@ -184,10 +202,11 @@ fn periods_if_left(
     user: &Name,
     rows: &[Row],
 ) -> Result<Periods, Memory>
-    ensures { IfOk result (λ periods. (entries : List entry.Entry)
+    ensures periods { IfOk result (λ periods. (entries : List entry.Entry)
         → StandsFor grants.now entries
         → list_any (λ row. bodies.left_by_write row.bits) rows.now ≡ true
         → ArePeriods periods (λ c k. has_channel (past entries k) user.now c) grants.now.applied) }
+    ensures in_order { IfOk result (λ periods. AreInOrder periods) }
 {
     if any_left(rows) {
         return grants.periods(user);
@@ -209,7 +228,7 @@ fn look_of<'a>(
         periods.now) }
 {
     let entries = board.log().entries.as_slice();
-    let viewer = viewer_of(alloc, user, &options.filter, periods)?;
+    let viewer = viewer_of(user, &options.filter, periods);
     let channels = channels(alloc, index, entries, user)?;
     Ok(Look {
         board,

@@ -2,7 +2,7 @@ use Rattle.std.proofs.Common.{◌∙◌, sym, ap, arith, Bool, false, Some}
 use Rattle.sg_history.specs.Feed.{row_with}
 use Rattle.feed_rows.specs.Known.{view_when}
 use Rattle.feed_rows.specs.Latest.{current_in, winner_in}
-use Rattle.feed_rows.specs.Spans.{has_at}
+use Rattle.grant_history.specs.Periods.{periods_have}
 use Rattle.feed_rows.proofs.Settled.{Test, settled_never, settled_none, settled_some}
 use Rattle.feed_rows.proofs.document.change_up_to.Goals as goal
 
@@ -12,7 +12,7 @@ returns-in-None c = λ es doc at viewer is row.
 
 pub returns-in-None-last_switch : goal.returns-in-None-last_switch
 returns-in-None-last_switch c = λ es doc at viewer is row.
-    let has = has_at c.args.viewer.now.spans in
+    let has = periods_have c.args.viewer.now.periods.now in
     let filter = c.args.viewer.now.filter.now in
     let now = winner_in c.in-Some.latest in
     let same = c.in-None-last_switch.ensures in
@@ -22,7 +22,7 @@ returns-in-None-last_switch c = λ es doc at viewer is row.
 
 pub returns-in-Some-last_switch : goal.returns-in-Some-last_switch
 returns-in-Some-last_switch c = λ es doc at viewer is row.
-    let has = has_at c.args.viewer.now.spans in
+    let has = periods_have c.args.viewer.now.periods.now in
     let filter = c.args.viewer.now.filter.now in
     let now = winner_in c.in-Some.latest in
     let by = c.in-Some-last_switch.switch.by in

@@ -2,13 +2,13 @@ use Rattle.std.proofs.Common.{◌∙◌, sym, ap, length}
 use Rattle.std.specs.Prelude.{is_some, Option}
 use Rattle.sg_history.specs.View.{Shown}
 use Rattle.feed_rows.specs.Latest.{current_in, winner_in}
-use Rattle.feed_rows.specs.Spans.{has_at}
+use Rattle.grant_history.specs.Periods.{periods_have}
 use Rattle.feed_rows.proofs.Settled.{Test, view_now, shown_some}
 use Rattle.feed_rows.proofs.document.was_shown.Goals as goal
 
 pub returns-in-Some : goal.returns-in-Some
 returns-in-Some c = λ es doc at viewer is.
-    let has = has_at c.args.viewer.now.spans in
+    let has = periods_have c.args.viewer.now.periods.now in
     let filter = c.args.viewer.now.filter.now in
     let now = winner_in c.in-Some.latest in
     let current_is = sym is ∙ ap current_in c.in-Some.is in

@@ -2,7 +2,7 @@ use Rattle.std.proofs.Common.{◌∙◌, sym, ap, arith}
 use Rattle.sg_history.specs.History.{past}
 use Rattle.feed_rows.specs.LastChange.{place_by}
 use Rattle.feed_rows.specs.Latest.{current_in, winner_in}
-use Rattle.feed_rows.specs.Spans.{has_at}
+use Rattle.grant_history.specs.Periods.{periods_have}
 use Rattle.feed_rows.proofs.Places.{dated_within, past_length}
 use Rattle.feed_rows.proofs.Settled.{Test, settled_never, settled_none, settled_some}
 use Rattle.feed_rows.proofs.LastChanges.{place_none}
@@ -21,7 +21,7 @@ returns-in-Some-last_switch c = λ doc s.
     let entries = c.args.entries.now in
     let user = c.args.viewer.now.user.now in
     let filter = c.args.viewer.now.filter.now in
-    let has = has_at c.args.viewer.now.spans in
+    let has = periods_have c.args.viewer.now.periods.now in
     let es = past entries c.args.to in
     let now = winner_in c.in-Some.latest in
     let at = past_length entries c.args.to s.within in
@@ -37,7 +37,7 @@ returns-in-None-last_switch c = λ doc s.
     let entries = c.args.entries.now in
     let user = c.args.viewer.now.user.now in
     let filter = c.args.viewer.now.filter.now in
-    let has = has_at c.args.viewer.now.spans in
+    let has = periods_have c.args.viewer.now.periods.now in
     let es = past entries c.args.to in
     let now = winner_in c.in-Some.latest in
     let at = past_length entries c.args.to s.within in

@@ -2,7 +2,7 @@ use Rattle.std.proofs.Common.{◌∙◌, ◌+◌, ◌<◌, sym, length, arith}
 use Rattle.std.specs.Prelude.{slice_index_or}
 use Rattle.std.proofs.lemmas.Option.{same_Some, slice_get-get_or}
 use Rattle.grant_history.specs.Winners.{winning_at}
-use Rattle.feed_rows.specs.Spans.{has_at}
+use Rattle.grant_history.specs.Periods.{periods_have}
 use Rattle.feed_rows.proofs.Places.{dated_within}
 use Rattle.feed_rows.proofs.pass.pass_over.Goals as goal
 
@@ -21,6 +21,6 @@ pub take-requires-clause-viewer : goal.take-requires-clause-viewer
 take-requires-clause-viewer c =
     let viewer = c.args.viewer.now in
     record {
-      rise = c.requires.viewer.rise;
-      dated = dated_within (has_at viewer.spans) viewer.user.now c.args.entries.now (c.loop-i.i + 1) c.requires.viewer.dated;
+      to_search = c.requires.viewer.to_search;
+      dated = dated_within (periods_have viewer.periods.now) viewer.user.now c.args.entries.now (c.loop-i.i + 1) c.requires.viewer.dated;
     }

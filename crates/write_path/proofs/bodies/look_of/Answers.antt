@@ -19,7 +19,7 @@ returns c =
       entries = c.as_slice-entries.ensures ∙ c.log.ensures.log;
       channels = subst (λ (es : List Entry). HasChannels c.in_ok-channels.channels (reverse es) c.args.user.now) (c.as_slice-entries.ensures ∙ c.log.ensures.log) c.in_ok-channels.ensures;
       filter_is = refl;
-      of_user = c.in_ok-viewer.ensures.user;
-      by_filter = c.in_ok-viewer.ensures.filter;
-      viewer = λ periods. subst (λ (es : List Entry). IsViewer c.in_ok-viewer.viewer es) (whole log) (c.in_ok-viewer.ensures.viewer log (length log) (omega arith) periods);
+      of_user = c.viewer_of-viewer.ensures.user;
+      by_filter = c.viewer_of-viewer.ensures.filter;
+      viewer = λ periods order. subst (λ (es : List Entry). IsViewer c.viewer_of-viewer.result es) (whole log) (c.viewer_of-viewer.ensures.viewer log (length log) (omega arith) periods order);
     }
