@@ -1,8 +1,7 @@
 -- Messages, their index and their turns, as messages come, change and go.
-use Rattle.std.proofs.Common.{◌≡◌, ℕ, ◌+◌, ◌≤◌, Bool, true, false, ◌&&◌, cond, eqb, [], ◌∷◌, ◌++◌, length, Some, None, refl, sym, ap, subst, ◌∙◌, arith}
-use Rattle.std.specs.Prelude.{Option, Result, Ok, Err, OnOk, is_some}
+use Rattle.std.proofs.Common.{◌≡◌, ℕ, ◌+◌, ◌<◌, ◌≤◌, Bool, true, false, ◌&&◌, cond, eqb, [], ◌∷◌, ◌++◌, length, Some, None, refl, sym, ap, subst, ◌∙◌, arith}
+use Rattle.std.specs.Prelude.{Option, is_some}
 use Rattle.std.specs.Option.{option_map_or}
-use Rattle.std.specs.Result.{is_err}
 use Rattle.std.specs.List.{sum_by, AllByRecursion}
 use Rattle.std.specs.List.Sorted.{IsStrictlySortedBy}
 use Rattle.std.specs.Map.{keys_of, values_of}
@@ -27,7 +26,7 @@ use Rattle.blip_mux.specs.Stamps.{times, same_flag}
 use Rattle.blip_mux.specs.Ready.{stamps_in, count_in, room_in}
 use Rattle.blip_mux.specs.Entries.{Entries, look, with_message, without}
 use Rattle.blip_mux.specs.Stamped.{is_message, turns, IsKept}
-use Rattle.blip_mux.proofs.Listed.{at_is, at_same, at_other, AreBelow, are_below, values_last, some_none, parted}
+use Rattle.blip_mux.proofs.Listed.{at_is, at_same, at_other, AreBelow, are_below, below_without, values_last, some_none, parted}
 
 -- ---- the keys of messages
 
@@ -225,6 +224,42 @@ put_kept_by es es' s next w class number urgent may at at' r r' class_is number_
     (λ u. counts u ∙ ap (λ b. cond (same_flag b u && may) 1 0 + count_in u r) urgent_is ∙ ap (λ m. cond (same_flag w.urgent u && m) 1 0 + count_in u r) may_is)
     room above
 
-pub no_err : {A E P : Type 0} (r : Result A E) → false ≡ is_err r → OnOk r P → P
-no_err (Ok x) fine p = p
-no_err (Err e) fine p = absurd cc
+-- a message comes at the next stamp, where there is room for its turn
+pub put_next : (es es' : Entries) (s : ℕ) (w : Waiting) (urgent may : Bool) (at at' : Class → ℕ → Option ℕ) (r r' : Ready)
+    → urgent ≡ w.urgent → may ≡ may_send w
+    → IsKept es s at r → has_checksum w.kind ≡ true → at (class_of w.kind) w.number ≡ None → ((u : Bool) → length es < room_in u r)
+    → es' ≡ es ++ (s, w) ∷ [] → IsStrictlySortedBy nat_cmp (keys_of es')
+    → ((c : Class) (n : ℕ) → at' c n ≡ cond (is_same (class_of w.kind) w.number c n) (Some s) (at c n))
+    → ((u : Bool) (q : ℕ) → times q (stamps_in u r') ≡ cond ((same_flag urgent u && may) && eqb s q) 1 0 + times q (stamps_in u r))
+    → ((u : Bool) → count_in u r' ≡ cond (same_flag urgent u && may) 1 0 + count_in u r)
+    → ((u : Bool) → room_in u r ≤ room_in u r') → IsKept es' (s + 1) at' r'
+put_next es es' s w urgent may at at' r r' urgent_is may_is kept own absent space put sorted indexes more counts room =
+    put_kept_by es es' s (s + 1) w (class_of w.kind) w.number urgent may at at' r r' refl refl urgent_is may_is kept own absent put sorted indexes more counts
+    (λ u. let a = space u in let b = room u in let c = ap (λ (xs : Entries). length xs) put in let d = length-append es ((s, w) ∷ []) in omega arith)
+    refl
+
+-- nothing of them changes
+pub same_kept : (es es' : Entries) (next : ℕ) (at at' : Class → ℕ → Option ℕ) (r : Ready) → IsKept es next at r → es' ≡ es → ((c : Class) (n : ℕ) → at' c n ≡ at c n) → IsKept es' next at' r
+same_kept es es' next at at' r kept e same = subst (λ (xs : Entries). IsKept xs next at' r) (sym e) (record {
+  sorted = kept.sorted;
+  below = kept.below;
+  found = λ c n q has. kept.found c n q (sym (same c n) ∙ has);
+  known = λ c n q w there is. same c n ∙ kept.known c n q w there is;
+  ready = kept.ready;
+  counted = kept.counted;
+  room = kept.room;
+})
+
+-- a message that was moved to the next stamp is there
+pub moved_there : (es es' : Entries) (s last : ℕ) (v : Waiting) (at : Class → ℕ → Option ℕ) (r : Ready) → IsKept es last at r → es' ≡ without s es ++ (last, v) ∷ [] → look es' last ≡ Some v
+moved_there es es' s last v at r kept e =
+    ap (λ (xs : Entries). look xs last) e ∙ look_last last v (without s es) (below_without last s es (are_below last es kept.sorted kept.below)) last
+    ∙ ap (λ (b : Bool). cond b (Some v) (look (without s es) last)) (at_same last last refl)
+
+-- there is room for the turn of a message whose turn was taken away
+pub room_again : (es : Entries) (next : ℕ) (at : Class → ℕ → Option ℕ) (u : Bool) (r r' : Ready) → IsKept es next at r → count_in u r' + cond (same_flag u u) 1 0 ≡ count_in u r → room_in u r' ≡ room_in u r → count_in u r' < room_in u r'
+room_again es next at u r r' kept less same =
+    let one = own u in let counted = kept.counted u in let within = turns_within u es in let room = kept.room u in omega arith where
+      own : (u : Bool) → cond {A = ℕ} (same_flag u u) 1 0 ≡ 1
+      own true = refl
+      own false = refl

@@ -23,3 +23,4 @@ pub mod Kept
 pub mod Moved
 pub mod Acked
 pub mod ToCome
+pub mod Picked

@@ -1,6 +1,6 @@
 -- Messages, their index and their turns, as a message goes or is put last again.
 use Rattle.std.proofs.Common.{◌≡◌, ℕ, ◌+◌, ◌-◌, ◌<◌, ◌≤◌, Bool, true, false, ◌&&◌, cond, eqb, max, [], ◌∷◌, ◌++◌, length, Some, None, refl, sym, ap, subst, ◌∙◌, arith}
-use Rattle.std.specs.Prelude.{Option, Result, Ok, Err, OnOk, OnErr, not, option_map, unwrap_or}
+use Rattle.std.specs.Prelude.{Option, IsSome, Result, Ok, Err, OnOk, OnErr, not, option_map, unwrap_or}
 use Rattle.std.specs.Option.{option_map_or}
 use Rattle.std.specs.List.{sum_by}
 use Rattle.std.specs.List.Sorted.{IsStrictlySortedBy}
@@ -129,6 +129,10 @@ turn_kept es es' next w turn at at' r r' kept own there mark may e indexes sorte
 
 -- ---- a message is put last again
 
+pub present_ok : {A E P : Type 0} {X : Type 0} {v : X} (o : Option X) (r : Result A E) → o ≡ Some v → OnErr r (o ≡ None) → OnOk r P → P
+present_ok o (Ok x) there absent p = p
+present_ok o (Err e) there absent p = some_none (sym there ∙ absent)
+
 -- what stands at the numbers of the other messages
 abbrev at_others : Waiting → (Class → ℕ → Option ℕ) → Class → ℕ → Option ℕ
 at_others w at c n = cond (is_same (class_of w.kind) w.number c n) None (at c n)
@@ -157,6 +161,34 @@ move_kept es es' last next w turn class number urgent may_then at at' r r' r'' c
       both true b o same = refl
       both false b o same = ap (λ (x : Bool). cond x None o) same
 
+-- the same of a message that stands last already
+pub follow_kept : (es es' : Entries) (last : ℕ) (w v : Waiting) (turn : ReadyMessage) (class : Class) (number : ℕ) (may_then : Bool) {A E : Type 0} (stood : Result A E) (at at' : Class → ℕ → Option ℕ) (r r' r'' : Ready)
+    → v ≡ without_piece w → class ≡ class_of v.kind → number ≡ v.number → may_then ≡ may_send v → has_checksum v.kind ≡ true
+    → IsKept es last at r → look es turn.stamp ≡ Some w → w.urgent ≡ turn.urgent → may_send w ≡ true
+    → es' ≡ without turn.stamp es ++ (last, without_piece w) ∷ [] → IsStrictlySortedBy nat_cmp (keys_of es')
+    → OnErr stood (at class number ≡ None) → OnOk stood ((c : Class) (n : ℕ) → at' c n ≡ cond (is_same class number c n) (Some last) (at c n))
+    → ((u : Bool) (q : ℕ) → times q (stamps_in u r') + cond (same_flag turn.urgent u && eqb turn.stamp q) 1 0 ≡ times q (stamps_in u r))
+    → ((u : Bool) → count_in u r' + cond (same_flag turn.urgent u) 1 0 ≡ count_in u r)
+    → ((u : Bool) → room_in u r' ≡ room_in u r)
+    → ((u : Bool) (q : ℕ) → times q (stamps_in u r'') ≡ cond ((same_flag turn.urgent u && may_then) && eqb last q) 1 0 + times q (stamps_in u r'))
+    → ((u : Bool) → count_in u r'' ≡ cond (same_flag turn.urgent u && may_then) 1 0 + count_in u r')
+    → ((u : Bool) → room_in u r' ≤ room_in u r'') → IsKept es' (last + 1) at' r''
+follow_kept es es' last w v turn class number may_then stood at at' r r' r'' its class_is number_is may_is own kept there mark may e sorted absent put less counts room more counts' room' =
+    move_kept es es' last (last + 1) w turn class number turn.urgent may_then at at' r r' r'' class_so number_so (sym mark) (may_is ∙ ap may_send its) kept own_so there mark may e
+    (sorted_front (without turn.stamp es) ((last, without_piece w) ∷ []) (subst (λ (xs : Entries). IsStrictlySortedBy nat_cmp (keys_of xs)) e sorted)) sorted
+    (present_ok (at class number) stood known absent put) less counts room more counts' room' refl where
+      own_so : has_checksum w.kind ≡ true
+      own_so = subst (λ (x : Waiting). has_checksum x.kind ≡ true) its own
+
+      class_so : class ≡ class_of w.kind
+      class_so = class_is ∙ ap (λ (x : Waiting). class_of x.kind) its
+
+      number_so : number ≡ w.number
+      number_so = number_is ∙ ap (λ (x : Waiting). x.number) its
+
+      known : at class number ≡ Some turn.stamp
+      known = ap (λ d. at d number) class_so ∙ ap (at (class_of w.kind)) number_so ∙ kept.known (class_of w.kind) w.number turn.stamp w there (own_key w.kind w.number own_so)
+
 -- the index without a number of a class, where they are those of a message
 pub removes : (class : Class) (number : ℕ) (w : Waiting) (at at' : Class → ℕ → Option ℕ) → class ≡ class_of w.kind → number ≡ w.number
     → ((c : Class) (n : ℕ) → at' c n ≡ cond (is_same class number c n) None (at c n)) → (c : Class) (n : ℕ) → at' c n ≡ cond (is_same (class_of w.kind) w.number c n) None (at c n)
@@ -165,9 +197,13 @@ removes class number w at at' class_is number_is indexes c n =
 
 -- ---- a place is made for a message before it is moved there
 
-pub present_ok : {A E P : Type 0} {X : Type 0} {v : X} (o : Option X) (r : Result A E) → o ≡ Some v → OnErr r (o ≡ None) → OnOk r P → P
-present_ok o (Ok x) there absent p = p
-present_ok o (Err e) there absent p = some_none (sym there ∙ absent)
+pub some_there : (o : Option Waiting) → IsSome o → (w : Waiting) × (o ≡ Some w)
+some_there None h = absurd cc
+some_there (Some w) h = (w, refl)
+
+pub is_there : (o : Option Waiting) (w : Waiting) → o ≡ Some w → IsSome o
+is_there None w e = some_none (sym e)
+is_there (Some x) w e = refl
 
 look_front : (s : ℕ) (w : Waiting) (es ys : Entries) → look es s ≡ Some w → look (es ++ ys) s ≡ Some w
 look_front s w [] ys at = absurd cc
@@ -197,9 +233,6 @@ module _ (es placed : Entries) (last : ℕ) (empty : Waiting) (sorted : IsStrict
   pub put_in_place : (s : ℕ) (w v : Waiting) → look es s ≡ Some w → insert_entry nat_cmp (without s placed) last v ≡ without s es ++ (last, v) ∷ []
   put_in_place s w v at =
       ap (λ (xs : Entries). insert_entry nat_cmp xs last v) (others_placed s w at) ∙ put_over last empty v (without s es) (below_without last s es (are_below last es sorted none))
-
-  pub others_sorted : (s : ℕ) (w : Waiting) → look es s ≡ Some w → IsStrictlySortedBy nat_cmp (keys_of (without s placed)) → IsStrictlySortedBy nat_cmp (keys_of (without s es))
-  others_sorted s w at up = sorted_front (without s es) ((last, empty) ∷ []) (subst (λ (xs : Entries). IsStrictlySortedBy nat_cmp (keys_of xs)) (others_placed s w at) up)
 
 -- ---- an acknowledgement has come
 

@@ -1,5 +1,5 @@
 -- The messages that wait, by their stamps.
-use Rattle.std.specs.Prelude.{◌≡◌, ℕ, ◌≤◌, Bool, true, ◌&&◌, cond, length, Option, Some, None, ◌==◌, List, ◌++◌}
+use Rattle.std.specs.Prelude.{◌≡◌, ℕ, ◌<◌, ◌≤◌, Bool, true, ◌&&◌, cond, length, Option, Some, None, ◌==◌, List, [], ◌∷◌, ◌++◌}
 use Rattle.std.specs.Option.{option_map_or}
 use Rattle.std.specs.List.{sum_by}
 use Rattle.std.specs.List.Sorted.{IsStrictlySortedBy}
@@ -7,12 +7,13 @@ use Rattle.std.specs.Map.{keys_of, values_of}
 use Rattle.std.specs.Ordering.{nat_cmp}
 use Rattle.blip_frame.specs.Checksum.{checksum}
 use Rattle.blip_frame.specs.Frame.{spelling, sent_after, value_after, WritesAfter}
-use Rattle.blip_mux.specs.Sending.{Waiting, may_send, chosen, first_piece}
+use Rattle.blip_mux.specs.Sending.{Waiting, may_send, chosen, first_piece, without_piece}
 use Rattle.blip_mux.specs.Entries.{Entries, look, without}
 use Rattle.blip_mux.specs.declared.class.Class.{Class}
 use Rattle.blip_mux.specs.Class.{is_in, stamp_at}
 use Rattle.blip_mux.specs.Stamps.{times, IsLowest, same_flag}
 use Rattle.blip_mux.specs.Ready.{stamps_in, count_in, room_in}
+use Rattle.blip_mux.specs.declared.index.Index.{Index}
 use Rattle.blip_mux.specs.declared.ready.Ready.{Ready}
 use Rattle.blip_mux.specs.declared.ready.ReadyMessage.{ReadyMessage}
 use Rattle.blip_mux.specs.declared.stamped.Stamped.{Stamped}
@@ -35,6 +36,10 @@ pub record IsKept (es : Entries) (next : ℕ) (at : Class → ℕ → Option ℕ
   pub counted : (u : Bool) → count_in u turns_of ≡ sum_by (turns u) (values_of es)
   pub room : (u : Bool) → length es ≤ room_in u turns_of
 
+-- the stamp that an index has at a class and a number
+abbrev pub stamp_in : Index → Class → ℕ → Option ℕ
+stamp_in index class number = stamp_at class number index.requests index.replies
+
 -- the messages, in their order
 abbrev pub listed : Stamped → List Waiting
 listed s = values_of s.messages.entries
@@ -53,6 +58,11 @@ stands class number s = stamp_at class number s.index.requests s.index.replies
 abbrev pub Keeps : Stamped → Type 0
 Keeps s = IsKept s.messages.entries s.next (λ c n. stamp_at c n s.index.requests s.index.replies) s.ready
 
+-- there is a stamp for one more message, and room for its turn
+pub record HasRoom (s : Stamped) : Type 0 where
+  pub stamp : s.next < 18446744073709551615
+  pub turns : (u : Bool) → length s.messages.entries < room_in u s.ready
+
 -- the message that sends next has this turn
 pub record IsNextReady (turn : ReadyMessage) (s : Stamped) : Type 0 where
   pub message : Waiting
@@ -61,6 +71,18 @@ pub record IsNextReady (turn : ReadyMessage) (s : Stamped) : Type 0 where
   pub lowest : IsLowest turn.stamp (stamps_in turn.urgent s.ready)
   pub may : may_send message ≡ true
   pub first : chosen (values_of s.messages.entries) ≡ Some (message, values_of (without turn.stamp s.messages.entries))
+
+-- The next frame of the message that had this turn has gone, and the message was moved to the next stamp; its stamp in the index and its turn are still those from before.
+pub record IsMoved (turn : ReadyMessage) (s : Stamped) : Type 0 where
+  pub before : Entries
+  pub message : Waiting
+  pub kept : IsKept before s.next (λ c n. stamp_at c n s.index.requests s.index.replies) s.ready
+  pub there : look before turn.stamp ≡ Some message
+  pub mark : message.urgent ≡ turn.urgent
+  pub lowest : IsLowest turn.stamp (stamps_in turn.urgent s.ready)
+  pub may : may_send message ≡ true
+  pub moved : s.messages.entries ≡ without turn.stamp before ++ (s.next, without_piece message) ∷ []
+  pub ordered : IsStrictlySortedBy nat_cmp (keys_of s.messages.entries)
 
 -- The next frame of a message was put at the end and taken into the checksum, also that of all bytes that were sent before.
 pub record Writes (w : Waiting) (before after : ℕ) (old new : List ℕ) : Type 0 where

@@ -1,12 +1,13 @@
 //! What waits to be sent: acknowledgements, and messages that are cut into frames in turn.
 
-ghost use Rattle.std.specs.Prelude.{◌≡◌, ◌∷◌, ◌++◌, ◌+◌, ◌<◌, ◌≤◌, [], true, false, length, max, List, ℕ, Ok, IfOk, IfErr, OnOk, OnErr, MatchResult, None};
+ghost use Rattle.std.specs.Prelude.{◌≡◌, ◌∷◌, ◌++◌, ◌+◌, ◌<◌, ◌≤◌, [], true, false, length, max, List, ℕ, Ok, Some, IfOk, IfErr, OnOk, OnErr, MatchResult, None};
 ghost use Rattle.std.specs.List.{list_any, list_all};
 ghost use Rattle.blip_frame.specs.Checksum.{checksum};
 ghost use Rattle.blip_frame.specs.Frame.{has_checksum};
 ghost use Rattle.blip_frame.specs.Payload.{payload_text};
+ghost use Rattle.blip_mux.specs.Acknowledgements.{ack_frame, Acknowledgement as Ack};
 ghost use Rattle.blip_mux.specs.Joining.{is_reply};
-ghost use Rattle.blip_mux.specs.Sending.{new_sending, unsent, picked, after_picked, is_reply_to, is_paused, last_put, sent_of, is_bad_ack, acked_in, Sends, SendsAfter};
+ghost use Rattle.blip_mux.specs.Sending.{new_sending, unsent, picked, after_picked, is_of, is_reply_to, is_paused, last_put, sent_of, is_bad_ack, acked_in, Sends, SendsAfter};
 
 use crate::acknowledgement::Acknowledgement;
 use crate::class::{Class, class_of};
@@ -101,9 +102,15 @@ impl Outbox {
         ensures err { OnErr result (self.new ≡ self.old) }
     {
         let number = self.requests + 1;
-        let bytes = written(self.alloc, &payload)?;
-        let message = WaitingMessage::new(number, Kind::Msg, false, no_reply, bytes);
-        self.waiting.push(message)?;
+        push(
+            &mut self.waiting,
+            self.alloc,
+            number,
+            Kind::Msg,
+            false,
+            no_reply,
+            payload,
+        )?;
         self.requests = number;
         Ok(number)
     }
@@ -125,9 +132,15 @@ impl Outbox {
         }) }
         ensures err { OnErr result (self.new ≡ self.old) }
     {
-        let bytes = written(self.alloc, &payload)?;
-        let message = WaitingMessage::new(number, kind, urgent, false, bytes);
-        self.waiting.push(message)?;
+        push(
+            &mut self.waiting,
+            self.alloc,
+            number,
+            kind,
+            urgent,
+            false,
+            payload,
+        )?;
         self.replies = number.max(self.replies);
         Ok(())
     }
@@ -149,9 +162,10 @@ impl Outbox {
         }) }
         ensures err { OnErr result (self.new ≡ self.old) }
     {
-        self.acknowledgements
-            .push_back(Acknowledgement::new(kind, number, bytes))?;
-        Ok(())
+        put_back(
+            &mut self.acknowledgements,
+            Acknowledgement::new(kind, number, bytes),
+        )
     }
 
     /// Puts the next frame at the end of `out`: the first acknowledgement that waits, else the next
@@ -176,12 +190,11 @@ impl Outbox {
         ensures err { OnErr result
             ((self.new ≡ self.old) × (crc.new ≡ crc.old) × (out.new ≡ out.old)) }
     {
-        if let Some(first) = self.acknowledgements.front() {
-            first.write(crc, out)?;
-            self.acknowledgements.pop_front();
-            return Ok(Next::Frame);
+        if self.acknowledgements.is_empty() {
+            self.waiting.write_next(crc, out)
+        } else {
+            write_first(&mut self.acknowledgements, crc, out)
         }
-        self.waiting.write_next(crc, out)
     }
 
     /// Takes an acknowledgement that has come: so many bytes of a message that was sent. The greatest
@@ -220,11 +233,68 @@ impl Outbox {
     }
 }
 
+/// Puts an acknowledgement behind the others.
+fn put_back(
+    acknowledgements: &mut VecDeque<Acknowledgement>,
+    acknowledgement: Acknowledgement,
+) -> Result<(), AllocError>
+    ensures ok { OnOk result
+        (acknowledgements.new.items ≡ acknowledgements.old.items ++ acknowledgement ∷ []) }
+    ensures err { OnErr result (acknowledgements.new.items ≡ acknowledgements.old.items) }
+{
+    acknowledgements.push_back(acknowledgement)?;
+    Ok(())
+}
+
+/// Puts the first acknowledgement at the end of `out`. Out of memory all stays as it was.
+fn write_first(
+    acknowledgements: &mut VecDeque<Acknowledgement>,
+    crc: &mut Crc,
+    out: &mut Bytes,
+) -> Result<Next, Memory>
+    requires { 0 < length acknowledgements.old.items }
+    ensures frame { (a : Ack) (others : List Ack) → acknowledgements.old.items ≡ a ∷ others
+        → IfOk result (λ next. Sends (Some (ack_frame a)) next crc.old.value crc.new.value
+        out.old out.new) }
+    ensures after { (a : Ack) (others : List Ack) → acknowledgements.old.items ≡ a ∷ others
+        → OnOk result (acknowledgements.new.items ≡ others) }
+    ensures sent { (a : Ack) (others : List Ack) → acknowledgements.old.items ≡ a ∷ others
+        → (sent : List ℕ) → crc.old.value ≡ checksum sent
+        → IfOk result (λ next. SendsAfter sent (Some (ack_frame a)) next crc.new.value
+        out.old out.new) }
+    ensures err { OnErr result ((acknowledgements.new.items ≡ acknowledgements.old.items)
+        × (crc.new ≡ crc.old) × (out.new ≡ out.old)) }
+{
+    acknowledgements[0].write(crc, out)?;
+    acknowledgements.pop_front();
+    Ok(Next::Frame)
+}
+
+/// Puts a message with the bytes of a payload behind the others.
+fn push(
+    waiting: &mut Queue,
+    alloc: Global,
+    number: u64,
+    kind: Kind,
+    urgent: bool,
+    no_reply: bool,
+    payload: Payload,
+) -> Result<(), Memory>
+    requires kind { has_checksum kind ≡ true }
+    requires alone { list_any (is_of kind number) waiting.old ≡ false }
+    ensures ok { OnOk result (waiting.new ≡ waiting.old
+        ++ unsent number kind urgent no_reply (payload_text payload.props payload.body) ∷ []) }
+    ensures err { OnErr result (waiting.new ≡ waiting.old) }
+{
+    let bytes = written(alloc, payload)?;
+    waiting.push(WaitingMessage::new(number, kind, urgent, no_reply, bytes))
+}
+
 /// The bytes of a payload.
-fn written(alloc: Global, payload: &Payload) -> Result<Bytes, AllocError>
-    ensures value { IfOk result (λ bytes. bytes ≡ payload_text payload.now.props payload.now.body) }
+fn written(alloc: Global, payload: Payload) -> Result<Bytes, AllocError>
+    ensures value { IfOk result (λ bytes. bytes ≡ payload_text payload.props payload.body) }
 {
     let mut bytes = Bytes::new(alloc);
-    write_payload(payload, &mut bytes)?;
+    write_payload(&payload, &mut bytes)?;
     Ok(bytes)
 }

@@ -74,11 +74,7 @@ impl Queue {
         let Some(turn) = self.messages.next_turn() else {
             return Ok(Next::Idle);
         };
-        if self.messages.has_more(turn) {
-            self.messages.send_part(turn, crc, out)?;
-        } else {
-            self.messages.send_last(turn, crc, out)?;
-        }
+        self.messages.send(turn, crc, out)?;
         Ok(Next::Frame)
     }
 
