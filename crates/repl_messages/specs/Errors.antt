@@ -36,6 +36,15 @@ error_code CheckpointsFull503 = 503
 error_code Memory507 = 507
 error_code LogFull509 = 509
 
+-- what the words for the device end with: the field, number, rule or leaf of the error
+abbrev pub error_subject : ErrorKind → List ℕ
+error_subject (Bad400 field) = field_text field
+error_subject (SincePast400 front) = decimal front
+error_subject (Denied403 rule) = rule
+error_subject (Conflict409 leaf) = rev_text leaf
+error_subject (Checkpoint409 current) = decimal current
+error_subject _ = []
+
 -- the words for the device
 abbrev pub error_text : ErrorKind → List ℕ
 error_text (Bad400 field) = codes "bad " ++ field_text field

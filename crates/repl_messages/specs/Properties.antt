@@ -3,19 +3,10 @@ use Rattle.std.specs.Prelude.{ℕ, Bool, false, ◌||◌, not, List, Option, Som
 use Rattle.std.specs.Str.{bytes_eq}
 use Rattle.blip_frame.specs.Props.{Pair, value_at}
 
--- whether a property is there with this value
-abbrev pub is_value : Option (List ℕ) → List ℕ → Bool
-is_value None text = false
-is_value (Some value) text = bytes_eq value text
-
 -- a truth value: true where the property is there and is neither `0` nor `false`
 abbrev pub truth_of : Option (List ℕ) → Bool
 truth_of None = false
 truth_of (Some value) = not (bytes_eq value (codes "0") || bytes_eq value (codes "false"))
-
--- whether the message is of this name
-abbrev pub is_named : List ℕ → List Pair → Bool
-is_named name props = is_value (value_at props (codes "Profile")) name
 
 -- whether a property is true
 abbrev pub is_set : List ℕ → List Pair → Bool

@@ -18,6 +18,11 @@ abbrev pub history_pairs : List RevId → List Pair
 history_pairs [] = []
 history_pairs (rev ∷ revs) = (codes "history", join_with_byte 44 (map (λ r. rev_text r) (rev ∷ revs))) ∷ []
 
+-- the message's name, and the document and the revision of a row
+abbrev pub row_pairs : List ℕ → Row → List Pair
+row_pairs profile row =
+    (codes "Profile", profile) ∷ (codes "id", row.doc) ∷ (codes "rev", rev_text row.rev) ∷ []
+
 -- a row's revision with its ancestors and its body
 abbrev pub rev_payload : Row → List RevId → List ℕ → Payload
 rev_payload row ancestors body =

@@ -3,29 +3,34 @@
 ghost use Rattle.std.specs.Prelude.{◌≡◌, ◌≢◌, ◌++◌, Ok, Err, IfOk, IfErr, option_and_then, Some, None, string_bytes, if◌then◌else◌};
 ghost use Rattle.std.specs.Option.{option_copied};
 ghost use Rattle.repl_messages.specs.Checkpoints as checkpoints;
+ghost use Rattle.repl_messages.specs.Fields as fields;
 ghost use Rattle.repl_messages.specs.Checkpoints.{IsCheckpointNumber, IsSetCheckpoint, checkpoint_rev, checkpoint_payload};
 
 use crate::json_body::value_of;
 use crate::request::{Field, Request, RequestFault, or_bad};
 use crate::texts::push;
 use blip_frame::{Payload, Props};
-use serde_json::Value;
 use sg_history::{Client, TextFault, read_decimal};
 use sg_outside::{Bytes, Memory};
 use std::alloc::{AllocError, Global};
 
 /// The client that a property names.
-fn client_of(alloc: Global, value: Option<&str>) -> Result<Option<Client>, AllocError>
-    ensures { IfOk result
-        (λ client. client ≡ option_and_then checkpoints.client_of (option_copied value.entry)) }
+fn client_of(alloc: Global, value: Option<&str>) -> Result<Client, RequestFault>
+    ensures { result ≢ Err RequestFault.Memory → result
+        ≡ fields.or_bad Field.Client
+        (option_and_then checkpoints.client_of (option_copied value.entry)) }
 {
     let Some(text) = value else {
-        return Ok(None);
+        return Err(RequestFault::Bad400 {
+            field: Field::Client,
+        });
     };
     match Client::parse(alloc, text) {
-        Ok(client) => Ok(Some(client)),
-        Err(TextFault::Bad) => Ok(None),
-        Err(TextFault::Memory) => Err(AllocError),
+        Ok(client) => Ok(client),
+        Err(TextFault::Bad) => Err(RequestFault::Bad400 {
+            field: Field::Client,
+        }),
+        Err(TextFault::Memory) => Err(RequestFault::Memory),
     }
 }
 
@@ -48,19 +53,20 @@ fn is_object(alloc: Global, body: &[u8]) -> Result<bool, AllocError>
         (λ found. (if found then Some body.now else None) ≡ checkpoints.object_body body.now) }
 {
     match value_of(alloc, body)? {
-        Some(Value::Object(_)) => Ok(true),
-        _ => Ok(false),
+        Some(value) => Ok(value.is_object()),
+        None => Ok(false),
     }
 }
 
 /// A body that is a JSON object.
-fn object_body(alloc: Global, body: &[u8]) -> Result<Option<Bytes>, AllocError>
-    ensures { IfOk result (λ found. found ≡ checkpoints.object_body body.now) }
+fn object_body(alloc: Global, body: &[u8]) -> Result<Bytes, RequestFault>
+    ensures { result ≢ Err RequestFault.Memory
+        → result ≡ fields.or_bad Field.Body (checkpoints.object_body body.now) }
 {
     if is_object(alloc, body)? {
-        Ok(Some(Bytes::from_slice(alloc, body)?))
+        Ok(Bytes::from_slice(alloc, body)?)
     } else {
-        Ok(None)
+        Err(RequestFault::Bad400 { field: Field::Body })
     }
 }
 
@@ -70,7 +76,7 @@ pub(crate) fn read_get_checkpoint(alloc: Global, props: &Props) -> Result<Reques
     ensures refused { IfErr result (λ fault. fault ≢ RequestFault.Memory
         → Err fault ≡ checkpoints.get_checkpoint props.now) }
 {
-    let client = or_bad(Field::Client, client_of(alloc, props.get("client"))?)?;
+    let client = client_of(alloc, props.get("client"))?;
     Ok(Request::GetCheckpoint { client })
 }
 
@@ -92,12 +98,9 @@ fn set_checkpoint(
     ensures { result ≢ Err RequestFault.Memory
         → result ≡ checkpoints.set_checkpoint number payload.now }
 {
-    let client = or_bad(
-        Field::Client,
-        client_of(alloc, payload.props.get("client"))?,
-    )?;
+    let client = client_of(alloc, payload.props.get("client"))?;
     let rev = or_bad(Field::Rev, number)?;
-    let body = or_bad(Field::Body, object_body(alloc, payload.body.as_slice())?)?;
+    let body = object_body(alloc, payload.body.as_slice())?;
     Ok(Request::SetCheckpoint { client, rev, body })
 }
 
@@ -112,8 +115,9 @@ pub(crate) fn checkpoint_string(alloc: Global, number: u64) -> Result<String, Me
 pub fn write_checkpoint(alloc: Global, rev: u64, body: &[u8]) -> Result<Payload, Memory>
     ensures { IfOk result (λ payload. payload ≡ checkpoint_payload rev body.now) }
 {
+    let rev = checkpoint_string(alloc, rev)?;
     let mut props = Vec::new(alloc);
-    push(alloc, &mut props, "rev", checkpoint_string(alloc, rev)?)?;
+    push(alloc, &mut props, "rev", rev)?;
     Ok(Payload {
         props: Props::from_vec(props),
         body: Bytes::from_slice(alloc, body)?,

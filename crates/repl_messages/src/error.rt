@@ -1,10 +1,7 @@
 //! Replies: the empty one, and those that say why a request is refused.
 
-ghost use Rattle.std.specs.Prelude.{◌≡◌, ◌++◌, IfOk, OnOk, codes, decimal};
-ghost use Rattle.sg_names.specs.RevId.{rev_text};
-ghost use Rattle.repl_messages.specs.Checkpoints.{checkpoint_rev};
-ghost use Rattle.repl_messages.specs.Fields.{field_text};
-ghost use Rattle.repl_messages.specs.Errors.{ok_payload, error_payload, error_domain, error_code, error_text};
+ghost use Rattle.std.specs.Prelude.{◌≡◌, ◌++◌, IfOk, OnOk, decimal, string_bytes};
+ghost use Rattle.repl_messages.specs.Errors.{ok_payload, error_payload, error_domain, error_code, error_subject, error_text};
 
 use crate::request::Field;
 use crate::texts::{push, push_text};
@@ -85,63 +82,59 @@ impl ErrorKind {
         }
     }
 
+    /// The code in decimal.
+    fn code_string(&self, alloc: Global) -> Result<String, Memory>
+        ensures { IfOk result (λ text. string_bytes text ≡ decimal (error_code self.now)) }
+    {
+        format!(in alloc; "{}", self.code())
+    }
+
+    /// The words for the device, but for what they end with.
+    fn words(&self) -> &'static str
+        ensures { result.now ++ error_subject self.now ≡ error_text self.now }
+    {
+        match self {
+            ErrorKind::Bad400 { .. } => "bad ",
+            ErrorKind::LowForm400 => "low form",
+            ErrorKind::SincePast400 { .. } => "since is past ",
+            ErrorKind::BadHistory400 => "bad history",
+            ErrorKind::UserGone401 => "user is gone",
+            ErrorKind::Denied403 { .. } => "",
+            ErrorKind::NoCheckpoint404 => "no checkpoint",
+            ErrorKind::NoHandler404 => "no handler",
+            ErrorKind::Conflict409 { .. } => "conflict ",
+            ErrorKind::Checkpoint409 { .. } => "checkpoint is 0-",
+            ErrorKind::FeedRuns409 => "feed is running",
+            ErrorKind::UsePropose409 => "use proposeChanges",
+            ErrorKind::TooLarge413 => "too large",
+            ErrorKind::PendingFull503 => "pending is full",
+            ErrorKind::CheckpointsFull503 => "checkpoints are full",
+            ErrorKind::Memory507 => "no memory",
+            ErrorKind::LogFull509 => "log is full",
+        }
+    }
+
+    /// Puts what the words end with at the end: the field, number, rule or leaf of the error.
+    fn write_subject(&self, out: &mut Bytes) -> Result<(), Memory>
+        ensures { OnOk result (out.new ≡ out.old ++ error_subject self.now) }
+    {
+        match self {
+            ErrorKind::Bad400 { field } => out.extend_from_slice(field.as_str().as_bytes()),
+            ErrorKind::SincePast400 { front } => write_decimal(*front, out),
+            ErrorKind::Denied403 { rule } => out.extend_from_slice(rule.as_str().as_bytes()),
+            ErrorKind::Conflict409 { leaf } => leaf.write(out),
+            ErrorKind::Checkpoint409 { current } => write_decimal(*current, out),
+            _ => Ok(()),
+        }
+    }
+
     /// Puts the words for the device at the end.
     fn write_text(&self, out: &mut Bytes) -> Result<(), Memory>
         ensures { OnOk result (out.new ≡ out.old ++ error_text self.now) }
     {
-        match self {
-            ErrorKind::Bad400 { field } => write_bad(*field, out),
-            ErrorKind::LowForm400 => out.extend_from_slice(b"low form"),
-            ErrorKind::SincePast400 { front } => write_past(*front, out),
-            ErrorKind::BadHistory400 => out.extend_from_slice(b"bad history"),
-            ErrorKind::UserGone401 => out.extend_from_slice(b"user is gone"),
-            ErrorKind::Denied403 { rule } => out.extend_from_slice(rule.as_str().as_bytes()),
-            ErrorKind::NoCheckpoint404 => out.extend_from_slice(b"no checkpoint"),
-            ErrorKind::NoHandler404 => out.extend_from_slice(b"no handler"),
-            ErrorKind::Conflict409 { leaf } => write_conflict(leaf, out),
-            ErrorKind::Checkpoint409 { current } => write_checkpoint(*current, out),
-            ErrorKind::FeedRuns409 => out.extend_from_slice(b"feed is running"),
-            ErrorKind::UsePropose409 => out.extend_from_slice(b"use proposeChanges"),
-            ErrorKind::TooLarge413 => out.extend_from_slice(b"too large"),
-            ErrorKind::PendingFull503 => out.extend_from_slice(b"pending is full"),
-            ErrorKind::CheckpointsFull503 => out.extend_from_slice(b"checkpoints are full"),
-            ErrorKind::Memory507 => out.extend_from_slice(b"no memory"),
-            ErrorKind::LogFull509 => out.extend_from_slice(b"log is full"),
-        }
+        out.extend_from_slice(self.words().as_bytes())?;
+        self.write_subject(out)
     }
-}
-
-/// Puts the words for a bad property at the end.
-fn write_bad(field: Field, out: &mut Bytes) -> Result<(), Memory>
-    ensures { OnOk result (out.new ≡ out.old ++ (codes "bad " ++ field_text field)) }
-{
-    out.extend_from_slice(b"bad ")?;
-    out.extend_from_slice(field.as_str().as_bytes())
-}
-
-/// Puts the words for a since key past the front at the end.
-fn write_past(front: u64, out: &mut Bytes) -> Result<(), Memory>
-    ensures { OnOk result (out.new ≡ out.old ++ (codes "since is past " ++ decimal front)) }
-{
-    out.extend_from_slice(b"since is past ")?;
-    write_decimal(front, out)
-}
-
-/// Puts the words for a conflict with a leaf at the end.
-fn write_conflict(leaf: &RevId, out: &mut Bytes) -> Result<(), Memory>
-    ensures { OnOk result (out.new ≡ out.old ++ (codes "conflict " ++ rev_text leaf.now)) }
-{
-    out.extend_from_slice(b"conflict ")?;
-    leaf.write(out)
-}
-
-/// Puts the words for another checkpoint at the end.
-fn write_checkpoint(current: u64, out: &mut Bytes) -> Result<(), Memory>
-    ensures { OnOk result (out.new
-        ≡ out.old ++ (codes "checkpoint is " ++ checkpoint_rev current)) }
-{
-    out.extend_from_slice(b"checkpoint is 0-")?;
-    write_decimal(current, out)
 }
 
 /// The empty reply. Allocates nothing.
@@ -160,12 +153,7 @@ pub fn write_error(alloc: Global, error: &ErrorKind) -> Result<Payload, Memory>
 {
     let mut props = Vec::new(alloc);
     push_text(alloc, &mut props, "Error-Domain", error.domain())?;
-    push(
-        alloc,
-        &mut props,
-        "Error-Code",
-        format!(in alloc; "{}", error.code())?,
-    )?;
+    push(alloc, &mut props, "Error-Code", error.code_string(alloc)?)?;
     let mut body = Bytes::new(alloc);
     error.write_text(&mut body)?;
     Ok(Payload {

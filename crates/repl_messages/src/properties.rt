@@ -8,16 +8,6 @@ ghost use Rattle.repl_messages.specs.Properties as properties;
 use blip_frame::Props;
 use sg_history::read_decimal;
 
-/// Whether the value is there and is this text.
-fn is_value(value: Option<&str>, text: &str) -> bool
-    ensures { result ≡ properties.is_value (option_copied value.entry) text.now }
-{
-    match value {
-        Some(value) => value == text,
-        None => false,
-    }
-}
-
 /// A truth value: true where it is there and is neither `0` nor `false`.
 fn truth_of(value: Option<&str>) -> bool
     ensures { result ≡ properties.truth_of (option_copied value.entry) }
@@ -26,13 +16,6 @@ fn truth_of(value: Option<&str>) -> bool
         Some(value) => !(value == "0" || value == "false"),
         None => false,
     }
-}
-
-/// Whether the message is of this name.
-pub(crate) fn is_named(name: &str, props: &Props) -> bool
-    ensures { result ≡ properties.is_named name.now props.now }
-{
-    is_value(props.get("Profile"), name)
 }
 
 /// Whether the property is true.

@@ -7,14 +7,17 @@ ghost use Rattle.serde_json.specs.View.{items_view};
 ghost use Rattle.repl_messages.specs.Wanted as wanted;
 ghost use Rattle.repl_messages.specs.Wanted.{wanted_rows, max_history_of};
 
-use crate::flags::Flags;
 use crate::json_body::items_in;
 use crate::properties::number_up_to;
 use blip_frame::Kind;
 use blip_mux::Message;
 use serde_json::Value;
+use sg_names::List;
 use sg_outside::Memory;
 use std::alloc::Global;
+
+/// One flag a row.
+pub type Flags = List<bool>;
 
 /// What a device wants of the rows that it was offered.
 #[derive(Drop)]
