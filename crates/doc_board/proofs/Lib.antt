@@ -19,4 +19,5 @@ pub mod Steps
 pub mod Tops
 pub mod Walks
 pub mod OnBoards
+pub mod OnStorage
 pub mod OneVerdict

@@ -14,3 +14,4 @@ pub mod Recorded
 pub mod Rooms
 pub mod State
 pub mod Steps
+pub mod Storage

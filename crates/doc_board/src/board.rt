@@ -1,6 +1,6 @@
 //! The board: the log, each document's tree, and the rooms that are outstanding.
 
-ghost use Rattle.std.specs.Prelude.{◌≡◌, ◌≢◌, ◌≤◌, ◌<◌, ◌+◌, ◌-◌, ◌*◌, ◌++◌, ◌∷◌, [], ℕ, List, false, true, length, reverse, is_some, Some, None, option_map, OnOk, OnErr, IfOk, IfSome, IsTrue, Err};
+ghost use Rattle.std.specs.Prelude.{◌≡◌, ◌≢◌, ◌≤◌, ◌<◌, ◌+◌, ◌-◌, ◌*◌, ◌++◌, ◌∷◌, [], ℕ, List, false, true, length, reverse, is_some, Some, None, option_map, OnOk, OnErr, IfOk, IfSome, IfNone, IsTrue, Err};
 ghost use Rattle.std.specs.Option.{option_copied};
 ghost use Rattle.sg_history.specs.Book.{waiting_at};
 ghost use Rattle.sg_history.specs.History.{entries_of, among};
@@ -23,21 +23,21 @@ ghost use Rattle.doc_board.specs.Recorded.{HasDocument, AreFollowing, IsFirstBad
 ghost use Rattle.doc_board.specs.Rooms.{is_outstanding, room_for, without};
 ghost use Rattle.doc_board.specs.State.{newest_first, book_on, writes_on, tree_on, last_on, base_on};
 ghost use Rattle.doc_board.specs.Steps.{history_on, stored_at, swapped_to, with_entry};
+ghost use Rattle.doc_board.specs.Storage.{MayGiveUp, book_with_unused, kept_at};
 
 use crate::base::base_of;
 use crate::candidate::{Candidate, Commit, NoRoom};
-use crate::document::{self, Document, Documents};
+use crate::document;
 use crate::granted::{channels_at_end, context_at_end};
 use crate::open::{OpenFault, bytes_of, documents_of};
-use crate::room::{self, OutstandingRooms, Room};
+use crate::room::{OutstandingRooms, Room};
 use crate::snapshot::{Proposer, Snapshot, proposer_exists, snapshot_of};
-use crate::waiting::{Bases, keep_base, make_places, release};
+use crate::storage::Storage;
 use grant_history::GrantHistory;
 use pending_front::Pending;
-use pending_front::laws::storing;
 use repl_messages::Revision;
 use rev_tree::Tree;
-use rev_tree::laws::{histories, trees_of_writes};
+use rev_tree::laws::histories;
 use sg_history::laws::books;
 use sg_history::{Channels, DocId, Entry, Log, LogReads, Name, Number, RevId, RoomFor, Write};
 use sg_outside::Memory;
@@ -62,36 +62,29 @@ const MOST_BYTES: u64 = 2_147_483_648;
 #[derive(Drop)]
 pub struct Board {
     alloc: Global,
-    log: Log,
-    pending: Pending,
-    documents: Documents,
-    bases: Bases,
-    rooms: OutstandingRooms,
-    stored: u64,
+    storage: Storage,
     grants: GrantHistory,
     reads: u64,
 }
 
 impl Model for Board {
-    ghost use Rattle.std.specs.Prelude.{nat_eq};
-    ghost use Rattle.std.specs.HashMap.{get, spare};
     ghost use Rattle.sg_history.specs.History.{entries_of};
     ghost use Rattle.grant_history.specs.Stands.{StandsFor};
-    ghost use Rattle.doc_board.specs.Kept.{IsBoard};
     ghost use Rattle.doc_board.specs.State.{State};
+    ghost use Rattle.doc_board.specs.Storage.{IsOfBoard};
 
     ghost Value = { State };
 
     ghost view = { λ b. record {
-      log = entries_of b.log;
-      pending = b.pending.waiting;
-      rooms = b.rooms;
+      log = entries_of b.storage.log;
+      pending = b.storage.pending.waiting;
+      rooms = b.storage.rooms;
       known = b.grants.applied;
       reads = b.reads;
     } };
 
-    ghost invariant = { λ b. IsBoard b.log.entries b.pending b.documents (get nat_eq b.bases)
-        (spare b.bases) b.rooms b.stored × StandsFor b.grants b.log.entries.list };
+    ghost invariant = { λ b. IsOfBoard b.storage
+        × StandsFor b.grants b.storage.log.entries.list };
 }
 
 impl Board {
@@ -105,12 +98,14 @@ impl Board {
     {
         Ok(Board {
             alloc,
-            log: Log::new(alloc),
-            pending: Pending::new(alloc),
-            documents: BTreeMap::new(alloc),
-            bases: HashMap::new(alloc),
-            rooms: OutstandingRooms::new(),
-            stored: 0,
+            storage: Storage {
+                log: Log::new(alloc),
+                pending: Pending::new(alloc),
+                documents: BTreeMap::new(alloc),
+                bases: HashMap::new(alloc),
+                rooms: OutstandingRooms::new(),
+                stored: 0,
+            },
             grants: GrantHistory::new(alloc),
             reads: 0,
         })
@@ -134,12 +129,14 @@ impl Board {
         let stored = bytes_of(log.entries.as_slice());
         Ok(Board {
             alloc,
-            log,
-            pending: Pending::new(alloc),
-            documents,
-            bases: HashMap::new(alloc),
-            rooms: OutstandingRooms::new(),
-            stored,
+            storage: Storage {
+                log,
+                pending: Pending::new(alloc),
+                documents,
+                bases: HashMap::new(alloc),
+                rooms: OutstandingRooms::new(),
+                stored,
+            },
             grants: GrantHistory::new(alloc),
             reads: 0,
         })
@@ -156,7 +153,7 @@ impl Board {
         ensures next { waiting_at self.now.pending (length self.now.log + 1) ≡ None }
         ensures below { result < 9223372036854775808 }
     {
-        self.log.entries.as_slice().len() as u64
+        self.storage.log.entries.as_slice().len() as u64
     }
 
     /// The log. Allocates nothing.
@@ -167,7 +164,7 @@ impl Board {
         ensures accepted { (doc : List ℕ) → AreAccepted (writes_on self.now doc) }
     {
         books();
-        &self.log
+        &self.storage.log
     }
 
     /// The tree that the writes of a document make, those that wait among them; none where it was never written. Allocates nothing.
@@ -175,14 +172,14 @@ impl Board {
         ensures tree { option_copied result ≡ tree_when (writes_on self.now doc.now) }
         ensures accepted { AreAccepted (writes_on self.now doc.now) }
     {
-        document::tree_of(document::document_of(&self.documents, doc))
+        document::tree_of(document::document_of(&self.storage.documents, doc))
     }
 
     /// The sequence of the last write of a document, 0 where there is none.
     fn last_write(&self, doc: &DocId) -> u64
         ensures { result ≡ last_on self.now doc.now }
     {
-        document::last_of(document::document_of(&self.documents, doc))
+        document::last_of(document::document_of(&self.storage.documents, doc))
     }
 
     /// Brings the grants up to the end of the log. Out of memory they are up to some place before it.
@@ -195,7 +192,7 @@ impl Board {
             ≤ self.old.reads + 2 * (length self.old.log - self.old.known) }
     {
         let front = self.front();
-        let mut log = LogReads::new(&self.log);
+        let mut log = LogReads::new(&self.storage.log);
         let applied = self.grants.apply(&mut log, front);
         self.reads = self.reads.saturating_add(log.reads());
         applied
@@ -230,15 +227,7 @@ impl Board {
     {
         books();
         let index = self.grants.index();
-        base_of(
-            &self.log,
-            &self.pending,
-            &self.bases,
-            index,
-            last,
-            doc,
-            ancestors,
-        )
+        base_of(&self.storage, index, last, doc, ancestors)
     }
 
     /// The same in a context, where the grants are at the end of the log.
@@ -263,10 +252,10 @@ impl Board {
             (option_copied by.entry)) }
         ensures context { IfOk result (λ s. s.context ≡ context) }
     {
-        let document = document::document_of(&self.documents, &revision.doc);
+        let document = document::document_of(&self.storage.documents, &revision.doc);
         let last = document::last_of(document);
         let base = self.base_of(last, &revision.doc, revision.ancestors.as_slice())?;
-        let exists = proposer_exists(self.grants.index(), self.log.entries.as_slice(), by);
+        let exists = proposer_exists(self.grants.index(), self.storage.log.entries.as_slice(), by);
         let proposer = Proposer { exists, context };
         snapshot_of(
             self.alloc,
@@ -317,13 +306,13 @@ impl Board {
     fn refusal(&self, body_bytes: u64) -> Option<NoRoom>
         ensures { result ≡ limits.refusal (board_of self.now) body_bytes }
     {
-        let places = self.pending.len() + 2 * self.rooms.count();
+        let places = self.storage.pending.len() + 2 * self.storage.rooms.count();
         if places >= MOST_PLACES - 1 {
             return Some(NoRoom::Full503 { places });
         }
         let entries = self.front() + places;
-        let asked = self.rooms.asked().saturating_add(body_bytes);
-        let bytes = self.stored.saturating_add(asked);
+        let asked = self.storage.rooms.asked().saturating_add(body_bytes);
+        let bytes = self.storage.stored.saturating_add(asked);
         if entries >= MOST_ENTRIES - 1 || bytes > MOST_BYTES {
             return Some(NoRoom::LogFull509 { entries, bytes });
         }
@@ -342,12 +331,7 @@ impl Board {
         ensures known { self.new.known ≡ self.old.known }
         ensures reads { self.new.reads ≡ self.old.reads }
     {
-        let made_for = room::room_for(self.alloc, doc, bytes)?;
-        let places = 2 * (self.rooms.count() + 1);
-        make_places(&mut self.log, &mut self.pending, &mut self.bases, places)?;
-        document::make_place_for(self.alloc, &mut self.documents, doc)?;
-        self.rooms.add(&made_for);
-        Ok(made_for)
+        self.storage.make_room(self.alloc, doc, bytes)
     }
 
     /// Room for one entry: for a write of a document with a body of at most so many bytes, or for an entry that is no write. It is
@@ -375,25 +359,38 @@ impl Board {
         }
     }
 
-    fn store_plain(&mut self, room: Room, number: u64, entry: Entry)
+    /// Stores an entry that is no write, in the place of a room that ends, and gives a number up, where there is one, in the other.
+    fn store_plain(&mut self, room: Room, spent: Option<u64>, number: u64, entry: Entry)
+        requires spent { MayGiveUp self.old spent number }
         requires number { MayStore self.old.log self.old.pending number }
         requires out { IsTrue (is_outstanding self.old.rooms room.made_for) }
         requires entry { IsEntry entry }
         requires plain { is_write entry ≡ false }
-        ensures stored { history_on self.new ≡ stored_at self.old number entry }
-        ensures book { book_on self.new ≡ with_entry number entry (book_on self.old) }
+        ensures stored { history_on self.new ≡ kept_at self.old spent number entry }
+        ensures book { book_on self.new
+            ≡ with_entry number entry (book_with_unused spent (book_on self.old)) }
         ensures rooms { self.new.rooms ≡ without room.made_for self.old.rooms }
         ensures known { self.new.known ≡ self.old.known }
         ensures reads { self.new.reads ≡ self.old.reads }
     {
-        storing();
         grant_history::laws::extended(&self.grants);
-        self.rooms.end(room);
-        self.pending.put(number, entry);
-        release(&mut self.log, &mut self.pending, &mut self.bases);
+        self.storage.end(room);
+        self.storage.give_up(spent);
+        self.storage.put_plain(number, entry);
+        self.storage.release();
     }
 
-    fn store_write(&mut self, room: Room, number: u64, entry: Write, tree: Tree, base: u64)
+    /// The same of a write, with the document's tree after it, and the number of the document's write before it.
+    fn store_write(
+        &mut self,
+        room: Room,
+        spent: Option<u64>,
+        number: u64,
+        entry: Write,
+        tree: Tree,
+        base: u64,
+    )
+        requires spent { MayGiveUp self.old spent number }
         requires number { MayStore self.old.log self.old.pending number }
         requires out { IsTrue (is_outstanding self.old.rooms room.made_for) }
         requires doc { room.made_for.doc ≡ Some entry.doc }
@@ -403,23 +400,66 @@ impl Board {
         requires base { base ≡ last_on self.old entry.doc }
         requires above { base < number }
         requires extends { ExtendsTree (tree_on self.old entry.doc) entry tree }
-        ensures stored { history_on self.new ≡ stored_at self.old number (kinds.Write entry) }
-        ensures book { book_on self.new
-            ≡ with_entry number (kinds.Write entry) (book_on self.old) }
+        ensures stored { history_on self.new
+            ≡ kept_at self.old spent number (kinds.Write entry) }
+        ensures book { book_on self.new ≡ with_entry number (kinds.Write entry)
+            (book_with_unused spent (book_on self.old)) }
         ensures rooms { self.new.rooms ≡ without room.made_for self.old.rooms }
         ensures known { self.new.known ≡ self.old.known }
         ensures reads { self.new.reads ≡ self.old.reads }
     {
-        storing();
-        trees_of_writes();
         grant_history::laws::extended(&self.grants);
-        let document = Document { last: number, tree };
-        self.rooms.end(room);
-        self.stored = self.stored.saturating_add(entry.body.len() as u64);
-        document::put(&mut self.documents, &entry.doc, document);
-        keep_base(&mut self.bases, number, base);
-        self.pending.put(number, Entry::Write(entry));
-        release(&mut self.log, &mut self.pending, &mut self.bases);
+        self.storage.end(room);
+        self.storage.give_up(spent);
+        self.storage.put_write(number, entry, tree, base);
+        self.storage.release();
+    }
+
+    /// Stores a candidate whose document was not written since, gives a number up, where there is one, and answers where the
+    /// candidate was made.
+    fn store(&mut self, room: Room, spent: Option<u64>, number: u64, candidate: Candidate) -> u64
+        requires spent { MayGiveUp self.old spent number }
+        requires number { MayStore self.old.log self.old.pending number }
+        requires out { IsTrue (is_outstanding self.old.rooms room.made_for) }
+        requires fits { Fits room.made_for candidate }
+        requires candidate { MayBeStored self.old number candidate }
+        requires current { is_stale self.old candidate ≡ false }
+        ensures at { result ≡ made_at candidate (length self.old.log) }
+        ensures stored { history_on self.new
+            ≡ kept_at self.old spent number (entry_of candidate) }
+        ensures book { book_on self.new ≡ with_entry number (entry_of candidate)
+            (book_with_unused spent (book_on self.old)) }
+        ensures rooms { self.new.rooms ≡ without room.made_for self.old.rooms }
+        ensures known { self.new.known ≡ self.old.known }
+        ensures reads { self.new.reads ≡ self.old.reads }
+    {
+        match candidate {
+            Candidate::Plain(entry) => {
+                let at = self.front();
+                self.store_plain(room, spent, number, entry);
+                at
+            }
+            Candidate::Write { entry, tree, base } => {
+                let at = entry.at;
+                self.store_write(room, spent, number, entry, tree, base);
+                at
+            }
+        }
+    }
+
+    /// The sequence of the last write of a candidate's document, where it was written since.
+    fn written_since(&self, candidate: &Candidate) -> Option<u64>
+        ensures last { IfSome result (λ last. last ≡ last_of self.now candidate.now) }
+        ensures stale { IfSome result (λ last. is_stale self.now candidate.now ≡ true) }
+        ensures fresh { IfNone result (is_stale self.now candidate.now ≡ false) }
+    {
+        match candidate {
+            Candidate::Plain(_) => None,
+            Candidate::Write { entry, base, .. } => {
+                let last = self.last_write(&entry.doc);
+                if last != *base { Some(last) } else { None }
+            }
+        }
     }
 
     /// Stores a candidate at a number that is held, in a room, or hands all back where its document was written since. It waits
@@ -445,93 +485,19 @@ impl Board {
         ensures known { self.new.known ≡ self.old.known }
         ensures reads { self.new.reads ≡ self.old.reads }
     {
-        match candidate {
-            Candidate::Plain(entry) => {
-                let at = self.front();
+        match self.written_since(&candidate) {
+            Some(last) => Commit::Stale {
+                room,
+                number,
+                candidate,
+                last,
+            },
+            None => {
                 let sequence = number.spend();
-                self.store_plain(room, sequence, entry);
-                Commit::Stored { sequence, at }
-            }
-            Candidate::Write { entry, tree, base } => {
-                let last = self.last_write(&entry.doc);
-                if last != base {
-                    return Commit::Stale {
-                        room,
-                        number,
-                        candidate: Candidate::Write { entry, tree, base },
-                        last,
-                    };
-                }
-                let at = entry.at;
-                let sequence = number.spend();
-                self.store_write(room, sequence, entry, tree, base);
+                let at = self.store(room, None, sequence, candidate);
                 Commit::Stored { sequence, at }
             }
         }
-    }
-
-    /// Puts that a number is given up among the entries that wait, in the place of a room that ends, and leaves the other place.
-    fn swap_plain(&mut self, room: Room, spent: u64, fresh: u64, entry: Entry)
-        requires spent { MayStore self.old.log self.old.pending spent }
-        requires fresh { MayStore self.old.log self.old.pending fresh }
-        requires apart { spent ≢ fresh }
-        requires out { IsTrue (is_outstanding self.old.rooms room.made_for) }
-        requires entry { IsEntry entry }
-        requires plain { is_write entry ≡ false }
-        ensures stored { history_on self.new ≡ swapped_to self.old spent fresh entry }
-        ensures book { book_on self.new
-            ≡ with_entry fresh entry (with_entry spent kinds.Unused (book_on self.old)) }
-        ensures rooms { self.new.rooms ≡ without room.made_for self.old.rooms }
-        ensures known { self.new.known ≡ self.old.known }
-        ensures reads { self.new.reads ≡ self.old.reads }
-    {
-        storing();
-        grant_history::laws::extended(&self.grants);
-        self.rooms.end(room);
-        self.pending.put(spent, Entry::Unused);
-        self.pending.put(fresh, entry);
-        release(&mut self.log, &mut self.pending, &mut self.bases);
-    }
-
-    fn swap_write(
-        &mut self,
-        room: Room,
-        spent: u64,
-        fresh: u64,
-        entry: Write,
-        tree: Tree,
-        base: u64,
-    )
-        requires spent { MayStore self.old.log self.old.pending spent }
-        requires fresh { MayStore self.old.log self.old.pending fresh }
-        requires apart { spent ≢ fresh }
-        requires out { IsTrue (is_outstanding self.old.rooms room.made_for) }
-        requires doc { room.made_for.doc ≡ Some entry.doc }
-        requires entry { IsEntry (kinds.Write entry) }
-        requires body { HasDocument entry.body }
-        requires at { entry.at < fresh }
-        requires base { base ≡ last_on self.old entry.doc }
-        requires above { base < fresh }
-        requires extends { ExtendsTree (tree_on self.old entry.doc) entry tree }
-        ensures stored { history_on self.new ≡ swapped_to self.old spent fresh
-            (kinds.Write entry) }
-        ensures book { book_on self.new ≡ with_entry fresh (kinds.Write entry)
-            (with_entry spent kinds.Unused (book_on self.old)) }
-        ensures rooms { self.new.rooms ≡ without room.made_for self.old.rooms }
-        ensures known { self.new.known ≡ self.old.known }
-        ensures reads { self.new.reads ≡ self.old.reads }
-    {
-        storing();
-        trees_of_writes();
-        grant_history::laws::extended(&self.grants);
-        let document = Document { last: fresh, tree };
-        self.rooms.end(room);
-        self.stored = self.stored.saturating_add(entry.body.len() as u64);
-        document::put(&mut self.documents, &entry.doc, document);
-        keep_base(&mut self.bases, fresh, base);
-        self.pending.put(spent, Entry::Unused);
-        self.pending.put(fresh, Entry::Write(entry));
-        release(&mut self.log, &mut self.pending, &mut self.bases);
     }
 
     /// Gives up a number that a write has overtaken, so that it stays unused, and stores a candidate at another, in a room. Its
@@ -562,18 +528,8 @@ impl Board {
     {
         let spent = spent.spend();
         let sequence = fresh.spend();
-        match candidate {
-            Candidate::Plain(entry) => {
-                let at = self.front();
-                self.swap_plain(room, spent, sequence, entry);
-                Commit::Stored { sequence, at }
-            }
-            Candidate::Write { entry, tree, base } => {
-                let at = entry.at;
-                self.swap_write(room, spent, sequence, entry, tree, base);
-                Commit::Stored { sequence, at }
-            }
-        }
+        let at = self.store(room, Some(spent), sequence, candidate);
+        Commit::Stored { sequence, at }
     }
 
     /// Gives up a number that is held and the room for its entry: it stays unused. Allocates nothing.
@@ -588,6 +544,6 @@ impl Board {
         ensures reads { self.new.reads ≡ self.old.reads }
     {
         let number = number.spend();
-        self.store_plain(room, number, Entry::Unused);
+        self.store_plain(room, None, number, Entry::Unused);
     }
 }

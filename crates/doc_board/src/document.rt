@@ -58,11 +58,12 @@ fn make_place(alloc: Global, documents: &mut Documents, doc: &DocId) -> Result<(
     if document_of(documents, doc).is_some() {
         return Ok(());
     }
+    let name = String::from_str(alloc, doc.as_str())?;
     let blank = Document {
         last: 0,
         tree: Tree::new(alloc),
     };
-    documents.insert(String::from_str(alloc, doc.as_str())?, blank)?;
+    documents.insert(name, blank)?;
     Ok(())
 }
 

@@ -12,6 +12,7 @@ mod open;
 pub mod outcome;
 mod room;
 mod snapshot;
+mod storage;
 mod waiting;
 
 pub use board::Board;

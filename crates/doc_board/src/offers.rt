@@ -1,6 +1,6 @@
 //! What is answered for a revision that a device offers.
 
-ghost use Rattle.std.specs.Prelude.{◌≡◌, map, take, option_map, IfOk};
+ghost use Rattle.std.specs.Prelude.{◌≡◌, ◌++◌, ◌∷◌, [], map, take, option_map, IfOk, OnOk};
 ghost use Rattle.std.specs.Option.{option_copied};
 ghost use Rattle.rev_tree.specs.Order as order;
 ghost use Rattle.rev_tree.specs.Tree as trees;
@@ -24,12 +24,20 @@ fn first_below(mut leaves: Vec<Leaf>, generation: u32) -> Vec<Leaf>
     leaves
 }
 
+/// Puts a copy of a revision at the end.
+fn push_copy(alloc: Global, revs: &mut Revs, rev: &RevId) -> Result<(), AllocError>
+    ensures { OnOk result (revs.new ≡ revs.old ++ rev.now ∷ []) }
+{
+    let copy = rev.copy(alloc)?;
+    revs.push(copy)
+}
+
 fn revs_of(alloc: Global, leaves: &[Leaf]) -> Result<Revs, AllocError>
     ensures { IfOk result (λ revs. revs ≡ map (λ l. l.rev) leaves.now) }
 {
     let mut revs = Revs::new(alloc);
     for leaf in leaves {
-        revs.push(leaf.rev.copy(alloc)?)?;
+        push_copy(alloc, &mut revs, &leaf.rev)?;
     }
     Ok(revs)
 }

@@ -83,6 +83,29 @@ fn is_deletion(write: Option<&Write>) -> bool
     }
 }
 
+/// The outcome of a revision in a document's tree, and the body of the write on which the revision is based.
+#[derive(Drop)]
+struct Found {
+    step: Extended,
+    old: Option<Bytes>,
+}
+
+fn outcome_of(
+    alloc: Global,
+    document: Option<&Document>,
+    base: Option<&Write>,
+    revision: &Revision,
+    strict: bool,
+) -> Result<Found, AllocError>
+    ensures step { IfOk result (λ o. IsStep (kept.kept_nodes (option_copied document.entry))
+        revision.now strict o.step) }
+    ensures old { IfOk result (λ o. o.old ≡ option_map (λ w. w.body) (option_copied base.entry)) }
+{
+    let step = step_in(alloc, document, revision, strict)?;
+    let old = body_of(alloc, base)?;
+    Ok(Found { step, old })
+}
+
 /// Whether the one who proposes a revision exists at the end of the log: the user, or the administrator, who does.
 pub(crate) fn proposer_exists(index: &LogIndex, entries: &[Entry], by: Option<&Name>) -> bool
     requires { Indexes index.now (reverse entries.now) }
@@ -121,12 +144,13 @@ pub(crate) fn snapshot_of(
     ensures user { IfOk result (λ s. s.user_exists ≡ by.exists) }
     ensures context { IfOk result (λ s. s.context ≡ by.context) }
 {
+    let Found { step, old } = outcome_of(alloc, document, base, revision, strict)?;
     let Proposer { exists, context } = by;
     Ok(Snapshot {
         at,
         last: document::last_of(document),
-        step: step_in(alloc, document, revision, strict)?,
-        old: body_of(alloc, base)?,
+        step,
+        old,
         old_deleted: is_deletion(base),
         user_exists: exists,
         context,

@@ -8,7 +8,7 @@ use Rattle.doc_board.proofs.base.waiting_write.Given as goal
 
 abbrev pub invariant-loop : goal.invariant-loop
 invariant-loop l = record {
-  front : l.front ≡ length (entries_of l.log);
+  front : l.front ≡ length (entries_of l.storage.log);
   falls : l.number + l.counter ≤ l.last + l.front;
-  stands : (doc : List ℕ) → l.last ≡ last_in (book_with (entries_of l.log) l.pending.waiting) (top_of (entries_of l.log) l.pending.waiting) doc → IsAt (entries_of l.log) l.pending.waiting doc l.rev l.number;
+  stands : (doc : List ℕ) → l.last ≡ last_in (book_with (entries_of l.storage.log) l.storage.pending.waiting) (top_of (entries_of l.storage.log) l.storage.pending.waiting) doc → IsAt (entries_of l.storage.log) l.storage.pending.waiting doc l.rev l.number;
 }

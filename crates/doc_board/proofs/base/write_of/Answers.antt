@@ -10,10 +10,10 @@ use Rattle.doc_board.proofs.base.write_of.Goals as goal
 
 pub returns-in-None : goal.returns-in-None
 returns-in-None c =
-    let h = c.args.log.now.entries.list in
+    let h = c.args.storage.now.log.entries.list in
     let doc = c.args.doc.now in
     let rev = c.args.rev.now in
-    let found = subst (λ (o : Option (Bor Write)). IsFound h c.args.pending.now.waiting doc rev (option_copied o)) c.in-None.is (c.waiting_write.ensures doc c.requires.last) in
+    let found = subst (λ (o : Option (Bor Write)). IsFound h c.args.storage.now.pending.waiting doc rev (option_copied o)) c.in-None.is (c.waiting_write.ensures doc c.requires.last) in
     let is = found
     ∙ ap (λ (s : Option Sequenced). write_alone s) (c.books.ensures.of_rev h (length h) doc rev)
     ∙ whole (λ (es : List Entry). write_alone (write_of_rev es doc rev)) h

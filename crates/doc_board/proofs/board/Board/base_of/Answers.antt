@@ -6,6 +6,9 @@ use Rattle.rev_tree.specs.Documents.{base_in}
 use Rattle.doc_board.proofs.Bodies.{base_body, found_document}
 use Rattle.doc_board.proofs.board.Board.base_of.Goals as goal
 
+pub base_of-requires-clause-stands : goal.base_of-requires-clause-stands
+base_of-requires-clause-stands c = c.self.invariant.0.standing
+
 pub base_of-requires-clause-last : goal.base_of-requires-clause-last
 base_of-requires-clause-last c = subst (λ (s : State). c.args.last ≡ last_on s c.args.doc.now) (sym c.self.view_is) c.requires.last
 
@@ -15,7 +18,7 @@ returns-clause-base c =
 
 pub returns-clause-document : goal.returns-clause-document
 returns-clause-document c =
-    let log = c.self.inside.log.entries.list in
-    let waiting = c.self.inside.pending.waiting in
+    let log = c.self.inside.storage.log.entries.list in
+    let waiting = c.self.inside.storage.pending.waiting in
     found_document c.base_of.result (base_in (book_with log waiting) (top_of log waiting) c.args.doc.now c.args.ancestors.now)
     (base_body (book_with log waiting) (top_of log waiting) c.args.doc.now c.args.ancestors.now c.self.invariant.0.standing.kept.right) c.base_of.ensures

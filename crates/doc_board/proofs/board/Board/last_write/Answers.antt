@@ -9,9 +9,9 @@ use Rattle.doc_board.proofs.board.Board.last_write.Goals as goal
 
 pub returns : goal.returns
 returns c =
-    let log = c.self.inside.log.entries.list in
-    let waiting = c.self.inside.pending.waiting in
+    let log = c.self.inside.storage.log.entries.list in
+    let waiting = c.self.inside.storage.pending.waiting in
     c.last_of.ensures
     ∙ ap (λ (o : Option Document). kept_last o) c.document_of.ensures
-    ∙ last_by (writes_up_to (book_with log waiting) (top_of log waiting)) c.self.inside.documents c.args.doc.now (c.self.invariant.0.standing.kept.documents (top_of log waiting) (none_above_top log waiting))
+    ∙ last_by (writes_up_to (book_with log waiting) (top_of log waiting)) c.self.inside.storage.documents c.args.doc.now (c.self.invariant.0.standing.kept.documents (top_of log waiting) (none_above_top log waiting))
     ∙ ap (λ (s : State). last_on s c.args.doc.now) c.self.view_is

@@ -9,8 +9,8 @@ use Rattle.doc_board.proofs.board.Board.log.Goals as goal
 
 pub returns-clause-lawful : goal.returns-clause-lawful
 returns-clause-lawful c =
-    let log = c.self.inside.log.entries.list in
-    let waiting = c.self.inside.pending.waiting in
+    let log = c.self.inside.storage.log.entries.list in
+    let waiting = c.self.inside.storage.pending.waiting in
     subst (λ (s : State). AreLawful (newest_first s)) c.self.view_is
     (lawful_log c.books.ensures.of_rev log (book_with log waiting) (in_log_book log waiting) c.self.invariant.0.standing.kept.right)
 
@@ -20,7 +20,7 @@ returns-clause-entries c =
 
 pub returns-clause-accepted : goal.returns-clause-accepted
 returns-clause-accepted c = λ doc.
-    let log = c.self.inside.log.entries.list in
-    let waiting = c.self.inside.pending.waiting in
+    let log = c.self.inside.storage.log.entries.list in
+    let waiting = c.self.inside.storage.pending.waiting in
     subst (λ (s : State). AreAccepted (writes_on s doc)) c.self.view_is
     (c.self.invariant.0.standing.kept.accepted (top_of log waiting) (none_above_top log waiting) doc)

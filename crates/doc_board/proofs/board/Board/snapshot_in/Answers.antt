@@ -12,31 +12,31 @@ use Rattle.doc_board.proofs.board.Board.snapshot_in.Goals as goal
 
 pub base_of-requires-clause-last : goal.base_of-requires-clause-last
 base_of-requires-clause-last c =
-    let log = c.self.inside.log.entries.list in
-    let waiting = c.self.inside.pending.waiting in
+    let log = c.self.inside.storage.log.entries.list in
+    let waiting = c.self.inside.storage.pending.waiting in
     let doc = c.args.revision.now.doc in
     c.last_of-last.ensures
     ∙ ap (λ (o : Option Document). kept_last o) c.document_of-document.ensures
-    ∙ last_by (writes_up_to (book_with log waiting) (top_of log waiting)) c.self.inside.documents doc (c.self.invariant.0.standing.kept.documents (top_of log waiting) (none_above_top log waiting))
+    ∙ last_by (writes_up_to (book_with log waiting) (top_of log waiting)) c.self.inside.storage.documents doc (c.self.invariant.0.standing.kept.documents (top_of log waiting) (none_above_top log waiting))
     ∙ ap (λ (s : State). last_on s doc) c.self.view_is
 
 pub returns-clause-last : goal.returns-clause-last
 returns-clause-last c =
-    let log = c.self.inside.log.entries.list in
-    let waiting = c.self.inside.pending.waiting in
+    let log = c.self.inside.storage.log.entries.list in
+    let waiting = c.self.inside.storage.pending.waiting in
     let doc = c.args.revision.now.doc in
     let is = ap (λ (o : Option Document). kept_last o) c.document_of-document.ensures
-    ∙ last_by (writes_up_to (book_with log waiting) (top_of log waiting)) c.self.inside.documents doc (c.self.invariant.0.standing.kept.documents (top_of log waiting) (none_above_top log waiting))
+    ∙ last_by (writes_up_to (book_with log waiting) (top_of log waiting)) c.self.inside.storage.documents doc (c.self.invariant.0.standing.kept.documents (top_of log waiting) (none_above_top log waiting))
     ∙ ap (λ (s : State). last_on s doc) c.self.view_is in
     subst (λ (n : ℕ). IfOk c.snapshot_of.result (λ s. s.last ≡ n)) is c.snapshot_of.ensures.last
 
 pub returns-clause-step : goal.returns-clause-step
 returns-clause-step c =
-    let log = c.self.inside.log.entries.list in
-    let waiting = c.self.inside.pending.waiting in
+    let log = c.self.inside.storage.log.entries.list in
+    let waiting = c.self.inside.storage.pending.waiting in
     let doc = c.args.revision.now.doc in
     let is = ap (λ (o : Option Document). kept_nodes o) c.document_of-document.ensures
-    ∙ nodes_by (writes_up_to (book_with log waiting) (top_of log waiting)) c.self.inside.documents doc (c.self.invariant.0.standing.kept.documents (top_of log waiting) (none_above_top log waiting))
+    ∙ nodes_by (writes_up_to (book_with log waiting) (top_of log waiting)) c.self.inside.storage.documents doc (c.self.invariant.0.standing.kept.documents (top_of log waiting) (none_above_top log waiting))
     ∙ ap (λ (s : State). tree_on s doc) c.self.view_is in
     subst (λ (t : List Node). IfOk c.snapshot_of.result (λ s. IsStep t c.args.revision.now c.args.strict s.step)) is c.snapshot_of.ensures.step
 

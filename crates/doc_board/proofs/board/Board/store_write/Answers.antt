@@ -1,111 +1,71 @@
-use Rattle.std.proofs.Common.{◌≡◌, ◌<◌, ◌∙◌, ℕ, List, Option, Some, nat_eq, subst, sym, ap, true, arith, if◌then◌else◌}
-use Rattle.std.specs.HashMap.{get, spare}
+use Rattle.std.proofs.Common.{◌≡◌, ◌∙◌, ℕ, List, Option, Some, subst, sym, ap, map, true}
+use Rattle.std.specs.Prelude.{IfSome}
+use Rattle.std.proofs.lemmas.Option.{IfSome_then}
 use Rattle.sg_history.specs.declared.book.Waiting.{Waiting}
 use Rattle.sg_history.specs.declared.entries.Entry.{Entry}
 use Rattle.sg_history.specs.declared.entries.Entry.TheVariants as kinds
-use Rattle.sg_history.specs.Book.{book_with}
-use Rattle.sg_history.specs.World.{release}
-use Rattle.grant_history.specs.Stands.{StandsFor}
+use Rattle.sg_history.specs.Book.{Book, book_with, first_write}
+use Rattle.sg_history.specs.Current.{Sequenced}
+use Rattle.sg_history.specs.History.{Extends}
+use Rattle.sg_history.specs.World.{put_waiting}
 use Rattle.pending_front.specs.Storing.{MayStore}
-use Rattle.rev_tree.specs.Documents.{last_in}
+use Rattle.rev_tree.specs.Documents.{recorded, sequence_of, last_in, tree_in}
+use Rattle.rev_tree.specs.Writes.{tree_of}
 use Rattle.doc_board.specs.Candidates.{ExtendsTree}
 use Rattle.doc_board.specs.Kept.{has_place}
-use Rattle.doc_board.specs.Rooms.{is_outstanding, without}
-use Rattle.doc_board.specs.State.{State, book_on, top_of, last_on, tree_on}
-use Rattle.doc_board.specs.Steps.{stored_at, with_entry}
-use Rattle.doc_board.proofs.Steps.{ended, waits_write, moved, fewer}
+use Rattle.doc_board.specs.Rooms.{is_outstanding}
+use Rattle.doc_board.specs.State.{State, top_of}
+use Rattle.doc_board.specs.Steps.{with_entry}
+use Rattle.doc_board.specs.Storage.{book_with_unused, waiting_with_unused}
+use Rattle.doc_board.proofs.Documents.{Documents}
+use Rattle.doc_board.proofs.OnStorage.{holds_in, book_is, released_on}
 use Rattle.doc_board.proofs.OutstandingRooms.{outstanding_has_place}
-use Rattle.doc_board.proofs.Tops.{none_above_top}
-use Rattle.doc_board.proofs.NewBooks.{one_put}
 use Rattle.doc_board.proofs.board.Board.store_write.Goals as goal
 
-pub put-requires : goal.put-requires
-put-requires c =
-    let s = c.self.inside in
-    let out = subst (λ (x : State). is_outstanding x.rooms c.args.room.made_for ≡ true) (sym c.self.view_is) c.requires.out in
-    subst (λ (o : Option (List ℕ)). has_place s.documents o ≡ true) c.requires.doc (outstanding_has_place s.documents c.args.room.made_for s.rooms c.self.invariant.0.standing.out out)
+pub give_up-requires-clause-spent : goal.give_up-requires-clause-spent
+give_up-requires-clause-spent c =
+    holds_in (λ log ws. IfSome c.args.spent (λ n. MayStore log ws n)) c.args.self.now c.end.new.self (c.end.ensures.log ∙ ap (λ (s : State). s.log) c.self.view_is) (c.end.ensures.waiting ∙ ap (λ (s : State). s.pending) c.self.view_is)
+    (IfSome_then c.args.spent c.requires.spent (λ n may. may.0))
+
+pub put_write-requires-clause-number : goal.put_write-requires-clause-number
+put_write-requires-clause-number c =
+    c.give_up.ensures.others c.args.number (IfSome_then c.args.spent c.requires.spent (λ n may. may.1))
+    (holds_in (λ log ws. MayStore log ws c.args.number) c.args.self.now c.end.new.self (c.end.ensures.log ∙ ap (λ (s : State). s.log) c.self.view_is) (c.end.ensures.waiting ∙ ap (λ (s : State). s.pending) c.self.view_is) c.requires.number)
+
+pub put_write-requires-clause-document : goal.put_write-requires-clause-document
+put_write-requires-clause-document c =
+    subst (λ (ds : Documents). has_place ds (Some c.args.entry.doc) ≡ true) (sym (c.give_up.ensures.documents ∙ c.end.ensures.documents))
+    (subst (λ (o : Option (List ℕ)). has_place c.self.inside.storage.documents o ≡ true) c.requires.doc
+    (outstanding_has_place c.self.inside.storage.documents c.args.room.made_for c.self.inside.storage.rooms c.self.invariant.0.standing.out
+    (subst (λ (s : State). is_outstanding s.rooms c.args.room.made_for ≡ true) (sym c.self.view_is) c.requires.out)))
+
+pub put_write-requires-clause-base : goal.put_write-requires-clause-base
+put_write-requires-clause-base c =
+    holds_in (λ log ws. c.args.base ≡ last_in (book_with log ws) (top_of log ws) c.args.entry.doc) c.args.self.now c.end.new.self (c.end.ensures.log ∙ ap (λ (s : State). s.log) c.self.view_is) (c.end.ensures.waiting ∙ ap (λ (s : State). s.pending) c.self.view_is) c.requires.base
+    ∙ ap (λ (ws : List Sequenced). sequence_of (first_write ws)) (sym (c.give_up.ensures.writes c.args.entry.doc))
+
+pub put_write-requires-clause-extends : goal.put_write-requires-clause-extends
+put_write-requires-clause-extends c =
+    subst (λ (ws : List Sequenced). ExtendsTree (tree_of (map (λ written. recorded written.write) ws)) c.args.entry c.args.tree) (sym (c.give_up.ensures.writes c.args.entry.doc))
+    (holds_in (λ log ws. ExtendsTree (tree_in (book_with log ws) (top_of log ws) c.args.entry.doc) c.args.entry c.args.tree) c.args.self.now c.end.new.self (c.end.ensures.log ∙ ap (λ (s : State). s.log) c.self.view_is) (c.end.ensures.waiting ∙ ap (λ (s : State). s.pending) c.self.view_is) c.requires.extends)
+
+pub release-requires : goal.release-requires
+release-requires c = c.put_write.ensures.stands
 
 pub invariant_of-self : goal.invariant_of-self
-invariant_of-self c =
-    let s = c.self.inside in
-    let bases = get nat_eq s.bases in
-    let left = without c.args.room.made_for s.rooms in
-    let out = subst (λ (x : State). is_outstanding x.rooms c.args.room.made_for ≡ true) (sym c.self.view_is) c.requires.out in
-    let w = c.args.entry in
-    let log = s.log.entries.list in
-    let waiting = s.pending.waiting in
-    let top = top_of log waiting in
-    let may = subst (λ (x : State). MayStore x.log x.pending c.args.number) (sym c.self.view_is) c.requires.number in
-    let base : c.args.base ≡ last_in (book_with log waiting) top w.doc = subst (λ (x : State). c.args.base ≡ last_on x w.doc) (sym c.self.view_is) c.requires.base in
-    let extends = subst (λ (x : State). ExtendsTree (tree_on x w.doc) w c.args.tree) (sym c.self.view_is) c.requires.extends in
-    let past : last_in (book_with log waiting) top w.doc < c.args.number = subst (λ (n : ℕ). n < c.args.number) base c.requires.above in
-    let first = ended s.log.entries s.pending s.documents bases (spare s.bases) s.rooms s.stored 0 c.args.room.made_for out c.self.invariant.0.standing in
-    let kept_base = λ (m : ℕ). c.keep_base.ensures.bases m ∙ ap (λ (n : ℕ). if nat_eq c.args.number m then Some n else bases m) base in
-    let second = waits_write c.storing.ensures.book c.storing.ensures.beyond c.storing.ensures.free s.log.entries s.pending c.args.number may w top (none_above_top log waiting) past c.args.tree extends
-    c.trees_of_writes.ensures.revisions c.trees_of_writes.ensures.leaves c.put-2.new.self s.documents c.put.new.documents bases (get nat_eq c.keep_base.new.bases) (spare s.bases) (spare c.keep_base.new.bases) left s.stored c.saturating_add-self-inside.result 1
-    c.requires.entry c.requires.body c.requires.at c.put.ensures kept_base c.keep_base.ensures.spare (omega (arith, c.saturating_add-self-inside.ensures, c.len.ensures)) c.put-2.ensures.waiting c.put-2.ensures.spare first in
-    let third = moved s.log.entries c.release.new.log.entries c.put-2.new.self c.release.new.pending c.put.new.documents (get nat_eq c.keep_base.new.bases) (get nat_eq c.release.new.bases) (spare c.keep_base.new.bases) (spare c.release.new.bases) left c.saturating_add-self-inside.result 1
-    c.release.ensures.released c.release.ensures.book c.release.ensures.beyond c.release.ensures.longer c.release.ensures.count c.release.ensures.spare c.release.ensures.log_spare c.release.ensures.bases c.release.ensures.base_spare second in
-    let B : List Entry → Type 0 = λ es. StandsFor s.grants es in (
-      rw c.end.ensures
-          (record {
-            standing = fewer c.release.new.log.entries c.release.new.pending c.put.new.documents (get nat_eq c.release.new.bases) (spare c.release.new.bases) left c.saturating_add-self-inside.result 1 0 (omega arith) third;
-            next = c.release.ensures.next;
-          }),
-      c.extended.ensures s.log.entries.list c.release.new.log.entries.list c.self.invariant.1 c.release.ensures.extends,
-    )
+invariant_of-self c = (
+  c.release.ensures.board,
+  c.extended.ensures c.self.inside.storage.log.entries.list c.release.new.self.log.entries.list c.self.invariant.1
+      (subst (λ (es : List Entry). Extends es c.release.new.self.log.entries.list) (c.put_write.ensures.log ∙ c.give_up.ensures.log ∙ c.end.ensures.log) c.release.ensures.extends),
+)
 
 pub returns-clause-stored : goal.returns-clause-stored
 returns-clause-stored c =
-    c.release.ensures.released
-    ∙ ap (λ (ws : List Waiting). release c.self.inside.log.entries.list ws) c.put-2.ensures.waiting
-    ∙ ap (λ (s : State). stored_at s c.args.number (kinds.Write c.args.entry)) c.self.view_is
-
-pub release-requires-clause-room : goal.release-requires-clause-room
-release-requires-clause-room c =
-    let s = c.self.inside in
-    let bases = get nat_eq s.bases in
-    let left = without c.args.room.made_for s.rooms in
-    let out = subst (λ (x : State). is_outstanding x.rooms c.args.room.made_for ≡ true) (sym c.self.view_is) c.requires.out in
-    let w = c.args.entry in
-    let log = s.log.entries.list in
-    let waiting = s.pending.waiting in
-    let top = top_of log waiting in
-    let may = subst (λ (x : State). MayStore x.log x.pending c.args.number) (sym c.self.view_is) c.requires.number in
-    let base : c.args.base ≡ last_in (book_with log waiting) top w.doc = subst (λ (x : State). c.args.base ≡ last_on x w.doc) (sym c.self.view_is) c.requires.base in
-    let extends = subst (λ (x : State). ExtendsTree (tree_on x w.doc) w c.args.tree) (sym c.self.view_is) c.requires.extends in
-    let past : last_in (book_with log waiting) top w.doc < c.args.number = subst (λ (n : ℕ). n < c.args.number) base c.requires.above in
-    let first = ended s.log.entries s.pending s.documents bases (spare s.bases) s.rooms s.stored 0 c.args.room.made_for out c.self.invariant.0.standing in
-    let kept_base = λ (m : ℕ). c.keep_base.ensures.bases m ∙ ap (λ (n : ℕ). if nat_eq c.args.number m then Some n else bases m) base in
-    let second = waits_write c.storing.ensures.book c.storing.ensures.beyond c.storing.ensures.free s.log.entries s.pending c.args.number may w top (none_above_top log waiting) past c.args.tree extends
-    c.trees_of_writes.ensures.revisions c.trees_of_writes.ensures.leaves c.put-2.new.self s.documents c.put.new.documents bases (get nat_eq c.keep_base.new.bases) (spare s.bases) (spare c.keep_base.new.bases) left s.stored c.saturating_add-self-inside.result 1
-    c.requires.entry c.requires.body c.requires.at c.put.ensures kept_base c.keep_base.ensures.spare (omega (arith, c.saturating_add-self-inside.ensures, c.len.ensures)) c.put-2.ensures.waiting c.put-2.ensures.spare first in
-    omega (arith, second.room_log)
-
-pub release-requires-clause-beyond : goal.release-requires-clause-beyond
-release-requires-clause-beyond c =
-    let s = c.self.inside in
-    let bases = get nat_eq s.bases in
-    let left = without c.args.room.made_for s.rooms in
-    let out = subst (λ (x : State). is_outstanding x.rooms c.args.room.made_for ≡ true) (sym c.self.view_is) c.requires.out in
-    let w = c.args.entry in
-    let log = s.log.entries.list in
-    let waiting = s.pending.waiting in
-    let top = top_of log waiting in
-    let may = subst (λ (x : State). MayStore x.log x.pending c.args.number) (sym c.self.view_is) c.requires.number in
-    let base : c.args.base ≡ last_in (book_with log waiting) top w.doc = subst (λ (x : State). c.args.base ≡ last_on x w.doc) (sym c.self.view_is) c.requires.base in
-    let extends = subst (λ (x : State). ExtendsTree (tree_on x w.doc) w c.args.tree) (sym c.self.view_is) c.requires.extends in
-    let past : last_in (book_with log waiting) top w.doc < c.args.number = subst (λ (n : ℕ). n < c.args.number) base c.requires.above in
-    let first = ended s.log.entries s.pending s.documents bases (spare s.bases) s.rooms s.stored 0 c.args.room.made_for out c.self.invariant.0.standing in
-    let kept_base = λ (m : ℕ). c.keep_base.ensures.bases m ∙ ap (λ (n : ℕ). if nat_eq c.args.number m then Some n else bases m) base in
-    let second = waits_write c.storing.ensures.book c.storing.ensures.beyond c.storing.ensures.free s.log.entries s.pending c.args.number may w top (none_above_top log waiting) past c.args.tree extends
-    c.trees_of_writes.ensures.revisions c.trees_of_writes.ensures.leaves c.put-2.new.self s.documents c.put.new.documents bases (get nat_eq c.keep_base.new.bases) (spare s.bases) (spare c.keep_base.new.bases) left s.stored c.saturating_add-self-inside.result 1
-    c.requires.entry c.requires.body c.requires.at c.put.ensures kept_base c.keep_base.ensures.spare (omega (arith, c.saturating_add-self-inside.ensures, c.len.ensures)) c.put-2.ensures.waiting c.put-2.ensures.spare first in
-    second.beyond
+    let put : Waiting = record { number = c.args.number; entry = (kinds.Write c.args.entry) } in
+    released_on c.args.self.now.log (put_waiting put (waiting_with_unused c.args.spent c.args.self.now.pending)) c.put_write.new.self c.release.new.self (c.put_write.ensures.log ∙ c.give_up.ensures.log ∙ c.end.ensures.log ∙ ap (λ (s : State). s.log) c.self.view_is)
+    (c.put_write.ensures.waiting ∙ ap (λ (ws : List Waiting). put_waiting put ws) (c.give_up.ensures.waiting ∙ ap (λ (ws : List Waiting). waiting_with_unused c.args.spent ws) (c.end.ensures.waiting ∙ ap (λ (s : State). s.pending) c.self.view_is))) c.release.ensures.released
 
 pub returns-clause-book : goal.returns-clause-book
 returns-clause-book c =
-    let s = c.self.inside in
-    let may = subst (λ (x : State). MayStore x.log x.pending c.args.number) (sym c.self.view_is) c.requires.number in
-    one_put c.storing.ensures.book s.log.entries.list c.release.new.log.entries.list s.pending.waiting c.put-2.new.self.waiting c.release.new.pending.waiting c.args.number (kinds.Write c.args.entry) may c.put-2.ensures.waiting c.release.ensures.book
-    ∙ ap (λ (x : State). with_entry c.args.number (kinds.Write c.args.entry) (book_on x)) c.self.view_is
+    c.release.ensures.book ∙ c.put_write.ensures.book
+    ∙ ap (λ (b : Book). with_entry c.args.number (kinds.Write c.args.entry) b) (c.give_up.ensures.book ∙ ap (λ (b : Book). book_with_unused c.args.spent b) (book_is c.args.self.now c.end.new.self (c.end.ensures.log ∙ ap (λ (s : State). s.log) c.self.view_is) (c.end.ensures.waiting ∙ ap (λ (s : State). s.pending) c.self.view_is)))
