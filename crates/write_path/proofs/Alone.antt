@@ -21,3 +21,6 @@ alone_gone room = ap (λ (b : Bool). if b then [] else room ∷ []) (room_itself
 -- a candidate that is based on the last write is not stale
 pub not_stale : (base last : ℕ) → base ≡ last → not (nat_eq base last) ≡ true → ⊥
 not_stale base last e h = false≢true (sym (ap not (eq-eqb base last e)) ∙ h)
+
+pub fresh_on : (base last : ℕ) → base ≡ last → not (nat_eq base last) ≡ false
+fresh_on base last e = ap not (eq-eqb base last e)

@@ -18,10 +18,10 @@ use Rattle.sync_eval.specs.declared.verdict.Verdict.{Verdict}
 use Rattle.sync_eval.specs.declared.verdict.Verdict.TheVariants.{Accept, Deny, Memory}
 use Rattle.sync_eval.specs.Verdicts.{verdict}
 use Rattle.doc_board.specs.Boards.{board_of}
-use Rattle.doc_board.specs.Judging.{IsOldTree, IsSaid, board_base, body_or_empty}
+use Rattle.doc_board.specs.Judging.{IsOldTree, IsSaid, IsTreeOf, board_base, body_or_empty}
 use Rattle.doc_board.specs.State.{State}
 use Rattle.write_path.specs.declared.judging.Basis.{Basis}
-use Rattle.write_path.specs.Verdicts.{IsVerdict, IsOldBody, IsSaidOn, IsBasis}
+use Rattle.write_path.specs.Verdicts.{IsVerdict, IsOldBody, IsSaidOfDocument, IsSaidOn, IsBasis}
 use Rattle.write_path.proofs.Braces.{braces_are}
 
 -- ---- verdicts
@@ -60,6 +60,15 @@ trees_behind (Some d) = refl
 pub same_document : (body : List ℕ) (doc : Tree) → IsDocument body doc → IsDocument (body_or_empty body) doc
 same_document [] doc (ms, reads, plain, is) = braces_are ms doc reads plain is
 same_document (b ∷ bytes) doc is = is
+
+on_document : (program : Program) (r : Revision) (basis : Basis) (document : Tree) (said : Found Effects) → IsTreeOf (body_or_empty r.body) r.doc r.deleted document → IsSaidOfDocument program r.doc document basis said → IsSaidOn program r basis said
+on_document program r basis document said is on = record { document = document; old = on.old; is_document = is; is_old = on.is_old; is_meant = on.is_meant }
+
+-- what is said of the revision's document, with its identifier and the deleted mark, is said of the revision
+pub said_by_document : (program : Program) (r : Revision) (basis : Basis) (document : Tree) (v : Verdict) → IsTreeOf (body_or_empty r.body) r.doc r.deleted document → IsVerdict (IsSaidOfDocument program r.doc document basis) v → IsVerdict (IsSaidOn program r basis) v
+said_by_document program r basis document (Accept effects) is said = on_document program r basis document (Ok effects) is said
+said_by_document program r basis document (Deny rule) is said = on_document program r basis document (Err (stop.Deny rule)) is said
+said_by_document program r basis document Memory is said = tt
 
 old_tree : (o : Option Write) (id : List ℕ) (old : Option Tree) → IsOldBody (option_map (λ w. w.body) o) (deletes o) id old → IsOldTree o id old
 old_tree None id old h = h

@@ -18,4 +18,5 @@ pub mod Rooms
 pub mod RowsSay
 pub mod Said
 pub mod Same
+pub mod Stored
 pub mod Winners

@@ -1,9 +1,7 @@
 -- what is stored, or answered where there is no room
-use Rattle.std.proofs.Common.{◌≡◌, ℕ, List, length, Option, Some, None, Result, Ok, Err, refl, sym, ap, subst}
+use Rattle.std.proofs.Common.{◌≡◌, ℕ, length, Option, Some, None, Result, Ok, Err, refl, sym, ap, subst}
 use Rattle.sg_history.specs.Board.{BoardState}
 use Rattle.sg_history.specs.declared.entries.Entry.{Entry}
-use Rattle.repl_messages.specs.declared.revision.Revision.{Revision}
-use Rattle.sync_syntax.specs.declared.tree.Program.{Program}
 use Rattle.doc_board.specs.declared.outcome.Outcome.{Outcome}
 use Rattle.doc_board.specs.declared.candidate.NoRoom.{NoRoom}
 use Rattle.doc_board.specs.declared.candidate.NoRoom.TheVariants.{Full503, LogFull509, Memory}
@@ -12,8 +10,8 @@ use Rattle.doc_board.specs.Limits.{refusal, IsRefusedBy}
 use Rattle.doc_board.specs.Outcomes.{IsByLimits}
 use Rattle.doc_board.specs.State.{State}
 use Rattle.write_path.specs.Commands.{IsBoardCommanded}
-use Rattle.write_path.specs.Proposals.{IsAsBefore, IsBoardAfter}
-use Rattle.write_path.specs.Shape.{IsStoredBut, IsStoredOrNot, without_room}
+use Rattle.write_path.specs.Proposals.{IsAsBefore}
+use Rattle.write_path.specs.Shape.{IsStoredBut, without_room}
 
 -- ---- a room
 
@@ -60,22 +58,6 @@ pub limits_without : (bytes : ℕ) (board : BoardState) (at : ℕ) (why : NoRoom
 limits_without bytes board at why answer is h = subst (λ (o : Outcome). IsByLimits bytes board o) (sym is) (limits_for bytes board at why h)
 
 -- ---- an answer without a room
-
-not_stored : (at : ℕ) (why : NoRoom) → IsStoredOrNot (without_room at why) at
-not_stored at (Full503 places) = refl
-not_stored at (LogFull509 entries bytes) = refl
-not_stored at Memory = tt
-
-pub answer_without : (at : ℕ) (why : NoRoom) (answer : Outcome) → answer ≡ without_room at why → IsStoredOrNot answer at
-answer_without at why answer is = subst (λ (o : Outcome). IsStoredOrNot o at) (sym is) (not_stored at why)
-
-as_before : (s t : State) (program : Program) (by : Option (List ℕ)) (r : Revision) (at : ℕ) (why : NoRoom) → IsAsBefore s t → IsBoardAfter s t program by r (without_room at why)
-as_before s t program by r at (Full503 places) same = same
-as_before s t program by r at (LogFull509 entries bytes) same = same
-as_before s t program by r at Memory same = same
-
-pub board_without : (s t : State) (program : Program) (by : Option (List ℕ)) (r : Revision) (at : ℕ) (why : NoRoom) (answer : Outcome) → answer ≡ without_room at why → IsAsBefore s t → IsBoardAfter s t program by r answer
-board_without s t program by r at why answer is same = subst (λ (o : Outcome). IsBoardAfter s t program by r o) (sym is) (as_before s t program by r at why same)
 
 not_commanded : (s t : State) (e : Entry) (at : ℕ) (why : NoRoom) → IsAsBefore s t → at ≡ length s.log → IsBoardCommanded s t e (without_room at why)
 not_commanded s t e at (Full503 places) same front = (same, front)

@@ -1,5 +1,5 @@
 -- What the functions of a proposal hand on to one another. Only proofs need this.
-use Rattle.std.specs.Prelude.{◌≡◌, ◌<◌, ℕ, List, take, option_map, Option, Some, None, Result, Err, IfErr}
+use Rattle.std.specs.Prelude.{◌≡◌, ℕ, Bool, List, take, option_map, Option, Some, None, Result, Err, IfErr}
 use Rattle.sg_history.specs.declared.entries.Write.{Write}
 use Rattle.rev_tree.specs.declared.tree.Node.{Node}
 use Rattle.rev_tree.specs.Tree.{winner_of}
@@ -9,8 +9,12 @@ use Rattle.doc_board.specs.declared.outcome.Outcome.TheVariants as outcome
 use Rattle.doc_board.specs.declared.candidate.NoRoom.{NoRoom}
 use Rattle.doc_board.specs.declared.candidate.NoRoom.TheVariants as no_room
 use Rattle.sync_meaning.specs.declared.effects.Effects.{Effects}
+use Rattle.sync_syntax.specs.declared.tree.Program.{Program}
+use Rattle.doc_board.specs.Boards.{board_of}
 use Rattle.doc_board.specs.Judging.{body_or_empty}
-use Rattle.doc_board.specs.Outcomes.{IsBadField, IsTooLarge, effects_in}
+use Rattle.doc_board.specs.Outcomes.{IsBadField, IsByLimits, IsOutcome, IsTooLarge, bytes_of, effects_in}
+use Rattle.doc_board.specs.State.{State}
+use Rattle.write_path.specs.Proposals.{IsBoardAfter}
 
 -- the refusal of a revision itself, whatever the board; or memory was short
 abbrev pub IsRefusal : Revision → Outcome → Type 0
@@ -31,14 +35,6 @@ pub record IsWritten (author : Option (List ℕ)) (r : Revision) (front : ℕ) (
   pub winner : option_map (λ l. l.rev) (winner_of tree) ≡ Some w.winner
   pub has_effects : effects_in w ≡ effects
 
--- the revision is stored at some sequence or was refused a room, judged at this front; or memory was short
-abbrev pub IsStoredOrNot : Outcome → ℕ → Type 0
-IsStoredOrNot (outcome.Stored sequence at) front = (at ≡ front) × (front < sequence)
-IsStoredOrNot (outcome.Full503 at places) front = at ≡ front
-IsStoredOrNot (outcome.LogFull509 at entries bytes) front = at ≡ front
-IsStoredOrNot outcome.Memory507 front = Unit {0}
-IsStoredOrNot other front = ⊥
-
 -- a write is stored where no room is refused for this reason, else that is answered; memory may be short where there is none
 abbrev pub IsStoredBut : Option NoRoom → Result ℕ NoRoom → Type 0
 IsStoredBut (Some why) stored = stored ≡ Err why
@@ -49,3 +45,9 @@ abbrev pub without_room : ℕ → NoRoom → Outcome
 without_room at (no_room.Full503 places) = outcome.Full503 at places
 without_room at (no_room.LogFull509 entries bytes) = outcome.LogFull509 at entries bytes
 without_room at no_room.Memory = outcome.Memory507
+
+-- the outcome of a revision by a board, and what that leaves of the board
+pub record IsAnsweredBy (before after : State) (program : Program) (strict : Bool) (by : Option (List ℕ)) (r : Revision) (answer : Outcome) : Type 0 where
+  pub outcome : IsOutcome program strict by r (board_of before) answer
+  pub limits : IsByLimits (bytes_of r) (board_of before) answer
+  pub board : IsBoardAfter before after program by r answer

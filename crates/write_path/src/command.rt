@@ -7,11 +7,10 @@ ghost use Rattle.doc_board.specs.Boards.{board_of};
 ghost use Rattle.doc_board.specs.Outcomes.{IsByLimits};
 ghost use Rattle.write_path.specs.Commands.{IsBoardCommanded};
 
+use crate::fresh::put_next;
 use crate::refused::without_room;
-use doc_board::laws::alone;
-use doc_board::{Board, Candidate, Commit, Outcome};
+use doc_board::{Board, Candidate, Outcome};
 use principals::Command;
-use sg_history::Number;
 
 /// Puts or drops a user or a role: the command's entry is stored at the end of the log, unless the board has no room for it.
 pub fn command_to(board: &mut Board, command: Command) -> Outcome
@@ -21,22 +20,13 @@ pub fn command_to(board: &mut Board, command: Command) -> Outcome
     ensures board { IsBoardCommanded board.old board.new (entry_of command) result }
     ensures limits { IsByLimits 0 (board_of board.old) result }
 {
-    alone();
-    let room = match board.room(None, 0) {
-        Ok(room) => room,
-        Err(why) => return without_room(board.front(), why),
-    };
-    let number = Number::new(board.front() + 1);
-    match board.commit(room, number, Candidate::Plain(command.into_entry())) {
-        Commit::Stored { sequence, at } => Outcome::Stored { sequence, at },
-        Commit::Stale {
-            room,
-            number,
-            candidate: _candidate,
-            last: _last,
-        } => {
-            board.void(room, number);
-            unreachable!()
+    let at = board.front();
+    match board.room(None, 0) {
+        Ok(room) => {
+            let entry = Candidate::Plain(command.into_entry());
+            let sequence = put_next(board, room, entry);
+            Outcome::Stored { sequence, at }
         }
+        Err(why) => without_room(at, why),
     }
 }

@@ -5,7 +5,7 @@ ghost use Rattle.json_doc.specs.Reading.{IsDocument};
 ghost use Rattle.json_doc.specs.View.{node_tree};
 ghost use Rattle.doc_board.specs.Judging.{IsTreeOf};
 ghost use Rattle.doc_board.specs.Recorded.{HasDocument};
-ghost use Rattle.write_path.specs.Verdicts.{IsOldBody, IsSaidOn, IsVerdict};
+ghost use Rattle.write_path.specs.Verdicts.{IsOldBody, IsSaidOfDocument, IsSaidOn, IsVerdict};
 
 use doc_board::Context;
 use json_doc::{Doc, DocFault, read_doc, with_system};
@@ -66,6 +66,23 @@ fn old_document(alloc: Global, basis: &Basis, id: &DocId) -> Result<Option<Doc>,
     }
 }
 
+/// What a program says of a document that has its identifier and the deleted mark, judged on this.
+fn said_of_document(
+    alloc: Global,
+    program: &Resolved,
+    id: &DocId,
+    doc: &Doc,
+    basis: &Basis,
+) -> Verdict
+    requires { IfSome basis.now.old (λ body. HasDocument body) }
+    ensures { IsVerdict (IsSaidOfDocument program.now id.now (node_tree doc.now) basis.now) result }
+{
+    match old_document(alloc, basis, id) {
+        Ok(old) => judge(alloc, program, doc, old.as_ref(), &basis.context),
+        Err(_) => Verdict::Memory,
+    }
+}
+
 /// What a program says of a revision with this document.
 pub(crate) fn said_of(
     alloc: Global,
@@ -78,12 +95,8 @@ pub(crate) fn said_of(
     requires old { IfSome basis.now.old (λ body. HasDocument body) }
     ensures { IsVerdict (IsSaidOn program.now revision.now basis.now) result }
 {
-    let id = &revision.doc;
-    let Ok(doc) = with_system(alloc, doc, id.as_str(), revision.deleted) else {
-        return Verdict::Memory;
-    };
-    let Ok(old) = old_document(alloc, basis, id) else {
-        return Verdict::Memory;
-    };
-    judge(alloc, program, &doc, old.as_ref(), &basis.context)
+    match with_system(alloc, doc, revision.doc.as_str(), revision.deleted) {
+        Ok(doc) => said_of_document(alloc, program, &revision.doc, &doc, basis),
+        Err(_) => Verdict::Memory,
+    }
 }

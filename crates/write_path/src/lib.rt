@@ -5,6 +5,7 @@ mod ask;
 mod bodies;
 mod command;
 mod feed;
+mod fresh;
 mod ground;
 mod judging;
 pub mod laws;

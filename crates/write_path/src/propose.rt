@@ -2,37 +2,41 @@
 
 ghost use Rattle.std.specs.Prelude.{◌≡◌, ◌≢◌, ◌≤◌, ◌+◌, ◌++◌, ◌∷◌, ◌||◌, [], true, false, length, take, option_map, Some, Ok, IfOk, IfErr, IfSome, OnErr, IsTrue, IsUtf8};
 ghost use Rattle.std.specs.Option.{option_copied};
-ghost use Rattle.sg_names.specs.Grammar.{is_name, is_doc_id};
+ghost use Rattle.sg_names.specs.Grammar.{is_name};
 ghost use Rattle.sg_names.specs.RevId as names;
 ghost use Rattle.sg_names.specs.Revs as lists;
 ghost use Rattle.sg_history.specs.declared.entries.Entry.TheVariants as kinds;
 ghost use Rattle.sg_history.specs.Journal.{IsEntry, is_body};
 ghost use Rattle.json_doc.specs.Reading.{IsDocument};
 ghost use Rattle.json_doc.specs.View.{node_tree};
+ghost use Rattle.rev_tree.specs.declared.extend.Extended.TheVariants as extended;
+ghost use Rattle.rev_tree.specs.Extension.{extends_tree};
 ghost use Rattle.rev_tree.specs.Tree as trees;
 ghost use Rattle.sync_meaning.specs.Laws.{AreEffects};
 ghost use Rattle.sync_syntax.specs.declared.tree.Program.{Program};
-ghost use Rattle.doc_board.specs.Answers.{IsNewTree, IsStep, proposer_exists};
-ghost use Rattle.doc_board.specs.Boards.{board_of, board_tree};
-ghost use Rattle.doc_board.specs.Candidates.{ExtendsTree};
+ghost use Rattle.doc_board.specs.declared.outcome.Outcome.TheVariants as outcomes;
+ghost use Rattle.doc_board.specs.Boards.{board_of};
 ghost use Rattle.doc_board.specs.Judging.{IsSaid, body_or_empty};
 ghost use Rattle.doc_board.specs.Limits.{refusal};
-ghost use Rattle.doc_board.specs.Outcomes.{IsByLimits, IsOutcome, IsWellFormed, bytes_of};
+ghost use Rattle.doc_board.specs.Outcomes.{IsByLimits, IsJudged, IsOutcome, IsWellFormed, bytes_of};
 ghost use Rattle.doc_board.specs.Recorded.{HasDocument};
-ghost use Rattle.doc_board.specs.State.{newest_first, tree_on, last_on};
+ghost use Rattle.write_path.specs.Commands.{IsBoardCommanded};
 ghost use Rattle.write_path.specs.Proposals.{IsAsBefore, IsBoardAfter};
-ghost use Rattle.write_path.specs.Shape.{IsRefusal, IsStoredBut, IsStoredOrNot, IsWritten};
-ghost use Rattle.write_path.specs.Verdicts.{IsBasis, IsDecided};
+ghost use Rattle.write_path.specs.Retry.{IsHeldReady, IsMade, IsReady, IsTurnedDown};
+ghost use Rattle.write_path.specs.Shape.{IsAnsweredBy, IsRefusal, IsStoredBut, IsWritten};
+ghost use Rattle.write_path.specs.Verdicts.{IsDenied, IsDeniedOn, IsExtension, IsExtensionAt, IsSaidOn, IsSnapshot, IsStoppedBy};
 
+use crate::fresh::put_next;
 use crate::judging::{Basis, document_in, said_of};
 use crate::refused::without_room;
+use crate::retry::Ready;
 use crate::texts::pass_effects;
 use doc_board::laws::{alone, boards, winners};
-use doc_board::{Board, Candidate, Commit, MOST_BODY_BYTES, NoRoom, Outcome, Snapshot};
+use doc_board::{Board, Candidate, MOST_BODY_BYTES, NoRoom, Outcome, Snapshot};
 use json_doc::Doc;
 use repl_messages::{Field, Revision};
 use rev_tree::{Extended, Tree};
-use sg_history::{Name, Number, RevId, Revs, Write};
+use sg_history::{Name, RevId, Revs, Write};
 use sg_outside::{Bytes, Memory};
 use std::alloc::{AllocError, Global};
 use sync_eval::{Effects, Verdict};
@@ -129,9 +133,33 @@ fn winner_of(alloc: Global, tree: &Tree) -> Result<RevId, AllocError>
     }
 }
 
+/// What a write has besides its revision and its effects: the winner that it names, the body that is stored, and who wrote it.
+#[derive(Drop)]
+pub(crate) struct Parts {
+    pub winner: RevId,
+    pub body: Bytes,
+    pub by: Option<Name>,
+}
+
+fn parts_of(alloc: Global, by: Option<&Name>, body: Bytes, tree: &Tree) -> Result<Parts, AllocError>
+    requires { tree.now ≢ [] }
+    ensures winner { IfOk result
+        (λ p. option_map (λ l. l.rev) (trees.winner_of tree.now) ≡ Some p.winner) }
+    ensures body { IfOk result (λ p. p.body ≡ body_or_empty body) }
+    ensures bytes { IfOk result (λ p. IsTrue (is_body p.body)) }
+    ensures by { IfOk result (λ p. p.by ≡ option_copied by.entry) }
+    ensures name { IfOk result (λ p. IfSome p.by (λ text. IsTrue (is_name text) × IsUtf8 text)) }
+{
+    Ok(Parts {
+        winner: winner_of(alloc, tree)?,
+        body: body_of(alloc, body)?,
+        by: copy_of(alloc, by)?,
+    })
+}
+
 /// The write of a revision that was judged at a front, with so many of its ancestors, the tree after it, and the effects with
 /// which it is accepted.
-pub(crate) fn write_of(
+fn write_of(
     alloc: Global,
     by: Option<&Name>,
     revision: Revision,
@@ -151,14 +179,15 @@ pub(crate) fn write_of(
 {
     let _ = revision.doc.as_str();
     pass_effects(&effects);
+    let parts = parts_of(alloc, by, revision.body, tree)?;
     Ok(Write {
-        winner: winner_of(alloc, tree)?,
+        winner: parts.winner,
         doc: revision.doc,
         rev: revision.rev,
         ancestors: kept_of(revision.ancestors, kept),
         deleted: revision.deleted,
-        body: body_of(alloc, revision.body)?,
-        by: copy_of(alloc, by)?,
+        body: parts.body,
+        by: parts.by,
         at,
         channels: effects.channels,
         grants: effects.grants,
@@ -166,74 +195,56 @@ pub(crate) fn write_of(
     })
 }
 
-/// What the board said of a revision that it has room for: at which front, after which last write of its document, and with
-/// which tree and so many of its ancestors.
+/// What the board says of a revision that extends its document's tree: at which front, after which last write of its document,
+/// with which tree and so many of its ancestors, and what the program is to judge it on.
 #[derive(Drop)]
 pub(crate) struct Judged {
     pub at: u64,
     pub base: u64,
     pub tree: Tree,
     pub kept: u64,
+    pub basis: Basis,
 }
 
-/// Stores a write that the board judged in this turn: its sequence, or why there is no room for it.
-fn store(board: &mut Board, entry: Write, tree: Tree, base: u64) -> Result<u64, NoRoom>
-    requires pending { board.old.pending ≡ [] }
-    requires rooms { board.old.rooms ≡ [] }
-    requires entry { IsEntry (kinds.Write entry) }
-    requires size { length entry.body ≤ 20971520 }
-    requires body { HasDocument entry.body }
-    requires at { entry.at ≡ length board.old.log }
-    requires base { base ≡ last_on board.old entry.doc }
-    requires extends { ExtendsTree (tree_on board.old entry.doc) entry tree }
-    ensures sequence { IfOk result (λ sequence. sequence ≡ length board.old.log + 1) }
-    ensures stored { IfOk result
-        (λ sequence. board.new.log ≡ board.old.log ++ kinds.Write entry ∷ []) }
-    ensures none { OnErr result (board.new.log ≡ board.old.log) }
-    ensures refused { IsStoredBut (refusal (board_of board.old) (length entry.body)) result }
-    ensures pending { board.new.pending ≡ [] }
-    ensures rooms { board.new.rooms ≡ [] }
+/// What the program says of a revision that extends its document's tree: the effects with which it accepts it, or why it is
+/// turned down at this front.
+fn effects_of(
+    alloc: Global,
+    program: &Resolved,
+    revision: &Revision,
+    doc: Doc,
+    basis: &Basis,
+    at: u64,
+) -> Result<Effects, Outcome>
+    requires document { IsDocument revision.now.body (node_tree doc) }
+    requires old { IfSome basis.now.old (λ body. HasDocument body) }
+    ensures accepted { IfOk result
+        (λ effects. IsSaidOn program.now revision.now basis.now (Ok effects)) }
+    ensures denied { IfErr result (IsDeniedOn program.now revision.now basis.now at) }
 {
-    alone();
-    let bytes = entry.body.len() as u64;
-    let room = board.room(Some(&entry.doc), bytes)?;
-    let number = Number::new(board.front() + 1);
-    match board.commit(room, number, Candidate::Write { entry, tree, base }) {
-        Commit::Stored { sequence, at: _at } => Ok(sequence),
-        Commit::Stale {
-            room,
-            number,
-            candidate: _candidate,
-            last: _last,
-        } => {
-            board.void(room, number);
-            unreachable!()
-        }
+    match said_of(alloc, program, revision, doc, basis) {
+        Verdict::Accept(effects) => Ok(effects),
+        Verdict::Deny(rule) => Err(Outcome::Denied403 { at, rule }),
+        Verdict::Memory => Err(Outcome::Memory507),
     }
 }
 
-/// Makes the write of a revision that the board judged in this turn, with the effects with which it is accepted, and stores it.
-fn store_revision(
+/// Makes the write of a revision that the board judged in this turn, with the effects with which it is accepted.
+fn ready_of(
     alloc: Global,
-    board: &mut Board,
+    board: &Board,
     by: Option<&Name>,
     revision: Revision,
     judged: Judged,
     effects: Effects,
-) -> Outcome
-    requires pending { board.old.pending ≡ [] }
-    requires rooms { board.old.rooms ≡ [] }
+) -> Result<Ready, Outcome>
     requires formed { IsWellFormed revision }
-    requires at { judged.at ≡ length board.old.log }
-    requires base { judged.base ≡ last_on board.old revision.doc }
-    requires tree { IsNewTree (board_tree (board_of board.old) revision.doc) revision
-        judged.tree judged.kept }
+    requires extends { IsExtensionAt board.now (option_copied by) revision judged }
     requires effects { AreEffects effects }
-    ensures answer { IsStoredOrNot result judged.at }
-    ensures limits { IsByLimits (bytes_of revision) (board_of board.old) result }
-    ensures board { (program : Program)
-        → IsSaid program (option_copied by.entry) revision (board_of board.old) (Ok effects)
-        → IsBoardAfter board.old board.new program (option_copied by.entry) revision result }
+    ensures made { (program : Program)
+        → IsSaid program (option_copied by.entry) revision (board_of board.now) (Ok effects)
+        → IfOk result (IsMade board.now program (option_copied by.entry) revision) }
+    ensures memory { IfErr result (λ outcome. outcome ≡ outcomes.Memory507) }
 {
     let _ = board.log();
     boards();
@@ -243,96 +254,85 @@ fn store_revision(
         base,
         tree,
         kept,
+        basis: _basis,
     } = judged;
-    let Ok(entry) = write_of(alloc, by, revision, at, &tree, kept, effects) else {
-        return Outcome::Memory507;
-    };
-    match store(board, entry, tree, base) {
-        Ok(sequence) => Outcome::Stored { sequence, at },
-        Err(why) => without_room(at, why),
+    match write_of(alloc, by, revision, at, &tree, kept, effects) {
+        Ok(entry) => Ok(Ready { entry, tree, base }),
+        Err(_) => Err(Outcome::Memory507),
     }
 }
 
-/// Stores a revision that extends its document's tree where the program accepts it.
-fn store_accepted(
+/// Makes the write of a revision that extends its document's tree where the program accepts it, or turns it down.
+fn ready_where_accepted(
     alloc: Global,
-    board: &mut Board,
+    board: &Board,
     program: &Resolved,
     by: Option<&Name>,
     revision: Revision,
     doc: Doc,
-    basis: Basis,
     judged: Judged,
-) -> Outcome
-    requires pending { board.old.pending ≡ [] }
-    requires rooms { board.old.rooms ≡ [] }
+) -> Result<Ready, Outcome>
     requires formed { IsWellFormed revision }
     requires document { IsDocument revision.body (node_tree doc) }
-    requires basis { IsBasis board.old (option_copied by) revision basis }
-    requires at { judged.at ≡ length board.old.log }
-    requires base { judged.base ≡ last_on board.old revision.doc }
-    requires tree { IsNewTree (board_tree (board_of board.old) revision.doc) revision
-        judged.tree judged.kept }
-    ensures answer { IsDecided program.now (option_copied by.entry) revision
-        (board_of board.old) judged.at result }
-    ensures limits { IsByLimits (bytes_of revision) (board_of board.old) result }
-    ensures board { IsBoardAfter board.old board.new program.now (option_copied by.entry)
-        revision result }
+    requires extends { IsExtensionAt board.now (option_copied by) revision judged }
+    ensures made { IfOk result
+        (λ c. IsMade board.now program.now (option_copied by.entry) revision c) }
+    ensures denied { IfErr result (IsDenied program.now (option_copied by.entry) revision
+        (board_of board.now) judged.at) }
 {
     sync_meaning::laws::effects();
-    let at = judged.at;
-    match said_of(alloc, program, &revision, doc, &basis) {
-        Verdict::Accept(effects) => store_revision(alloc, board, by, revision, judged, effects),
-        Verdict::Deny(rule) => Outcome::Denied403 { at, rule },
-        Verdict::Memory => Outcome::Memory507,
+    match effects_of(alloc, program, &revision, doc, &judged.basis, judged.at) {
+        Ok(effects) => ready_of(alloc, board, by, revision, judged, effects),
+        Err(outcome) => Err(outcome),
     }
 }
 
 /// What is needed to judge a revision, by the trees of the board, which has the same log and rooms then.
-pub(crate) fn snapshot_of(
+fn snapshot_of(
     board: &mut Board,
     revision: &Revision,
     strict: bool,
     by: Option<&Name>,
 ) -> Result<Snapshot, Memory>
     ensures same { IsAsBefore board.old board.new }
-    ensures at { IfOk result (λ s. s.at ≡ length board.old.log) }
-    ensures last { IfOk result (λ s. s.last ≡ last_on board.old revision.now.doc) }
-    ensures step { IfOk result (λ s. IsStep
-        (board_tree (board_of board.old) revision.now.doc) revision.now strict s.step) }
-    ensures user { IfOk result (λ s. s.user_exists ≡ proposer_exists (newest_first board.old)
-        (option_copied by.entry)) }
-    ensures basis { IfOk result (λ s. IsBasis board.old (option_copied by.entry) revision.now
-        (record { old = s.old; old_deleted = s.old_deleted; context = s.context })) }
+    ensures snapshot { IfOk result
+        (IsSnapshot board.old strict (option_copied by.entry) revision.now) }
 {
     boards();
     board.snapshot(revision, strict, by)
 }
 
-/// Has the board and the program judge a revision that is well formed, and stores it where it extends its document's tree, the
-/// program accepts it, and the board has room for it.
-fn judge(
-    alloc: Global,
-    board: &mut Board,
-    program: &Resolved,
-    by: Option<&Name>,
-    strict: bool,
-    revision: Revision,
-    doc: Doc,
-) -> Outcome
-    requires pending { board.old.pending ≡ [] }
-    requires rooms { board.old.rooms ≡ [] }
-    requires formed { IsWellFormed revision }
-    requires document { IsDocument revision.body (node_tree doc) }
-    ensures outcome { IsOutcome program.now strict (option_copied by.entry) revision
-        (board_of board.old) result }
-    ensures limits { IsByLimits (bytes_of revision) (board_of board.old) result }
-    ensures board { IsBoardAfter board.old board.new program.now (option_copied by.entry)
-        revision result }
+/// The tree of a document with a revision, and how many of its ancestors are kept.
+#[derive(Drop)]
+pub(crate) struct Extension {
+    pub tree: Tree,
+    pub kept: u64,
+}
+
+/// The tree of a document with a revision, by its outcome there, or why the revision is turned down at this front.
+fn new_tree_of(at: u64, user_exists: bool, step: Extended) -> Result<Extension, Outcome>
+    ensures tree { IfOk result
+        (λ new. (user_exists ≡ true) × (step ≡ extended.NewTree new.tree new.kept)) }
+    ensures stopped { IfErr result (IsStoppedBy at user_exists step) }
 {
-    let Ok(snapshot) = snapshot_of(board, &revision, strict, by) else {
-        return Outcome::Memory507;
-    };
+    if !user_exists {
+        return Err(Outcome::UserGone401 { at });
+    }
+    match step {
+        Extended::Known => Err(Outcome::Known { at }),
+        Extended::BadHistory400 => Err(Outcome::BadHistory400 { at }),
+        Extended::Conflict409 { leaf } => Err(Outcome::Conflict409 { at, leaf }),
+        Extended::Memory => Err(Outcome::Memory507),
+        Extended::NewTree { tree, kept } => Ok(Extension { tree, kept }),
+    }
+}
+
+/// What a revision is judged on that extends its document's tree, or why it is turned down.
+fn extension_in(snapshot: Snapshot) -> Result<Judged, Outcome>
+    ensures extends { IfOk result (IsExtension snapshot) }
+    ensures stopped { IfErr result
+        (IsStoppedBy snapshot.at snapshot.user_exists snapshot.step) }
+{
     let Snapshot {
         at,
         last: base,
@@ -342,28 +342,127 @@ fn judge(
         user_exists,
         context,
     } = snapshot;
-    if !user_exists {
-        return Outcome::UserGone401 { at };
-    }
-    match step {
-        Extended::Known => Outcome::Known { at },
-        Extended::BadHistory400 => Outcome::BadHistory400 { at },
-        Extended::Conflict409 { leaf } => Outcome::Conflict409 { at, leaf },
-        Extended::Memory => Outcome::Memory507,
-        Extended::NewTree { tree, kept } => {
-            let basis = Basis {
+    match new_tree_of(at, user_exists, step) {
+        Ok(Extension { tree, kept }) => Ok(Judged {
+            at,
+            base,
+            tree,
+            kept,
+            basis: Basis {
                 old,
                 old_deleted,
                 context,
-            };
-            let judged = Judged {
-                at,
-                base,
-                tree,
-                kept,
-            };
-            store_accepted(alloc, board, program, by, revision, doc, basis, judged)
-        }
+            },
+        }),
+        Err(outcome) => Err(outcome),
+    }
+}
+
+/// Has the board judge a revision that is well formed: what it is judged on where it extends its document's tree.
+fn extension_of(
+    board: &mut Board,
+    revision: &Revision,
+    strict: bool,
+    by: Option<&Name>,
+) -> Result<Judged, Outcome>
+    requires { IsWellFormed revision.now }
+    ensures same { IsAsBefore board.old board.new }
+    ensures extends { IfOk result
+        (IsExtensionAt board.old (option_copied by.entry) revision.now) }
+    ensures judged { IfOk result (λ judged. IsJudged strict (option_copied by.entry)
+        revision.now (board_of board.old) extends_tree judged.at) }
+    ensures stopped { (program : Program) → IfErr result (λ outcome. IsOutcome program strict
+        (option_copied by.entry) revision.now (board_of board.old) outcome × IsTurnedDown outcome) }
+{
+    match snapshot_of(board, revision, strict, by) {
+        Ok(snapshot) => extension_in(snapshot),
+        Err(_) => Err(Outcome::Memory507),
+    }
+}
+
+/// Has the board and the program judge a revision that is well formed, and makes its write where it extends its document's tree
+/// and the program accepts it.
+pub(crate) fn judge(
+    alloc: Global,
+    board: &mut Board,
+    program: &Resolved,
+    by: Option<&Name>,
+    strict: bool,
+    revision: Revision,
+    doc: Doc,
+) -> Result<Ready, Outcome>
+    requires formed { IsWellFormed revision }
+    requires document { IsDocument revision.body (node_tree doc) }
+    ensures same { IsAsBefore board.old board.new }
+    ensures ready { IfOk result
+        (IsReady board.old program.now strict (option_copied by.entry) revision) }
+    ensures refused { IfErr result (λ outcome. IsOutcome program.now strict
+        (option_copied by.entry) revision (board_of board.old) outcome × IsTurnedDown outcome) }
+{
+    match extension_of(board, &revision, strict, by) {
+        Ok(judged) => ready_where_accepted(alloc, board, program, by, revision, doc, judged),
+        Err(outcome) => Err(outcome),
+    }
+}
+
+/// Stores a write that the board judged in this turn: its sequence, or why there is no room for it.
+fn store(board: &mut Board, ready: Ready) -> Result<u64, NoRoom>
+    requires pending { board.old.pending ≡ [] }
+    requires rooms { board.old.rooms ≡ [] }
+    requires size { length ready.entry.body ≤ 20971520 }
+    requires ready { IsHeldReady board.old ready }
+    ensures sequence { IfOk result (λ sequence. sequence ≡ length board.old.log + 1) }
+    ensures stored { IfOk result
+        (λ sequence. board.new.log ≡ board.old.log ++ kinds.Write ready.entry ∷ []) }
+    ensures none { OnErr result (board.new.log ≡ board.old.log) }
+    ensures refused { IsStoredBut (refusal (board_of board.old) (length ready.entry.body)) result }
+    ensures pending { board.new.pending ≡ [] }
+    ensures rooms { board.new.rooms ≡ [] }
+{
+    alone();
+    let bytes = ready.entry.body.len() as u64;
+    let room = board.room(Some(&ready.entry.doc), bytes)?;
+    let Ready { entry, tree, base } = ready;
+    Ok(put_next(board, room, Candidate::Write { entry, tree, base }))
+}
+
+/// Stores a write that the board judged in this turn, unless the board has no room for it.
+fn store_ready(board: &mut Board, ready: Ready) -> Outcome
+    requires pending { board.old.pending ≡ [] }
+    requires rooms { board.old.rooms ≡ [] }
+    requires size { length ready.entry.body ≤ 20971520 }
+    requires ready { IsHeldReady board.old ready }
+    ensures board { IsBoardCommanded board.old board.new (kinds.Write ready.entry) result }
+    ensures limits { IsByLimits (length ready.entry.body) (board_of board.old) result }
+{
+    let at = ready.entry.at;
+    match store(board, ready) {
+        Ok(sequence) => Outcome::Stored { sequence, at },
+        Err(why) => without_room(at, why),
+    }
+}
+
+/// Has the board and the program judge a revision that is well formed, and stores it where it extends its document's tree, the
+/// program accepts it, and the board has room for it.
+fn propose_formed(
+    alloc: Global,
+    board: &mut Board,
+    program: &Resolved,
+    by: Option<&Name>,
+    strict: bool,
+    revision: Revision,
+    doc: Doc,
+) -> Outcome
+    requires pending { board.old.pending ≡ [] }
+    requires rooms { board.old.rooms ≡ [] }
+    requires formed { IsWellFormed revision }
+    requires document { IsDocument revision.body (node_tree doc) }
+    ensures { IsAnsweredBy board.old board.new program.now strict (option_copied by.entry)
+        revision result }
+{
+    match judge(alloc, board, program, by, strict, revision, doc) {
+        Ok(ready) => store_ready(board, ready),
+        Err(outcome) => outcome,
     }
 }
 
@@ -388,7 +487,7 @@ pub fn propose_to(
 {
     let strict = strict || revision.noconflicts;
     match document_of(alloc, &revision) {
-        Ok(doc) => judge(alloc, board, program, by, strict, revision, doc),
+        Ok(doc) => propose_formed(alloc, board, program, by, strict, revision, doc),
         Err(refusal) => refusal,
     }
 }

@@ -13,9 +13,9 @@ returns-clause-entry c = λ winner.
     (c.as_str.ensures.grammar, subst (λ (t : List ℕ). IsUtf8 t) c.as_str.ensures.value c.as_str.utf8)
     c.requires.formed.named.rev
     (subst (λ (rs : List RevId). IsTrue (is_revs rs)) (sym c.kept_of.ensures) (first_revs c.args.revision.ancestors c.args.kept c.requires.formed.named.history))
-    c.in_ok-body_of.ensures.bytes c.in_ok-copy_of.ensures.name (omega (arith, c.ranges.at.fits)) winner c.requires.effects
+    c.in_ok-parts.ensures.bytes c.in_ok-parts.ensures.name (omega (arith, c.ranges.at.fits)) winner c.requires.effects
     (record { channels = c.pass_effects.ensures.channels; grants = c.pass_effects.ensures.grants; roles = c.pass_effects.ensures.roles })
 
 pub returns-clause-body : goal.returns-clause-body
 returns-clause-body c =
-    subst (λ (b : List ℕ). HasDocument b) (sym c.in_ok-body_of.ensures.value) (body_is_document c.args.revision.body c.requires.formed.body)
+    subst (λ (b : List ℕ). HasDocument b) (sym c.in_ok-parts.ensures.body) (body_is_document c.args.revision.body c.requires.formed.body)

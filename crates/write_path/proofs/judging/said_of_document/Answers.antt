@@ -1,0 +1,18 @@
+use Rattle.std.proofs.Common.{◌∙◌, ap, sym, option_map, Option}
+use Rattle.json_doc.specs.declared.node.Node.{Node}
+use Rattle.json_doc.specs.Tree.{Tree}
+use Rattle.json_doc.specs.View.{node_tree}
+use Rattle.sync_meaning.specs.Meaning.{meaning}
+use Rattle.write_path.specs.Verdicts.{IsSaidOfDocument}
+use Rattle.write_path.proofs.Judged.{verdict_is, trees_behind}
+use Rattle.write_path.proofs.judging.said_of_document.Goals as goal
+
+pub returns-in-Ok : goal.returns-in-Ok
+returns-in-Ok c =
+    let document : Tree = node_tree c.args.doc.now in
+    let old : Option Tree = option_map (λ d. node_tree d) c.in-Ok.old in
+    verdict_is (IsSaidOfDocument c.args.program.now c.args.id.now document c.args.basis.now) c.judge.result _ c.judge.ensures (record {
+      old = old;
+      is_old = c.in-Ok.ensures;
+      is_meant = ap (λ (o : Option Tree). meaning c.args.program.now document o c.args.basis.now.context) (ap (λ (o : Option Node). option_map (λ d. node_tree d) o) (sym c.as_ref.ensures.value) ∙ trees_behind c.as_ref.result);
+    })
