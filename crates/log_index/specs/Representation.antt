@@ -30,6 +30,11 @@ winning_seq index w first seq =
     if same_rev w.rev w.winner then seq
     else unwrap_or (seq_in index.revisions first w.winner) seq
 
+-- what is kept of the document of a write, where there is a write
+abbrev pub kept_of : LogIndex → Option Write → Option Document
+kept_of index None = None
+kept_of index (Some w) = get_by_text index.documents w.doc
+
 -- what is kept of an entry, where it is there
 abbrev pub got : Option (Option Document) → Option Document
 got None = None

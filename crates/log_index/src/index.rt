@@ -10,7 +10,8 @@ ghost use Rattle.sg_names.specs.declared.grants.Grantee.TheVariants as grantee;
 ghost use Rattle.log_index.specs.Index.{HasPlaces, Indexes};
 ghost use Rattle.log_index.specs.Places as places;
 ghost use Rattle.log_index.specs.Places.{document_at, revision_seq, last_put, granting_seqs, document_before, before_at};
-ghost use Rattle.log_index.specs.Representation.{winning_seq};
+ghost use Rattle.std.specs.BTreeMap.{get_by_text};
+ghost use Rattle.log_index.specs.Representation.{kept_of, winning_seq};
 
 use crate::by_name::put;
 use crate::documents::{Document, Documents, document_in, document_of, first_or, put_back};
@@ -125,18 +126,22 @@ impl LogIndex {
 
     /// Where the document of a write stands, if there is a write and its document was written.
     fn place_of_write(&self, write: Option<&Write>) -> Option<Document>
-        ensures { (es : List Entry) → Indexes self.now es
+        ensures kept { result ≡ kept_of self.now (option_copied write.entry) }
+        ensures before { (es : List Entry) → Indexes self.now es
             → result ≡ document_before es (option_copied write.entry) }
     {
         match write {
             None => None,
-            Some(write) => self.document(&write.doc),
+            Some(write) => document_of(&self.documents, &write.doc),
         }
     }
 
-    /// Takes the next entry. Out of memory leaves what the index says as it was.
-    pub fn push(&mut self, entry: &Entry) -> Result<(), AllocError>
+    /// Takes the next entry, and answers where the document that it writes stands after it: none
+    /// where it is no write. Out of memory leaves what the index says as it was.
+    pub fn push(&mut self, entry: &Entry) -> Result<Option<Document>, AllocError>
         requires { self.old.count < 18446744073709551615 }
+        ensures document { IfOk result (λ document. (es : List Entry) → Indexes self.old es
+            → document ≡ document_before (entry.now ∷ es) (as_write entry.now)) }
         ensures ok { OnOk result ((es : List Entry) → Indexes self.old es
             → Indexes self.new (entry.now ∷ es)) }
         ensures err { OnErr result ((es : List Entry) → Indexes self.old es → Indexes self.new es) }
@@ -144,15 +149,24 @@ impl LogIndex {
         let seq = self.count + 1;
         let before = self.place_of_write(entry.as_write());
         make_room(&mut self.granting, &mut self.before)?;
-        self.keep(entry, seq)?;
+        let document = self.keep(entry, before, seq)?;
         self.count = seq;
         keep_if(&mut self.granting, grants_any(entry.as_write()), seq);
         self.before.push_reserved(before);
-        Ok(())
+        Ok(document)
     }
 
-    /// Keeps what an entry of this sequence says.
-    fn keep(&mut self, entry: &Entry, seq: u64) -> Result<(), AllocError>
+    /// Keeps what an entry of this sequence says, by where its document stood before it, and answers
+    /// where that stands now.
+    fn keep(
+        &mut self,
+        entry: &Entry,
+        before: Option<Document>,
+        seq: u64,
+    ) -> Result<Option<Document>, AllocError>
+        requires { before ≡ kept_of self.old (as_write entry.now) }
+        ensures kept { IfOk result (λ document. document
+            ≡ kept_of self.new (as_write entry.now)) }
         ensures ok { OnOk result ((es : List Entry) → seq ≡ length es + 1 → HasPlaces self.old es
             → HasPlaces (record self.new { count = seq }) (entry.now ∷ es)) }
         ensures err { OnErr result ((es : List Entry) → HasPlaces self.old es
@@ -162,8 +176,11 @@ impl LogIndex {
         ensures before { self.new.before ≡ self.old.before }
     {
         match entry.as_write() {
-            Some(write) => self.keep_write(write, seq),
-            None => self.keep_principal(put_by(entry), seq),
+            Some(write) => Ok(Some(self.keep_write(write, before, seq)?)),
+            None => {
+                self.keep_principal(put_by(entry), seq)?;
+                Ok(None)
+            }
         }
     }
 
@@ -199,7 +216,15 @@ impl LogIndex {
         Ok(found.unwrap_or(seq))
     }
 
-    fn keep_write(&mut self, write: &Write, seq: u64) -> Result<(), AllocError>
+    fn keep_write(
+        &mut self,
+        write: &Write,
+        before: Option<Document>,
+        seq: u64,
+    ) -> Result<Document, AllocError>
+        requires { before ≡ get_by_text self.old.documents write.now.doc }
+        ensures kept { IfOk result (λ document. get_by_text self.new.documents write.now.doc
+            ≡ Some document) }
         ensures ok { OnOk result ((es : List Entry) (e : Entry) → e ≡ kinds.Write write.now
             → seq ≡ length es + 1 → HasPlaces self.old es
             → HasPlaces (record self.new { count = seq }) (e ∷ es)) }
@@ -209,7 +234,6 @@ impl LogIndex {
         ensures granting { self.new.granting ≡ self.old.granting }
         ensures before { self.new.before ≡ self.old.before }
     {
-        let before = document_of(&self.documents, &write.doc);
         let first = first_or(before, seq);
         let document = Document {
             first,
@@ -222,10 +246,12 @@ impl LogIndex {
             write.doc.as_str(),
             document,
         )?;
-        let kept = put_revision(self.alloc, &mut self.revisions, first, &write.rev, seq);
-        if kept.is_err() {
-            put_back(&mut self.documents, &write.doc, before);
+        match put_revision(self.alloc, &mut self.revisions, first, &write.rev, seq) {
+            Ok(()) => Ok(document),
+            Err(fault) => {
+                put_back(&mut self.documents, &write.doc, before);
+                Err(fault)
+            }
         }
-        kept
     }
 }
