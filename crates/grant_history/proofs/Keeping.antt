@@ -1,5 +1,5 @@
 -- what is kept once a source gives other facts
-use Rattle.std.proofs.Common.{◌≡◌, ◌≤◌, ◌+◌, ◌-◌, ℕ, le-leb, refl, sym, ◌∙◌, ap, subst, arith, Bool, true, false, ◌&&◌, ◌||◌, if◌then◌else◌, nat_lt, nat_le, List, [], ◌∷◌, length, Option, Some, None, Vec, String}
+use Rattle.std.proofs.Common.{◌≡◌, ◌≤◌, ◌+◌, ◌-◌, ℕ, le-leb, refl, sym, ◌∙◌, ap, subst, arith, Bool, true, false, ◌&&◌, ◌||◌, if◌then◌else◌, nat_lt, List, [], ◌∷◌, length, Option, Some, None, String}
 use Rattle.std.specs.BTreeMap.{get_by_text, is_at}
 use Rattle.std.specs.Map.{lookup}
 use Rattle.std.specs.Prelude.{string_bytes}
@@ -20,6 +20,7 @@ use Rattle.grant_history.specs.declared.held.Held.{Held}
 use Rattle.grant_history.specs.declared.track.Track.{Track}
 use Rattle.grant_history.specs.declared.store.Store.{Store}
 use Rattle.grant_history.specs.declared.ledger.Ledger.{Ledger}
+use Rattle.grant_history.specs.declared.ledger.SourceFacts.{SourceFacts}
 use Rattle.grant_history.specs.Dated.{Dated}
 use Rattle.grant_history.specs.Tracks.{IsTrack, held_at, held_last}
 use Rattle.grant_history.specs.Facts.{same_what, times, put_facts, document_facts}
@@ -33,7 +34,7 @@ use Rattle.grant_history.proofs.Steps.{current_same, unwritten, principal_same, 
 use Rattle.grant_history.specs.Things.{Things}
 
 -- a place made for a name changes nothing
-pub placed_empty : (old new : Lists) (name : List ℕ) (v : Vec Fact Global) → v.items ≡ [] → get_by_text old name ≡ None
+pub placed_empty : (old new : Lists) (name : List ℕ) (v : SourceFacts) → v.facts.items ≡ [] → get_by_text old name ≡ None
     → ((other : List ℕ) → get_by_text new other ≡ (if bytes_eq name other then Some v else get_by_text old other)) → (other : List ℕ) → facts_in new other ≡ facts_in old other
 placed_empty old new name v empty none sets other = ap facts_of_list (sets other) ∙ by (bytes_eq name other) refl
   where
@@ -41,9 +42,17 @@ placed_empty old new name v empty none sets other = ap facts_of_list (sets other
     by true same = empty ∙ ap facts_of_list (sym none) ∙ ap (λ (n : List ℕ). facts_in old n) ((bytes_decides name other).0 same)
     by false same = refl
 
-pub swapped : (b : Bool) (v : Vec Fact Global) (o : Option (Vec Fact Global)) → facts_of_list (if b then Some v else o) ≡ (if b then v.items else facts_of_list o)
+pub swapped : (b : Bool) (v : SourceFacts) (o : Option SourceFacts) → facts_of_list (if b then Some v else o) ≡ (if b then v.facts.items else facts_of_list o)
 swapped true v o = refl
 swapped false v o = refl
+
+-- a source with what it gave changes nothing
+pub as_it_was : (lists : Lists) (name other : List ℕ) (facts : List Fact) → facts ≡ facts_in lists name → (if bytes_eq name other then facts else facts_in lists other) ≡ facts_in lists other
+as_it_was lists name other facts same = by (bytes_eq name other) refl
+  where
+    by : (b : Bool) → bytes_eq name other ≡ b → (if b then facts else facts_in lists other) ≡ facts_in lists other
+    by true at = same ∙ ap (λ (n : List ℕ). facts_in lists n) ((bytes_decides name other).0 at)
+    by false at = refl
 
 -- at the place up to which a track says anything it says what there is now
 settled_track : (t : Track) (n : ℕ) → IsTrack t n → held_at t n ≡ nat_lt 0 t.count
@@ -166,7 +175,7 @@ asked_given kept at source facts e es step f =
     omega (arith, step.is_kept.counts f, step.sums f, gave)
 
 empty_list : (lists : Lists) (name : List ℕ) → lists.entries ≡ [] → facts_in lists name ≡ []
-empty_list lists name empty = ap (λ (es : List (String Global × Vec Fact Global)). facts_of_list (lookup (is_at (λ k. slice_cmp nat_cmp name (string_bytes k))) es)) empty
+empty_list lists name empty = ap (λ (es : List (String Global × SourceFacts)). facts_of_list (lookup (is_at (λ k. slice_cmp nat_cmp name (string_bytes k))) es)) empty
 
 nothing_given : (of : Grantee) → principal_of [] of ≡ None
 nothing_given (User name) = refl

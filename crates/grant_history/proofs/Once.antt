@@ -1,6 +1,6 @@
 -- lists in which each thing stands once
 use Rattle.std.proofs.Common.{◌≡◌, ◌+◌, ◌<◌, ℕ, zero, suc, refl, sym, ◌∙◌, ap, subst, arith, Bool, true, false, ◌&&◌, ◌||◌, if◌then◌else◌, List, [], ◌∷◌, ◌++◌, length, get_or, Option, Some, None}
-use Rattle.std.specs.Prelude.{option_map, slice_set, is_some}
+use Rattle.std.specs.Prelude.{option_map, slice_get, slice_set, is_some}
 use Rattle.std.specs.List.{list_any}
 use Rattle.std.proofs.lemmas.Bool.{false≢true, true≢false}
 use Rattle.std.proofs.lemmas.Option.{none-some, same_Some, get_or_from_slice_get}
@@ -151,3 +151,17 @@ pub what_here : (list : List Held) (w : What) (i : ℕ) (old : Held) → place_o
 what_here list w i old place is =
     let stands = state list w i place in
     ap (λ (h : Held). h.what) (is ∙ get_or_from_slice_get list i stands.held old stands.got) ∙ stands.what_is
+
+-- the place of what stands at a place of a list in which each thing stands once
+pub place_here : (list : List Held) (w : What) (i : ℕ) (h : Held) → StandOnce list → slice_get list i ≡ Some h → same_what h.what w ≡ true → place_of list w ≡ Some i
+place_here [] w i h once is same = absurd (none-some h is)
+place_here (x ∷ xs) w zero h once is same =
+    ap (λ (b : Bool). if b then Some 0 else option_map (λ (n : ℕ). n + 1) (place_of xs w)) (ap (λ (y : Held). same_what y.what w) (same_Some x h is) ∙ same)
+place_here (x ∷ xs) w (suc i) h once is same = by (same_what x.what w) refl (place_here xs w i h once.1 is same)
+  where
+    by : (b : Bool) → same_what x.what w ≡ b → place_of xs w ≡ Some i → place_of (x ∷ xs) w ≡ Some (suc i)
+    by true first rest = absurd (none-some i (sym (ap (λ (v : What). place_of xs v) (sym (whats x.what w first)) ∙ once.0) ∙ rest))
+    by false first rest =
+        ap (λ (b : Bool). if b then Some 0 else option_map (λ (n : ℕ). n + 1) (place_of xs w)) first
+        ∙ ap (λ (o : Option ℕ). option_map (λ (n : ℕ). n + 1) o) rest
+        ∙ ap (λ (n : ℕ). Some n) (omega arith)

@@ -1,5 +1,5 @@
 -- What is kept of sources, and when that is what a history says.
-use Rattle.std.specs.Prelude.{◌≡◌, ℕ, ◌+◌, Bool, false, List, [], ◌∷◌, ◌++◌, length, String, Vec, Option, Some, None, if◌then◌else◌}
+use Rattle.std.specs.Prelude.{◌≡◌, ℕ, ◌+◌, Bool, false, List, [], ◌∷◌, ◌++◌, length, String, Option, Some, None, if◌then◌else◌}
 use Rattle.std.specs.BTreeMap.{BTreeMap, get_by_text}
 use Rattle.std.specs.Global.{Global}
 use Rattle.std.specs.Str.{bytes_eq}
@@ -12,6 +12,7 @@ use Rattle.sg_history.specs.Current.{current}
 use Rattle.sg_history.specs.Principals.{user_at, role_at}
 use Rattle.grant_history.specs.declared.facts.Fact.{Fact}
 use Rattle.grant_history.specs.declared.ledger.Ledger.{Ledger}
+use Rattle.grant_history.specs.declared.ledger.SourceFacts.{SourceFacts}
 use Rattle.grant_history.specs.declared.ledger.Source as code
 use Rattle.grant_history.specs.declared.ledger.Source.TheVariants as kind
 use Rattle.grant_history.specs.Facts.{times, put_facts, grant_facts, gift_facts, document_facts}
@@ -61,11 +62,11 @@ given es (user name) = put_facts (User name) (user_at es name)
 given es (role name) = put_facts (Role name) (role_at es name)
 
 abbrev pub Lists : Type 0
-Lists = BTreeMap (String Global) (Vec Fact Global)
+Lists = BTreeMap (String Global) SourceFacts
 
-abbrev pub facts_of_list : Option (Vec Fact Global) → List Fact
+abbrev pub facts_of_list : Option SourceFacts → List Fact
 facts_of_list None = []
-facts_of_list (Some list) = list.items
+facts_of_list (Some list) = list.facts.items
 
 -- what is kept under a name
 abbrev pub facts_in : Lists → List ℕ → List Fact

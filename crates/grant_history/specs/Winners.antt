@@ -4,7 +4,7 @@ use Rattle.sg_history.specs.declared.entries.Entry.{Entry}
 use Rattle.sg_history.specs.declared.entries.Write.{Write}
 use Rattle.sg_history.specs.History.{past}
 use Rattle.log_index.specs.declared.documents.Document.{Document}
-use Rattle.log_index.specs.Places.{document_at}
+use Rattle.log_index.specs.Places.{document_before}
 use Rattle.log_views.specs.At.{written}
 
 -- the sequence of a document's winner, 0 where it was never written
@@ -14,8 +14,7 @@ winning_in (Some d) = d.winning
 
 -- the sequence of the winner of the document that was written, 0 where none was
 abbrev pub winning_by : List Entry → Option Write → ℕ
-winning_by es None = 0
-winning_by es (Some w) = winning_in (document_at es w.doc)
+winning_by es write = winning_in (document_before es write)
 
 -- the same after the entry at a place, counted from 0, of the document that this entry writes
 abbrev pub winning_at : List Entry → ℕ → ℕ

@@ -208,8 +208,8 @@ impl Holding {
         }
     }
 
-    /// Keeps one thing more.
-    fn keep(&mut self, alloc: Global, held: Held, at: u64) -> Result<(), Memory>
+    /// Keeps one thing more, and answers where.
+    fn keep(&mut self, alloc: Global, held: Held, at: u64) -> Result<usize, Memory>
         requires place { place_of self.old.items held.what ≡ None }
         requires since { self.old.since ≤ at }
         requires begins { BeginsAt held.track at }
@@ -222,10 +222,10 @@ impl Holding {
         self.blocks.add(place)?;
         self.places.put(alloc, &held.what, place)?;
         self.list.push_reserved(held);
-        Ok(())
+        Ok(place)
     }
 
-    fn add(&mut self, alloc: Global, what: &What, at: u64) -> Result<(), Memory>
+    fn add(&mut self, alloc: Global, what: &What, at: u64) -> Result<usize, Memory>
         requires place { place_of self.old.items what.now ≡ None }
         requires since { self.old.since ≤ at }
         ensures ok { OnOk result (Dated count_in held_in AreUpTo self.old.items self.new.items at
@@ -291,8 +291,8 @@ impl Holding {
         self.give_first(i, what, at)
     }
 
-    /// One source more gives it from a place on.
-    pub fn give(&mut self, alloc: Global, what: &What, at: u64) -> Result<(), Memory>
+    /// One source more gives it from a place of the log on. Answers where it stands among all.
+    pub fn give(&mut self, alloc: Global, what: &What, at: u64) -> Result<usize, Memory>
         requires up_to { AreUpTo self.old.items at }
         requires since { self.old.since ≤ at }
         ensures ok { OnOk result (Dated count_in held_in AreUpTo self.old.items self.new.items at
@@ -304,12 +304,16 @@ impl Holding {
         self.make_block(alloc, at);
         match self.places.find(what) {
             None => self.add(alloc, what, at),
-            Some(i) => self.give_at(i, what, at),
+            Some(i) => {
+                self.give_at(i, what, at)?;
+                Ok(i)
+            }
         }
     }
 
-    /// One source that gave it does not from a place on.
-    pub fn take(&mut self, alloc: Global, what: &What, at: u64)
+    /// One source that gave it does not from a place of the log on. It is looked for at `near` first,
+    /// which is where it stands as `give` answered it.
+    pub fn take(&mut self, alloc: Global, what: &What, near: usize, at: u64)
         requires given { 0 < count_in self.old.items what.now }
         requires up_to { AreUpTo self.old.items at }
         requires since { self.old.since ≤ at }
@@ -318,17 +322,37 @@ impl Holding {
         ensures since { self.new.since ≤ at }
     {
         self.make_block(alloc, at);
-        self.take_one(what, at);
+        self.take_one(what, near, at);
     }
 
-    fn take_one(&mut self, what: &What, at: u64)
+    /// Whether something stands at a place of the list.
+    fn stands_at(&self, what: &What, near: usize) -> bool
+        ensures { result ≡ true → place_of self.now.items what.now ≡ Some near }
+    {
+        match self.list.get(near) {
+            None => false,
+            Some(held) => held.what.equals(what),
+        }
+    }
+
+    /// The place of something in the list, which may be this one.
+    fn place_near(&self, what: &What, near: usize) -> Option<usize>
+        ensures { result ≡ place_of self.now.items what.now }
+    {
+        if self.stands_at(what, near) {
+            return Some(near);
+        }
+        self.places.find(what)
+    }
+
+    fn take_one(&mut self, what: &What, near: usize, at: u64)
         requires given { 0 < count_in self.old.items what.now }
         requires up_to { AreUpTo self.old.items at }
         ensures dated { Dated count_in held_in AreUpTo self.old.items self.new.items at
             (one_less (count_in self.old.items) what.now) }
         ensures since { self.new.since ≡ self.old.since }
     {
-        if let Some(i) = self.places.find(what) {
+        if let Some(i) = self.place_near(what, near) {
             self.blocks.count();
             self.list[i].track.take(at);
         }

@@ -24,14 +24,15 @@ pub fn holds(holders: &Holders, name: &str, what: &What, k: u64) -> bool
     }
 }
 
-/// One source more gives it to the holder of a name from a place on.
+/// One source more gives it to the holder of a name from a place of the log on. Answers where it
+/// stands among all that the holder has or had.
 pub fn give(
     alloc: Global,
     holders: &mut Holders,
     name: &str,
     what: &What,
     at: u64,
-) -> Result<(), Memory>
+) -> Result<usize, Memory>
     requires { AreAllUpTo holders.old at }
     ensures ok { OnOk result (Dated count_of held_of AreAllUpTo holders.old holders.new at
         (more_of (count_of holders.old) name.now what.now)) }
@@ -45,7 +46,13 @@ pub fn give(
 }
 
 /// The same where nothing is kept of the name.
-fn add(alloc: Global, holders: &mut Holders, name: &str, what: &What, at: u64) -> Result<(), Memory>
+fn add(
+    alloc: Global,
+    holders: &mut Holders,
+    name: &str,
+    what: &What,
+    at: u64,
+) -> Result<usize, Memory>
     requires { get_by_text holders.old name.now ≡ None }
     ensures ok { OnOk result (Dated count_of held_of AreAllUpTo holders.old holders.new at
         (more_of (count_of holders.old) name.now what.now)) }
@@ -53,19 +60,20 @@ fn add(alloc: Global, holders: &mut Holders, name: &str, what: &What, at: u64) -
         (count_of holders.old)) }
 {
     let mut holding = Holding::new(alloc);
-    holding.give(alloc, what, at)?;
+    let place = holding.give(alloc, what, at)?;
     holders.insert(String::from_str(alloc, name)?, holding)?;
-    Ok(())
+    Ok(place)
 }
 
-/// One source that gave it to the holder of a name does not from a place on.
-pub fn take(alloc: Global, holders: &mut Holders, name: &str, what: &What, at: u64)
+/// One source that gave it to the holder of a name does not from a place of the log on. It is looked
+/// for at `near` first.
+pub fn take(alloc: Global, holders: &mut Holders, name: &str, what: &What, near: usize, at: u64)
     requires given { 0 < count_of holders.old (name.now, what.now) }
     requires up_to { AreAllUpTo holders.old at }
     ensures { Dated count_of held_of AreAllUpTo holders.old holders.new at
         (less_of (count_of holders.old) name.now what.now) }
 {
     if let Some(holding) = holders.get_mut(name) {
-        holding.take(alloc, what, at);
+        holding.take(alloc, what, near, at);
     }
 }

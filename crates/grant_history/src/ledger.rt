@@ -1,6 +1,7 @@
 //! What all sources give, and who has what by that.
 
 ghost use Rattle.std.specs.Prelude.{◌≡◌, ◌<◌, ◌≤◌, ◌+◌, ◌-◌, false, None, ℕ, List, [], length, OnOk, OnErr, if◌then◌else◌};
+ghost use Rattle.std.specs.BTreeMap.{get_by_text};
 ghost use Rattle.std.specs.Str.{bytes_eq};
 ghost use Rattle.grant_history.specs.Dated.{Dated};
 ghost use Rattle.grant_history.specs.Facts.{times};
@@ -12,12 +13,12 @@ ghost use Rattle.sg_history.specs.Puts as puts;
 
 use crate::facts::Fact;
 use crate::given::of_put;
-use crate::lists::{Lists, make_place, swap};
 use crate::store::Store;
 use sg_history::{DocId, Entry, Name, Principal};
 use sg_outside::Memory;
 use std::alloc::Global;
 use std::collections::BTreeMap;
+use std::mem;
 
 /// What gives something: a document as it is, or the last put of a user or a role.
 #[derive(Clone, Copy)]
@@ -26,6 +27,17 @@ pub enum Source<'a> {
     User(&'a Name),
     Role(&'a Name),
 }
+
+/// What a source gives, and where each of that stood when it was given, among what its user or role
+/// has or had.
+#[derive(Drop)]
+pub struct SourceFacts {
+    pub facts: Vec<Fact>,
+    pub places: Vec<usize>,
+}
+
+/// What sources give, by their names.
+pub type Lists = BTreeMap<String, SourceFacts>;
 
 /// What each source gives, and who has what by that.
 #[derive(Drop)]
@@ -36,8 +48,41 @@ pub struct Ledger {
     roles: Lists,
 }
 
-/// A source gives other facts from a place on. Out of memory each gives what it gave.
+/// A source gives other facts than these from a place on. Out of memory each gives what it gave.
 fn exchange(
+    alloc: Global,
+    store: &mut Store,
+    list: &mut SourceFacts,
+    facts: Vec<Fact>,
+    at: u64,
+) -> Result<(), Memory>
+    requires up_to { IsStore store.old at }
+    requires given { (f : Fact) → times list.old.facts.items f
+        ≤ count_at store.old f + times facts.items f }
+    ensures store { OnOk result (Dated count_at has_at IsStore store.old store.new at
+        (λ f. count_at store.old f + times facts.items f - times list.old.facts.items f)) }
+    ensures list { OnOk result (list.new.facts.items ≡ facts.items) }
+    ensures err_store { OnErr result (Dated count_at has_at IsStore store.old store.new at
+        (count_at store.old)) }
+    ensures err_list { OnErr result (list.new.facts.items ≡ list.old.facts.items) }
+{
+    let places = store.give_all(alloc, facts.as_slice(), at)?;
+    let before = mem::replace(list, SourceFacts { facts, places });
+    store.take_all(alloc, before.facts.as_slice(), before.places.as_slice(), at);
+    Ok(())
+}
+
+fn no_facts(alloc: Global) -> SourceFacts
+    ensures { result.facts.items ≡ [] }
+{
+    SourceFacts {
+        facts: Vec::new(alloc),
+        places: Vec::new(alloc),
+    }
+}
+
+/// The same where nothing is kept of the source.
+fn begin(
     alloc: Global,
     store: &mut Store,
     lists: &mut Lists,
@@ -45,12 +90,10 @@ fn exchange(
     facts: Vec<Fact>,
     at: u64,
 ) -> Result<(), Memory>
+    requires new { get_by_text lists.old name.now ≡ None }
     requires up_to { IsStore store.old at }
-    requires given { (f : Fact) → times (facts_in lists.old name.now) f
-        ≤ count_at store.old f + times facts.items f }
     ensures store { OnOk result (Dated count_at has_at IsStore store.old store.new at
-        (λ f. count_at store.old f + times facts.items f
-        - times (facts_in lists.old name.now) f)) }
+        (λ f. count_at store.old f + times facts.items f)) }
     ensures lists { OnOk result ((other : List ℕ) → facts_in lists.new other
         ≡ (if bytes_eq name.now other then facts.items else facts_in lists.old other)) }
     ensures err_store { OnErr result (Dated count_at has_at IsStore store.old store.new at
@@ -58,14 +101,14 @@ fn exchange(
     ensures err_lists { OnErr result ((other : List ℕ)
         → facts_in lists.new other ≡ facts_in lists.old other) }
 {
-    make_place(alloc, lists, name)?;
-    store.give_all(alloc, facts.as_slice(), at)?;
-    let before = swap(lists, name, facts);
-    store.take_all(alloc, before.as_slice(), at);
-    Ok(())
+    lists.insert(String::from_str(alloc, name)?, no_facts(alloc))?;
+    match lists.get_mut(name) {
+        None => Ok(()),
+        Some(list) => exchange(alloc, store, list, facts, at),
+    }
 }
 
-/// The same. One that gave nothing, and gives nothing now, changes nothing.
+/// The same, by the source's name. One that gave nothing, and gives nothing now, changes nothing.
 fn replace(
     alloc: Global,
     store: &mut Store,
@@ -87,10 +130,13 @@ fn replace(
     ensures err_lists { OnErr result ((other : List ℕ)
         → facts_in lists.new other ≡ facts_in lists.old other) }
 {
-    if facts.is_empty() && !lists.contains_key(name) {
+    if let Some(list) = lists.get_mut(name) {
+        return exchange(alloc, store, list, facts, at);
+    }
+    if facts.is_empty() {
         return Ok(());
     }
-    exchange(alloc, store, lists, name, facts, at)
+    begin(alloc, store, lists, name, facts, at)
 }
 
 impl Ledger {

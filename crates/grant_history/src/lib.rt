@@ -12,7 +12,6 @@ mod history;
 mod holders;
 pub mod laws;
 mod ledger;
-mod lists;
 mod periods;
 mod places;
 mod reads;

@@ -28,6 +28,21 @@ pub struct Store {
     roles: Holders,
 }
 
+/// Notes a place behind the others where there is room for it. Allocates nothing.
+fn note_place(places: &mut Vec<usize>, place: usize) {
+    if places.len() < places.capacity() {
+        places.push_reserved(place);
+    }
+}
+
+/// The place that was noted of the fact of this number, if one was.
+fn place_at(places: &[usize], i: usize) -> usize {
+    match places.get(i) {
+        None => 0,
+        Some(place) => *place,
+    }
+}
+
 impl Store {
     /// Nothing. Allocates nothing.
     pub fn new(alloc: Global) -> Store
@@ -41,8 +56,9 @@ impl Store {
         }
     }
 
-    /// One source more gives a fact from a place on.
-    fn give(&mut self, alloc: Global, fact: &Fact, at: u64) -> Result<(), Memory>
+    /// One source more gives a fact from a place of the log on. Answers where it stands among what its
+    /// user or role has or had.
+    fn give(&mut self, alloc: Global, fact: &Fact, at: u64) -> Result<usize, Memory>
         requires { IsStore self.old at }
         ensures ok { OnOk result (Dated count_at has_at IsStore self.old self.new at
             (more_at (count_at self.old) fact.now)) }
@@ -59,8 +75,8 @@ impl Store {
         }
     }
 
-    /// One source that gave a fact does not from a place on.
-    fn take(&mut self, alloc: Global, fact: &Fact, at: u64)
+    /// One source that gave a fact does not from a place of the log on. It is looked for at `near` first.
+    fn take(&mut self, alloc: Global, fact: &Fact, near: usize, at: u64)
         requires given { 0 < count_at self.old fact.now }
         requires up_to { IsStore self.old at }
         ensures { Dated count_at has_at IsStore self.old self.new at
@@ -68,41 +84,47 @@ impl Store {
     {
         match &fact.of {
             Grantee::User(name) => {
-                holders::take(alloc, &mut self.users, name.as_str(), &fact.what, at);
+                holders::take(alloc, &mut self.users, name.as_str(), &fact.what, near, at);
             }
             Grantee::Role(name) => {
-                holders::take(alloc, &mut self.roles, name.as_str(), &fact.what, at);
+                holders::take(alloc, &mut self.roles, name.as_str(), &fact.what, near, at);
             }
         }
     }
 
-    /// A source that gave these facts does not from a place on.
-    pub fn take_all(&mut self, alloc: Global, facts: &[Fact], at: u64)
+    /// A source that gave these facts does not from a place on. Each is looked for first where it stood
+    /// when it was given.
+    pub fn take_all(&mut self, alloc: Global, facts: &[Fact], places: &[usize], at: u64)
         requires given { (f : Fact) → times facts.now f ≤ count_at self.old f }
         requires up_to { IsStore self.old at }
         ensures { Dated count_at has_at IsStore self.old self.new at
             (λ f. count_at self.old f - times facts.now f) }
     {
-        for fact in facts {
-            self.take(alloc, fact, at);
+        for (i, fact) in facts.iter().enumerate() {
+            self.take(alloc, fact, place_at(places, i), at);
         }
     }
 
-    /// One source more gives these facts from a place on. Out of memory none gives more than before.
-    pub fn give_all(&mut self, alloc: Global, facts: &[Fact], at: u64) -> Result<(), Memory>
+    /// One source more gives these facts from a place on. Answers where each stands, as `take_all`
+    /// takes it. Out of memory none gives more than before.
+    pub fn give_all(&mut self, alloc: Global, facts: &[Fact], at: u64) -> Result<Vec<usize>, Memory>
         requires { IsStore self.old at }
         ensures ok { OnOk result (Dated count_at has_at IsStore self.old self.new at
             (λ f. count_at self.old f + times facts.now f)) }
         ensures err { OnErr result (Dated count_at has_at IsStore self.old self.new at
             (count_at self.old)) }
     {
+        let mut places = Vec::with_capacity(alloc, facts.len())?;
         for (i, fact) in facts.iter().enumerate() {
-            if self.give(alloc, fact, at).is_err() {
-                self.take_all(alloc, &facts[..i], at);
-                return Err(AllocError);
+            match self.give(alloc, fact, at) {
+                Ok(place) => note_place(&mut places, place),
+                Err(_) => {
+                    self.take_all(alloc, &facts[..i], places.as_slice(), at);
+                    return Err(AllocError);
+                }
             }
         }
-        Ok(())
+        Ok(places)
     }
 
     /// Whether a user exists at a place. Allocates nothing.

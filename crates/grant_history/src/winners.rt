@@ -11,23 +11,13 @@ use sg_history::Entry;
 use sg_outside::Memory;
 use std::alloc::Global;
 
+/// The sequence of the write of a document's winner, 0 where there is no document.
 fn winning(document: Option<Document>) -> u64
     ensures { result ≡ winning_in document }
 {
     match document {
         None => 0,
         Some(document) => document.winning,
-    }
-}
-
-/// The sequence of the winner's write of the document that an entry writes, 0 where it writes none.
-fn winner_of(index: &LogIndex, entry: &Entry) -> u64
-    ensures { (es : List Entry) → Indexes index.now es
-        → result ≡ winning_by es (as_write entry.now) }
-{
-    match entry.as_write() {
-        None => 0,
-        Some(write) => winning(index.document(&write.doc)),
     }
 }
 
@@ -40,8 +30,8 @@ fn add_winner(index: &mut LogIndex, winners: &mut Vec<u64>, entry: &Entry) -> Re
         → winners.new.items
         ≡ winners.old.items ++ winning_by (entry.now ∷ es) (as_write entry.now) ∷ []) }
 {
-    index.push(entry)?;
-    winners.push(winner_of(index, entry))?;
+    let document = index.push(entry)?;
+    winners.push(winning(document))?;
     Ok(())
 }
 

@@ -22,11 +22,11 @@ returns-clause-ok c =
     let name = c.args.name.now in
     let list = c.give.new.self in
     let sets : (other : List ℕ) → get_by_text new other ≡ (if bytes_eq name other then Some list else get_by_text old other) = λ other. grind (arith, text_keys) in
-    let d = subst (λ (l : List Held). Dated count_in held_in AreUpTo l list.items c.args.at (one_more (count_in l) c.args.what.now)) c.new-holding.ensures.items c.in_ok-give.ensures.ok in
+    let d = subst (λ (l : List Held). Dated count_in held_in AreUpTo l list.items c.args.at (one_more (count_in l) c.args.what.now)) c.new-holding.ensures.items c.in_ok-place.ensures.ok in
     recounted_of old new c.args.at _ _ (holder_dated old new name list sets None c.args.at (one_more (count_in []) c.args.what.now) c.requires c.give.ensures.since d) (more_counts_of old name None c.requires c.args.what.now)
 
-pub returns-in_err-give-clause-err : goal.returns-in_err-give-clause-err
-returns-in_err-give-clause-err c = any_err c.from_residual.result _ (unchanged c.args.holders.now c.args.holders.now c.args.at (λ other. refl))
+pub returns-in_err-place-clause-err : goal.returns-in_err-place-clause-err
+returns-in_err-place-clause-err c = any_err c.from_residual.result _ (unchanged c.args.holders.now c.args.holders.now c.args.at (λ other. refl))
 
 pub returns-in_err-from_str-clause-err : goal.returns-in_err-from_str-clause-err
 returns-in_err-from_str-clause-err c = any_err c.from_residual-in_err-from_str.result _ (unchanged c.args.holders.now c.args.holders.now c.args.at (λ other. refl))

@@ -1,10 +1,36 @@
-use Rattle.std.proofs.Common.{rules, ◌≡◌, length, None}
+use Rattle.std.proofs.Common.{rules, ◌≡◌, ◌∙◌, sym, ap, arith, List, length, Option, Some, None, if◌then◌else◌}
 use Rattle.std.specs.BTreeMap.{get_by_text}
+use Rattle.std.specs.Str.{bytes_eq}
+use Rattle.std.proofs.lemmas.Map.Text.{text_keys}
+use Rattle.grant_history.specs.declared.facts.Fact.{Fact}
+use Rattle.grant_history.specs.declared.ledger.SourceFacts.{SourceFacts}
+use Rattle.grant_history.specs.Ledger.{facts_of_list, facts_in}
+use Rattle.grant_history.proofs.Keeping.{swapped, as_it_was}
 use Rattle.grant_history.proofs.Steps.{still_none}
+use Rattle.grant_history.proofs.Tracked.{on_ok, on_err}
 use Rattle.grant_history.proofs.ledger.replace.Goals as goal
 
-pub returns-then-not-contains_key-clause-lists : goal.returns-then-not-contains_key-clause-lists
-returns-then-not-contains_key-clause-lists c other =
+pub returns-in-Some-clause-lists : goal.returns-in-Some-clause-lists
+returns-in-Some-clause-lists c =
+    on_ok c.exchange.result _ _ (λ is other.
+    let sets : get_by_text (c.get_mut.follows.lender c.exchange.new.list) other ≡ (if bytes_eq c.args.name.now other then Some c.exchange.new.list else get_by_text c.args.lists.now other) = grind (arith, text_keys) in
+    ap facts_of_list sets
+    ∙ swapped (bytes_eq c.args.name.now other) c.exchange.new.list (get_by_text c.args.lists.now other)
+    ∙ ap (λ (l : List Fact). if bytes_eq c.args.name.now other then l else facts_in c.args.lists.now other) is) c.exchange.ensures.list
+
+pub returns-in-Some-clause-err_lists : goal.returns-in-Some-clause-err_lists
+returns-in-Some-clause-err_lists c =
+    let there : get_by_text c.args.lists.now c.args.name.now ≡ Some c.in-Some.list.now = grind (arith, text_keys) in
+    on_err c.exchange.result _ _ (λ same other.
+    let sets : get_by_text (c.get_mut.follows.lender c.exchange.new.list) other ≡ (if bytes_eq c.args.name.now other then Some c.exchange.new.list else get_by_text c.args.lists.now other) = grind (arith, text_keys) in
+    ap facts_of_list sets
+    ∙ swapped (bytes_eq c.args.name.now other) c.exchange.new.list (get_by_text c.args.lists.now other)
+    ∙ as_it_was c.args.lists.now c.args.name.now other c.exchange.new.list.facts.items (same ∙ sym (ap facts_of_list there))) c.exchange.ensures.err_list
+
+pub returns-then-is_empty-clause-lists : goal.returns-then-is_empty-clause-lists
+returns-then-is_empty-clause-lists c other =
     let none : length c.args.facts.items ≡ 0 = search rules in
-    let absent : get_by_text c.args.lists.now c.args.name.now ≡ None = search rules in
-    still_none c.args.lists.now c.args.name.now other c.args.facts.items none absent
+    let absent : get_by_text c.get_mut.follows.lender-at-none c.args.name.now ≡ None = grind (arith, text_keys) in
+    let same : get_by_text c.get_mut.follows.lender-at-none other ≡ get_by_text c.args.lists.now other = grind (arith, text_keys) in
+    still_none c.get_mut.follows.lender-at-none c.args.name.now other c.args.facts.items none absent
+    ∙ ap (λ (o : Option SourceFacts). if bytes_eq c.args.name.now other then c.args.facts.items else facts_of_list o) same

@@ -4,7 +4,7 @@ use Rattle.grant_history.specs.Dated.{Dated}
 use Rattle.grant_history.specs.Things.{Things}
 use Rattle.grant_history.specs.HeldLists.{place_of, count_in, held_in, AreUpTo}
 use Rattle.grant_history.specs.Holdings.{one_more}
-use Rattle.grant_history.proofs.Tracked.{still_list, on_ok, on_err}
+use Rattle.grant_history.proofs.Tracked.{still_list, on_ok, on_err, any_err}
 use Rattle.grant_history.proofs.held.Holding.give.Goals as goal
 
 pub add-requires-clause-place : goal.add-requires-clause-place
@@ -16,13 +16,13 @@ give_at-requires-clause-place c = ap (λ (t : Things). place_of t.items c.args.w
 pub give_at-requires-clause-up_to : goal.give_at-requires-clause-up_to
 give_at-requires-clause-up_to c = subst (λ (l : List Held). AreUpTo l c.args.at) (sym c.make_block.ensures.items) c.requires.up_to
 
-pub returns-in-Some-clause-ok : goal.returns-in-Some-clause-ok
-returns-in-Some-clause-ok c = on_ok c.give_at.result _ _ (λ d.
-    subst (λ (l : List Held). Dated count_in held_in AreUpTo l c.give_at.new.self.items c.args.at (one_more (count_in l) c.args.what.now)) c.make_block.ensures.items d) c.give_at.ensures.ok
+pub returns-in_ok-give_at-in-Some-clause-ok : goal.returns-in_ok-give_at-in-Some-clause-ok
+returns-in_ok-give_at-in-Some-clause-ok c =
+    subst (λ (l : List Held). Dated count_in held_in AreUpTo l c.give_at.new.self.items c.args.at (one_more (count_in l) c.args.what.now)) c.make_block.ensures.items c.in_ok-give_at-in-Some.ensures.ok
 
-pub returns-in-Some-clause-err : goal.returns-in-Some-clause-err
-returns-in-Some-clause-err c = on_err c.give_at.result _ _ (λ d.
-    subst (λ (l : List Held). Dated count_in held_in AreUpTo l c.give_at.new.self.items c.args.at (count_in l)) c.make_block.ensures.items d) c.give_at.ensures.err
+pub returns-in_err-give_at-in-Some-clause-err : goal.returns-in_err-give_at-in-Some-clause-err
+returns-in_err-give_at-in-Some-clause-err c = any_err c.from_residual.result _
+    (subst (λ (l : List Held). Dated count_in held_in AreUpTo l c.give_at.new.self.items c.args.at (count_in l)) c.make_block.ensures.items c.in_err-give_at-in-Some.ensures.err)
 
 pub returns-in-None-clause-ok : goal.returns-in-None-clause-ok
 returns-in-None-clause-ok c = on_ok c.add.result _ _ (λ d.

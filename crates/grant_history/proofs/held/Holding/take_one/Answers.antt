@@ -3,7 +3,7 @@ use Rattle.std.specs.Prelude.{slice_set}
 use Rattle.grant_history.specs.declared.held.Held.{Held}
 use Rattle.grant_history.specs.Dated.{Dated}
 use Rattle.grant_history.specs.Things.{Things}
-use Rattle.grant_history.specs.HeldLists.{count_in, held_in, AreUpTo}
+use Rattle.grant_history.specs.HeldLists.{place_of, count_in, held_in, AreUpTo}
 use Rattle.grant_history.specs.Holdings.{one_less}
 use Rattle.grant_history.proofs.Once.{length_set, once_set, place_within, places_set, what_here}
 use Rattle.grant_history.proofs.Tracked.{took, count_here, up_here, nowhere_count, got_old}
@@ -15,7 +15,7 @@ pub invariant_of-self : goal.invariant_of-self
 invariant_of-self c =
     let list = c.self.inside.list.items in
     let new : Held = record { what = c.index_mut.result.now.what; track = c.take.new.self } in
-    let place = sym (c.self.invariant.0 c.args.what.now) ∙ sym c.find.ensures ∙ c.in-Some.is in
+    let place = ap (λ (t : Things). place_of t.items c.args.what.now) c.self.view_is ∙ sym c.place_near.ensures ∙ c.in-Some.is in
     let is = what_here list c.args.what.now c.in-Some.i c.index_mut.result.now place c.index_mut.ensures.value in
     let pos : 0 < c.index_mut.result.now.track.count = omega (arith, c.requires.given, ap (λ (t : Things). count_in t.items c.args.what.now) c.self.view_is, count_here list c.args.what.now c.in-Some.i c.index_mut.result.now place c.index_mut.ensures.value) in (
       places_set c.self.inside.places list c.args.what.now c.in-Some.i new place is c.self.invariant.0,
@@ -29,28 +29,28 @@ invariant_of-self c =
 
 pub index_mut-requires : goal.index_mut-requires
 index_mut-requires c =
-    let place = sym (c.self.invariant.0 c.args.what.now) ∙ sym c.find.ensures ∙ c.in-Some.is in
+    let place = ap (λ (t : Things). place_of t.items c.args.what.now) c.self.view_is ∙ sym c.place_near.ensures ∙ c.in-Some.is in
     let within = place_within c.self.inside.list.items c.args.what.now c.in-Some.i place in
     omega (arith, within, c.self.invariant.2)
 
 pub take-requires-clause-given : goal.take-requires-clause-given
 take-requires-clause-given c =
-    let place = sym (c.self.invariant.0 c.args.what.now) ∙ sym c.find.ensures ∙ c.in-Some.is in
+    let place = ap (λ (t : Things). place_of t.items c.args.what.now) c.self.view_is ∙ sym c.place_near.ensures ∙ c.in-Some.is in
     omega (arith, c.requires.given, ap (λ (t : Things). count_in t.items c.args.what.now) c.self.view_is, count_here c.self.inside.list.items c.args.what.now c.in-Some.i c.index_mut.result.now place c.index_mut.ensures.value)
 
 pub take-requires-clause-room : goal.take-requires-clause-room
 take-requires-clause-room c =
-    let place = sym (c.self.invariant.0 c.args.what.now) ∙ sym c.find.ensures ∙ c.in-Some.is in
+    let place = ap (λ (t : Things). place_of t.items c.args.what.now) c.self.view_is ∙ sym c.place_near.ensures ∙ c.in-Some.is in
     up_here c.self.inside.list.items c.args.what.now c.in-Some.i c.index_mut.result.now place c.index_mut.ensures.value c.args.at (subst (λ (t : Things). AreUpTo t.items c.args.at) (sym c.self.view_is) c.requires.up_to)
 
 pub returns-in-Some-clause-dated : goal.returns-in-Some-clause-dated
 returns-in-Some-clause-dated c =
     let list = c.self.inside.list.items in
-    let place = sym (c.self.invariant.0 c.args.what.now) ∙ sym c.find.ensures ∙ c.in-Some.is in
+    let place = ap (λ (t : Things). place_of t.items c.args.what.now) c.self.view_is ∙ sym c.place_near.ensures ∙ c.in-Some.is in
     subst (λ (t : Things). Dated count_in held_in AreUpTo t.items (slice_set list c.in-Some.i (record { what = c.index_mut.result.now.what; track = c.take.new.self })) c.args.at (one_less (count_in t.items) c.args.what.now)) c.self.view_is
     (took list c.args.what.now c.in-Some.i c.index_mut.result.now place c.index_mut.ensures.value c.take.new.self c.args.at c.take.ensures)
 
 pub returns-in_default-clause-dated : goal.returns-in_default-clause-dated
 returns-in_default-clause-dated c =
-    let place = sym (c.self.invariant.0 c.args.what.now) ∙ sym c.find.ensures ∙ c.in_default.is in
+    let place = ap (λ (t : Things). place_of t.items c.args.what.now) c.self.view_is ∙ sym c.place_near.ensures ∙ c.in_default.is in
     absurd (omega (arith, c.requires.given, ap (λ (t : Things). count_in t.items c.args.what.now) c.self.view_is, nowhere_count c.self.inside.list.items c.args.what.now place))

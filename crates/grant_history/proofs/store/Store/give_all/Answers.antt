@@ -3,8 +3,8 @@ use Rattle.std.proofs.lemmas.List.{take_more}
 use Rattle.grant_history.specs.declared.facts.Fact.{Fact}
 use Rattle.grant_history.specs.Facts.{times, same_fact}
 use Rattle.grant_history.specs.Holdings.{count_at}
-use Rattle.grant_history.proofs.Holding.{chained, recounted_at, more_step}
-use Rattle.grant_history.proofs.Tracked.{at_ok, at_err}
+use Rattle.grant_history.proofs.Holding.{chained, recounted_at, more_step, same_store}
+use Rattle.grant_history.proofs.Tracked.{any_err}
 use Rattle.grant_history.proofs.Steps.{times_append}
 use Rattle.grant_history.proofs.store.Store.give_all.Goals as goal
 
@@ -12,7 +12,7 @@ pub loop-i-preserved : goal.loop-i-preserved
 loop-i-preserved c =
     let i = c.loop-i.i in
     let x = c.index-facts-i.result in
-    let given = at_ok c.give.result _ (sym c.is_err.ensures.value ∙ c.if-is_err.false) c.give.ensures.ok in
+    let given = c.in-Ok.ensures.ok in
     recounted_at c.args.self.now c.give.new.self c.args.at _ _ (chained c.args.self.now c.loop-i.self c.give.new.self c.args.at _ _ c.loop-i.invariant given)
     (λ f. ap (λ (n : ℕ). if same_fact x f then n + 1 else n) (c.loop-i.invariant.counts f)
     ∙ more_step (same_fact x f) (count_at c.args.self.now f) (times (take i c.args.facts.now) f)
@@ -24,15 +24,18 @@ give-requires c = c.loop-i.invariant.up_to c.args.at (omega arith) c.requires
 
 pub take_all-requires : goal.take_all-requires
 take_all-requires c =
-    let kept = at_err c.give.result _ (sym c.is_err.ensures.value ∙ c.if-is_err.true) c.give.ensures.err in
+    let kept = c.in-Err.ensures.err in
     record {
       given = λ f. omega (arith, kept.counts f, c.loop-i.invariant.counts f);
       up_to = kept.up_to c.args.at (omega arith) (c.loop-i.invariant.up_to c.args.at (omega arith) c.requires);
     }
 
-pub returns-then-is_err-clause-err : goal.returns-then-is_err-clause-err
-returns-then-is_err-clause-err c =
-    let kept = at_err c.give.result _ (sym c.is_err.ensures.value ∙ c.if-is_err.true) c.give.ensures.err in
+pub returns-in-Err-clause-err : goal.returns-in-Err-clause-err
+returns-in-Err-clause-err c =
+    let kept = c.in-Err.ensures.err in
     recounted_at c.args.self.now c.take_all.new.self c.args.at _ _
     (chained c.args.self.now c.give.new.self c.take_all.new.self c.args.at _ _ (chained c.args.self.now c.loop-i.self c.give.new.self c.args.at _ _ c.loop-i.invariant kept) c.take_all.ensures)
     (λ f. omega (arith, kept.counts f, c.loop-i.invariant.counts f))
+
+pub returns-in_err-places-clause-err : goal.returns-in_err-places-clause-err
+returns-in_err-places-clause-err c = any_err c.from_residual.result _ (same_store c.args.self.now c.args.at)

@@ -9,27 +9,27 @@ use Rattle.grant_history.proofs.store.Store.take_all.Goals as goal
 
 pub take-requires : goal.take-requires
 take-requires c =
-    let i = c.loop-fact.fact-index in
-    let x = c.fact-item.result in
+    let i = c.loop-i.i in
+    let x = c.index-facts-i.result in
     let split : times (drop i c.args.facts.now) x ≡ (if same_fact x x then 1 else 0) + times (drop (i + 1) c.args.facts.now) x =
     ap (λ (l : List Fact). times l x) (drop_more c.args.facts.now i x (omega arith))
-    ∙ ap (λ (y : Fact). (if same_fact y x then 1 else 0) + times (drop (i + 1) c.args.facts.now) x) (sym c.fact-item.is) in
+    ∙ ap (λ (y : Fact). (if same_fact y x then 1 else 0) + times (drop (i + 1) c.args.facts.now) x) (sym c.index-facts-i.is) in
     let one : ◌≡◌ {A = ℕ} (if same_fact x x then 1 else 0) 1 = ap (λ (b : Bool). if b then 1 else 0) (fact_itself x) in
     record {
-      given = omega (arith, split, one, c.loop-fact.invariant.counts x, c.requires.given x);
-      up_to = c.loop-fact.invariant.dated.up_to c.args.at (omega arith) c.requires.up_to;
+      given = omega (arith, split, one, c.loop-i.invariant.counts x, c.requires.given x);
+      up_to = c.loop-i.invariant.dated.up_to c.args.at (omega arith) c.requires.up_to;
     }
 
-pub loop-fact-preserved : goal.loop-fact-preserved
-loop-fact-preserved c =
-    let i = c.loop-fact.fact-index in
-    let x = c.fact-item.result in
+pub loop-i-preserved : goal.loop-i-preserved
+loop-i-preserved c =
+    let i = c.loop-i.i in
+    let x = c.index-facts-i.result in
     let split : (f : Fact) → times (drop i c.args.facts.now) f ≡ (if same_fact x f then 1 else 0) + times (drop (i + 1) c.args.facts.now) f = λ f.
     ap (λ (l : List Fact). times l f) (drop_more c.args.facts.now i x (omega arith))
-    ∙ ap (λ (y : Fact). (if same_fact y f then 1 else 0) + times (drop (i + 1) c.args.facts.now) f) (sym c.fact-item.is) in
-    let d = chained c.args.self.now c.loop-fact.self c.take.new.self c.args.at _ _ c.loop-fact.invariant.dated c.take.ensures in
+    ∙ ap (λ (y : Fact). (if same_fact y f then 1 else 0) + times (drop (i + 1) c.args.facts.now) f) (sym c.index-facts-i.is) in
+    let d = chained c.args.self.now c.loop-i.self c.take.new.self c.args.at _ _ c.loop-i.invariant.dated c.take.ensures in
     record {
       counts = λ f. ap (λ (n : ℕ). n + times c.args.facts.now f) (c.take.ensures.counts f)
-          ∙ less_step (same_fact x f) (count_at c.loop-fact.self f) (times c.args.facts.now f) (count_at c.args.self.now f) (times (drop (i + 1) c.args.facts.now) f) (times (drop i c.args.facts.now) f) (c.loop-fact.invariant.counts f) (split f) (c.requires.given f);
+          ∙ less_step (same_fact x f) (count_at c.loop-i.self f) (times c.args.facts.now f) (count_at c.args.self.now f) (times (drop (i + 1) c.args.facts.now) f) (times (drop i c.args.facts.now) f) (c.loop-i.invariant.counts f) (split f) (c.requires.given f);
       dated = record { counts = λ f. refl; before = d.before; up_to = d.up_to };
     }
