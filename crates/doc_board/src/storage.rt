@@ -176,7 +176,10 @@ impl Storage {
     pub(crate) fn release(&mut self)
         requires { StandsWith self.old 0 }
         ensures board { IsOfBoard self.new }
-        ensures released { record { log = entries_of self.new.log; pending = self.new.pending.waiting }
+        ensures released { record {
+          log = entries_of self.new.log;
+          pending = self.new.pending.waiting;
+        }
             ≡ released (entries_of self.old.log) self.old.pending.waiting }
         ensures rooms { self.new.rooms ≡ self.old.rooms }
         ensures book { book_in self.new ≡ book_in self.old }

@@ -83,8 +83,8 @@ fn lasting_of(periods: &[Period], channels: &[ChannelName], k: u64) -> Lasting
 /// Whether a document with this winner is shown at a place.
 pub fn lasting_shown(viewer: &Viewer<'_>, winner: &Write, k: u64) -> Lasting
     requires { AreToSearch viewer.now.periods.now }
-    ensures { Lasts (λ j. shown.is_shown viewer.now.periods.now viewer.now.filter.now winner.now j) k
-        result }
+    ensures { Lasts (λ j. shown.is_shown viewer.now.periods.now viewer.now.filter.now winner.now j)
+        k result }
 {
     let channels = winner.channels.as_slice();
     if !passes(viewer.filter, channels) {
@@ -103,7 +103,8 @@ pub fn lasting_shown(viewer: &Viewer<'_>, winner: &Write, k: u64) -> Lasting
 /// The last place after one, up to another, at which it changed whether a document with this winner is shown.
 pub fn last_switch(viewer: &Viewer<'_>, winner: &Write, from: u64, to: u64) -> Option<Switch>
     requires { AreToSearch viewer.now.periods.now }
-    ensures { IsLastSwitch (λ j. shown.is_shown viewer.now.periods.now viewer.now.filter.now winner.now j)
+    ensures { IsLastSwitch
+        (λ j. shown.is_shown viewer.now.periods.now viewer.now.filter.now winner.now j)
         from to result }
 {
     let now = lasting_shown(viewer, winner, to);
