@@ -1,6 +1,6 @@
 -- a room that is outstanding alone
-use Rattle.std.proofs.Common.{◌≡◌, ℕ, Bool, true, false, not, List, [], ◌∷◌, Option, Some, None, refl, sym, ap, ◌∙◌, if◌then◌else◌, nat_eq}
-use Rattle.std.proofs.lemmas.Bool.{and_from, or_left, eq-eqb, false≢true}
+use Rattle.std.proofs.Common.{◌≡◌, ℕ, Bool, true, false, not, List, [], ◌∷◌, Option, Some, None, refl, ap, if◌then◌else◌, nat_eq}
+use Rattle.std.proofs.lemmas.Bool.{and_from, or_left, eq-eqb}
 use Rattle.std.proofs.lemmas.Slice.Eq.{bytes_eq-Decides}
 use Rattle.sg_history.specs.declared.room.RoomFor.{RoomFor}
 use Rattle.doc_board.specs.Rooms.{same_doc, same_room, is_outstanding, without}
@@ -19,8 +19,5 @@ pub alone_gone : (room : RoomFor) → without room (room ∷ []) ≡ []
 alone_gone room = ap (λ (b : Bool). if b then [] else room ∷ []) (room_itself room)
 
 -- a candidate that is based on the last write is not stale
-pub not_stale : (base last : ℕ) → base ≡ last → not (nat_eq base last) ≡ true → ⊥
-not_stale base last e h = false≢true (sym (ap not (eq-eqb base last e)) ∙ h)
-
 pub fresh_on : (base last : ℕ) → base ≡ last → not (nat_eq base last) ≡ false
 fresh_on base last e = ap not (eq-eqb base last e)
