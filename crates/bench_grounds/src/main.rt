@@ -1,5 +1,5 @@
-//! Makes a board of so many documents and users, and proposes revisions to it, or pulls all documents with their bodies, or all that
-//! left, so that what it takes can be measured from outside.
+//! Opens the board of a journal, and proposes revisions to it, or pulls all documents with their bodies, or all that left, so that
+//! what it takes can be measured from outside.
 #![tactic(auto)]
 
 ghost use Rattle.std.specs.Prelude.{reverse, IfOk};
@@ -11,9 +11,9 @@ use doc_board::{Board, OpenFault, Outcome};
 use repl_messages::{Body, Fed, Revision};
 use sg_history::{
     Digest, DocId, Key, Log, Name, Options, ReadLog, RevId, Revs, Row, Rows, TextFault,
-    read_journal, write_decimal,
+    take_journal,
 };
-use sg_outside::Bytes;
+use sg_outside::{Bytes, Files, Loaded, RealFiles};
 use std::alloc::{AllocError, Global};
 use std::{env, io};
 use sync_resolve::{Resolved, resolve};
@@ -41,6 +41,7 @@ const OPTIONS: Options = Options {
 /// Why a run does not go on.
 #[derive(Debug, Drop)]
 enum Stop {
+    File,
     Memory,
     Text,
     Journal,
@@ -72,80 +73,23 @@ impl From<OpenFault> for Stop {
     }
 }
 
-/// The write of a document of channel A, judged before the first entry.
-fn write_line(journal: &mut Bytes, number: u64) -> Result<(), Stop> {
-    journal.extend_from_slice(b"W\td")?;
-    write_decimal(number, journal)?;
-    journal.extend_from_slice(b"\t1-a\t-\t0\t7b7d\t-\t0\t1-a\tA\t-\t-\n")?;
-    Ok(())
-}
-
-/// The write that moves a document from channel A to B.
-fn leave_line(journal: &mut Bytes, number: u64) -> Result<(), Stop> {
-    journal.extend_from_slice(b"W\td")?;
-    write_decimal(number, journal)?;
-    journal.extend_from_slice(b"\t2-b\t1-a\t0\t7b7d\t-\t0\t2-b\tB\t-\t-\n")?;
-    Ok(())
-}
-
-/// The put of a user who has channel A.
-fn user_line(journal: &mut Bytes, number: u64) -> Result<(), Stop> {
-    journal.extend_from_slice(b"U\tu")?;
-    write_decimal(number, journal)?;
-    journal.extend_from_slice(b"\tA\t-\n")?;
-    Ok(())
-}
-
-fn user_lines(journal: &mut Bytes, users: u64) -> Result<(), Stop> {
-    for number in 0..users {
-        user_line(journal, number)?;
+fn load<F: Files>(alloc: Global, files: &mut F, path: &str) -> Result<Bytes, Stop> {
+    let mut bytes = Bytes::new(alloc);
+    match files.load(path, &mut bytes) {
+        Loaded::Whole => Ok(bytes),
+        _ => Err(Stop::File),
     }
-    Ok(())
 }
 
-/// How many documents a board has, how many of them left channel A, and how many users it has besides
-/// the one who proposes.
-#[derive(Clone, Copy)]
-struct Size {
-    documents: u64,
-    left: u64,
-    users: u64,
-}
-
-fn write_lines(journal: &mut Bytes, documents: u64) -> Result<(), Stop> {
-    for number in 0..documents {
-        write_line(journal, number)?;
-    }
-    Ok(())
-}
-
-fn leave_lines(journal: &mut Bytes, documents: u64) -> Result<(), Stop> {
-    for number in 0..documents {
-        leave_line(journal, number)?;
-    }
-    Ok(())
-}
-
-/// A journal: a put of a user who has channel A, so many others, so many documents, and the writes by
-/// which some leave.
-fn journal_of(alloc: Global, size: Size) -> Result<Bytes, Stop> {
-    let mut journal = Bytes::from_slice(alloc, b"sgjournal 1\nU\tann\tA\t-\n")?;
-    user_lines(&mut journal, size.users)?;
-    write_lines(&mut journal, size.documents)?;
-    leave_lines(&mut journal, size.left)?;
-    Ok(journal)
-}
-
-fn log_of(alloc: Global, size: Size) -> Result<Log, Stop>
+fn log_of(alloc: Global, journal: Bytes) -> Result<Log, Stop>
     ensures { IfOk result (λ log. AreLawful (reverse (entries_of log))) }
 {
     recorded();
-    let journal = journal_of(alloc, size)?;
-    Ok(read_journal(alloc, journal.as_slice())?)
+    Ok(take_journal(alloc, journal)?)
 }
 
-fn ground_of(alloc: Global, size: Size) -> Result<SoloGround, Stop> {
-    let board = Board::open(alloc, log_of(alloc, size)?)?;
+fn ground_of(alloc: Global, journal: Bytes) -> Result<SoloGround, Stop> {
+    let board = Board::open(alloc, log_of(alloc, journal)?)?;
     Ok(SoloGround::new(Shelf::new(board)?))
 }
 
@@ -281,39 +225,33 @@ fn done(alloc: Global, ground: &mut SoloGround, name: &str, number: u64) -> Resu
     }
 }
 
-fn job(alloc: Global, name: &str, size: Size, number: u64) -> Result<u64, Stop> {
-    let mut ground = ground_of(alloc, size)?;
-    done(alloc, &mut ground, name, number)
+/// What is to be done with the ground of which journal, and how often.
+#[derive(Drop)]
+struct Asked {
+    job: String,
+    path: String,
+    number: u64,
 }
 
-/// How many documents leave: all of them, where they are pulled as lost.
-fn left_of(name: &str, documents: u64) -> u64 {
-    match name {
-        "lose" => documents,
-        _ => 0,
-    }
-}
-
-fn number_of(word: Option<String>) -> u64 {
-    word.map_or(0, |word| word.parse::<u64>().unwrap_or(0))
+fn run<F: Files>(alloc: Global, files: &mut F, asked: &Asked) -> Result<u64, Stop> {
+    let journal = load(alloc, files, asked.path.as_str())?;
+    let mut ground = ground_of(alloc, journal)?;
+    done(alloc, &mut ground, asked.job.as_str(), asked.number)
 }
 
 fn main(rt: HostRuntime) -> io::Result<()> {
     let mut words = env::args(&rt)?;
     let _program = words.next();
-    let Some(name) = words.next() else {
+    let (Some(job), Some(path)) = (words.next(), words.next()) else {
         return Ok(());
     };
-    let documents = number_of(words.next());
-    let number = number_of(words.next());
-    let users = number_of(words.next());
-    let size = Size {
-        documents,
-        left: left_of(name.as_str(), documents),
-        users,
-    };
-    match job(rt.alloc(), name.as_str(), size, number) {
-        Ok(count) => println!(rt; "{count} of {documents}, {number}"),
+    let number = words
+        .next()
+        .map_or(0, |word| word.parse::<u64>().unwrap_or(0));
+    let asked = Asked { job, path, number };
+    let mut files = RealFiles::new(&rt);
+    match run(rt.alloc(), &mut files, &asked) {
+        Ok(count) => println!(rt; "{count}"),
         Err(stop) => println!(rt; "{stop:?}"),
     }
 }

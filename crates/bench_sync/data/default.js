@@ -1,0 +1,1 @@
+function(doc, oldDoc) { channel(doc.channels); }
