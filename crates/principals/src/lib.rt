@@ -5,7 +5,6 @@
 mod admin_line;
 mod command;
 mod doc_line;
-mod fields;
 mod kind;
 pub mod laws;
 mod line;

@@ -10,11 +10,13 @@ ghost use Rattle.principals.specs.Kinds.{kind_text};
 use crate::admin_line::AdminLine;
 use crate::command::Command;
 use crate::doc_line::read_doc;
-use crate::fields;
 use crate::kind::{Kind, kind_of};
 use sg_history::fault::LineFault;
-use sg_history::{Why, cut, field};
+use sg_history::{Why, cut, field, fields_of};
 use std::alloc::Global;
+
+/// The most fields that a line of a script has.
+const MOST: usize = 5;
 
 /// Reads the fields after the kind `user`.
 fn read_put_user(alloc: Global, fields: &[&[u8]]) -> Result<AdminLine, LineFault>
@@ -132,9 +134,9 @@ pub fn read_line(alloc: Global, line: &[u8]) -> Result<AdminLine, LineFault>
     ensures ok { IfOk result (λ read. IsLine read × (line.now ≡ line_of read)) }
     ensures reason { IfErr result (HasReason (IsFault (pieces 9 line.now))) }
 {
-    let mut into: [&[u8]; fields::MOST] = [&[]; fields::MOST];
-    match fields::fields_of(line, &mut into) {
-        Some(count) => read_fields(alloc, &into[..count]),
+    let mut fields: [&[u8]; MOST] = [&[]; MOST];
+    match fields_of(line, &mut fields) {
+        Some(count) => read_fields(alloc, &fields[..count]),
         None => Err(LineFault::Bad(fault_of_many(line))),
     }
 }

@@ -29,7 +29,7 @@ pub use journal::{read_journal, take_journal};
 pub use journal_text::write_journal;
 pub use log_reads::LogReads;
 pub use number::Number;
-pub use pieces::cut;
+pub use pieces::{cut, fields_of};
 pub use puts::{Given, Principal, Put};
 pub use room::RoomFor;
 pub use row::{Options, Row, Rows};

@@ -8,9 +8,12 @@ ghost use Rattle.sg_history.specs.Pieces.{pieces};
 use crate::entries::Entry;
 use crate::fault::{LineFault, Why};
 use crate::field;
-use crate::pieces::{MOST, cut, fields_of};
+use crate::pieces::{cut, fields_of};
 use crate::write_line::{WriteTexts, read_write};
 use std::alloc::Global;
+
+/// The most fields that a line of a journal has.
+const MOST: usize = 12;
 
 /// A line that was read as an entry, and whether a write's front is a number of the type.
 #[derive(Drop)]

@@ -6,9 +6,6 @@ ghost use Rattle.sg_history.specs.Pieces.{pieces};
 
 use memchr::memchr;
 
-/// The most fields that a line of a journal has.
-pub(crate) const MOST: usize = 12;
-
 /// What stands before and after the first such byte.
 pub fn cut(text: &[u8], at: u8) -> Option<(&[u8], &[u8])>
     ensures some { IfSome result (λ p. (text.now ≡ p.0.now ++ at ∷ p.1.now)
@@ -22,14 +19,14 @@ pub fn cut(text: &[u8], at: u8) -> Option<(&[u8], &[u8])>
 }
 
 /// Puts the fields of a line at the front of `into`, and says how many they are; none where they are more than fit.
-pub(crate) fn fields_of<'a>(line: &'a [u8], into: &mut [&'a [u8]; MOST]) -> Option<usize>
-    ensures within { IfSome result (λ n. n ≤ 12) }
-    ensures room { length into.new ≡ 12 }
+pub fn fields_of<'a>(line: &'a [u8], into: &mut [&'a [u8]]) -> Option<usize>
+    ensures within { IfSome result (λ n. n ≤ length into.old) }
+    ensures room { length into.new ≡ length into.old }
     ensures all { IfSome result (λ n. map (λ p. p.now) (take n into.new) ≡ pieces 9 line.now) }
-    ensures more { IfNone result (12 < length (pieces 9 line.now)) }
+    ensures more { IfNone result (length into.old < length (pieces 9 line.now)) }
 {
     let mut rest = line;
-    for i in 0..MOST {
+    for i in 0..into.len() {
         match cut(rest, b'\t') {
             Some((front, back)) => {
                 into[i] = front;

@@ -24,8 +24,9 @@ loop-i-preserved c =
 
 pub returns-clause-more : goal.returns-clause-more
 returns-clause-more c =
+    let most = length c.args.into.now in
     let some = pieces-some 9 c.loop-i.rest.now in
-    let long : length (take 12 c.loop-i.into) ≡ 12 = length-take-le 12 c.loop-i.into (omega arith) in
+    let long : length (take most c.loop-i.into) ≡ most = length-take-le most c.loop-i.into (omega arith) in
     let all = simp (length-append, length-map) at (ap length c.loop-i.invariant.all) in
-    let i : c.loop-i.i ≡ 12 = omega arith in
+    let i : c.loop-i.i ≡ most = omega arith in
     omega (arith, all, some, ap (λ n. length (take n c.loop-i.into)) i, long)

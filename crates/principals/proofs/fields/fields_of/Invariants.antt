@@ -1,9 +1,0 @@
-use Rattle.std.proofs.Common.{◌≡◌, ◌++◌, map, take, length}
-use Rattle.sg_history.specs.Pieces.{pieces}
-use Rattle.principals.proofs.fields.fields_of.Given as goal
-
-abbrev pub invariant-loop-i : goal.invariant-loop-i
-invariant-loop-i l = record {
-  long : length l.into ≡ 5;
-  all : map (λ p. p.now) (take l.i l.into) ++ pieces 9 l.rest ≡ pieces 9 l.line;
-}
