@@ -40,17 +40,25 @@ pub(crate) fn read<G: Ground>(
     match want {
         Want::Feed { since, options } => {
             write_path::laws::was_read();
-            Ok(Event::Fed(ground.feed(alloc, core.user(), &since, &options)?))
+            let fed = ground.feed(alloc, core.user(), &since, &options);
+            drop(options);
+            Ok(Event::Fed(fed?))
         }
         Want::Bodies {
             options,
             rows,
             most,
         } => {
-            let bodies = ground.bodies(alloc, core.user(), &options, rows.as_slice(), most)?;
-            Ok(Event::Bodies(bodies))
+            let bodies = ground.bodies(alloc, core.user(), &options, rows.as_slice(), most);
+            drop(options);
+            drop(rows);
+            Ok(Event::Bodies(bodies?))
         }
-        Want::Ask { offers } => Ok(Event::Asked(ground.ask(alloc, offers.as_slice())?)),
+        Want::Ask { offers } => {
+            let asked = ground.ask(alloc, offers.as_slice());
+            drop(offers);
+            Ok(Event::Asked(asked?))
+        }
         Want::Propose { revision } => {
             let user = Some(core.user());
             let outcome = ground.propose(alloc, program, user, core.strict(), revision);

@@ -56,12 +56,15 @@ pub fn serve_session<W: Wire, G: Ground>(
     write_path::laws::reads();
     session_mux::laws::traffic();
     if session.reserve().is_err() {
+        drop(program);
         return (ground, session.ended(End::Memory));
     }
     for received in 0..MOST_RESULTS {
         if let Some(end) = session.step(alloc, &mut ground, &program, wire) {
+            drop(program);
             return (ground, session.ended(end));
         }
     }
+    drop(program);
     (ground, session.ended(End::TurnsFull))
 }

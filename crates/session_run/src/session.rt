@@ -75,7 +75,15 @@ impl Session {
               self.listing.stored;
         } }
     {
-        let (looks, stored) = self.listing.into_lists();
+        let Session {
+            core,
+            mux,
+            listing,
+            frames: _frames,
+        } = self;
+        drop(core);
+        drop(mux);
+        let (looks, stored) = listing.into_lists();
         Ended { end, looks, stored }
     }
 
@@ -102,8 +110,13 @@ impl Session {
         session_core::laws::conduct();
         blip_mux::laws::replies();
         let Acts { puts, want } = self.core.step(alloc, event)?;
-        put(&mut self.mux, puts)?;
-        Ok(want)
+        match put(&mut self.mux, puts) {
+            Ok(()) => Ok(want),
+            Err(fault) => {
+                drop(want);
+                Err(fault)
+            }
+        }
     }
 
     /// Reads the history for what is wanted, and lists the look. Out of memory it may have read, or not.
@@ -139,7 +152,10 @@ impl Session {
         ensures mux { self.new.mux ≡ self.old.mux }
         ensures frames { self.new.frames ≡ self.old.frames }
     {
-        self.listing.reserve()?;
+        if let Err(fault) = self.listing.reserve() {
+            drop(want);
+            return Err(fault);
+        }
         let event = read(alloc, ground, &self.core, program, want)?;
         self.listing.list(&event);
         Ok(event)
