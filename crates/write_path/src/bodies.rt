@@ -61,10 +61,14 @@ fn is_still_shown(shown: Option<DocState<'_>>, row: &Row) -> bool
 fn body_in(alloc: Global, tree: &Tree, most: u64, write: &Write) -> Result<Body, Memory>
     ensures { IfOk result (λ body. body ≡ bodies.body_with tree.now most (Some write.now)) }
 {
-    Ok(Body::Rev {
-        ancestors: tree.ancestors_of(&write.rev, most)?,
-        bytes: write.body.copy(alloc)?,
-    })
+    let ancestors = tree.ancestors_of(&write.rev, most)?;
+    match write.body.copy(alloc) {
+        Ok(bytes) => Ok(Body::Rev { ancestors, bytes }),
+        Err(fault) => {
+            drop(ancestors);
+            Err(fault)
+        }
+    }
 }
 
 fn body_with(
@@ -84,7 +88,9 @@ fn body_with(
         None => &empty,
         Some(tree) => tree,
     };
-    body_in(alloc, tree, most, write)
+    let body = body_in(alloc, tree, most, write);
+    drop(empty);
+    body
 }
 
 /// What is answered for a row, by what is shown of its document, its tree, its winner, and whether the
@@ -260,17 +266,15 @@ fn bodies_by(
         options.now.filter most) rows.now) }
 {
     let periods = periods_if_left(alloc, grants, user, rows)?;
-    let look = look_of(
-        alloc,
-        grants.index(),
-        board,
-        user,
-        options,
-        periods.as_slice(),
-    )?;
+    let index = grants.index();
+    let look = look_of(alloc, index, board, user, options, periods.as_slice())?;
+    let front = look.entries.len() as u64;
+    let answers = answers_of(alloc, &look, most, rows);
+    drop(look);
+    drop(periods);
     Ok(Bodies {
-        front: look.entries.len() as u64,
-        answers: answers_of(alloc, &look, most, rows)?,
+        front,
+        answers: answers?,
     })
 }
 

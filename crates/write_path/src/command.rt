@@ -27,6 +27,9 @@ pub fn command_to(board: &mut Board, command: Command) -> Outcome
             let sequence = put_next(board, room, entry);
             Outcome::Stored { sequence, at }
         }
-        Err(why) => without_room(at, why),
+        Err(why) => {
+            drop(command);
+            without_room(at, why)
+        }
     }
 }

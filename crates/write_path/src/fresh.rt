@@ -31,9 +31,10 @@ pub(crate) fn commit_fresh(
         Commit::Stale {
             room,
             number,
-            candidate: _candidate,
+            candidate,
             last: _last,
         } => {
+            drop(candidate);
             board.void(room, number);
             unreachable!()
         }

@@ -78,7 +78,11 @@ fn said_of_document(
     ensures { IsVerdict (IsSaidOfDocument program.now id.now (node_tree doc.now) basis.now) result }
 {
     match old_document(alloc, basis, id) {
-        Ok(old) => judge(alloc, program, doc, old.as_ref(), &basis.context),
+        Ok(old) => {
+            let said = judge(alloc, program, doc, old.as_ref(), &basis.context);
+            drop(old);
+            said
+        }
         Err(_) => Verdict::Memory,
     }
 }
@@ -96,7 +100,11 @@ pub(crate) fn said_of(
     ensures { IsVerdict (IsSaidOn program.now revision.now basis.now) result }
 {
     match with_system(alloc, doc, revision.doc.as_str(), revision.deleted) {
-        Ok(doc) => said_of_document(alloc, program, &revision.doc, &doc, basis),
+        Ok(doc) => {
+            let said = said_of_document(alloc, program, &revision.doc, &doc, basis);
+            drop(doc);
+            said
+        }
         Err(_) => Verdict::Memory,
     }
 }

@@ -150,11 +150,28 @@ fn parts_of(alloc: Global, by: Option<&Name>, body: Bytes, tree: &Tree) -> Resul
     ensures by { IfOk result (λ p. p.by ≡ option_copied by.entry) }
     ensures name { IfOk result (λ p. IfSome p.by (λ text. IsTrue (is_name text) × IsUtf8 text)) }
 {
-    Ok(Parts {
-        winner: winner_of(alloc, tree)?,
-        body: body_of(alloc, body)?,
-        by: copy_of(alloc, by)?,
-    })
+    let winner = match winner_of(alloc, tree) {
+        Ok(winner) => winner,
+        Err(fault) => {
+            drop(body);
+            return Err(fault);
+        }
+    };
+    let body = match body_of(alloc, body) {
+        Ok(body) => body,
+        Err(fault) => {
+            drop(winner);
+            return Err(fault);
+        }
+    };
+    match copy_of(alloc, by) {
+        Ok(by) => Ok(Parts { winner, body, by }),
+        Err(fault) => {
+            drop(winner);
+            drop(body);
+            Err(fault)
+        }
+    }
 }
 
 /// The write of a revision that was judged at a front, with so many of its ancestors, the tree after it, and the effects with
@@ -179,20 +196,36 @@ fn write_of(
 {
     let _ = revision.doc.as_str();
     pass_effects(&effects);
-    let parts = parts_of(alloc, by, revision.body, tree)?;
-    Ok(Write {
-        winner: parts.winner,
-        doc: revision.doc,
-        rev: revision.rev,
-        ancestors: kept_of(revision.ancestors, kept),
-        deleted: revision.deleted,
-        body: parts.body,
-        by: parts.by,
-        at,
-        channels: effects.channels,
-        grants: effects.grants,
-        roles: effects.roles,
-    })
+    let Revision {
+        doc,
+        rev,
+        ancestors,
+        deleted,
+        noconflicts: _noconflicts,
+        body,
+    } = revision;
+    match parts_of(alloc, by, body, tree) {
+        Ok(parts) => Ok(Write {
+            winner: parts.winner,
+            doc,
+            rev,
+            ancestors: kept_of(ancestors, kept),
+            deleted,
+            body: parts.body,
+            by: parts.by,
+            at,
+            channels: effects.channels,
+            grants: effects.grants,
+            roles: effects.roles,
+        }),
+        Err(fault) => {
+            drop(doc);
+            drop(rev);
+            drop(ancestors);
+            drop(effects);
+            Err(fault)
+        }
+    }
 }
 
 /// What the board says of a revision that extends its document's tree: at which front, after which last write of its document,
@@ -254,11 +287,15 @@ fn ready_of(
         base,
         tree,
         kept,
-        basis: _basis,
+        basis,
     } = judged;
+    drop(basis);
     match write_of(alloc, by, revision, at, &tree, kept, effects) {
         Ok(entry) => Ok(Ready { entry, tree, base }),
-        Err(_) => Err(Outcome::Memory507),
+        Err(_) => {
+            drop(tree);
+            Err(Outcome::Memory507)
+        }
     }
 }
 
@@ -283,7 +320,11 @@ fn ready_where_accepted(
     sync_meaning::laws::effects();
     match effects_of(alloc, program, &revision, doc, &judged.basis, judged.at) {
         Ok(effects) => ready_of(alloc, board, by, revision, judged, effects),
-        Err(outcome) => Err(outcome),
+        Err(outcome) => {
+            drop(revision);
+            drop(judged);
+            Err(outcome)
+        }
     }
 }
 
@@ -401,7 +442,11 @@ pub(crate) fn judge(
 {
     match extension_of(board, &revision, strict, by) {
         Ok(judged) => ready_where_accepted(alloc, board, program, by, revision, doc, judged),
-        Err(outcome) => Err(outcome),
+        Err(outcome) => {
+            drop(revision);
+            drop(doc);
+            Err(outcome)
+        }
     }
 }
 
@@ -421,9 +466,16 @@ fn store(board: &mut Board, ready: Ready) -> Result<u64, NoRoom>
 {
     alone();
     let bytes = ready.entry.body.len() as u64;
-    let room = board.room(Some(&ready.entry.doc), bytes)?;
-    let Ready { entry, tree, base } = ready;
-    Ok(put_next(board, room, Candidate::Write { entry, tree, base }))
+    match board.room(Some(&ready.entry.doc), bytes) {
+        Ok(room) => {
+            let Ready { entry, tree, base } = ready;
+            Ok(put_next(board, room, Candidate::Write { entry, tree, base }))
+        }
+        Err(why) => {
+            drop(ready);
+            Err(why)
+        }
+    }
 }
 
 /// Stores a write that the board judged in this turn, unless the board has no room for it.
@@ -488,6 +540,9 @@ pub fn propose_to(
     let strict = strict || revision.noconflicts;
     match document_of(alloc, &revision) {
         Ok(doc) => propose_formed(alloc, board, program, by, strict, revision, doc),
-        Err(refusal) => refusal,
+        Err(refusal) => {
+            drop(revision);
+            refusal
+        }
     }
 }

@@ -121,9 +121,10 @@ pub fn store_at_fresh(
         Commit::Stale {
             room,
             number,
-            candidate: _candidate,
+            candidate,
             last: _last,
         } => {
+            drop(candidate);
             board.void(room, number);
             unreachable!()
         }

@@ -85,7 +85,14 @@ impl SoloGround {
         ensures later { IsLaterThanAll self.read result.board.log }
         ensures ends { EndsWith result.board.log self.own }
     {
-        self.shelf
+        let SoloGround {
+            shelf,
+            grants,
+            read: _read,
+            own: _own,
+        } = self;
+        drop(grants);
+        shelf
     }
 }
 

@@ -11,16 +11,16 @@ use Rattle.write_path.proofs.AllRows.{bodies_are}
 use Rattle.write_path.proofs.bodies.bodies_by.Goals as goal
 
 pub look_of-requires : goal.look_of-requires
-look_of-requires c = c.index.ensures c.args.board.now.log c.requires.stands c.requires.applied
+look_of-requires c = c.index-index.ensures c.args.board.now.log c.requires.stands c.requires.applied
 
-pub answers_of-requires-clause-index : goal.answers_of-requires-clause-index
-answers_of-requires-clause-index c =
-    let indexed : Indexes c.index.result.now (reverse c.args.board.now.log) = c.index.ensures c.args.board.now.log c.requires.stands c.requires.applied in
+pub answers_of-answers-requires-clause-index : goal.answers_of-answers-requires-clause-index
+answers_of-answers-requires-clause-index c =
+    let indexed : Indexes c.index-index.result.now (reverse c.args.board.now.log) = c.index-index.ensures c.args.board.now.log c.requires.stands c.requires.applied in
     subst (λ (i : LogIndex). Indexes i (reverse c.in_ok-look.look.entries.now)) (sym c.in_ok-look.ensures.index_is)
-    (subst (λ (es : List Entry). Indexes c.index.result.now (reverse es)) (sym c.in_ok-look.ensures.entries) indexed)
+    (subst (λ (es : List Entry). Indexes c.index-index.result.now (reverse es)) (sym c.in_ok-look.ensures.entries) indexed)
 
-pub answers_of-requires-clause-viewer : goal.answers_of-requires-clause-viewer
-answers_of-requires-clause-viewer c = λ some.
+pub answers_of-answers-requires-clause-viewer : goal.answers_of-answers-requires-clause-viewer
+answers_of-answers-requires-clause-viewer c = λ some.
     let log = c.args.board.now.log in
     let user = c.args.user.now in
     let are = c.in_ok-periods.ensures.periods log c.requires.stands some in
@@ -32,5 +32,5 @@ answers_of-requires-clause-viewer c = λ some.
 
 pub returns-clause-answers : goal.returns-clause-answers
 returns-clause-answers c =
-    c.in_ok-answers_of.ensures
-    ∙ bodies_are c.index.result.now c.args.board.now c.args.user.now c.args.options.now.filter c.as_slice.result.now c.in_ok-look.look c.args.most c.in_ok-look.ensures c.args.rows.now
+    c.in_ok-answers.ensures
+    ∙ bodies_are c.index-index.result.now c.args.board.now c.args.user.now c.args.options.now.filter c.as_slice.result.now c.in_ok-look.look c.args.most c.in_ok-look.ensures c.args.rows.now

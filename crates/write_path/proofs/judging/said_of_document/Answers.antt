@@ -11,7 +11,7 @@ pub returns-in-Ok : goal.returns-in-Ok
 returns-in-Ok c =
     let document : Tree = node_tree c.args.doc.now in
     let old : Option Tree = option_map (λ d. node_tree d) c.in-Ok.old in
-    verdict_is (IsSaidOfDocument c.args.program.now c.args.id.now document c.args.basis.now) c.judge.result _ c.judge.ensures (record {
+    verdict_is (IsSaidOfDocument c.args.program.now c.args.id.now document c.args.basis.now) c.judge-said.result _ c.judge-said.ensures (record {
       old = old;
       is_old = c.in-Ok.ensures;
       is_meant = ap (λ (o : Option Tree). meaning c.args.program.now document o c.args.basis.now.context) (ap (λ (o : Option Node). option_map (λ d. node_tree d) o) (sym c.as_ref.ensures.value) ∙ trees_behind c.as_ref.result);

@@ -6,16 +6,16 @@ use Rattle.doc_board.specs.Recorded.{HasDocument}
 use Rattle.write_path.proofs.Entries.{write_is_entry, first_revs, body_is_document}
 use Rattle.write_path.proofs.propose.write_of.Goals as goal
 
-pub returns-clause-entry : goal.returns-clause-entry
-returns-clause-entry c = λ winner.
+pub returns-in-Ok-clause-entry : goal.returns-in-Ok-clause-entry
+returns-in-Ok-clause-entry c = λ winner.
     let doc : List ℕ = c.args.revision.doc in
     write_is_entry _
     (c.as_str.ensures.grammar, subst (λ (t : List ℕ). IsUtf8 t) c.as_str.ensures.value c.as_str.utf8)
     c.requires.formed.named.rev
     (subst (λ (rs : List RevId). IsTrue (is_revs rs)) (sym c.kept_of.ensures) (first_revs c.args.revision.ancestors c.args.kept c.requires.formed.named.history))
-    c.in_ok-parts.ensures.bytes c.in_ok-parts.ensures.name (omega (arith, c.ranges.at.fits)) winner c.requires.effects
+    c.in-Ok.ensures.bytes c.in-Ok.ensures.name (omega (arith, c.ranges.at.fits)) winner c.requires.effects
     (record { channels = c.pass_effects.ensures.channels; grants = c.pass_effects.ensures.grants; roles = c.pass_effects.ensures.roles })
 
-pub returns-clause-body : goal.returns-clause-body
-returns-clause-body c =
-    subst (λ (b : List ℕ). HasDocument b) (sym c.in_ok-parts.ensures.body) (body_is_document c.args.revision.body c.requires.formed.body)
+pub returns-in-Ok-clause-body : goal.returns-in-Ok-clause-body
+returns-in-Ok-clause-body c =
+    subst (λ (b : List ℕ). HasDocument b) (sym c.in-Ok.ensures.body) (body_is_document c.args.revision.body c.requires.formed.body)
