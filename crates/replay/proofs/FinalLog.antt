@@ -34,7 +34,7 @@ final_log log later own now added all more count ends =
 
 -- a replay, from what its functions hand on to one another
 pub is_replay : (config : Config) (lines : List AdminLine) (records : List Recorded) (text : List ℕ)
-    → IsReplayBy (arc_value config.program) (not config.conflicts) config.roles config.users lines records [] text → IsReplay config lines records text
+    → IsReplayBy (arc_value config.program) (not config.conflicts) config.roles config.users lines records (codes "admin\n") text → IsReplay config lines records text
 is_replay config lines records text by =
     let scripted : Solo = by.ground in
     let served : Solo = by.served.final in

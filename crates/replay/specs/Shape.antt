@@ -101,5 +101,5 @@ pub record AreServed (program : Program) (strict : Bool) (records : List Recorde
 pub record IsReplayBy (program : Program) (strict : Bool) (roles : List ConfigRole) (users : List ConfigUser) (lines : List AdminLine) (records : List Recorded) (text text_after : List ℕ) : Type 0 where
   pub ground : Solo
   pub between : List ℕ
-  pub script : IsScripted program strict roles users lines ground (text ++ codes "admin\n") between
+  pub script : IsScripted program strict roles users lines ground text between
   pub served : AreServed program strict records ground between text_after

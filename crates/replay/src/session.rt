@@ -54,8 +54,16 @@ fn serve(
 {
     let mut wire = wire;
     let (ground, ended) = serve_session(alloc, ground, setup, &mut wire);
-    write_ended(&ended, wire.sent.as_slice(), out)?;
-    Ok(ground)
+    let written = write_ended(&ended, wire.sent.as_slice(), out);
+    drop(ended);
+    drop(wire);
+    match written {
+        Ok(()) => Ok(ground),
+        Err(fault) => {
+            drop(ground);
+            Err(fault)
+        }
+    }
 }
 
 /// Serves a recorded session at a ground, and prints it at the end with this number.
@@ -72,9 +80,18 @@ fn run_session(
         (moment_of ground) (moment_of g) out.old out.new) }
 {
     session_run::laws::sessions();
-    write_title(number, &recorded.user, out)?;
-    let (setup, wire) = prepared(alloc, program, strict, recorded)?;
-    serve(alloc, ground, setup, wire, out)
+    if let Err(fault) = write_title(number, &recorded.user, out) {
+        drop(recorded);
+        drop(ground);
+        return Err(fault);
+    }
+    match prepared(alloc, program, strict, recorded) {
+        Ok((setup, wire)) => serve(alloc, ground, setup, wire, out),
+        Err(fault) => {
+            drop(ground);
+            Err(fault)
+        }
+    }
 }
 
 /// Serves recorded sessions one after another, and prints each at the end, numbered from 1.

@@ -29,8 +29,13 @@ fn opened(alloc: Global, roles: ConfigRoles, users: ConfigUsers) -> Result<SoloG
 {
     let board = Board::new(alloc)?;
     let mut ground = SoloGround::new(Shelf::new(board)?);
-    open(&mut ground, roles, users)?;
-    Ok(ground)
+    match open(&mut ground, roles, users) {
+        Ok(()) => Ok(ground),
+        Err(fault) => {
+            drop(ground);
+            Err(fault)
+        }
+    }
 }
 
 /// Puts the journal of a log's history at the end, behind its title.
@@ -57,8 +62,13 @@ fn scripted(
         (λ g. IsScripted program.now strict roles users lines g out.old out.new) }
 {
     let mut ground = opened(alloc, roles, users)?;
-    run_script(alloc, &mut ground, program, strict, lines, out)?;
-    Ok(ground)
+    match run_script(alloc, &mut ground, program, strict, lines, out) {
+        Ok(()) => Ok(ground),
+        Err(fault) => {
+            drop(ground);
+            Err(fault)
+        }
+    }
 }
 
 /// Serves recorded sessions at a ground, and prints them and the journal of its history in the end.
@@ -75,7 +85,9 @@ fn serve_all(
 {
     let ground = run_sessions(alloc, ground, program, strict, sessions, out)?;
     let shelf = ground.into_inner();
-    write_history(alloc, shelf.board.log(), out)
+    let written = write_history(alloc, shelf.board.log(), out);
+    drop(shelf);
+    written
 }
 
 /// Prints the transcript of a replay by these parts of a configuration.
@@ -93,9 +105,13 @@ fn write_transcript(
     ensures { OnOk result (IsReplayBy (arc_value program.now) strict roles users lines
         sessions.items out.old out.new) }
 {
-    out.extend_from_slice(b"admin\n")?;
-    let ground = scripted(alloc, program, strict, roles, users, lines, out)?;
-    serve_all(alloc, ground, program, strict, sessions, out)
+    match scripted(alloc, program, strict, roles, users, lines, out) {
+        Ok(ground) => serve_all(alloc, ground, program, strict, sessions, out),
+        Err(fault) => {
+            drop(sessions);
+            Err(fault)
+        }
+    }
 }
 
 /// Replays a script and recorded sessions over the history that a configuration begins: the script line by line, as the
@@ -109,18 +125,35 @@ pub fn replay(
     requires { AreLines lines }
     ensures { IfOk result (λ text. IsReplay config lines sessions.items text) }
 {
+    let mut out = match Bytes::from_slice(alloc, b"admin\n") {
+        Ok(title) => title,
+        Err(fault) => {
+            drop(config);
+            drop(lines);
+            drop(sessions);
+            return Err(fault);
+        }
+    };
     let Config {
-        database: _database,
-        bind: _bind,
+        database,
+        bind,
         accepts: _accepts,
         conflicts,
         program,
         roles,
         users,
     } = config;
-    let mut out = Bytes::new(alloc);
-    write_transcript(
+    drop(database);
+    drop(bind);
+    let written = write_transcript(
         alloc, &program, !conflicts, roles, users, lines, sessions, &mut out,
-    )?;
-    Ok(out)
+    );
+    drop(program);
+    match written {
+        Ok(()) => Ok(out),
+        Err(fault) => {
+            drop(out);
+            Err(fault)
+        }
+    }
 }

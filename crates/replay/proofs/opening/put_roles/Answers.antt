@@ -1,4 +1,4 @@
-use Rattle.std.proofs.Common.{◌≡◌, ◌++◌, ◌∷◌, [], ◌∙◌, List, length, ap, refl, sym, subst, arith, append-nil, rules}
+use Rattle.std.proofs.Common.{◌≡◌, ◌++◌, ◌∷◌, [], ◌∙◌, List, length, ap, sym, subst, arith, append-nil, rules}
 use Rattle.std.proofs.lemmas.List.{append_assoc, nil_from_length}
 use Rattle.gateway_config.specs.declared.config.ConfigRole.{ConfigRole}
 use Rattle.principals.specs.Script.{entry_of}

@@ -6,10 +6,10 @@ use Rattle.replay.specs.Shape.{IsServedTo, IsSessionRun}
 use Rattle.replay.proofs.Served.{session_is}
 use Rattle.replay.proofs.session.run_session.Goals as goal
 
-pub returns : goal.returns
-returns c =
+pub returns-in-Ok : goal.returns-in-Ok
+returns-in-Ok c =
     IfOk-weaker c.serve.result
     (λ (g : Solo). IsServedTo _ (moment_of c.args.ground) (moment_of g) _ _ c.serve.new.out)
     (λ (g : Solo). IsSessionRun (arc_value c.args.program.now) c.args.strict c.args.number c.args.recorded (moment_of c.args.ground) (moment_of g) c.args.out.now c.serve.new.out)
-    (λ g is. session_is c.sessions.ensures.own c.sessions.ensures.reads c.sessions.ensures.recorded (arc_value c.args.program.now) c.args.strict c.args.number c.args.recorded _ _ _ _ _ _ _ c.in_ok-setup.ensures.setup c.in_ok-setup.ensures.wire is c.in_ok-write_title.ensures)
+    (λ g is. session_is c.sessions.ensures.own c.sessions.ensures.reads c.sessions.ensures.recorded (arc_value c.args.program.now) c.args.strict c.args.number c.args.recorded _ _ _ _ _ _ _ c.in-Ok.ensures.setup c.in-Ok.ensures.wire is c.in_default.ensures)
     c.serve.ensures

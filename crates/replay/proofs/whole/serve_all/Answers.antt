@@ -17,7 +17,7 @@ returns c =
     let h : History = history c.log.result.now in
     let Later : List Entry → Type 0 = λ es. IsLaterThanAll final.read es in
     let Ends : List Entry → Type 0 = λ es. EndsWith es final.own in
-    let whole : c.write_history.new.out ≡ c.run_sessions.new.out ++ codes "journal\n" ++ journal_text h → AreServed (arc_value c.args.program.now) c.args.strict c.args.sessions.items c.args.ground c.args.out.now c.write_history.new.out = λ printed.
+    let whole : c.write_history-written.new.out ≡ c.run_sessions.new.out ++ codes "journal\n" ++ journal_text h → AreServed (arc_value c.args.program.now) c.args.strict c.args.sessions.items c.args.ground c.args.out.now c.write_history-written.new.out = λ printed.
     record {
       final = final;
       between = c.run_sessions.new.out;
@@ -28,4 +28,4 @@ returns c =
       ends = subst Ends (sym c.log.ensures.log) c.into_inner-shelf.ensures.ends;
       printed = printed;
     } in
-    on_ok_weaker c.write_history.result whole c.write_history.ensures
+    on_ok_weaker c.write_history-written.result whole c.write_history-written.ensures
