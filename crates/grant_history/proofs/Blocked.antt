@@ -6,6 +6,7 @@ use Rattle.std.proofs.lemmas.Bool.{lt-leb, le-leb, false≢true, eqb-true, cases
 use Rattle.grant_history.specs.declared.blocks.Block.{Block}
 use Rattle.grant_history.specs.Listed.{is_in}
 use Rattle.grant_history.specs.Blocks.{covering}
+use Rattle.grant_history.proofs.Gathered.{each_more}
 
 -- the first that ends after a place
 pub covered : (bs : List Block) (last : List ℕ) (n k : ℕ) (x : Block) → ((i : ℕ) (d : Block) → i < n → (slice_index_or bs i d).to ≤ k) → ((i : ℕ) (d : Block) → n ≤ i → i < length bs → k < (slice_index_or bs i d).to) → n < length bs
@@ -92,3 +93,7 @@ begun_kept bs b last given k x ended was h has = elim (cases_lt k b.to) [
   | inl below ↦ ap (λ (l : List ℕ). is_in l x) (pushed_before bs b last given k was below) ∙ h
   | inr above ↦ ap (λ (l : List ℕ). is_in l x) (pushed_after bs b given k (λ i d w. omega (arith, above, ended i d w)) above) ∙ has above
 ]
+
+-- with one block more all have ended where it does
+pub more_ended : (bs : List Block) (b : Block) (n : ℕ) → ((i : ℕ) (d : Block) → i < length bs → (slice_index_or bs i d).to ≤ n) → n ≤ b.to → (i : ℕ) (d : Block) → i < length (bs ++ b ∷ []) → (slice_index_or (bs ++ b ∷ []) i d).to ≤ b.to
+more_ended bs b n ended le i d = each_more (λ (j : ℕ) (x : Block). x.to ≤ b.to) bs b d (λ j low. omega (arith, le, ended j d low)) (omega arith) i

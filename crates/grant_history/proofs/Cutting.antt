@@ -16,6 +16,7 @@ use Rattle.grant_history.specs.Cuts.{is_cut, IsSteady, Covers, Rise}
 use Rattle.grant_history.specs.Spells.{Stays, Swept, spells_have, open_has}
 use Rattle.grant_history.specs.Tracks.{has_place, was_held, held_last, held_at}
 use Rattle.grant_history.specs.Ways.{track_has, gift_has, ways_have}
+use Rattle.grant_history.proofs.Gathered.{any_end, any_same}
 use Rattle.grant_history.proofs.Sweeping.{stretched}
 
 cut_parts : (xs ys : List ℕ) (k : ℕ) → is_cut (xs ++ ys) k ≡ false → (is_cut xs k ≡ false) × (is_cut ys k ≡ false)
@@ -38,19 +39,43 @@ second_none false b h = h
 span_steady : (s : Span) (k : ℕ) → nat_eq (k + 1) s.from ≡ false → nat_eq (k + 1) s.to ≡ false → has_place (k + 1) s ≡ has_place k s
 span_steady s k from to = grind (arith, from, to)
 
-pub span_kept : (old new : List ℕ) (s : Span) → new ≡ old ++ s.from ∷ s.to ∷ [] → (k : ℕ) → is_cut new k ≡ false → is_cut old k ≡ false
-span_kept old new s is k h = (cut_parts old (s.from ∷ s.to ∷ []) k (ap (λ (l : List ℕ). is_cut l k) (sym is) ∙ h)).0
+-- where a span begins and where it ends
+pub span_covers : (old new : List ℕ) (s : Span) → new ≡ old ++ s.from ∷ s.to ∷ [] → Covers old new (λ k. has_place k s)
+span_covers old new s is = record {
+  kept = λ k h. (parts k h).0;
+  steady = λ k h.
+      let two = (parts (k + 1) h).1 in
+      let from = first_none (nat_eq (k + 1) s.from) (nat_eq (k + 1) s.to || false) two in
+      let to = first_none (nat_eq (k + 1) s.to) false (second_none (nat_eq (k + 1) s.from) (nat_eq (k + 1) s.to || false) two) in
+      span_steady s k from to;
+}
+  where
+    parts : (k : ℕ) → is_cut new k ≡ false → (is_cut old k ≡ false) × (is_cut (s.from ∷ s.to ∷ []) k ≡ false)
+    parts k h = cut_parts old (s.from ∷ s.to ∷ []) k (ap (λ (l : List ℕ). is_cut l k) (sym is) ∙ h)
 
-pub span_rest : (old new : List ℕ) (s : Span) (spans rest : List Span) → new ≡ old ++ s.from ∷ s.to ∷ [] → spans ≡ s ∷ rest → (k : ℕ) → is_cut new (k + 1) ≡ false
-    → list_any (has_place (k + 1)) rest ≡ list_any (has_place k) rest → list_any (has_place (k + 1)) spans ≡ list_any (has_place k) spans
-span_rest old new s spans rest is split k h same =
-    let two = (cut_parts old (s.from ∷ s.to ∷ []) (k + 1) (ap (λ (l : List ℕ). is_cut l (k + 1)) (sym is) ∙ h)).1 in
-    let from = first_none (nat_eq (k + 1) s.from) (nat_eq (k + 1) s.to || false) two in
-    let to = first_none (nat_eq (k + 1) s.to) false (second_none (nat_eq (k + 1) s.from) (nat_eq (k + 1) s.to || false) two) in
-    ap (λ (l : List Span). list_any (has_place (k + 1)) l) split
-    ∙ ap (λ (b : Bool). b || list_any (has_place (k + 1)) rest) (span_steady s k from to)
-    ∙ ap (λ (b : Bool). has_place k s || b) same
-    ∙ ap (λ (l : List Span). list_any (has_place k) l) (sym split)
+-- where none of those that are left changes a test, none of all does
+pub record CoversBefore {X : Type 0} (test : X → ℕ → Bool) (xs : List X) (i : ℕ) (start cuts : List ℕ) : Type 0 where
+  pub kept : (k : ℕ) → is_cut cuts k ≡ false → is_cut start k ≡ false
+  pub rest : (k : ℕ) → is_cut cuts (k + 1) ≡ false → list_any (λ x. test x (k + 1)) (drop i xs) ≡ list_any (λ x. test x k) (drop i xs)
+      → list_any (λ x. test x (k + 1)) xs ≡ list_any (λ x. test x k) xs
+
+pub covers_begin : {X : Type 0} (test : X → ℕ → Bool) (xs : List X) (start : List ℕ) → CoversBefore test xs 0 start start
+covers_begin test xs start = record { kept = λ k h. h; rest = λ k h same. same }
+
+pub covers_more : {X : Type 0} (test : X → ℕ → Bool) (xs : List X) (i : ℕ) (x : X) (start old new : List ℕ) → i < length xs → x ≡ get_or xs i x → CoversBefore test xs i start old → Covers old new (test x) → CoversBefore test xs (i + 1) start new
+covers_more test xs i x start old new within is before c = record {
+  kept = λ k h. before.kept k (c.kept k h);
+  rest = λ k h same. before.rest k (c.kept (k + 1) h) (any_same (λ y. test y (k + 1)) (λ y. test y k) xs i x within is (c.steady k h) same);
+}
+
+pub covers_end : {X : Type 0} (test : X → ℕ → Bool) (xs : List X) (i : ℕ) (start cuts : List ℕ) → length xs ≤ i → CoversBefore test xs i start cuts → Covers start cuts (λ k. list_any (λ x. test x k) xs)
+covers_end {X = X} test xs i start cuts le before = record {
+  kept = before.kept;
+  steady = λ k h. before.rest k h (ap (λ (l : List X). list_any (λ x. test x (k + 1)) l) none ∙ ap (λ (l : List X). list_any (λ x. test x k) l) (sym none));
+}
+  where
+    none : drop i xs ≡ []
+    none = drop_all i xs le
 
 -- the last span changes where it begins and where it ended
 last_steady : (count opened until k : ℕ) → nat_eq (k + 1) opened ≡ false → nat_eq (k + 1) until ≡ false
@@ -65,15 +90,14 @@ last_steady count opened until k from to =
     ends : (o : ℕ) → nat_eq (k + 1) o ≡ false → nat_lt (k + 1) o ≡ nat_lt k o
     ends o h = grind (arith, h)
 
-pub track_covers : (t : Track) (start middle new : List ℕ) → ((k : ℕ) → is_cut middle k ≡ false → is_cut start k ≡ false) → ((k : ℕ) → is_cut middle (k + 1) ≡ false → was_held t (k + 1) ≡ was_held t k)
-    → new ≡ middle ++ t.opened ∷ t.until ∷ [] → Covers start new (held_at t)
-track_covers t start middle new kept steady is = record {
-  kept = λ k h. kept k (parts k h).0;
+pub track_covers : (t : Track) (start middle new : List ℕ) → Covers start middle (was_held t) → new ≡ middle ++ t.opened ∷ t.until ∷ [] → Covers start new (held_at t)
+track_covers t start middle new c is = record {
+  kept = λ k h. c.kept k (parts k h).0;
   steady = λ k h.
       let p = parts (k + 1) h in
       let from = first_none (nat_eq (k + 1) t.opened) (nat_eq (k + 1) t.until || false) p.1 in
       let to = first_none (nat_eq (k + 1) t.until) false (second_none (nat_eq (k + 1) t.opened) (nat_eq (k + 1) t.until || false) p.1) in
-      ap (λ (b : Bool). b || held_last t (k + 1)) (steady k p.0)
+      ap (λ (b : Bool). b || held_last t (k + 1)) (c.steady k p.0)
       ∙ ap (λ (b : Bool). was_held t k || b) (last_steady t.count t.opened t.until k from to);
 }
   where
@@ -176,18 +200,6 @@ says_all sweep test at s still k = (stretched sweep test at k s (λ j low high. 
         ap test (omega arith) ∙ step ∙ by more
 
 -- what the roles so far, one more and those that are left have
-pub any_end : {X : Type 0} (test : X → Bool) (xs : List X) (x : X) → list_any test (xs ++ x ∷ []) ≡ (list_any test xs || test x)
-any_end test [] x = by (test x)
-  where
-    by : (b : Bool) → (b || false) ≡ b
-    by true = refl
-    by false = refl
-any_end test (y ∷ ys) x = ap (λ (b : Bool). test y || b) (any_end test ys x) ∙ by (test y)
-  where
-    by : (b : Bool) → (b || (list_any test ys || test x)) ≡ ((b || list_any test ys) || test x)
-    by true = refl
-    by false = refl
-
 pub moves_over : {X Y : Type 0} (f : Y → Bool) (test : X → Bool) (all : List X) (i : ℕ) (x : X) (old new : List Y) → i < length all → x ≡ get_or all i x → list_any f new ≡ (list_any f old || test x)
     → (list_any f new || list_any test (drop (i + 1) all)) ≡ (list_any f old || list_any test (drop i all))
 moves_over {X = X} f test all i x old new within is more =

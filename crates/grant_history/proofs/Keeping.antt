@@ -46,6 +46,10 @@ pub swapped : (b : Bool) (v : SourceFacts) (o : Option SourceFacts) → facts_of
 swapped true v o = refl
 swapped false v o = refl
 
+-- what is found of a source of which nothing was kept gives nothing
+pub begun_empty : (old made : Lists) (name : List ℕ) (list : SourceFacts) → get_by_text old name ≡ None → ((other : List ℕ) → facts_in made other ≡ facts_in old other) → get_by_text made name ≡ Some list → list.facts.items ≡ []
+begun_empty old made name list none same there = sym (ap facts_of_list there) ∙ same name ∙ ap facts_of_list none
+
 -- a source with what it gave changes nothing
 pub as_it_was : (lists : Lists) (name other : List ℕ) (facts : List Fact) → facts ≡ facts_in lists name → (if bytes_eq name other then facts else facts_in lists other) ≡ facts_in lists other
 as_it_was lists name other facts same = by (bytes_eq name other) refl

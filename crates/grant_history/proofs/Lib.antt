@@ -1,4 +1,5 @@
 pub mod Same
+pub mod Gathered
 pub mod Steps
 pub mod Ordered
 pub mod Blocked

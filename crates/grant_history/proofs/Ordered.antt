@@ -1,16 +1,20 @@
 -- spans that have ended, in their order
-use Rattle.std.proofs.Common.{◌≡◌, ◌<◌, ◌≤◌, ℕ, zero, suc, refl, ◌∙◌, ap, arith, Bool, true, false, ◌&&◌, ◌||◌, nat_le, nat_lt, List, [], ◌∷◌, length}
+use Rattle.std.proofs.Common.{◌≡◌, ◌<◌, ◌≤◌, ℕ, zero, suc, refl, sym, ◌∙◌, ap, arith, Bool, true, false, ◌&&◌, ◌||◌, if◌then◌else◌, nat_le, nat_lt, List, [], ◌∷◌, ◌++◌, length, length-append}
 use Rattle.std.specs.Prelude.{slice_index_or}
 use Rattle.std.specs.List.{list_any}
 use Rattle.std.proofs.lemmas.Bool.{lt-leb, le-leb}
 use Rattle.grant_history.specs.declared.track.Span.{Span}
-use Rattle.grant_history.specs.Tracks.{has_place}
+use Rattle.grant_history.specs.Tracks.{closed_with, has_place}
+use Rattle.grant_history.proofs.Gathered.{any_end, each_more}
 
 abbrev pub AreApartBy : List Span → Type 0
 AreApartBy ss = (i j : ℕ) (d : Span) → i < j → j < length ss → (slice_index_or ss i d).to ≤ (slice_index_or ss j d).from
 
 abbrev pub HaveEnded : List Span → ℕ → Type 0
 HaveEnded ss n = (i : ℕ) (d : Span) → i < length ss → (slice_index_or ss i d).to ≤ n
+
+abbrev pub ArePlaced : List Span → Type 0
+ArePlaced ss = (i : ℕ) (d : Span) → i < length ss → (slice_index_or ss i d).from ≤ (slice_index_or ss i d).to
 
 and_none : (b : Bool) → (b && false) ≡ false
 and_none true = refl
@@ -59,3 +63,54 @@ by_first (s ∷ ss) (suc n) k x before after apart within =
 -- where none is left at a place
 pub by_none : (ss : List Span) (n k : ℕ) → ((i : ℕ) (d : Span) → i < n → (slice_index_or ss i d).to ≤ k) → length ss ≤ n → list_any (has_place k) ss ≡ false
 by_none ss n k before le = none_left ss k (λ i d w. before i d (omega (arith, w, le)))
+
+-- one more behind those that have ended where it begins
+apart_more : (ss : List Span) (s : Span) → AreApartBy ss → HaveEnded ss s.from → AreApartBy (ss ++ s ∷ [])
+apart_more ss s apart ended i j d below within = each_more (λ (n : ℕ) (y : Span). (m : ℕ) → m < n → (slice_index_or (ss ++ s ∷ []) m d).to ≤ y.from) ss s d
+    (λ n low m less. each_more (λ (l : ℕ) (x : Span). l < n → x.to ≤ (slice_index_or ss n d).from) ss s d (λ l inside first. apart l n d first low) (λ first. absurd (omega (arith, low, first))) m (long m n low less) less)
+    (λ m less. each_more (λ (l : ℕ) (x : Span). l < length ss → x.to ≤ s.from) ss s d (λ l inside first. ended l d inside) (λ first. absurd (omega (arith, first))) m (omega (arith, less, length-append ss (s ∷ []))) less)
+    j within i below
+  where
+    long : (m n : ℕ) → n < length ss → m < n → m < length (ss ++ s ∷ [])
+    long m n low less = omega (arith, low, less, length-append ss (s ∷ []))
+
+-- the last span, which ended, is put behind those before it
+module _ (ss : List Span) (from to : ℕ) where
+  abbrev last : Span
+  last = record { from = from; to = to }
+
+  pub closed_placed : ArePlaced ss → ArePlaced (closed_with ss from to)
+  closed_placed placed = by (nat_lt from to) refl
+    where
+      by : (b : Bool) → nat_lt from to ≡ b → ArePlaced (if b then ss ++ last ∷ [] else ss)
+      by true is =
+          let le : from ≤ to = grind (arith, is) in
+          λ i d. each_more (λ (j : ℕ) (x : Span). x.from ≤ x.to) ss last d (λ j low. placed j d low) le i
+      by false is = placed
+
+  pub closed_apart : AreApartBy ss → HaveEnded ss from → AreApartBy (closed_with ss from to)
+  closed_apart apart ended = by (nat_lt from to)
+    where
+      by : (b : Bool) → AreApartBy (if b then ss ++ last ∷ [] else ss)
+      by true = apart_more ss last apart ended
+      by false = apart
+
+  pub closed_ended : (n at : ℕ) → HaveEnded ss n → to ≤ n → n ≤ at → HaveEnded (closed_with ss from to) at
+  closed_ended n at ended until le = by (nat_lt from to)
+    where
+      by : (b : Bool) → HaveEnded (if b then ss ++ last ∷ [] else ss) at
+      by true = λ i d. each_more (λ (j : ℕ) (x : Span). x.to ≤ at) ss last d (λ j low. omega (arith, le, ended j d low)) (omega (arith, until, le)) i
+      by false = λ i d low. omega (arith, le, ended i d low)
+
+  pub closed_any : (k : ℕ) → list_any (has_place k) (closed_with ss from to) ≡ (list_any (has_place k) ss || (nat_le from k && nat_lt k to))
+  closed_any k = by (nat_lt from to) refl
+    where
+      none : (b : Bool) → b ≡ (b || false)
+      none true = refl
+      none false = refl
+
+      by : (b : Bool) → nat_lt from to ≡ b → list_any (has_place k) (if b then ss ++ last ∷ [] else ss) ≡ (list_any (has_place k) ss || (nat_le from k && nat_lt k to))
+      by true is = any_end (has_place k) ss last
+      by false is =
+          let never : (nat_le from k && nat_lt k to) ≡ false = grind (arith, is) in
+          none (list_any (has_place k) ss) ∙ ap (λ (b : Bool). list_any (has_place k) ss || b) (sym never)

@@ -1,9 +1,12 @@
 -- lists of what may be held, which miss nothing
 use Rattle.std.proofs.Common.{◌≡◌, ◌⊎◌, inl, inr, ◌<◌, ◌≤◌, ℕ, zero, suc, refl, sym, ◌∙◌, ap, arith, Bool, true, false, ◌&&◌, ◌||◌, nat_lt, nat_le, List, [], ◌∷◌, ◌++◌, length, Option, Some, None}
 use Rattle.std.specs.Prelude.{nat_eq, slice_get, slice_set}
+use Rattle.std.specs.Borrow.{Bor}
 use Rattle.std.specs.List.{list_any}
+use Rattle.std.specs.Option.{option_copied}
+use Rattle.std.specs.Slice.{IsItemAt}
 use Rattle.std.proofs.lemmas.Bool.{false≢true, cases_lt, le-leb}
-use Rattle.std.proofs.lemmas.Option.{none-some, same_Some}
+use Rattle.std.proofs.lemmas.Option.{none-some, same_Some, slice_get-get_or, slice_get_past}
 use Rattle.log_views.proofs.Members.{both_ways}
 use Rattle.grant_history.specs.declared.held.Held.{Held}
 use Rattle.grant_history.specs.declared.track.Track.{Track}
@@ -175,3 +178,8 @@ module _ (all : List Held) (old new : Blocks) (i at sources : ℕ) (h : Held) (t
     | inl below ↦ kept k i (misses i k h got (sym (moves.before k below) ∙ held))
     | inr above ↦ has k above
   ])
+
+-- what is read at a place of a list
+pub got : (all : List Held) (i : ℕ) (r : Option (Bor Held)) → IsItemAt all i r → option_copied r ≡ slice_get all i
+got all i None is = sym (slice_get_past all i is.3)
+got all i (Some x) is = sym (slice_get-get_or all i x.now is.3.0 ∙ ap (λ (h : Held). Some h) (sym is.1))

@@ -1,15 +1,16 @@
 -- a list of what is held, of which one changed or to which one was added
 use Rattle.std.proofs.Common.{◌≡◌, ◌<◌, ◌≤◌, ◌+◌, ◌-◌, ℕ, zero, suc, refl, sym, ◌∙◌, ap, subst, arith, Bool, true, false, if◌then◌else◌, List, [], ◌∷◌, ◌++◌, length, get_or, Option, Some, None, Result, Ok, Err, nat_le, nat_lt, ◌&&◌, ◌||◌}
 use Rattle.std.specs.List.{list_any}
-use Rattle.std.specs.Prelude.{option_map, slice_get, slice_set, OnOk, OnErr, is_err}
-use Rattle.std.proofs.lemmas.Bool.{false≢true, true≢false}
+use Rattle.std.specs.Prelude.{option_map, slice_get, slice_set, OnOk, OnErr}
+use Rattle.std.proofs.lemmas.Bool.{false≢true}
 use Rattle.std.proofs.lemmas.Option.{none-some, same_Some, get_or_from_slice_get}
 use Rattle.grant_history.specs.declared.facts.What.{What}
 use Rattle.grant_history.specs.declared.held.Held.{Held}
 use Rattle.grant_history.specs.declared.track.Track.{Track}
 use Rattle.grant_history.specs.Dated.{Dated}
 use Rattle.grant_history.specs.declared.track.Span.{Span}
-use Rattle.grant_history.specs.Tracks.{IsTrack, IsFresh, Moves, BeginsAt, has_place, held_at}
+use Rattle.grant_history.specs.Tracks.{IsTrack, IsFresh, Moves, BeginsAt, closed_with, has_place, was_held, held_at}
+use Rattle.grant_history.proofs.Ordered.{HaveEnded, closed_any, closed_ended}
 use Rattle.grant_history.specs.Facts.{same_what}
 use Rattle.grant_history.specs.Holdings.{place_of, count_in, held_in, AreUpTo, one_more, one_less}
 use Rattle.grant_history.proofs.Same.{whats, what_itself}
@@ -332,14 +333,6 @@ pub any_err : {A E : Type 0} (r : Result A E) (P : Type 0) → P → OnErr r P
 any_err (Ok x) P h = tt
 any_err (Err e) P h = h
 
-pub at_err : {A E : Type 0} (r : Result A E) (P : Type 0) → is_err r ≡ true → OnErr r P → P
-at_err (Ok x) P is h = absurd (false≢true is)
-at_err (Err e) P is h = h
-
-pub at_ok : {A E : Type 0} (r : Result A E) (P : Type 0) → is_err r ≡ false → OnOk r P → P
-at_ok (Ok x) P is h = h
-at_ok (Err e) P is h = absurd (true≢false is)
-
 pub on_both : {A E : Type 0} (r : Result A E) (P Q R : Type 0) → (P → Q → R) → OnOk r P → OnOk r Q → OnOk r R
 on_both (Ok x) P Q R f p q = f p q
 on_both (Err e) P Q R f p q = tt
@@ -351,3 +344,29 @@ on_both_err (Err e) P Q R f p q = f p q
 pub either : {A E : Type 0} (r : Result A E) (P : Type 0) → OnOk r P → OnErr r P → P
 either (Ok x) P p q = p
 either (Err e) P p q = q
+
+-- a track that no source gave, once the next span begins
+pub begun_again : (old new : Track) (at : ℕ) → old.count ≡ 0 → new.count ≡ 1 → new.opened ≡ at → new.closed.items ≡ closed_with old.closed.items old.opened old.until → Moves old new at (old.count + 1)
+begun_again old new at none one opened closed = record {
+  count = omega (arith, none, one);
+  before = λ k below.
+      later k below
+      ∙ ap (λ (l : List Span). list_any (has_place k) l) closed
+      ∙ closed_any old.closed.items old.opened old.until k
+      ∙ ap (λ (n : ℕ). was_held old k || (nat_le old.opened k && (nat_lt 0 n || nat_lt k old.until))) (sym none);
+  up_to = λ n le is. record {
+    ended = subst (λ (l : List Span). HaveEnded l at) (sym closed) (closed_ended old.closed.items old.opened old.until n at is.ended (is.until none) le);
+    opened = omega (arith, opened);
+    until = λ empty. absurd (omega (arith, one, empty));
+  };
+}
+  where
+    first : (b c : Bool) → b ≡ false → (c || (b && true)) ≡ c
+    first b true h = refl
+    first b false h = ap (λ (x : Bool). x && true) h
+
+    later : (k : ℕ) → k < at → held_at new k ≡ was_held new k
+    later k below =
+        let after : nat_le new.opened k ≡ false = grind (arith, opened, below) in
+        ap (λ (n : ℕ). was_held new k || (nat_le new.opened k && (nat_lt 0 n || nat_lt k new.until))) one
+        ∙ first (nat_le new.opened k) (was_held new k) after

@@ -1,4 +1,5 @@
 pub mod Dated
+pub mod Spans
 pub mod Tracks
 pub mod Ways
 pub mod Facts

@@ -2,11 +2,8 @@
 use Rattle.std.specs.Prelude.{◌≡◌, ◌<◌, ◌≤◌, ◌+◌, ℕ, [], length, slice_index_or, Bool, ◌&&◌, ◌||◌, nat_le, nat_lt}
 use Rattle.std.specs.List.{list_any}
 use Rattle.grant_history.specs.declared.track.Span.{Span}
+pub use Rattle.grant_history.specs.Spans.{has_place, closed_with}
 use Rattle.grant_history.specs.declared.track.Track.{Track}
-
--- whether a span has a place
-abbrev pub has_place : ℕ → Span → Bool
-has_place k s = nat_le s.from k && nat_lt k s.to
 
 -- whether a span before the last has a place
 abbrev pub was_held : Track → ℕ → Bool

@@ -1,13 +1,17 @@
 //! What puts and documents give to whom.
 
-ghost use Rattle.std.specs.Prelude.{◌≡◌, ◌++◌, [], IfOk, OnOk};
+ghost use Rattle.std.specs.Prelude.{◌≡◌, ◌++◌, [], Some, IfOk, OnOk};
 ghost use Rattle.std.specs.Option.{option_copied};
 ghost use Rattle.sg_history.specs.Puts as puts;
-ghost use Rattle.grant_history.specs.Facts.{channel_facts, role_facts, put_facts, grant_facts, gift_facts};
+ghost use Rattle.sg_names.specs.declared.grants.Grantee.TheVariants as grantees;
+ghost use Rattle.grant_history.specs.declared.facts.What.TheVariants as what;
+ghost use Rattle.grant_history.specs.Facts.{fact, channel_facts, role_facts, put_facts, grant_facts, gift_facts};
 ghost use Rattle.grant_history.specs.Ledger.{write_facts};
 
 use crate::facts::{Fact, What};
-use sg_history::{Channels, Entry, Given, Grant, Grantee, Name, Principal, Put, RoleGrant, Write};
+use sg_history::{
+    ChannelName, Entry, Given, Grant, Grantee, Name, Principal, Put, RoleGrant, Write,
+};
 use sg_outside::Memory;
 use std::alloc::Global;
 
@@ -29,20 +33,35 @@ fn roles_of(given: Given<'_>) -> &[Name]
     }
 }
 
+/// That a user or a role has a channel.
+fn channel_fact(alloc: Global, of: Principal<'_>, channel: &ChannelName) -> Result<Fact, Memory>
+    ensures { IfOk result (λ f. f ≡ fact (puts.grantee_in of.entry) (what.Channel channel.now)) }
+{
+    let of = grantee(alloc, of)?;
+    let what = What::Channel(channel.copy(alloc)?);
+    Ok(Fact { of, what })
+}
+
+/// That a user has a role.
+fn role_fact(alloc: Global, of: Principal<'_>, role: &Name) -> Result<Fact, Memory>
+    ensures { IfOk result (λ f. f ≡ fact (puts.grantee_in of.entry) (what.Role role.now)) }
+{
+    let of = grantee(alloc, of)?;
+    let what = What::Role(role.copy(alloc)?);
+    Ok(Fact { of, what })
+}
+
 fn add_channels(
     alloc: Global,
     list: &mut Vec<Fact>,
     of: Principal<'_>,
-    channels: &Channels,
+    channels: &[ChannelName],
 ) -> Result<(), Memory>
     ensures { OnOk result (list.new.items
         ≡ list.old.items ++ channel_facts (puts.grantee_in of.entry) channels.now) }
 {
-    let items = channels.as_slice();
-    for channel in items {
-        let of = grantee(alloc, of)?;
-        let what = What::Channel(channel.copy(alloc)?);
-        list.push(Fact { of, what })?;
+    for channel in channels {
+        list.push(channel_fact(alloc, of, channel)?)?;
     }
     Ok(())
 }
@@ -57,11 +76,28 @@ fn add_roles(
         ≡ list.old.items ++ role_facts (puts.grantee_in of.entry) roles.now) }
 {
     for role in roles {
-        let of = grantee(alloc, of)?;
-        let what = What::Role(role.copy(alloc)?);
-        list.push(Fact { of, what })?;
+        list.push(role_fact(alloc, of, role)?)?;
     }
     Ok(())
+}
+
+/// Adds that a user or a role exists, and what it is given.
+fn add_given(
+    alloc: Global,
+    list: &mut Vec<Fact>,
+    of: Principal<'_>,
+    given: Given<'_>,
+) -> Result<(), Memory>
+    ensures { OnOk result (list.new.items ≡ list.old.items
+        ++ put_facts (puts.grantee_in of.entry) (Some (puts.given_in given.entry))) }
+{
+    let exists = Fact {
+        of: grantee(alloc, of)?,
+        what: What::Exists,
+    };
+    list.push(exists)?;
+    add_channels(alloc, list, of, given.channels.as_slice())?;
+    add_roles(alloc, list, of, roles_of(given))
 }
 
 /// What a put gives: none where it is a drop.
@@ -71,24 +107,34 @@ pub fn of_put(alloc: Global, put: Put<'_>) -> Result<Vec<Fact>, Memory>
 {
     let mut list = Vec::new(alloc);
     if let Some(given) = put.given {
-        let of = grantee(alloc, put.of)?;
-        list.push(Fact {
-            of,
-            what: What::Exists,
-        })?;
-        add_channels(alloc, &mut list, put.of, given.channels)?;
-        add_roles(alloc, &mut list, put.of, roles_of(given))?;
+        add_given(alloc, &mut list, put.of, given)?;
     }
     Ok(list)
+}
+
+/// What one grant gives.
+fn grant_fact(alloc: Global, grant: &Grant) -> Result<Fact, Memory>
+    ensures { IfOk result (λ f. f ≡ fact grant.now.to (what.Channel grant.now.channel)) }
+{
+    let of = grant.to.copy(alloc)?;
+    let what = What::Channel(grant.channel.copy(alloc)?);
+    Ok(Fact { of, what })
+}
+
+/// What one grant of a role gives.
+fn gift_fact(alloc: Global, gift: &RoleGrant) -> Result<Fact, Memory>
+    ensures { IfOk result (λ f. f ≡ fact (grantees.User gift.now.user) (what.Role gift.now.role)) }
+{
+    let of = Grantee::User(gift.user.copy(alloc)?);
+    let what = What::Role(gift.role.copy(alloc)?);
+    Ok(Fact { of, what })
 }
 
 fn add_grants(alloc: Global, list: &mut Vec<Fact>, grants: &[Grant]) -> Result<(), Memory>
     ensures { OnOk result (list.new.items ≡ list.old.items ++ grant_facts grants.now) }
 {
     for grant in grants {
-        let of = grant.to.copy(alloc)?;
-        let what = What::Channel(grant.channel.copy(alloc)?);
-        list.push(Fact { of, what })?;
+        list.push(grant_fact(alloc, grant)?)?;
     }
     Ok(())
 }
@@ -97,9 +143,7 @@ fn add_gifts(alloc: Global, list: &mut Vec<Fact>, gifts: &[RoleGrant]) -> Result
     ensures { OnOk result (list.new.items ≡ list.old.items ++ gift_facts gifts.now) }
 {
     for gift in gifts {
-        let of = Grantee::User(gift.user.copy(alloc)?);
-        let what = What::Role(gift.role.copy(alloc)?);
-        list.push(Fact { of, what })?;
+        list.push(gift_fact(alloc, gift)?)?;
     }
     Ok(())
 }

@@ -1,11 +1,12 @@
 //! The roles that a user has or had.
 
-ghost use Rattle.std.specs.Prelude.{◌≡◌, ℕ, List, IfOk};
+ghost use Rattle.std.specs.Prelude.{◌≡◌, ◌&&◌, ◌||◌, ℕ, List, IfOk, OnOk};
 ghost use Rattle.std.specs.List.{list_any};
 ghost use Rattle.std.specs.Option.{option_copied};
 ghost use Rattle.grant_history.specs.Givers.{giver_has};
 ghost use Rattle.grant_history.specs.Reads.{channel_by};
 ghost use Rattle.grant_history.specs.Reads as reads;
+ghost use Rattle.grant_history.specs.Tracks.{held_at};
 
 use crate::facts::What;
 use crate::held::{Held, Holding};
@@ -32,6 +33,26 @@ fn role_of<'a>(roles: &'a Holders, what: &What) -> Option<&'a Holding>
     }
 }
 
+/// Puts one thing that a user has or had behind others, where it is a role of which something is kept.
+fn add_giver<'a>(
+    list: &mut Vec<Giver<'a>>,
+    roles: &'a Holders,
+    held: &'a Held,
+) -> Result<(), Memory>
+    ensures { OnOk result ((k : ℕ) (x : List ℕ) → list_any (λ g. giver_has g k x) list.new.items
+        ≡ (list_any (λ g. giver_has g k x) list.old.items
+        || (held_at held.now.track k && reads.gives_channel roles.now held.now.what k x))) }
+{
+    match role_of(roles, &held.what) {
+        None => Ok(()),
+        Some(of) => {
+            let track = &held.track;
+            list.push(Giver { track, of })?;
+            Ok(())
+        }
+    }
+}
+
 /// The roles that a user has or had.
 pub fn givers_of<'a>(
     alloc: Global,
@@ -43,10 +64,7 @@ pub fn givers_of<'a>(
 {
     let mut list = Vec::new(alloc);
     for held in all {
-        if let Some(of) = role_of(roles, &held.what) {
-            let track = &held.track;
-            list.push(Giver { track, of })?;
-        }
+        add_giver(&mut list, roles, held)?;
     }
     Ok(list)
 }

@@ -1,6 +1,6 @@
 //! What one user or role has or had.
 
-ghost use Rattle.std.specs.Prelude.{◌≡◌, ◌<◌, ◌≤◌, ◌&&◌, ◌++◌, ◌∷◌, [], ℕ, Bool, true, false, None, Some, MatchOption, IfOk, OnOk, OnErr};
+ghost use Rattle.std.specs.Prelude.{◌≡◌, ◌<◌, ◌≤◌, ◌&&◌, ◌||◌, ◌++◌, ◌∷◌, [], ℕ, Bool, true, false, nat_eq, None, Some, MatchOption, IfOk, OnOk, OnErr};
 ghost use Rattle.std.specs.List.{list_any};
 ghost use Rattle.std.specs.Option.{option_copied};
 ghost use Rattle.grant_history.specs.declared.facts.What.TheVariants as what;
@@ -72,6 +72,18 @@ fn is_given(all: &[Held], i: usize) -> bool
     }
 }
 
+/// Puts where something stands behind others, if a source gives it.
+fn add_given(given: &mut Vec<usize>, all: &[Held], i: usize) -> Result<(), Memory>
+    ensures { OnOk result ((x : ℕ) → is_in given.new.items x
+        ≡ (is_in given.old.items x || (nat_eq x i && is_given_at all.now i))) }
+{
+    if !is_given(all, i) {
+        return Ok(());
+    }
+    given.push(i)?;
+    Ok(())
+}
+
 /// Those of some things that a source gives, each by where it stands.
 fn given_of(alloc: Global, all: &[Held], list: &[usize]) -> Result<Vec<usize>, Memory>
     ensures { IfOk result (λ given. (x : ℕ)
@@ -79,9 +91,7 @@ fn given_of(alloc: Global, all: &[Held], list: &[usize]) -> Result<Vec<usize>, M
 {
     let mut given = Vec::new(alloc);
     for i in list {
-        if is_given(all, *i) {
-            given.push(*i)?;
-        }
+        add_given(&mut given, all, *i)?;
     }
     Ok(given)
 }
@@ -102,6 +112,20 @@ fn held_one(all: &[Held], i: usize, k: u64) -> Option<&Held>
     }
 }
 
+/// Puts what stands at a place of a list behind others, if it is held at a place of the log.
+fn add_held<'a>(held: &mut Vec<&'a Held>, all: &'a [Held], i: usize, k: u64) -> Result<(), Memory>
+    ensures { OnOk result ((test : Held → Bool) → list_any (λ h. test h.now) held.new.items
+        ≡ (list_any (λ h. test h.now) held.old.items || passes_at all.now k test i)) }
+{
+    match held_one(all, i, k) {
+        None => Ok(()),
+        Some(one) => {
+            held.push(one)?;
+            Ok(())
+        }
+    }
+}
+
 /// Those of some things that are held at a place.
 fn held_of<'a>(
     alloc: Global,
@@ -114,9 +138,7 @@ fn held_of<'a>(
 {
     let mut held = Vec::new(alloc);
     for i in list {
-        if let Some(one) = held_one(all, *i, k) {
-            held.push(one)?;
-        }
+        add_held(&mut held, all, *i, k)?;
     }
     Ok(held)
 }

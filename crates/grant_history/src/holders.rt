@@ -1,10 +1,11 @@
 //! What the users, or the roles, have or had, by their names.
 
-ghost use Rattle.std.specs.Prelude.{◌≡◌, ◌<◌, None, OnOk, OnErr};
+ghost use Rattle.std.specs.Prelude.{◌≡◌, ◌<◌, ◌≤◌, [], None, IfOk, OnOk, OnErr};
 ghost use Rattle.std.specs.BTreeMap.{get_by_text};
 ghost use Rattle.grant_history.specs.Dated.{Dated};
-ghost use Rattle.grant_history.specs.Holdings.{count_of, held_of, AreAllUpTo, more_of, less_of};
+ghost use Rattle.grant_history.specs.Holdings.{count_in, held_in, AreUpTo, one_more, count_of, held_of, AreAllUpTo, more_of, less_of};
 
+use crate::by_name;
 use crate::facts::What;
 use crate::held::Holding;
 use sg_outside::Memory;
@@ -45,7 +46,18 @@ pub fn give(
     add(alloc, holders, name, what, at)
 }
 
-/// The same where nothing is kept of the name.
+/// What a holder has of which one source gives one thing from a place of the log on.
+fn begun(alloc: Global, what: &What, at: u64) -> Result<Holding, Memory>
+    ensures dated { IfOk result (λ holding. Dated count_in held_in AreUpTo [] holding.items at
+        (one_more (count_in []) what.now)) }
+    ensures since { IfOk result (λ holding. holding.since ≤ at) }
+{
+    let mut holding = Holding::new(alloc);
+    holding.give(alloc, what, at)?;
+    Ok(holding)
+}
+
+/// The same where nothing is kept of the name: it stands at 0.
 fn add(
     alloc: Global,
     holders: &mut Holders,
@@ -59,10 +71,9 @@ fn add(
     ensures err { OnErr result (Dated count_of held_of AreAllUpTo holders.old holders.new at
         (count_of holders.old)) }
 {
-    let mut holding = Holding::new(alloc);
-    let place = holding.give(alloc, what, at)?;
-    holders.insert(String::from_str(alloc, name)?, holding)?;
-    Ok(place)
+    let holding = begun(alloc, what, at)?;
+    by_name::put(alloc, holders, name, holding)?;
+    Ok(0)
 }
 
 /// One source that gave it to the holder of a name does not from a place of the log on. It is looked

@@ -1,6 +1,6 @@
 //! What all sources give, and who has what by that.
 
-ghost use Rattle.std.specs.Prelude.{◌≡◌, ◌<◌, ◌≤◌, ◌+◌, ◌-◌, false, None, ℕ, List, [], length, OnOk, OnErr, if◌then◌else◌};
+ghost use Rattle.std.specs.Prelude.{◌≡◌, ◌<◌, ◌≤◌, ◌+◌, ◌-◌, true, false, None, is_some, ℕ, List, [], length, OnOk, OnErr, if◌then◌else◌};
 ghost use Rattle.std.specs.BTreeMap.{get_by_text};
 ghost use Rattle.std.specs.Str.{bytes_eq};
 ghost use Rattle.grant_history.specs.Dated.{Dated};
@@ -11,6 +11,7 @@ ghost use Rattle.grant_history.specs.Stands.{IsBefore};
 ghost use Rattle.sg_history.specs.History.{as_write};
 ghost use Rattle.sg_history.specs.Puts as puts;
 
+use crate::by_name;
 use crate::facts::Fact;
 use crate::given::of_put;
 use crate::store::Store;
@@ -81,6 +82,15 @@ fn no_facts(alloc: Global) -> SourceFacts
     }
 }
 
+/// Keeps that a source gives nothing, where nothing is kept of it.
+fn make_list(alloc: Global, lists: &mut Lists, name: &str) -> Result<(), Memory>
+    requires { get_by_text lists.old name.now ≡ None }
+    ensures there { OnOk result (is_some (get_by_text lists.new name.now) ≡ true) }
+    ensures lists { (other : List ℕ) → facts_in lists.new other ≡ facts_in lists.old other }
+{
+    by_name::put(alloc, lists, name, no_facts(alloc))
+}
+
 /// The same where nothing is kept of the source.
 fn begin(
     alloc: Global,
@@ -101,7 +111,7 @@ fn begin(
     ensures err_lists { OnErr result ((other : List ℕ)
         → facts_in lists.new other ≡ facts_in lists.old other) }
 {
-    lists.insert(String::from_str(alloc, name)?, no_facts(alloc))?;
+    make_list(alloc, lists, name)?;
     match lists.get_mut(name) {
         None => Ok(()),
         Some(list) => exchange(alloc, store, list, facts, at),

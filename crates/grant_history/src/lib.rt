@@ -2,6 +2,7 @@
 #![tactic(auto)]
 
 mod blocks;
+mod by_name;
 mod channels;
 mod cuts;
 mod facts;

@@ -1,9 +1,10 @@
 //! The periods in which a user has channels.
 
-ghost use Rattle.std.specs.Prelude.{◌≡◌, ◌≤◌, ◌++◌, ℕ, List, map, max, IfOk, OnOk};
+ghost use Rattle.std.specs.Prelude.{◌≡◌, ◌≤◌, ◌++◌, [], ℕ, List, map, max, IfOk, OnOk};
 ghost use Rattle.std.specs.BTreeMap.{get_by_text};
 ghost use Rattle.sg_history.specs.Principals as principals;
-ghost use Rattle.grant_history.specs.Periods.{period_of, names_of, Adds, AreAllPeriods, AreSoFar};
+ghost use Rattle.sg_history.specs.History.{among};
+ghost use Rattle.grant_history.specs.Periods.{period_of, names_of, may_have, Adds, AreAllPeriods, AreSoFar};
 ghost use Rattle.grant_history.specs.Cuts.{IsSteady, Rise};
 ghost use Rattle.grant_history.specs.Givers.{has_at_with};
 ghost use Rattle.grant_history.specs.Reads.{list_channel, user_channel};
@@ -88,6 +89,18 @@ fn spells_with(
     spells_of(alloc, &ways)
 }
 
+/// A spell of a channel as a period.
+fn make_period(alloc: Global, channel: &ChannelName, spell: &Spell) -> Result<Period, Memory>
+    ensures { IfOk result (λ period. period ≡ period_of channel.now spell.now) }
+{
+    let channel = channel.copy(alloc)?;
+    Ok(Period {
+        channel,
+        from: spell.from,
+        to: spell.to,
+    })
+}
+
 /// Puts the spells of a channel behind the periods.
 fn add_spells(
     alloc: Global,
@@ -99,12 +112,7 @@ fn add_spells(
         ≡ periods.old.items ++ map (period_of channel.now) spells.now) }
 {
     for spell in spells {
-        let channel = channel.copy(alloc)?;
-        periods.push(Period {
-            channel,
-            from: spell.from,
-            to: spell.to,
-        })?;
+        periods.push(make_period(alloc, channel, spell)?)?;
     }
     Ok(())
 }
@@ -124,6 +132,25 @@ fn add_channel(
     add_spells(alloc, periods, channel, spells.as_slice())
 }
 
+/// Puts the periods of these channels behind none.
+fn add_periods(
+    alloc: Global,
+    periods: &mut Vec<Period>,
+    all: &Holding,
+    givers: &[Giver<'_>],
+    channels: &[&ChannelName],
+) -> Result<(), Memory>
+    requires sorted { AreSorted (names_of channels.now) }
+    requires none { periods.old.items ≡ [] }
+    ensures { OnOk result (AreSoFar (names_of channels.now) periods.new.items
+        (has_at_with givers.now all.now.items)) }
+{
+    for channel in channels {
+        add_channel(alloc, periods, all, givers, channel)?;
+    }
+    Ok(())
+}
+
 /// The periods of these channels.
 fn periods_for(
     alloc: Global,
@@ -138,10 +165,25 @@ fn periods_for(
     // most channels have one period
     let room = channels.len().saturating_add(channels.len() / 4);
     let mut periods = Vec::with_capacity(alloc, room)?;
-    for channel in channels {
-        add_channel(alloc, &mut periods, all, givers, channel)?;
-    }
+    add_periods(alloc, &mut periods, all, givers, channels)?;
     Ok(periods)
+}
+
+/// The periods of a user that has or had these, given the channels that it may ever have had.
+fn periods_among(
+    alloc: Global,
+    roles: &Holders,
+    all: &Holding,
+    channels: &[&ChannelName],
+) -> Result<Vec<Period>, Memory>
+    requires sorted { AreSorted (names_of channels.now) }
+    requires among { (x : List ℕ) → among (names_of channels.now) x
+        ≡ may_have roles.now all.now.items x }
+    ensures { IfOk result (λ list. AreAllPeriods list.items
+        (λ c k. list_channel roles.now all.now.items k c)) }
+{
+    let givers = givers_of(alloc, roles, all.all())?;
+    periods_for(alloc, all, givers.as_slice(), channels)
 }
 
 /// The periods of a user that has or had these, given the channel that every user has.
@@ -156,8 +198,7 @@ fn periods_with(
         (λ c k. list_channel roles.now all.now.items k c)) }
 {
     let channels = channels_ever(alloc, roles, all.all(), everyone)?;
-    let givers = givers_of(alloc, roles, all.all())?;
-    periods_for(alloc, all, givers.as_slice(), channels.as_slice())
+    periods_among(alloc, roles, all, channels.as_slice())
 }
 
 /// The periods of a user that has or had these.

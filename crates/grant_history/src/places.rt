@@ -7,6 +7,7 @@ ghost use Rattle.grant_history.specs.declared.facts.What.{What};
 ghost use Rattle.grant_history.specs.Facts.{same_what};
 ghost use Rattle.grant_history.specs.Places.{found};
 
+use crate::by_name;
 use crate::facts::What;
 use sg_history::ChannelName;
 use sg_outside::Memory;
@@ -22,16 +23,6 @@ pub struct Places {
     exists: Option<usize>,
     channels: ByName,
     roles: ByName,
-}
-
-fn put_name(alloc: Global, names: &mut ByName, name: &str, place: usize) -> Result<(), Memory>
-    ensures ok { OnOk result ((other : List ℕ) → get_by_text names.new other
-        ≡ (if bytes_eq name.now other then Some place else get_by_text names.old other)) }
-    ensures err { OnErr result ((other : List ℕ)
-        → get_by_text names.new other ≡ get_by_text names.old other) }
-{
-    names.insert(String::from_str(alloc, name)?, place)?;
-    Ok(())
 }
 
 impl Places {
@@ -77,9 +68,9 @@ impl Places {
                 Ok(())
             }
             What::Channel(channel) => {
-                put_name(alloc, &mut self.channels, channel.as_str(), place)
+                by_name::put(alloc, &mut self.channels, channel.as_str(), place)
             }
-            What::Role(role) => put_name(alloc, &mut self.roles, role.as_str(), place),
+            What::Role(role) => by_name::put(alloc, &mut self.roles, role.as_str(), place),
         }
     }
 }

@@ -1,7 +1,10 @@
 //! When something is held: by how many sources, and in which spans of places.
 
 ghost use Rattle.std.specs.Prelude.{◌≡◌, ◌≤◌, ◌<◌, ◌+◌, ◌-◌, ◌++◌, ◌∷◌, [], ℕ, length, slice_index_or, nat_lt, IfOk, OnOk, OnErr};
+ghost use Rattle.std.specs.List.{list_any};
 ghost use Rattle.std.specs.List.Sorted.{IsNonDecreasingBy};
+ghost use Rattle.grant_history.specs.Cuts.{Covers};
+ghost use Rattle.grant_history.specs.Spans.{closed_with, has_place};
 ghost use Rattle.grant_history.specs.declared.track.Span.{Span};
 
 use sg_outside::Memory;
@@ -40,6 +43,28 @@ fn add_ends(cuts: &mut Vec<u64>, span: &Span) -> Result<(), Memory>
     Ok(())
 }
 
+/// Adds where these spans begin and where they end.
+fn add_spans(cuts: &mut Vec<u64>, spans: &[Span]) -> Result<(), Memory>
+    ensures { OnOk result (Covers cuts.old.items cuts.new.items
+        (λ k. list_any (has_place k) spans.now)) }
+{
+    for span in spans {
+        add_ends(cuts, span)?;
+    }
+    Ok(())
+}
+
+/// Puts a span behind those before it, where it has a place.
+fn close(closed: &mut Vec<Span>, from: u64, to: u64) -> Result<(), Memory>
+    ensures ok { OnOk result (closed.new.items ≡ closed_with closed.old.items from to) }
+    ensures err { OnErr result (closed.new.items ≡ closed.old.items) }
+{
+    if from < to {
+        closed.push(Span { from, to })?;
+    }
+    Ok(())
+}
+
 /// How many of these spans end at a place or before it.
 fn ended(spans: &[Span], k: u64) -> usize
     requires { IsNonDecreasingBy (λ (s : Span). s.to) spans.now }
@@ -52,7 +77,6 @@ fn ended(spans: &[Span], k: u64) -> usize
 }
 
 impl Track {
-    ghost use Rattle.grant_history.specs.Cuts.{Covers};
     ghost use Rattle.grant_history.specs.Tracks.{BeginsAt, IsFresh, IsTrack, Moves, held_at, was_held};
 
     /// A track of what no source gives or gave.
@@ -102,12 +126,12 @@ impl Track {
     pub fn add_cuts(&self, cuts: &mut Vec<u64>) -> Result<(), Memory>
         ensures { OnOk result (Covers cuts.old.items cuts.new.items (held_at self.now)) }
     {
-        for span in self.closed.as_slice() {
-            add_ends(cuts, span)?;
-        }
-        cuts.push(self.opened)?;
-        cuts.push(self.until)?;
-        Ok(())
+        add_spans(cuts, self.closed.as_slice())?;
+        let last = Span {
+            from: self.opened,
+            to: self.until,
+        };
+        add_ends(cuts, &last)
     }
 
     /// One source more gives it from a place on. Out of memory, and where 2^64 - 1 sources give it
@@ -120,16 +144,13 @@ impl Track {
         if self.count == u64::MAX {
             return Err(AllocError);
         }
-        if self.count == 0 {
-            if self.opened < self.until {
-                self.closed.push(Span {
-                    from: self.opened,
-                    to: self.until,
-                })?;
-            }
-            self.opened = at;
+        if self.count > 0 {
+            self.count += 1;
+            return Ok(());
         }
-        self.count += 1;
+        close(&mut self.closed, self.opened, self.until)?;
+        self.opened = at;
+        self.count = 1;
         Ok(())
     }
 

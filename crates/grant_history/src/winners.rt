@@ -35,14 +35,28 @@ fn add_winner(index: &mut LogIndex, winners: &mut Vec<u64>, entry: &Entry) -> Re
     Ok(())
 }
 
+/// Puts these entries into an index of none, and the winner at each behind none.
+fn add_winners(
+    index: &mut LogIndex,
+    winners: &mut Vec<u64>,
+    entries: &[Entry],
+) -> Result<(), Memory>
+    requires index { Indexes index.old [] }
+    requires winners { winners.old.items ≡ [] }
+    ensures { OnOk result (AreWinners entries.now winners.new.items (length entries.now)) }
+{
+    for entry in entries {
+        add_winner(index, winners, entry)?;
+    }
+    Ok(())
+}
+
 /// The winners at these entries. What the index of the entries takes is given back.
 pub fn winners_of(alloc: Global, entries: &[Entry]) -> Result<Vec<u64>, Memory>
     ensures { IfOk result (λ winners. AreWinners entries.now winners.items (length entries.now)) }
 {
-    let mut index = LogIndex::new(alloc);
     let mut winners = Vec::with_capacity(alloc, entries.len())?;
-    for entry in entries {
-        add_winner(&mut index, &mut winners, entry)?;
-    }
+    let mut index = LogIndex::new(alloc);
+    add_winners(&mut index, &mut winners, entries)?;
     Ok(winners)
 }

@@ -1,10 +1,13 @@
-use Rattle.std.proofs.Common.{rules, ◌≡◌, ◌∙◌, sym, ap, arith, List, length, Option, Some, None, if◌then◌else◌}
+use Rattle.std.proofs.Common.{rules, ◌≡◌, ◌∙◌, ◌+◌, ◌-◌, sym, ap, arith, List, length, Option, Some, None, if◌then◌else◌}
 use Rattle.std.specs.BTreeMap.{get_by_text}
 use Rattle.std.specs.Str.{bytes_eq}
 use Rattle.std.proofs.lemmas.Map.Text.{text_keys}
 use Rattle.grant_history.specs.declared.facts.Fact.{Fact}
 use Rattle.grant_history.specs.declared.ledger.SourceFacts.{SourceFacts}
+use Rattle.grant_history.specs.Facts.{times}
+use Rattle.grant_history.specs.Holdings.{count_at}
 use Rattle.grant_history.specs.Ledger.{facts_of_list, facts_in}
+use Rattle.grant_history.proofs.Holding.{recounted_at}
 use Rattle.grant_history.proofs.Keeping.{swapped, as_it_was}
 use Rattle.grant_history.proofs.Steps.{still_none}
 use Rattle.grant_history.proofs.Tracked.{on_ok, on_err}
@@ -34,3 +37,22 @@ returns-then-is_empty-clause-lists c other =
     let same : get_by_text c.get_mut.follows.lender-at-none other ≡ get_by_text c.args.lists.now other = grind (arith, text_keys) in
     still_none c.get_mut.follows.lender-at-none c.args.name.now other c.args.facts.items none absent
     ∙ ap (λ (o : Option SourceFacts). if bytes_eq c.args.name.now other then c.args.facts.items else facts_of_list o) same
+
+pub exchange-requires-clause-given : goal.exchange-requires-clause-given
+exchange-requires-clause-given c = λ f.
+    let there : get_by_text c.args.lists.now c.args.name.now ≡ Some c.in-Some.list.now = grind (arith, text_keys) in
+    let had : times (facts_in c.args.lists.now c.args.name.now) f ≡ times c.in-Some.list.now.facts.items f = ap (λ (o : Option SourceFacts). times (facts_of_list o) f) there in
+    omega (arith, had, c.requires.given f)
+
+pub returns-in-Some-clause-store : goal.returns-in-Some-clause-store
+returns-in-Some-clause-store c =
+    let there : get_by_text c.args.lists.now c.args.name.now ≡ Some c.in-Some.list.now = grind (arith, text_keys) in
+    on_ok c.exchange.result _ _ (λ d. recounted_at c.args.store.now c.exchange.new.store c.args.at _ _ d (λ f.
+    ap (λ (o : Option SourceFacts). count_at c.args.store.now f + times c.args.facts.items f - times (facts_of_list o) f) (sym there))) c.exchange.ensures.store
+
+pub returns-clause-store : goal.returns-clause-store
+returns-clause-store c =
+    let absent : get_by_text c.args.lists.now c.args.name.now ≡ None = grind (arith, text_keys) in
+    on_ok c.begin.result _ _ (λ d. recounted_at c.args.store.now c.begin.new.store c.args.at _ _ d (λ f.
+    let none : times (facts_in c.args.lists.now c.args.name.now) f ≡ 0 = ap (λ (o : Option SourceFacts). times (facts_of_list o) f) absent in
+    omega (arith, none))) c.begin.ensures.store

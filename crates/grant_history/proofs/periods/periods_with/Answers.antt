@@ -1,21 +1,11 @@
-use Rattle.std.proofs.Common.{◌∙◌, ap, List, ℕ, Bool, false, ◌&&◌, ◌||◌, Bor}
-use Rattle.std.specs.Str.{bytes_eq}
-use Rattle.std.proofs.lemmas.Result.{IfOk-weaker}
+use Rattle.std.proofs.Common.{◌∙◌, ap, List, ℕ, Bor}
 use Rattle.sg_history.specs.History.{among}
-use Rattle.sg_history.specs.Principals.{everyone}
-use Rattle.grant_history.specs.declared.facts.What.TheVariants as what
-use Rattle.grant_history.specs.declared.givers.Giver.{Giver}
-use Rattle.std.specs.List.{list_any}
-use Rattle.grant_history.specs.Givers.{giver_has}
-use Rattle.grant_history.specs.Holdings.{held_in}
 use Rattle.grant_history.specs.declared.held.Held.{Held}
 use Rattle.grant_history.specs.Periods.{may_have, names_of}
-use Rattle.grant_history.specs.Reads.{by_roles, channel_among}
-use Rattle.grant_history.proofs.Dividing.{all_so_far}
 use Rattle.grant_history.proofs.periods.periods_with.Goals as goal
 
-pub returns : goal.returns
-returns c = IfOk-weaker c.periods_for.result _ _ (λ list is.
-    all_so_far (names_of c.as_slice-2.result.now) list.items c.args.roles.now c.args.all.now.items _ is
-    (λ x. ap (λ (l : List (Bor (List ℕ))). among (names_of l) x) c.as_slice-2.ensures.value ∙ c.in_ok-channels.ensures.among x ∙ ap (λ (l : List Held). may_have c.args.roles.now l x) c.all.ensures)
-    (λ x k. ap (λ (b : Bool). held_in c.args.all.now.items what.Exists k && (b || (channel_among c.args.all.now.items k x || (bytes_eq everyone x || false)))) (ap (λ (l : List Giver). list_any (λ g. giver_has g k x) l) c.as_slice.ensures.value ∙ c.in_ok-givers.ensures k x ∙ ap (λ (l : List Held). by_roles c.args.roles.now l k x) c.all-2.ensures))) c.periods_for.ensures
+pub periods_among-requires-clause-among : goal.periods_among-requires-clause-among
+periods_among-requires-clause-among c = λ x.
+    ap (λ (l : List (Bor (List ℕ))). among (names_of l) x) c.as_slice.ensures.value
+    ∙ c.in_ok-channels.ensures.among x
+    ∙ ap (λ (l : List Held). may_have c.args.roles.now l x) c.all.ensures

@@ -4,7 +4,7 @@ use Rattle.std.specs.List.{list_any}
 use Rattle.grant_history.specs.declared.track.Track.{Track}
 use Rattle.grant_history.specs.declared.ways.Gift.{Gift}
 use Rattle.grant_history.specs.Ways.{gift_has, track_has}
-use Rattle.grant_history.proofs.Cutting.{any_end}
+use Rattle.grant_history.proofs.Gathered.{any_end}
 use Rattle.grant_history.proofs.ways.add_gift.Goals as goal
 
 -- a role that never had the channel gives it at no place

@@ -1,5 +1,5 @@
 use Rattle.std.proofs.Common.{ℕ, ◌+◌, ◌∙◌, sym, ap, arith, List, [], ◌∷◌, ◌++◌, take, if◌then◌else◌}
-use Rattle.std.proofs.lemmas.List.{take_more}
+use Rattle.std.proofs.lemmas.List.{take_more, take_all}
 use Rattle.grant_history.specs.declared.facts.Fact.{Fact}
 use Rattle.grant_history.specs.Facts.{times, same_fact}
 use Rattle.grant_history.specs.Holdings.{count_at}
@@ -39,3 +39,11 @@ returns-in-Err-clause-err c =
 
 pub returns-in_err-places-clause-err : goal.returns-in_err-places-clause-err
 returns-in_err-places-clause-err c = any_err c.from_residual.result _ (same_store c.args.self.now c.args.at)
+
+pub loop-i-init : goal.loop-i-init
+loop-i-init c = recounted_at c.args.self.now c.args.self.now c.args.at _ _ (same_store c.args.self.now c.args.at) (λ f. omega arith)
+
+pub returns-clause-ok : goal.returns-clause-ok
+returns-clause-ok c =
+    recounted_at c.args.self.now c.loop-i.self c.args.at _ _ c.loop-i.invariant
+    (λ f. ap (λ (l : List Fact). count_at c.args.self.now f + times l f) (take_all c.loop-i.i c.args.facts.now (omega (arith, c.loop-i-test.false))))

@@ -1,7 +1,7 @@
 use Rattle.sg_history.specs.History.{past}
 use Rattle.log_index.specs.Index.{Indexes}
 use Rattle.grant_history.specs.Winners.{AreWinners}
-use Rattle.grant_history.proofs.winners.winners_of.Given as goal
+use Rattle.grant_history.proofs.winners.add_winners.Given as goal
 
 -- the entries up to here are taken, and their winners found
 abbrev pub invariant-loop-entry : goal.invariant-loop-entry

@@ -1,7 +1,7 @@
 use Rattle.std.proofs.Common.{take}
 use Rattle.grant_history.specs.Givers.{has_at_with}
 use Rattle.grant_history.specs.Periods.{AreSoFar, names_of}
-use Rattle.grant_history.proofs.periods.periods_for.Given as goal
+use Rattle.grant_history.proofs.periods.add_periods.Given as goal
 
 -- the periods of the channels so far
 abbrev pub invariant-loop-channel : goal.invariant-loop-channel

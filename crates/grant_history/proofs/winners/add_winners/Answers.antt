@@ -7,7 +7,7 @@ use Rattle.log_index.specs.Index.{Indexes}
 use Rattle.grant_history.specs.Winners.{AreWinners}
 use Rattle.grant_history.proofs.Applied.{past_next}
 use Rattle.grant_history.proofs.Winning.{more_winners}
-use Rattle.grant_history.proofs.winners.winners_of.Goals as goal
+use Rattle.grant_history.proofs.winners.add_winners.Goals as goal
 
 pub loop-entry-preserved : goal.loop-entry-preserved
 loop-entry-preserved c =
