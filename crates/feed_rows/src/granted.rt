@@ -9,16 +9,30 @@ use grant_history::GrantHistory;
 use sg_history::{Channels, Log, LogReads, Name};
 use std::alloc::{AllocError, Global};
 
-/// The history of grants of a log up to a place.
-fn history_of(alloc: Global, log: &Log, front: u64) -> Result<GrantHistory, AllocError>
-    requires { front ≤ length (entries_of log.now) }
-    ensures stands { IfOk result (λ history. StandsFor history (entries_of log.now)) }
-    ensures applied { IfOk result (λ history. history.applied ≡ front) }
+/// Applies the first `front` entries of a log to a history of which nothing is applied. The channels that a user
+/// has then; none where the user does not exist.
+fn channels_by(
+    history: &mut GrantHistory,
+    log: &Log,
+    front: u64,
+    user: &Name,
+) -> Result<Option<Channels>, AllocError>
+    requires stands { StandsFor history.old (entries_of log.now) }
+    requires none { history.old.applied ≡ 0 }
+    requires within { front ≤ length (entries_of log.now) }
+    ensures exists { IfOk result (λ found. is_some found ≡ principals.exists
+        (principals.user_at (past (entries_of log.now) front) user.now)) }
+    ensures channels { IfOk result (λ found. IfSome found
+        (λ channels. (channel : List ℕ) → among channels channel ≡ principals.has_channel
+        (past (entries_of log.now) front) user.now channel)) }
 {
     let mut reads = LogReads::new(log);
-    let mut history = GrantHistory::new(alloc);
     history.apply(&mut reads, front)?;
-    Ok(history)
+    if !history.exists_at(user, front) {
+        return Ok(None);
+    }
+    let channels = history.channels_at(user, front)?;
+    Ok(Some(channels))
 }
 
 /// The channels that a user has at the end of the first `front` entries of a log, each once, by rising bytes; none
@@ -36,10 +50,6 @@ pub fn channels_of(
         (λ channels. (channel : List ℕ) → among channels channel ≡ principals.has_channel
         (past (entries_of log.now) front) user.now channel)) }
 {
-    let history = history_of(alloc, log, front)?;
-    if !history.exists_at(user, front) {
-        return Ok(None);
-    }
-    let channels = history.channels_at(user, front)?;
-    Ok(Some(channels))
+    let mut history = GrantHistory::new(alloc);
+    channels_by(&mut history, log, front, user)
 }
