@@ -1,7 +1,8 @@
 -- spans that have ended, in their order
-use Rattle.std.proofs.Common.{◌≡◌, ◌<◌, ◌≤◌, ℕ, zero, suc, refl, sym, ◌∙◌, ap, arith, Bool, true, false, ◌&&◌, ◌||◌, if◌then◌else◌, nat_le, nat_lt, List, [], ◌∷◌, ◌++◌, length, length-append}
+use Rattle.std.proofs.Common.{◌≡◌, ◌<◌, ◌≤◌, ℕ, zero, suc, refl, sym, ◌∙◌, ap, subst, arith, Bool, true, false, ◌&&◌, ◌||◌, if◌then◌else◌, nat_le, nat_lt, List, [], ◌∷◌, ◌++◌, length, length-append}
 use Rattle.std.specs.Prelude.{slice_index_or}
 use Rattle.std.specs.List.{list_any}
+use Rattle.std.specs.List.Sorted.{IsNonDecreasingBy}
 use Rattle.std.proofs.lemmas.Bool.{lt-leb, le-leb}
 use Rattle.grant_history.specs.declared.track.Span.{Span}
 use Rattle.grant_history.specs.Tracks.{closed_with, has_place}
@@ -63,6 +64,18 @@ by_first (s ∷ ss) (suc n) k x before after apart within =
 -- where none is left at a place
 pub by_none : (ss : List Span) (n k : ℕ) → ((i : ℕ) (d : Span) → i < n → (slice_index_or ss i d).to ≤ k) → length ss ≤ n → list_any (has_place k) ss ≡ false
 by_none ss n k before le = none_left ss k (λ i d w. before i d (omega (arith, w, le)))
+
+-- spans rise by where they end
+pub rise_by_end : (ss : List Span) → ArePlaced ss → AreApartBy ss → IsNonDecreasingBy (λ (s : Span). s.to) ss
+rise_by_end ss placed apart i j d le within = by (nat_lt i j) refl
+  where
+    by : (b : Bool) → nat_lt i j ≡ b → (slice_index_or ss i d).to ≤ (slice_index_or ss j d).to
+    by true is =
+        let less : i < j = grind (arith, is) in
+        omega (arith, apart i j d less within, placed j d within)
+    by false is =
+        let same : i ≡ j = grind (arith, is, le) in
+        subst (λ (m : ℕ). (slice_index_or ss i d).to ≤ (slice_index_or ss m d).to) same (omega arith)
 
 -- one more behind those that have ended where it begins
 apart_more : (ss : List Span) (s : Span) → AreApartBy ss → HaveEnded ss s.from → AreApartBy (ss ++ s ∷ [])

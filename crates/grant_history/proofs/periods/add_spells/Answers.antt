@@ -1,4 +1,4 @@
-use Rattle.std.proofs.Common.{◌≡◌, ◌∙◌, ap, arith, List, [], ◌∷◌, ◌++◌, get_or, None}
+use Rattle.std.proofs.Common.{◌∙◌, ap, arith, [], ◌∷◌, ◌++◌, get_or, None}
 use Rattle.std.proofs.lemmas.List.{get_or_default}
 use Rattle.grant_history.specs.declared.periods.Period.{Period}
 use Rattle.grant_history.specs.Periods.{period_of}

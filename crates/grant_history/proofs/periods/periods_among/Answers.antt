@@ -1,4 +1,4 @@
-use Rattle.std.proofs.Common.{◌∙◌, ap, List, ℕ, Bool, ◌&&◌, ◌||◌, false}
+use Rattle.std.proofs.Common.{◌∙◌, ap, List, Bool, ◌&&◌, ◌||◌, false}
 use Rattle.std.specs.Str.{bytes_eq}
 use Rattle.std.specs.List.{list_any}
 use Rattle.std.proofs.lemmas.Result.{IfOk-weaker}

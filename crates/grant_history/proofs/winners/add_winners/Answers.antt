@@ -20,3 +20,6 @@ loop-entry-preserved c =
       indexes = subst (λ (es : List Entry). Indexes c.add_winner.new.index es) (sym (past_next entries i e is)) (c.in_ok-add_winner.ensures.index (past entries i) c.loop-entry.invariant.indexes);
       winners = subst (λ (ws : List ℕ). AreWinners entries ws (i + 1)) (sym (c.in_ok-add_winner.ensures.winners (past entries i) c.loop-entry.invariant.indexes)) (more_winners entries i e is c.loop-entry.winners.items c.loop-entry.invariant.winners);
     }
+
+pub returns : goal.returns
+returns c = subst (λ (n : ℕ). AreWinners c.args.entries.now c.loop-entry.winners.items n) (omega (arith, c.loop-entry-test.false)) c.loop-entry.invariant.winners

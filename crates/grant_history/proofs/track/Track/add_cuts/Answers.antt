@@ -1,4 +1,4 @@
-use Rattle.std.proofs.Common.{ap, sym, ℕ, List}
+use Rattle.std.proofs.Common.{ap, sym, List}
 use Rattle.std.specs.List.{list_any}
 use Rattle.grant_history.specs.declared.track.Span.{Span}
 use Rattle.grant_history.specs.Tracks.{has_place}
