@@ -1,3 +1,4 @@
+pub mod Gathered
 pub mod Placed
 pub mod Members
 pub mod Granting
