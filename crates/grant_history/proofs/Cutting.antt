@@ -7,7 +7,6 @@ use Rattle.std.proofs.lemmas.Bool.{true≢false}
 use Rattle.std.proofs.lemmas.List.{drop_more, drop_all}
 use Rattle.std.proofs.lemmas.List.Sorted.{list_any-IsPermutation}
 use Rattle.grant_history.specs.declared.givers.Giver.{Giver}
-use Rattle.grant_history.specs.declared.ways.Gift.{Gift}
 use Rattle.grant_history.specs.declared.ways.Ways.{Ways}
 use Rattle.grant_history.specs.declared.spells.Sweep.{Sweep}
 use Rattle.grant_history.specs.declared.track.Span.{Span}
@@ -104,31 +103,9 @@ track_covers t start middle new c is = record {
     parts : (k : ℕ) → is_cut new k ≡ false → (is_cut middle k ≡ false) × (is_cut (t.opened ∷ t.until ∷ []) k ≡ false)
     parts k h = cut_parts middle (t.opened ∷ t.until ∷ []) k (ap (λ (l : List ℕ). is_cut l k) (sym is) ∙ h)
 
--- a test that never changes
-pub covers_none : (cuts : List ℕ) (test : ℕ → Bool) → ((k : ℕ) → test k ≡ false) → Covers cuts cuts test
-covers_none cuts test never = record { kept = λ k h. h; steady = λ k h. never (k + 1) ∙ sym (never k) }
-
+-- a test in other words
 pub covers_same : (old new : List ℕ) (one other : ℕ → Bool) → Covers old new one → ((k : ℕ) → other k ≡ one k) → Covers old new other
 covers_same old new one other c same = record { kept = c.kept; steady = λ k h. same (k + 1) ∙ c.steady k h ∙ sym (same k) }
-
--- what one step covers is covered after the next
-pub covers_later : (a b d : List ℕ) (one other : ℕ → Bool) → Covers a b one → Covers b d other → Covers a d one
-covers_later a b d one other c e = record { kept = λ k h. c.kept k (e.kept k h); steady = λ k h. c.steady k (e.kept (k + 1) h) }
-
-pub covers_next : (a b d : List ℕ) (one other : ℕ → Bool) → Covers a b one → Covers b d other → Covers a d other
-covers_next a b d one other c e = record { kept = λ k h. c.kept k (e.kept k h); steady = e.steady }
-
-pub covers_both : (a b : List ℕ) (one other : ℕ → Bool) → Covers a b one → Covers a b other → Covers a b (λ k. one k && other k)
-covers_both a b one other c e = record {
-  kept = c.kept;
-  steady = λ k h. ap (λ (x : Bool). x && other (k + 1)) (c.steady k h) ∙ ap (λ (x : Bool). one k && x) (e.steady k h);
-}
-
-pub gift_covers : (a b d : List ℕ) (g : Gift) → Covers a b (held_at g.held.now) → Covers b d (track_has g.by.exists) → Covers b d (track_has g.by.channel) → Covers a d (gift_has g)
-gift_covers a b d g track exists channel =
-    covers_both a d (held_at g.held.now) (λ k. track_has g.by.exists k && track_has g.by.channel k)
-    (covers_later a b d _ _ track exists)
-    (covers_next a b d _ _ track (covers_both b d (track_has g.by.exists) (track_has g.by.channel) exists channel))
 
 -- those of a user: its own, and those of its roles
 pub all_steady : (none a b sorted : List ℕ) (w : Ways) → Covers none a (track_has w.own.exists) → Covers none a (track_has w.own.channel)

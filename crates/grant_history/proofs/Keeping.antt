@@ -102,9 +102,6 @@ settled store n f is = by f.of
 pub later_store : (store : Store) (n m : ℕ) → n ≤ m → IsStore store n → IsStore store m
 later_store store n m le is = record { users = later_all store.users n m le is.users; roles = later_all store.roles n m le is.roles }
 
-pub still_store : (store : Store) (at : ℕ) → Dated count_at has_at IsStore store store at (count_at store)
-still_store store at = record { counts = λ f. refl; before = λ f k below. refl; up_to = λ n le up. later_store store n at le up }
-
 module _ (old new : Ledger) (at : ℕ) where
   pub took : (source : Source) (facts : List Fact)
       → Dated count_at has_at IsStore old.store new.store at (λ f. count_at old.store f + times facts f - times (facts_from old source) f)

@@ -1,8 +1,8 @@
 -- lists in which each thing stands once
 use Rattle.std.proofs.Common.{◌≡◌, ◌+◌, ◌<◌, ℕ, zero, suc, refl, sym, ◌∙◌, ap, subst, arith, Bool, true, false, ◌&&◌, ◌||◌, if◌then◌else◌, List, [], ◌∷◌, ◌++◌, length, get_or, Option, Some, None}
-use Rattle.std.specs.Prelude.{option_map, slice_get, slice_set, is_some}
+use Rattle.std.specs.Prelude.{option_map, slice_get, slice_set}
 use Rattle.std.specs.List.{list_any}
-use Rattle.std.proofs.lemmas.Bool.{false≢true, true≢false}
+use Rattle.std.proofs.lemmas.Bool.{false≢true}
 use Rattle.std.proofs.lemmas.Option.{none-some, same_Some, get_or_from_slice_get}
 use Rattle.grant_history.specs.declared.facts.What.{What}
 use Rattle.grant_history.specs.declared.facts.What.TheVariants as what
@@ -71,17 +71,6 @@ channel_any list k x once =
     any_same (λ h. held_at h.track k && is_channel h.what x) (λ h. same_what h.what (what.Channel x) && held_at h.track k)
     (λ h. and_swap (held_at h.track k) (is_channel h.what x) ∙ ap (λ (b : Bool). b && held_at h.track k) (channel_is h.what x)) list
     ∙ any_of list k (what.Channel x) once
-
--- a channel that stands nowhere is held nowhere
-pub channel_never : (list : List Held) (x : List ℕ) → StandOnce list → is_some (place_of list (what.Channel x)) ≡ false → (k : ℕ) → channel_among list k x ≡ false
-channel_never list x once h k =
-    any_same (λ h. held_at h.track k && is_channel h.what x) (λ h. same_what h.what (what.Channel x) && held_at h.track k)
-    (λ h. and_swap (held_at h.track k) (is_channel h.what x) ∙ ap (λ (b : Bool). b && held_at h.track k) (channel_is h.what x)) list
-    ∙ none_of list (what.Channel x) k (nowhere (place_of list (what.Channel x)) h)
-  where
-    nowhere : (o : Option ℕ) → is_some o ≡ false → o ≡ None
-    nowhere None h = refl
-    nowhere (Some n) h = absurd (true≢false h)
 
 -- the list with one more, which stood nowhere
 place_added : (list : List Held) (x : Held) (w : What) → place_of list x.what ≡ None → place_of (list ++ x ∷ []) w ≡ (if same_what x.what w then Some (length list) else place_of list w)
