@@ -1,4 +1,6 @@
 pub mod Acts
+pub mod Leaves
+pub mod Orders
 pub mod Values
 pub mod Variables
 pub mod Slots

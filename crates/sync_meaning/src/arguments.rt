@@ -1,10 +1,11 @@
 //! What builtins take.
 
-ghost use Rattle.std.specs.Prelude.{◌≡◌, option_map, IfOk};
+ghost use Rattle.std.specs.Prelude.{◌≡◌, ◌∷◌, ◌++◌, [], option_map, IfOk, OnOk};
 ghost use Rattle.sg_names.specs.Grammar.{is_name, is_channel_name};
 ghost use Rattle.sg_names.specs.Grants.{is_grantee};
 ghost use Rattle.sync_meaning.specs.Acts.{Gives};
 ghost use Rattle.sync_meaning.specs.Builtins as spec;
+ghost use Rattle.sync_meaning.specs.Leaves.{Leaves};
 
 use crate::Memory;
 use crate::fault::{FaultKind, Stop};
@@ -26,6 +27,14 @@ pub fn text_in(value: &Value) -> Option<&str>
     }
 }
 
+/// One text more.
+fn push_text(alloc: Global, texts: &mut Items<DocText>, text: &str) -> Result<(), Memory>
+    ensures { OnOk result (texts.new ≡ texts.old ++ text.now ∷ []) }
+{
+    let text = DocText::from_str(alloc, text)?;
+    texts.push(text)
+}
+
 /// The texts that values are; none where one is no text.
 fn texts_of(alloc: Global, values: &[Value]) -> Result<Option<Items<DocText>>, Memory>
     ensures { IfOk result (λ texts. texts ≡ spec.texts_of values.now) }
@@ -33,13 +42,22 @@ fn texts_of(alloc: Global, values: &[Value]) -> Result<Option<Items<DocText>>, M
     let mut found = Items::new(alloc);
     let mut left = values;
     while let [value, rest @ ..] = left {
-        let Some(text) = text_in(value) else {
-            return Ok(None);
-        };
-        found.push(DocText::from_str(alloc, text)?)?;
+        match text_in(value) {
+            Some(text) => push_text(alloc, &mut found, text)?,
+            None => return Ok(None),
+        }
         left = rest;
     }
     Ok(Some(found))
+}
+
+/// One text.
+fn one_text(alloc: Global, text: &str) -> Result<Items<DocText>, Memory>
+    ensures { IfOk result (λ texts. texts ≡ text.now ∷ []) }
+{
+    let mut one = Items::new(alloc);
+    push_text(alloc, &mut one, text)?;
+    Ok(one)
 }
 
 /// The texts of an argument.
@@ -49,11 +67,7 @@ fn texts_in(alloc: Global, place: Place, value: &Value) -> Result<Items<DocText>
 {
     let found = match value {
         Value::Undefined | Value::Null => Some(Items::new(alloc)),
-        Value::Text(text) => {
-            let mut one = Items::new(alloc);
-            one.push(DocText::from_str(alloc, text.as_str())?)?;
-            Some(one)
-        }
+        Value::Text(text) => Some(one_text(alloc, text.as_str())?),
         Value::List(values) => texts_of(alloc, values.get().as_slice())?,
         _ => None,
     };
@@ -113,6 +127,19 @@ fn grantee_of(alloc: Global, place: Place, text: &str) -> Result<Grantee, Stop>
     }
 }
 
+/// The users that texts name, behind those found.
+fn push_users(alloc: Global, place: Place, texts: &[DocText], found: &mut Names) -> Result<(), Stop>
+    ensures { Leaves (spec.named_from place spec.itself is_name found.old texts.now)
+        result found.new }
+{
+    let mut left = texts;
+    while let [text, rest @ ..] = left {
+        found.push(name_of(alloc, place, text.as_str())?)?;
+        left = rest;
+    }
+    Ok(())
+}
+
 /// Names of users.
 #[tactic(auto, unfolding(crate::specs::Builtins::users_in))]
 pub(crate) fn users_in(alloc: Global, place: Place, value: &Value) -> Result<Names, Stop>
@@ -120,12 +147,28 @@ pub(crate) fn users_in(alloc: Global, place: Place, value: &Value) -> Result<Nam
 {
     let texts = texts_in(alloc, place, value)?;
     let mut found = List::new(alloc);
-    let mut left = texts.as_slice();
+    let done = push_users(alloc, place, texts.as_slice(), &mut found);
+    drop(texts);
+    match done {
+        Ok(()) => Ok(found),
+        Err(stop) => {
+            drop(found);
+            Err(stop)
+        }
+    }
+}
+
+/// The roles that texts name, behind those found.
+fn push_roles(alloc: Global, place: Place, texts: &[DocText], found: &mut Names) -> Result<(), Stop>
+    ensures { Leaves (spec.named_from place spec.bare_role is_name found.old texts.now)
+        result found.new }
+{
+    let mut left = texts;
     while let [text, rest @ ..] = left {
-        found.push(name_of(alloc, place, text.as_str())?)?;
+        found.push(name_of(alloc, place, bare_role(text.as_str()))?)?;
         left = rest;
     }
-    Ok(found)
+    Ok(())
 }
 
 /// Names of roles, which may be written with `role:` before them.
@@ -135,12 +178,33 @@ pub(crate) fn roles_in(alloc: Global, place: Place, value: &Value) -> Result<Nam
 {
     let texts = texts_in(alloc, place, value)?;
     let mut found = List::new(alloc);
-    let mut left = texts.as_slice();
+    let done = push_roles(alloc, place, texts.as_slice(), &mut found);
+    drop(texts);
+    match done {
+        Ok(()) => Ok(found),
+        Err(stop) => {
+            drop(found);
+            Err(stop)
+        }
+    }
+}
+
+/// The channels that texts name, behind those found.
+fn push_channels(
+    alloc: Global,
+    place: Place,
+    texts: &[DocText],
+    found: &mut Channels,
+) -> Result<(), Stop>
+    ensures { Leaves (spec.named_from place spec.itself is_channel_name found.old texts.now)
+        result found.new }
+{
+    let mut left = texts;
     while let [text, rest @ ..] = left {
-        found.push(name_of(alloc, place, bare_role(text.as_str()))?)?;
+        found.push(channel_of(alloc, place, text.as_str())?)?;
         left = rest;
     }
-    Ok(found)
+    Ok(())
 }
 
 /// Names of channels.
@@ -150,12 +214,33 @@ pub(crate) fn channels_in(alloc: Global, place: Place, value: &Value) -> Result<
 {
     let texts = texts_in(alloc, place, value)?;
     let mut found = List::new(alloc);
-    let mut left = texts.as_slice();
+    let done = push_channels(alloc, place, texts.as_slice(), &mut found);
+    drop(texts);
+    match done {
+        Ok(()) => Ok(found),
+        Err(stop) => {
+            drop(found);
+            Err(stop)
+        }
+    }
+}
+
+/// The users and roles that texts name, behind those found.
+fn push_grantees(
+    alloc: Global,
+    place: Place,
+    texts: &[DocText],
+    found: &mut Items<Grantee>,
+) -> Result<(), Stop>
+    ensures { Leaves (spec.named_from place spec.grantee_of is_grantee found.old texts.now)
+        result found.new }
+{
+    let mut left = texts;
     while let [text, rest @ ..] = left {
-        found.push(channel_of(alloc, place, text.as_str())?)?;
+        found.push(grantee_of(alloc, place, text.as_str())?)?;
         left = rest;
     }
-    Ok(found)
+    Ok(())
 }
 
 /// Whom channels are granted to: users, and roles with `role:` before them.
@@ -169,10 +254,13 @@ pub(crate) fn grantees_in(
 {
     let texts = texts_in(alloc, place, value)?;
     let mut found = Items::new(alloc);
-    let mut left = texts.as_slice();
-    while let [text, rest @ ..] = left {
-        found.push(grantee_of(alloc, place, text.as_str())?)?;
-        left = rest;
+    let done = push_grantees(alloc, place, texts.as_slice(), &mut found);
+    drop(texts);
+    match done {
+        Ok(()) => Ok(found),
+        Err(stop) => {
+            drop(found);
+            Err(stop)
+        }
     }
-    Ok(found)
 }

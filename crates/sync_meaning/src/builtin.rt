@@ -3,18 +3,17 @@
 ghost use Rattle.std.specs.Prelude.{◌≡◌, ◌++◌, [], IfOk};
 ghost use Rattle.sync_meaning.specs.Acts.{Does, Gives};
 ghost use Rattle.sync_meaning.specs.Builtins as spec;
+ghost use Rattle.sync_meaning.specs.Values.{found_then};
 
 use crate::Memory;
 use crate::arguments::{channels_in, grantees_in, roles_in, users_in};
 use crate::callee::Builtin;
-use crate::effects::Effects;
 use crate::fault::{FaultKind, Rule, RuleKind, Stop};
 use crate::methods::is_list;
 use crate::state::{Context, State};
 use crate::value::Value;
-use sg_names::{ChannelName, Channels, List, Name};
+use sg_names::{ChannelName, Channels, Grantee, List, Name};
 use std::alloc::Global;
-use std::mem;
 use sync_tokens::Place;
 
 fn is_name_in(all: &[Name], name: &[u8]) -> bool
@@ -131,14 +130,43 @@ fn all_channels(alloc: Global, place: Place, values: &[Value]) -> Result<Channel
     Ok(found)
 }
 
+/// Puts the document into these channels.
+fn put_into(
+    alloc: Global,
+    place: Place,
+    channels: &[ChannelName],
+    state: &mut State,
+) -> Result<Value, Stop>
+    ensures { Does (found_then (spec.add_channels place channels.now state.old.effects)
+        (spec.with_effects state.old)) result state.new }
+{
+    state.effects.add_channels(alloc, place, channels)?;
+    Ok(Value::Undefined)
+}
+
 /// `channel(..)`
 #[tactic(auto, unfolding(crate::specs::Builtins::channel))]
 fn channel(alloc: Global, place: Place, values: &[Value], state: &mut State) -> Result<Value, Stop>
     ensures { Does (spec.channel place values.now state.old) result state.new }
 {
     let channels = all_channels(alloc, place, values)?;
-    let effects = mem::replace(&mut state.effects, Effects::none(alloc));
-    state.effects = effects.add_channels(alloc, place, channels.as_slice())?;
+    let done = put_into(alloc, place, channels.as_slice(), state);
+    drop(channels);
+    done
+}
+
+/// Grants each of these channels to each of those.
+fn grant(
+    alloc: Global,
+    place: Place,
+    grantees: &[Grantee],
+    channels: &[ChannelName],
+    state: &mut State,
+) -> Result<Value, Stop>
+    ensures { Does (found_then (spec.add_grants place grantees.now channels.now state.old.effects)
+        (spec.with_effects state.old)) result state.new }
+{
+    state.effects.add_grants(alloc, place, grantees, channels)?;
     Ok(Value::Undefined)
 }
 
@@ -154,9 +182,37 @@ fn access(
     ensures { Does (spec.access place users.now channels.now state.old) result state.new }
 {
     let grantees = grantees_in(alloc, place, users)?;
-    let channels = channels_in(alloc, place, channels)?;
-    let effects = mem::replace(&mut state.effects, Effects::none(alloc));
-    state.effects = effects.add_grants(alloc, place, grantees.as_slice(), channels.as_slice())?;
+    let channels = match channels_in(alloc, place, channels) {
+        Ok(channels) => channels,
+        Err(stop) => {
+            drop(grantees);
+            return Err(stop);
+        }
+    };
+    let done = grant(
+        alloc,
+        place,
+        grantees.as_slice(),
+        channels.as_slice(),
+        state,
+    );
+    drop(grantees);
+    drop(channels);
+    done
+}
+
+/// Gives each of these roles to each of those users.
+fn give(
+    alloc: Global,
+    place: Place,
+    users: &[Name],
+    roles: &[Name],
+    state: &mut State,
+) -> Result<Value, Stop>
+    ensures { Does (found_then (spec.add_roles place users.now roles.now state.old.effects)
+        (spec.with_effects state.old)) result state.new }
+{
+    state.effects.add_roles(alloc, place, users, roles)?;
     Ok(Value::Undefined)
 }
 
@@ -172,10 +228,17 @@ fn role(
     ensures { Does (spec.role place users.now roles.now state.old) result state.new }
 {
     let users = users_in(alloc, place, users)?;
-    let roles = roles_in(alloc, place, roles)?;
-    let effects = mem::replace(&mut state.effects, Effects::none(alloc));
-    state.effects = effects.add_roles(alloc, place, users.as_slice(), roles.as_slice())?;
-    Ok(Value::Undefined)
+    let roles = match roles_in(alloc, place, roles) {
+        Ok(roles) => roles,
+        Err(stop) => {
+            drop(users);
+            return Err(stop);
+        }
+    };
+    let done = give(alloc, place, users.as_slice(), roles.as_slice(), state);
+    drop(users);
+    drop(roles);
+    done
 }
 
 /// `requireUser(users)`
@@ -190,6 +253,7 @@ fn require_user(
 {
     let names = users_in(alloc, place, users)?;
     let passes = state.context.passes_user(names.as_slice());
+    drop(names);
     unless_passing(passes, RuleKind::User, place, state)
 }
 
@@ -205,6 +269,7 @@ fn require_role(
 {
     let roles = roles_in(alloc, place, roles)?;
     let passes = state.context.passes_role(roles.as_slice());
+    drop(roles);
     unless_passing(passes, RuleKind::Role, place, state)
 }
 
@@ -220,6 +285,7 @@ fn require_access(
 {
     let channels = channels_in(alloc, place, channels)?;
     let passes = state.context.passes_access(channels.as_slice());
+    drop(channels);
     unless_passing(passes, RuleKind::Access, place, state)
 }
 

@@ -1,8 +1,8 @@
 //! Effects, which are kept in order, each once.
 
-ghost use Rattle.std.specs.Prelude.{◌≡◌, ◌≤◌, [], length, insert, IfOk, IfSome, IfNone};
+ghost use Rattle.std.specs.Prelude.{◌≡◌, ◌≤◌, [], length, insert, IfOk, IfSome, IfNone, OnOk};
 ghost use Rattle.std.specs.declared.cmp.Ordering as ordering;
-ghost use Rattle.sync_meaning.specs.Acts.{Gives};
+ghost use Rattle.sync_meaning.specs.Leaves.{Leaves};
 ghost use Rattle.sync_meaning.specs.Builtins as spec;
 
 use crate::fault::{FaultKind, Stop};
@@ -11,6 +11,7 @@ use sg_names::{
 };
 use std::alloc::{AllocError, Global};
 use std::cmp::Ordering;
+use std::mem;
 use sync_tokens::Place;
 
 /// How many effects there may be.
@@ -80,15 +81,46 @@ fn place_for<T: Ordered>(item: &T, items: &[T]) -> Option<usize>
     Some(items.len())
 }
 
-/// An item put at its place, where it isn't there yet.
-fn put<T: Ordered>(item: T, items: List<T>) -> Result<List<T>, AllocError>
-    ensures { IfOk result (λ made. made ≡ spec.put T.order item items) }
+/// A grant of a channel to a user or role.
+fn grant_of(alloc: Global, to: &Grantee, channel: &ChannelName) -> Result<Grant, AllocError>
+    ensures to { IfOk result (λ made. made.to ≡ to.now) }
+    ensures channel { IfOk result (λ made. made.channel ≡ channel.now) }
 {
-    let mut items = items.into_vec();
-    if let Some(at) = place_for(&item, items.as_slice()) {
-        items.insert(at, item)?;
+    let to = to.copy(alloc)?;
+    match channel.copy(alloc) {
+        Ok(channel) => Ok(Grant { to, channel }),
+        Err(error) => {
+            drop(to);
+            Err(error)
+        }
     }
-    Ok(List::from_vec(items))
+}
+
+/// A role of a user.
+fn role_grant_of(alloc: Global, user: &Name, role: &Name) -> Result<RoleGrant, AllocError>
+    ensures user { IfOk result (λ made. made.user ≡ user.now) }
+    ensures role { IfOk result (λ made. made.role ≡ role.now) }
+{
+    let user = user.copy(alloc)?;
+    match role.copy(alloc) {
+        Ok(role) => Ok(RoleGrant { user, role }),
+        Err(error) => {
+            drop(user);
+            Err(error)
+        }
+    }
+}
+
+/// An item put at its place, where it isn't there yet.
+fn put<T: Ordered>(alloc: Global, item: T, items: &mut List<T>) -> Result<(), AllocError>
+    ensures { OnOk result (items.new ≡ spec.put T.order item items.old) }
+{
+    if let Some(at) = place_for(&item, items.as_slice()) {
+        let mut all = mem::replace(items, List::new(alloc)).into_vec();
+        all.insert(at, item)?;
+        *items = List::from_vec(all);
+    }
+    Ok(())
 }
 
 impl Effects {
@@ -105,10 +137,10 @@ impl Effects {
         }
     }
 
-    /// The same, if there are not too many.
+    /// That there are not too many.
     #[tactic(auto, unfolding(crate::specs::Builtins::within))]
-    fn within(self, place: Place) -> Result<Effects, Stop>
-        ensures { result ≡ spec.within place self }
+    fn within(&self, place: Place) -> Result<(), Stop>
+        ensures { Leaves (spec.within place self.now) result self.now }
     {
         let channels = self.channels.as_slice().len();
         let grants = self.grants.as_slice().len();
@@ -120,142 +152,145 @@ impl Effects {
         {
             return Err(Stop::fault(FaultKind::Size, place));
         }
-        Ok(self)
+        Ok(())
     }
 
     /// A channel more.
     #[tactic(auto, unfolding(crate::specs::Builtins::add_channel))]
-    fn add_channel(self, place: Place, channel: ChannelName) -> Result<Effects, Stop>
-        ensures { Gives (spec.add_channel place channel self) result }
+    fn add_channel(
+        &mut self,
+        alloc: Global,
+        place: Place,
+        channel: &ChannelName,
+    ) -> Result<(), Stop>
+        ensures { Leaves (spec.add_channel place channel.now self.old) result self.new }
     {
-        Effects {
-            channels: put(channel, self.channels)?,
-            grants: self.grants,
-            roles: self.roles,
-        }
-        .within(place)
+        let channel = channel.copy(alloc)?;
+        put(alloc, channel, &mut self.channels)?;
+        self.within(place)
     }
 
     /// A grant more.
     #[tactic(auto, unfolding(crate::specs::Builtins::add_grant))]
-    fn add_grant(self, place: Place, to: Grantee, channel: ChannelName) -> Result<Effects, Stop>
-        ensures { Gives (spec.add_grant place to channel self) result }
+    fn add_grant(
+        &mut self,
+        alloc: Global,
+        place: Place,
+        to: &Grantee,
+        channel: &ChannelName,
+    ) -> Result<(), Stop>
+        ensures { Leaves (spec.add_grant place to.now channel.now self.old) result self.new }
     {
-        Effects {
-            channels: self.channels,
-            grants: put(Grant { to, channel }, self.grants)?,
-            roles: self.roles,
-        }
-        .within(place)
+        let grant = grant_of(alloc, to, channel)?;
+        put(alloc, grant, &mut self.grants)?;
+        self.within(place)
     }
 
     /// A role more.
     #[tactic(auto, unfolding(crate::specs::Builtins::add_role))]
-    fn add_role(self, place: Place, user: Name, role: Name) -> Result<Effects, Stop>
-        ensures { Gives (spec.add_role place user role self) result }
+    fn add_role(
+        &mut self,
+        alloc: Global,
+        place: Place,
+        user: &Name,
+        role: &Name,
+    ) -> Result<(), Stop>
+        ensures { Leaves (spec.add_role place user.now role.now self.old) result self.new }
     {
-        Effects {
-            channels: self.channels,
-            grants: self.grants,
-            roles: put(RoleGrant { user, role }, self.roles)?,
-        }
-        .within(place)
+        let role = role_grant_of(alloc, user, role)?;
+        put(alloc, role, &mut self.roles)?;
+        self.within(place)
     }
 
     /// These channels more.
     #[tactic(auto, unfolding(crate::specs::Builtins::add_channels))]
     pub(crate) fn add_channels(
-        self,
+        &mut self,
         alloc: Global,
         place: Place,
         channels: &[ChannelName],
-    ) -> Result<Effects, Stop>
-        ensures { Gives (spec.add_channels place channels.now self) result }
+    ) -> Result<(), Stop>
+        ensures { Leaves (spec.add_channels place channels.now self.old) result self.new }
     {
-        let mut effects = self;
         let mut left = channels;
         while let [channel, rest @ ..] = left {
-            effects = effects.add_channel(place, channel.copy(alloc)?)?;
+            self.add_channel(alloc, place, channel)?;
             left = rest;
         }
-        Ok(effects)
+        Ok(())
     }
 
     #[tactic(auto, unfolding(crate::specs::Builtins::add_grants_to))]
     fn add_grants_to(
-        self,
+        &mut self,
         alloc: Global,
         place: Place,
         channels: &[ChannelName],
         to: &Grantee,
-    ) -> Result<Effects, Stop>
-        ensures { Gives (spec.add_grants_to place channels.now to.now self) result }
+    ) -> Result<(), Stop>
+        ensures { Leaves (spec.add_grants_to place channels.now to.now self.old) result self.new }
     {
-        let mut effects = self;
         let mut left = channels;
         while let [channel, rest @ ..] = left {
-            effects = effects.add_grant(place, to.copy(alloc)?, channel.copy(alloc)?)?;
+            self.add_grant(alloc, place, to, channel)?;
             left = rest;
         }
-        Ok(effects)
+        Ok(())
     }
 
     /// Each of these channels to each of those.
     #[tactic(auto, unfolding(crate::specs::Builtins::add_grants))]
     pub(crate) fn add_grants(
-        self,
+        &mut self,
         alloc: Global,
         place: Place,
         grantees: &[Grantee],
         channels: &[ChannelName],
-    ) -> Result<Effects, Stop>
-        ensures { Gives (spec.add_grants place grantees.now channels.now self) result }
+    ) -> Result<(), Stop>
+        ensures { Leaves (spec.add_grants place grantees.now channels.now self.old) result self.new }
     {
-        let mut effects = self;
         let mut left = grantees;
         while let [to, rest @ ..] = left {
-            effects = effects.add_grants_to(alloc, place, channels, to)?;
+            self.add_grants_to(alloc, place, channels, to)?;
             left = rest;
         }
-        Ok(effects)
+        Ok(())
     }
 
     #[tactic(auto, unfolding(crate::specs::Builtins::add_roles_to))]
     fn add_roles_to(
-        self,
+        &mut self,
         alloc: Global,
         place: Place,
         roles: &[Name],
         user: &Name,
-    ) -> Result<Effects, Stop>
-        ensures { Gives (spec.add_roles_to place roles.now user.now self) result }
+    ) -> Result<(), Stop>
+        ensures { Leaves (spec.add_roles_to place roles.now user.now self.old) result self.new }
     {
-        let mut effects = self;
         let mut left = roles;
         while let [role, rest @ ..] = left {
-            effects = effects.add_role(place, user.copy(alloc)?, role.copy(alloc)?)?;
+            self.add_role(alloc, place, user, role)?;
             left = rest;
         }
-        Ok(effects)
+        Ok(())
     }
 
     /// Each of these roles to each of those users.
     #[tactic(auto, unfolding(crate::specs::Builtins::add_roles))]
     pub(crate) fn add_roles(
-        self,
+        &mut self,
         alloc: Global,
         place: Place,
         users: &[Name],
         roles: &[Name],
-    ) -> Result<Effects, Stop>
-        ensures { Gives (spec.add_roles place users.now roles.now self) result }
+    ) -> Result<(), Stop>
+        ensures { Leaves (spec.add_roles place users.now roles.now self.old) result self.new }
     {
-        let mut effects = self;
         let mut left = users;
         while let [user, rest @ ..] = left {
-            effects = effects.add_roles_to(alloc, place, roles, user)?;
+            self.add_roles_to(alloc, place, roles, user)?;
             left = rest;
         }
-        Ok(effects)
+        Ok(())
     }
 }

@@ -86,7 +86,7 @@ impl FaultKind {
 }
 
 impl RuleKind {
-    ghost use Rattle.std.specs.Prelude.{◌≡◌};
+    ghost use Rattle.std.specs.Prelude.{◌≡◌, ◌++◌, OnOk};
     ghost use Rattle.sync_meaning.specs.Texts as spec;
 
     fn name(&self) -> &'static str
@@ -102,29 +102,59 @@ impl RuleKind {
             RuleKind::Fault(kind) => kind.name(),
         }
     }
+
+    /// Behind `forbidden` `: ` and the text that was thrown.
+    fn push_said(&self, text: &mut DocText) -> Result<(), AllocError>
+        ensures { OnOk result (text.new ≡ text.old ++ spec.said self.now) }
+    {
+        match self {
+            RuleKind::Forbidden(said) => {
+                text.push_str(": ")?;
+                text.push_str(said.as_str())
+            }
+            _ => Ok(()),
+        }
+    }
 }
 
 impl Rule {
-    ghost use Rattle.std.specs.Prelude.{◌≡◌, IfOk};
+    ghost use Rattle.std.specs.Prelude.{◌≡◌, ◌++◌, codes, IfOk, OnOk};
     ghost use Rattle.sync_meaning.specs.Texts as spec;
+
+    /// The line, `:` and the column.
+    fn push_place(&self, text: &mut DocText) -> Result<(), AllocError>
+        ensures { OnOk result (text.new ≡ text.old ++ spec.place_text self.now.place) }
+    {
+        let mut line = Buffer::new();
+        let mut column = Buffer::new();
+        text.push_str(line.format(self.place.line))?;
+        text.push_str(":")?;
+        text.push_str(column.format(self.place.column))
+    }
+
+    /// What stands behind the rule's name.
+    fn push_behind(&self, text: &mut DocText) -> Result<(), AllocError>
+        ensures { OnOk result (text.new ≡ text.old ++ codes " at "
+            ++ spec.place_text self.now.place ++ spec.said self.now.kind) }
+    {
+        text.push_str(" at ")?;
+        self.push_place(text)?;
+        self.kind.push_said(text)
+    }
 
     /// The rule's name, ` at `, the line, `:` and the column; behind `forbidden` also `: ` and the
     /// text.
     pub fn text(&self, alloc: Global) -> Result<DocText, AllocError>
         ensures { IfOk result (λ text. text ≡ spec.rule_text self.now) }
     {
-        let mut line = Buffer::new();
-        let mut column = Buffer::new();
         let mut text = DocText::from_str(alloc, self.kind.name())?;
-        text.push_str(" at ")?;
-        text.push_str(line.format(self.place.line))?;
-        text.push_str(":")?;
-        text.push_str(column.format(self.place.column))?;
-        if let RuleKind::Forbidden(said) = &self.kind {
-            text.push_str(": ")?;
-            text.push_str(said.as_str())?;
+        match self.push_behind(&mut text) {
+            Ok(()) => Ok(text),
+            Err(error) => {
+                drop(text);
+                Err(error)
+            }
         }
-        Ok(text)
     }
 }
 

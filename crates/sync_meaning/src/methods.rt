@@ -177,9 +177,20 @@ fn joined(alloc: Global, first: &[Value], second: &[Value]) -> Result<Items<Valu
     ensures { IfOk result (λ all. all ≡ first.now ++ second.now) }
 {
     let mut all = share_all(alloc, first)?;
-    let more = share_all(alloc, second)?;
-    all.append(more)?;
-    Ok(all)
+    let more = match share_all(alloc, second) {
+        Ok(more) => more,
+        Err(error) => {
+            drop(all);
+            return Err(error);
+        }
+    };
+    match all.append(more) {
+        Ok(()) => Ok(all),
+        Err(error) => {
+            drop(all);
+            Err(error)
+        }
+    }
 }
 
 /// `list.concat(list)`

@@ -3,6 +3,7 @@
 ghost use Rattle.std.specs.Prelude.{◌≡◌, ◌≤ℤ◌, ◌+ℤ◌, ◌-ℤ◌, ◌*ℤ◌, pos, negsuc, IfOk};
 ghost use Rattle.std.specs.Fmt.{signed_decimal};
 ghost use Rattle.sync_meaning.specs.Acts.{Gives};
+ghost use Rattle.sync_meaning.specs.Orders.{wanted};
 ghost use Rattle.sync_meaning.specs.Values as spec;
 
 use crate::Memory;
@@ -79,11 +80,15 @@ pub fn added(alloc: Global, place: Place, x: &Value, y: &Value) -> Result<Value,
         (Value::Text(a), Value::Text(b)) => joined(alloc, place, a.as_str(), b.as_str()),
         (Value::Text(a), Value::Integer(b)) => {
             let b = decimal_of(alloc, *b)?;
-            joined(alloc, place, a.as_str(), b.as_str())
+            let made = joined(alloc, place, a.as_str(), b.as_str());
+            drop(b);
+            made
         }
         (Value::Integer(a), Value::Text(b)) => {
             let a = decimal_of(alloc, *a)?;
-            joined(alloc, place, a.as_str(), b.as_str())
+            let made = joined(alloc, place, a.as_str(), b.as_str());
+            drop(a);
+            made
         }
         _ => Err(Stop::fault(FaultKind::TypeFault, place)),
     }
@@ -215,6 +220,40 @@ fn strictly_equal(place: Place, x: &Value, y: &Value) -> Result<bool, Stop>
     }
 }
 
+/// Whether an order is the one that `<`, `<=`, `>` or else `>=` wants.
+fn is_wanted(op: Operator, order: Ordering) -> bool
+    ensures { result ≡ wanted op order }
+{
+    match op {
+        Operator::Less => order.is_lt(),
+        Operator::LessOrEqual => !order.is_gt(),
+        Operator::Greater => order.is_gt(),
+        _ => !order.is_lt(),
+    }
+}
+
+/// `<`, `<=`, `>` and `>=`
+fn ordered(place: Place, op: Operator, x: &Value, y: &Value) -> Result<Value, Stop>
+    ensures { result ≡ spec.ordered place (wanted op) x.now y.now }
+{
+    let order = compared(place, x, y)?;
+    Ok(Value::Bool(is_wanted(op, order)))
+}
+
+/// A truth as a value.
+fn truth_value(found: Result<bool, Stop>) -> Result<Value, Stop>
+    ensures { result ≡ spec.truth_value found }
+{
+    Ok(Value::Bool(found?))
+}
+
+/// The other truth as a value.
+fn not_that(found: Result<bool, Stop>) -> Result<Value, Stop>
+    ensures { result ≡ spec.not_that found }
+{
+    Ok(Value::Bool(!found?))
+}
+
 /// What an operator makes of both operands. `||` and `&&` come here with the second one alone.
 fn of_both(alloc: Global, place: Place, op: Operator, x: &Value, y: &Value) -> Result<Value, Stop>
     ensures { Gives (spec.combined place op x.now y.now) result }
@@ -223,14 +262,12 @@ fn of_both(alloc: Global, place: Place, op: Operator, x: &Value, y: &Value) -> R
         Operator::Add => added(alloc, place, x, y),
         Operator::Subtract => subtracted(place, x, y),
         Operator::Multiply => multiplied(place, x, y),
-        Operator::Less => Ok(Value::Bool(compared(place, x, y)?.is_lt())),
-        Operator::LessOrEqual => Ok(Value::Bool(!compared(place, x, y)?.is_gt())),
-        Operator::Greater => Ok(Value::Bool(compared(place, x, y)?.is_gt())),
-        Operator::GreaterOrEqual => Ok(Value::Bool(!compared(place, x, y)?.is_lt())),
-        Operator::Equal => Ok(Value::Bool(loosely_equal(place, x, y)?)),
-        Operator::NotEqual => Ok(Value::Bool(!loosely_equal(place, x, y)?)),
-        Operator::Same => Ok(Value::Bool(strictly_equal(place, x, y)?)),
-        Operator::NotSame => Ok(Value::Bool(!strictly_equal(place, x, y)?)),
+        Operator::Less | Operator::LessOrEqual | Operator::Greater | Operator::GreaterOrEqual =>
+            ordered(place, op, x, y),
+        Operator::Equal => truth_value(loosely_equal(place, x, y)),
+        Operator::NotEqual => not_that(loosely_equal(place, x, y)),
+        Operator::Same => truth_value(strictly_equal(place, x, y)),
+        Operator::NotSame => not_that(strictly_equal(place, x, y)),
         Operator::Or | Operator::And => Ok(y.share()?),
     }
 }
@@ -245,7 +282,10 @@ pub fn combined(
 ) -> Result<Value, Stop>
     ensures { Gives (spec.combined place op x y) result }
 {
-    of_both(alloc, place, op, &x, &y)
+    let made = of_both(alloc, place, op, &x, &y);
+    drop(x);
+    drop(y);
+    made
 }
 
 /// What `typeof` gives.
@@ -267,7 +307,7 @@ pub fn prefixed(alloc: Global, place: Place, op: Prefix, x: &Value) -> Result<Va
     ensures { Gives (spec.prefixed place op x.now) result }
 {
     match op {
-        Prefix::Not => Ok(Value::Bool(!truth(place, x)?)),
+        Prefix::Not => not_that(truth(place, x)),
         Prefix::Negate => negated(place, x),
         Prefix::Typeof => Ok(Value::text(alloc, kind_name(x))?),
     }

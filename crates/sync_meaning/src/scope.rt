@@ -1,6 +1,6 @@
 //! Which variables of `let` and `const` are seen at a place.
 
-ghost use Rattle.std.specs.Prelude.{◌≡◌, ◌++◌, ◌∷◌, [], List, ℕ, Option, IfOk};
+ghost use Rattle.std.specs.Prelude.{◌≡◌, ◌++◌, ◌∷◌, [], List, ℕ, Option, IfOk, OnOk};
 ghost use Rattle.sync_syntax.specs.declared.tree.Expr.{Expr};
 ghost use Rattle.sync_syntax.specs.declared.tree.Named.{Named};
 ghost use Rattle.sync_meaning.specs.Acts.{Gives};
@@ -22,14 +22,26 @@ pub struct Scope {
     pub next: u64,
 }
 
+/// One more is seen.
+fn push_seen(
+    alloc: Global,
+    seen: &mut Items<(DocText, u64)>,
+    name: &DocText,
+    number: u64,
+) -> Result<(), Memory>
+    ensures { OnOk result (seen.new ≡ seen.old ++ (name.now, number) ∷ []) }
+{
+    let name = name.copy(alloc)?;
+    seen.push((name, number))
+}
+
 /// What is seen, the same again.
 fn copy_seen(alloc: Global, seen: &[(DocText, u64)]) -> Result<Items<(DocText, u64)>, Memory>
     ensures { IfOk result (λ made. made ≡ seen.now) }
 {
     let mut made = Items::new(alloc);
     for variable in seen {
-        let name = variable.0.copy(alloc)?;
-        made.push((name, variable.1))?;
+        push_seen(alloc, &mut made, &variable.0, variable.1)?;
     }
     Ok(made)
 }
@@ -44,9 +56,13 @@ fn with_one(
     ensures { IfOk result (λ made. made ≡ seen.now ++ (name.now, number) ∷ []) }
 {
     let mut made = copy_seen(alloc, seen)?;
-    let name = name.copy(alloc)?;
-    made.push((name, number))?;
-    Ok(made)
+    match push_seen(alloc, &mut made, name, number) {
+        Ok(()) => Ok(made),
+        Err(error) => {
+            drop(made);
+            Err(error)
+        }
+    }
 }
 
 impl Scope {
@@ -93,18 +109,19 @@ impl Scope {
     }
 
     /// A variable with a number of its own.
-    fn with_new(self, alloc: Global, name: &DocText) -> Result<Scope, Memory>
-        ensures { IfOk result (λ made. made ≡ spec.declared Declares.Let name.now self) }
+    fn with_new(&self, alloc: Global, name: &DocText) -> Result<Scope, Memory>
+        ensures { IfOk result (λ made. made ≡ spec.declared Declares.Let name.now self.now) }
     {
-        let Scope { seen, next } = self;
-        let Some(after) = next.checked_add(1) else {
-            return Err(AllocError);
-        };
-        let seen = with_one(alloc, seen.get().as_slice(), name, next)?;
-        Ok(Scope {
-            seen: Shared::new(alloc, seen)?,
-            next: after,
-        })
+        match self.next.checked_add(1) {
+            Some(next) => {
+                let seen = with_one(alloc, self.seen.get().as_slice(), name, self.next)?;
+                Ok(Scope {
+                    seen: Shared::new(alloc, seen)?,
+                    next,
+                })
+            }
+            None => Err(AllocError),
+        }
     }
 
     /// What is seen behind the declaration of a variable.

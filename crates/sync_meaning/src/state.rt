@@ -32,11 +32,25 @@ impl Context {
             Some(name) => Some(name.copy(alloc)?),
             None => None,
         };
-        Ok(Context {
-            user,
-            roles: self.roles.copy(alloc)?,
-            channels: self.channels.copy(alloc)?,
-        })
+        let roles = match self.roles.copy(alloc) {
+            Ok(roles) => roles,
+            Err(error) => {
+                drop(user);
+                return Err(error);
+            }
+        };
+        match self.channels.copy(alloc) {
+            Ok(channels) => Ok(Context {
+                user,
+                roles,
+                channels,
+            }),
+            Err(error) => {
+                drop(user);
+                drop(roles);
+                Err(error)
+            }
+        }
     }
 }
 

@@ -71,7 +71,13 @@ pub(crate) fn share_all(alloc: Global, values: &[Value]) -> Result<Items<Value>,
 {
     let mut made = Items::new(alloc);
     for value in values {
-        made.push(value.share()?)?;
+        match value.share() {
+            Ok(value) => made.push(value)?,
+            Err(error) => {
+                drop(made);
+                return Err(error);
+            }
+        }
     }
     Ok(made)
 }

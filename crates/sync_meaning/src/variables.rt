@@ -198,8 +198,15 @@ impl Variables {
             ≡ spec.written slot.now.name slot.now.number value self.old) }
     {
         let at = self.place_of(slot);
+        let name = match slot.name.share() {
+            Ok(name) => name,
+            Err(error) => {
+                drop(value);
+                return Err(error);
+            }
+        };
         let variable = Variable {
-            name: slot.name.share()?,
+            name,
             number: slot.number,
             value,
         };
@@ -213,8 +220,13 @@ impl Variables {
         ensures { OnOk result (self.new
             ≡ spec.written slot.now.name slot.now.number value self.old) }
     {
-        self.keep(&value)?;
-        self.take(slot, value)
+        match self.keep(&value) {
+            Ok(()) => self.take(slot, value),
+            Err(error) => {
+                drop(value);
+                Err(error)
+            }
+        }
     }
 
     /// Lets all go, what was written last first, so that no value is dropped deeper than an
