@@ -4,3 +4,4 @@ pub mod Closing
 pub mod Expressions
 pub mod Statements
 pub mod Resolving
+pub mod Rules

@@ -2,6 +2,7 @@
 
 ghost use Rattle.std.specs.Prelude.{◌≡◌};
 ghost use Rattle.sync_resolve.specs.Names as spec;
+ghost use Rattle.sync_resolve.specs.Rules.{rules};
 ghost use Rattle.sync_resolve.specs.Expressions as expressions;
 
 /// How many arguments a call takes.
@@ -27,6 +28,19 @@ impl Takes {
     }
 }
 
+/// How many arguments the function of this name takes by which a rule denies, if there is one.
+fn rule_takes(name: &str) -> Option<Takes>
+    ensures { result ≡ spec.lookup rules name.now }
+{
+    if name == "requireUser" || name == "requireRole" || name == "requireAccess" {
+        Some(Takes::One)
+    } else if name == "requireAdmin" {
+        Some(Takes::Nothing)
+    } else {
+        None
+    }
+}
+
 /// How many arguments the function of this name takes, if one is built in.
 #[tactic(auto, unfolding(crate::specs::Names::function_takes))]
 pub(crate) fn function_takes(name: &str) -> Option<Takes>
@@ -36,12 +50,8 @@ pub(crate) fn function_takes(name: &str) -> Option<Takes>
         Some(Takes::OneOrMore)
     } else if name == "access" || name == "role" {
         Some(Takes::Two)
-    } else if name == "requireUser" || name == "requireRole" || name == "requireAccess" {
-        Some(Takes::One)
-    } else if name == "requireAdmin" {
-        Some(Takes::Nothing)
     } else {
-        None
+        rule_takes(name)
     }
 }
 

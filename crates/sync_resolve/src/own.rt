@@ -123,16 +123,28 @@ fn add_all_names(
     Ok(())
 }
 
-/// The names of a program.
+/// The names of a program, behind those that stand there.
 #[tactic(auto, unfolding(crate::specs::Resolving::own_names))]
+fn add_own(alloc: Global, names: &mut Items<DocText>, program: &Program) -> Result<(), Memory>
+    ensures { OnOk result (names.new ≡ names.old ++ resolving.own_names program.now) }
+{
+    add(alloc, names, &program.first.name)?;
+    if let Some(second) = &program.second {
+        add(alloc, names, &second.name)?;
+    }
+    add_all_names(alloc, names, program.body.as_slice())
+}
+
+/// The names of a program.
 pub(crate) fn own_names(alloc: Global, program: &Program) -> Result<Items<DocText>, Memory>
     ensures { IfOk result (λ names. names ≡ resolving.own_names program.now) }
 {
     let mut names = Items::new(alloc);
-    add(alloc, &mut names, &program.first.name)?;
-    if let Some(second) = &program.second {
-        add(alloc, &mut names, &second.name)?;
+    match add_own(alloc, &mut names, program) {
+        Ok(()) => Ok(names),
+        Err(error) => {
+            drop(names);
+            Err(error)
+        }
     }
-    add_all_names(alloc, &mut names, program.body.as_slice())?;
-    Ok(names)
 }

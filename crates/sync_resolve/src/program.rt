@@ -1,11 +1,13 @@
 //! Programs whose names stand for something.
 
-ghost use Rattle.std.specs.Prelude.{◌≡◌, ◌≢◌, [], None, IfErr, IfOk};
+ghost use Rattle.std.specs.Prelude.{◌≡◌, ◌≢◌, ◌++◌, [], None, IfErr, IfOk, OnOk};
 ghost use Rattle.sync_code.specs.Made.{IsCodeOf};
 ghost use Rattle.sync_resolve.specs.declared.fault.ResolveFault.TheVariants.{Memory};
 ghost use Rattle.sync_resolve.specs.Faults.{IsFirst, earliest};
+ghost use Rattle.sync_resolve.specs.Names.{inside};
 ghost use Rattle.sync_resolve.specs.Resolving as spec;
 ghost use Rattle.sync_resolve.specs.Resolving.{IsResolved, faults};
+ghost use Rattle.sync_resolve.specs.Statements.{walk_all};
 
 use crate::Memory;
 use crate::fault::ResolveFault;
@@ -77,17 +79,36 @@ fn parameters(first: &mut Option<ResolveFault>, scope: &Scope, program: &Program
     }
 }
 
+/// The faults of a program's parameters and of its body.
+#[tactic(auto, using(crate::proofs::Earliest::earliest_append))]
+fn walk(
+    alloc: Global,
+    first: &mut Option<ResolveFault>,
+    scope: &mut Scope,
+    program: &Program,
+) -> Result<(), Memory>
+    ensures { OnOk result (first.new ≡ earliest first.old
+        (spec.parameter_faults program.now scope.old
+        ++ (walk_all program.now.body (inside scope.old)).0)) }
+{
+    parameters(first, scope, program);
+    scope.enter()?;
+    statements(alloc, first, scope, program.body.as_slice())
+}
+
 /// The first fault of a program's names.
-#[tactic(auto, unfolding(crate::specs::Resolving::faults), using(crate::proofs::Earliest::earliest_append))]
+#[tactic(auto, unfolding(crate::specs::Resolving::faults))]
 fn first_fault(alloc: Global, program: &Program) -> Result<Option<ResolveFault>, Memory>
     ensures { IfOk result (λ first. first ≡ earliest None (faults program.now)) }
 {
     let mut first = None;
     let mut scope = Scope::top(alloc, own_names(alloc, program)?);
-    parameters(&mut first, &scope, program);
-    scope.enter()?;
-    statements(alloc, &mut first, &mut scope, program.body.as_slice())?;
-    Ok(first)
+    let done = walk(alloc, &mut first, &mut scope, program);
+    drop(scope);
+    match done {
+        Ok(()) => Ok(first),
+        Err(error) => Err(error),
+    }
 }
 
 /// Whether a program's names have no fault, or else the first.
@@ -102,6 +123,15 @@ fn check(alloc: Global, program: &Program) -> Result<(), ResolveFault>
     }
 }
 
+/// The code of a program, where its names have no fault.
+fn code_of(alloc: Global, program: &Program) -> Result<ProgramCode, ResolveFault>
+    ensures ok { IfOk result (λ code. IsResolved program.now × IsCodeOf code program.now) }
+    ensures fault { IfErr result (λ e. e ≢ Memory → IsFirst e (faults program.now)) }
+{
+    check(alloc, program)?;
+    Ok(code_of_program(alloc, program)?)
+}
+
 /// Resolves the names of a program. The fault is the first in the order of the text, and where two
 /// have one place a wrong count is the last. `Memory` may come in the place of any answer.
 pub fn resolve(alloc: Global, program: Program) -> Result<Resolved, ResolveFault>
@@ -110,7 +140,11 @@ pub fn resolve(alloc: Global, program: Program) -> Result<Resolved, ResolveFault
     // Else it is the first fault, but for `Memory`.
     ensures fault { IfErr result (λ e. e ≢ Memory → IsFirst e (faults program)) }
 {
-    check(alloc, &program)?;
-    let code = code_of_program(alloc, &program)?;
-    Ok(Resolved { program, code })
+    match code_of(alloc, &program) {
+        Ok(code) => Ok(Resolved { program, code }),
+        Err(fault) => {
+            drop(program);
+            Err(fault)
+        }
+    }
 }
