@@ -1,3 +1,4 @@
 pub mod Verdicts
 pub mod Nested
 pub mod NestedSteps
+pub mod Rests

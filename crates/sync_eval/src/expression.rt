@@ -1,7 +1,7 @@
 //! Expressions, each rule by its own function. They take what evaluates an expression inside as a
 //! parameter, so that each is proved by itself.
 
-ghost use Rattle.std.specs.Prelude.{◌≡◌, ◌&&◌, Ok, IsTrue};
+ghost use Rattle.std.specs.Prelude.{◌≡◌, ◌&&◌, ◌++◌, ◌∷◌, [], Ok, IsTrue, OnOk};
 ghost use Rattle.sync_meaning.specs.declared.scope.Scope.{Scope};
 ghost use Rattle.sync_meaning.specs.declared.value.Value as Value;
 ghost use Rattle.sync_meaning.specs.Acts.{Does};
@@ -12,12 +12,13 @@ ghost use Rattle.sync_code.specs.Code.{operand_sources};
 ghost use Rattle.sync_code.specs.Code.{fits, all_fit, tail_fits, tails_fit, members_fit};
 ghost use Rattle.sync_code.specs.Code.{operands_fit, slot_fits};
 ghost use Rattle.sync_eval.specs.Nested.{DoesWhere, Nests};
+ghost use Rattle.sync_eval.specs.Rests as rests;
 
 use crate::variables::read;
 use json_doc::DocText;
 use sqlite_items::Items;
 use std::alloc::Global;
-use sync_code::{Code, Tail};
+use sync_code::{Code, Memory, Tail};
 use sync_meaning::{
     Builtin, FaultKind, Method, Rule, RuleKind, Slot, State, Stop, Target, Text, Value, bounded,
     built_in, by_method, combined, indexed, listed, member, prefixed, truth,
@@ -45,29 +46,62 @@ pub(crate) fn place_of(code: &Code) -> Place
     }
 }
 
+/// The function of this name by which a rule denies.
+fn rule_named(name: &str) -> Option<Builtin>
+    ensures { result ≡ spec.lookup rests.rules name.now }
+{
+    if name == "requireUser" {
+        Some(Builtin::RequireUser)
+    } else if name == "requireRole" {
+        Some(Builtin::RequireRole)
+    } else if name == "requireAccess" {
+        Some(Builtin::RequireAccess)
+    } else if name == "requireAdmin" {
+        Some(Builtin::RequireAdmin)
+    } else {
+        None
+    }
+}
+
+/// The function of this name that is built in.
+fn builtin_named(name: &str) -> Option<Builtin>
+    ensures { result ≡ spec.lookup spec.builtins name.now }
+{
+    if name == "channel" {
+        Some(Builtin::Channel)
+    } else if name == "access" {
+        Some(Builtin::Access)
+    } else if name == "role" {
+        Some(Builtin::Role)
+    } else {
+        rule_named(name)
+    }
+}
+
 /// What a name calls.
 #[tactic(auto, unfolding(sync_meaning::specs::Expressions::called_by))]
 fn called_by(name: &str) -> Target
     ensures { result ≡ spec.called_by name.now }
 {
-    let builtin = if name == "channel" {
-        Builtin::Channel
-    } else if name == "access" {
-        Builtin::Access
-    } else if name == "role" {
-        Builtin::Role
-    } else if name == "requireUser" {
-        Builtin::RequireUser
-    } else if name == "requireRole" {
-        Builtin::RequireRole
-    } else if name == "requireAccess" {
-        Builtin::RequireAccess
-    } else if name == "requireAdmin" {
-        Builtin::RequireAdmin
+    match builtin_named(name) {
+        Some(builtin) => Target::Builtin(builtin),
+        None => Target::Nothing,
+    }
+}
+
+/// The method of this name.
+fn method_named(name: &str) -> Option<Method>
+    ensures { result ≡ spec.lookup spec.methods name.now }
+{
+    if name == "indexOf" {
+        Some(Method::IndexOf)
+    } else if name == "concat" {
+        Some(Method::Concat)
+    } else if name == "startsWith" {
+        Some(Method::StartsWith)
     } else {
-        return Target::Nothing;
-    };
-    Target::Builtin(builtin)
+        None
+    }
 }
 
 /// What a name behind a value calls.
@@ -75,14 +109,9 @@ fn called_by(name: &str) -> Target
 fn method_of(value: Value, name: &str) -> Target
     ensures { result ≡ spec.method_of value name.now }
 {
-    if name == "indexOf" {
-        Target::Method(value, Method::IndexOf)
-    } else if name == "concat" {
-        Target::Method(value, Method::Concat)
-    } else if name == "startsWith" {
-        Target::Method(value, Method::StartsWith)
-    } else {
-        Target::Nothing
+    match method_named(name) {
+        Some(method) => Target::Method(value, method),
+        None => Target::Nothing,
     }
 }
 
@@ -176,8 +205,13 @@ fn as_value(place: Place, target: Target) -> Result<Value, Stop>
 fn literal(state: &mut State, place: Place, found: Result<Value, Stop>) -> Result<Value, Stop>
     ensures { Does (spec.literal place found state.old) result state.new }
 {
-    state.visit(place)?;
-    found
+    match state.visit(place) {
+        Ok(()) => found,
+        Err(stop) => {
+            drop(found);
+            Err(stop)
+        }
+    }
 }
 
 /// What a text of the program evaluates to.
@@ -210,7 +244,11 @@ fn call_by(
     ensures { Does (spec.call_by place target values.now state.old) result state.new }
 {
     match target {
-        Target::Method(value, method) => by_method(alloc, place, method, &value, values),
+        Target::Method(value, method) => {
+            let found = by_method(alloc, place, method, &value, values);
+            drop(value);
+            found
+        }
         Target::Builtin(builtin) => built_in(alloc, place, builtin, values, state),
         Target::Value(_) | Target::Nothing => Err(Stop::fault(FaultKind::TypeFault, place)),
     }
@@ -231,7 +269,27 @@ fn member_or_method(
     if called {
         Ok(method_of(value, name))
     } else {
-        Ok(Target::Value(member(place, name, &value)?))
+        let found = member(place, name, &value);
+        drop(value);
+        Ok(Target::Value(found?))
+    }
+}
+
+/// One member more.
+fn push_member(
+    alloc: Global,
+    members: &mut Items<(DocText, Value)>,
+    name: &DocText,
+    value: Value,
+) -> Result<(), Memory>
+    ensures { OnOk result (members.new ≡ members.old ++ (name.now, value) ∷ []) }
+{
+    match name.copy(alloc) {
+        Ok(name) => members.push((name, value)),
+        Err(error) => {
+            drop(value);
+            Err(error)
+        }
     }
 }
 
@@ -278,7 +336,13 @@ impl<F: Fn(Global, u64, &mut State, &Code, bool) -> Result<Target, Stop>> Expres
         let mut found = Items::new(self.alloc);
         let mut left = exprs;
         while let [expr, rest @ ..] = left {
-            found.push(self.value(state, expr)?)?;
+            match self.value(state, expr) {
+                Ok(value) => found.push(value)?,
+                Err(stop) => {
+                    drop(found);
+                    return Err(stop);
+                }
+            }
             left = rest;
         }
         Ok(found)
@@ -299,8 +363,13 @@ impl<F: Fn(Global, u64, &mut State, &Code, bool) -> Result<Target, Stop>> Expres
         let mut found = Items::new(self.alloc);
         let mut left = exprs;
         while let [expr, rest @ ..] = left {
-            let value = self.value(state, &expr.1)?;
-            found.push((expr.0.copy(self.alloc)?, value))?;
+            match self.value(state, &expr.1) {
+                Ok(value) => push_member(self.alloc, &mut found, &expr.0, value)?,
+                Err(stop) => {
+                    drop(found);
+                    return Err(stop);
+                }
+            }
             left = rest;
         }
         Ok(found)
@@ -350,7 +419,9 @@ impl<F: Fn(Global, u64, &mut State, &Code, bool) -> Result<Target, Stop>> Expres
     {
         state.visit(place)?;
         let value = self.value(state, expr)?;
-        prefixed(self.alloc, place, op, &value)
+        let made = prefixed(self.alloc, place, op, &value);
+        drop(value);
+        made
     }
 
     /// The first operand where it decides, else the second.
@@ -368,11 +439,18 @@ impl<F: Fn(Global, u64, &mut State, &Code, bool) -> Result<Target, Stop>> Expres
             (λ scope. spec.decided (evaluated self.now.depth) scope place deciding value
             (source expr.now)) state.old result state.new }
     {
-        let is_true = truth(place, &value)?;
+        let is_true = match truth(place, &value) {
+            Ok(is_true) => is_true,
+            Err(stop) => {
+                drop(value);
+                return Err(stop);
+            }
+        };
         let decides = if is_true { deciding } else { !deciding };
         if decides {
             Ok(value)
         } else {
+            drop(value);
             self.value(state, expr)
         }
     }
@@ -413,8 +491,13 @@ impl<F: Fn(Global, u64, &mut State, &Code, bool) -> Result<Target, Stop>> Expres
             (λ scope. spec.operated (evaluated self.now.depth) scope place op value
             (source expr.now)) state.old result state.new }
     {
-        let other = self.value(state, expr)?;
-        combined(self.alloc, place, op, value, other)
+        match self.value(state, expr) {
+            Ok(other) => combined(self.alloc, place, op, value, other),
+            Err(stop) => {
+                drop(value);
+                Err(stop)
+            }
+        }
     }
 
     /// Operators from left to right.
@@ -474,7 +557,26 @@ impl<F: Fn(Global, u64, &mut State, &Code, bool) -> Result<Target, Stop>> Expres
         let place = place_of(condition);
         state.visit(place)?;
         let value = self.value(state, condition)?;
-        if truth(place, &value)? {
+        let chosen = self.chosen(state, place, &value, first, other);
+        drop(value);
+        chosen
+    }
+
+    /// The one operand of `?:` or the other, by the value of the condition.
+    fn chosen(
+        &self,
+        state: &mut State,
+        place: Place,
+        condition: &Value,
+        first: &Code,
+        other: &Code,
+    ) -> Result<Value, Stop>
+        requires { Nests self.now.depth (F.pre self.now.inner) (F.post self.now.inner) }
+        ensures { DoesWhere (λ scope. fits first.now scope && fits other.now scope)
+            (λ scope. rests.chosen self.now.depth scope place condition.now (source first.now)
+            (source other.now)) state.old result state.new }
+    {
+        if truth(place, condition)? {
             self.value(state, first)
         } else {
             self.value(state, other)
@@ -495,8 +597,17 @@ impl<F: Fn(Global, u64, &mut State, &Code, bool) -> Result<Target, Stop>> Expres
             (λ scope. spec.call (evaluated self.now.depth) scope place target (sources exprs.now))
             state.old result state.new }
     {
-        let values = self.values(state, exprs)?;
-        call_by(self.alloc, state, place, target, values.as_slice())
+        match self.values(state, exprs) {
+            Ok(values) => {
+                let found = call_by(self.alloc, state, place, target, values.as_slice());
+                drop(values);
+                found
+            }
+            Err(stop) => {
+                drop(target);
+                Err(stop)
+            }
+        }
     }
 
     #[tactic(auto, unfolding(sync_meaning::specs::Expressions::index))]
@@ -513,8 +624,28 @@ impl<F: Fn(Global, u64, &mut State, &Code, bool) -> Result<Target, Stop>> Expres
             state.old result state.new }
     {
         let value = as_value(place, target)?;
+        let found = self.item(state, place, &value, expr);
+        drop(value);
+        found
+    }
+
+    /// The item of a value at what an expression evaluates to.
+    fn item(
+        &self,
+        state: &mut State,
+        place: Place,
+        value: &Value,
+        expr: &Code,
+    ) -> Result<Target, Stop>
+        requires { Nests self.now.depth (F.pre self.now.inner) (F.post self.now.inner) }
+        ensures { DoesWhere (fits expr.now)
+            (λ scope. rests.item_at self.now.depth scope place value.now (source expr.now))
+            state.old result state.new }
+    {
         let index = self.value(state, expr)?;
-        Ok(Target::Value(indexed(place, &value, &index)?))
+        let found = indexed(place, value, &index);
+        drop(index);
+        Ok(Target::Value(found?))
     }
 
     /// One suffix behind what was found.

@@ -49,14 +49,32 @@ fn write_second(program: &Resolved, value: Value, variables: &mut Variables) -> 
     }
 }
 
-/// The first parameter.
-fn first_parameter(alloc: Global, program: &Resolved, doc: &Doc) -> Result<Variables, Memory>
-    ensures { IfOk result (λ variables. variables
-        ≡ written program.now.first.name 0 (values.value_of (node_tree doc.now)) []) }
+/// The first parameter takes the document.
+fn write_document(
+    alloc: Global,
+    program: &Resolved,
+    doc: &Doc,
+    variables: &mut Variables,
+) -> Result<(), Memory>
+    ensures { OnOk result (variables.new ≡ written program.now.first.name 0
+        (values.value_of (node_tree doc.now)) variables.old) }
 {
-    let mut variables = Variables::new(alloc, program.as_code().slots)?;
-    write_first(program, value_of(alloc, doc.as_node())?, &mut variables)?;
-    Ok(variables)
+    let value = value_of(alloc, doc.as_node())?;
+    write_first(program, value, variables)
+}
+
+/// The second parameter, where there is one, takes the document before.
+fn write_before(
+    alloc: Global,
+    program: &Resolved,
+    old: Option<&Doc>,
+    variables: &mut Variables,
+) -> Result<(), Memory>
+    ensures { OnOk result (variables.new ≡ spec.with_second program.now.second
+        (spec.value_before (option_map (λ doc. node_tree doc.now) old.entry)) variables.old) }
+{
+    let value = value_before(alloc, old)?;
+    write_second(program, value, variables)
 }
 
 /// The parameters.
@@ -70,9 +88,43 @@ fn parameters(
     ensures { IfOk result (λ variables. variables ≡ spec.parameters program.now (node_tree doc.now)
         (option_map (λ doc. node_tree doc.now) old.entry)) }
 {
-    let mut variables = first_parameter(alloc, program, doc)?;
-    write_second(program, value_before(alloc, old)?, &mut variables)?;
+    let mut variables = Variables::new(alloc, program.as_code().slots)?;
+    if let Err(error) = write_document(alloc, program, doc, &mut variables) {
+        drop(variables);
+        return Err(error);
+    }
+    if let Err(error) = write_before(alloc, program, old, &mut variables) {
+        drop(variables);
+        return Err(error);
+    }
     Ok(variables)
+}
+
+/// The state before the first visit.
+fn begin(
+    alloc: Global,
+    visits: u32,
+    program: &Resolved,
+    doc: &Doc,
+    old: Option<&Doc>,
+    context: &Context,
+) -> Result<State, Memory>
+    ensures { IfOk result (λ state. state ≡ spec.begin visits program.now (node_tree doc.now)
+        (option_map (λ doc. node_tree doc.now) old.entry) context.now) }
+{
+    let context = context.copy(alloc)?;
+    match parameters(alloc, program, doc, old) {
+        Ok(variables) => Ok(State {
+            context,
+            visits,
+            variables,
+            effects: Effects::none(alloc),
+        }),
+        Err(error) => {
+            drop(context);
+            Err(error)
+        }
+    }
 }
 
 /// Runs the body.
@@ -99,14 +151,19 @@ fn finish(state: State, done: Result<Completion, Stop>) -> Result<Effects, Stop>
     ensures stop { IfErr done (λ stop. result ≡ Err stop) }
 {
     let State {
+        context,
         variables,
         effects,
         ..
     } = state;
+    drop(context);
     variables.release();
     match done {
         Ok(_) => Ok(effects),
-        Err(stop) => Err(stop),
+        Err(stop) => {
+            drop(effects);
+            Err(stop)
+        }
     }
 }
 
@@ -125,12 +182,7 @@ pub fn evaluate_within(
     ensures { Gives (spec.meaning_within visits program.now (node_tree doc.now)
         (option_map (λ doc. node_tree doc.now) old.entry) context.now) result }
 {
-    let mut state = State {
-        context: context.copy(alloc)?,
-        visits,
-        variables: parameters(alloc, program, doc, old)?,
-        effects: Effects::none(alloc),
-    };
+    let mut state = begin(alloc, visits, program, doc, old, context)?;
     let done = body(alloc, u64::from(visits) * 2 + 2, program, &mut state);
     finish(state, done)
 }

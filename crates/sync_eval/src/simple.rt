@@ -1,12 +1,14 @@
 //! The parts of statements that hold no statement.
 
-ghost use Rattle.std.specs.Prelude.{◌≡◌, ◌≢◌, ◌&&◌, option_map};
+ghost use Rattle.std.specs.Prelude.{◌≡◌, ◌≢◌, ◌-ℤ◌, ◌&&◌, option_map};
 ghost use Rattle.sync_meaning.specs.declared.fault.Stop as Stop;
 ghost use Rattle.sync_meaning.specs.Acts.{Does};
 ghost use Rattle.sync_meaning.specs.Expressions.{value_to};
 ghost use Rattle.sync_meaning.specs.Statements as spec;
+ghost use Rattle.sync_meaning.specs.Values as values;
 ghost use Rattle.sync_code.specs.Code.{source, source_or_none, fits, fits_or_none, slot_fits};
 ghost use Rattle.sync_eval.specs.Nested.{DoesWhere};
+ghost use Rattle.sync_eval.specs.Rests as rests;
 ghost use Rattle.sync_code.specs.Steps.{begin_or_none, begin_or_none_fits, held_source};
 ghost use Rattle.sync_code.specs.Steps.{name_sources, names_fit, new_fits, opening_fits};
 ghost use Rattle.sync_code.specs.Steps.{opening_source, plain_fits, plain_or_none};
@@ -83,6 +85,17 @@ fn one_more(place: Place, value: &Value, by: i64) -> Result<Value, Stop>
 {
     let n = integer_in(place, value)?;
     bounded(place, n as i128 + by as i128)
+}
+
+/// A variable takes the difference of two values.
+fn put_difference(state: &mut State, held: &Held, first: &Value, second: &Value) -> Result<(), Stop>
+    ensures { DoesWhere (slot_fits held.now.slot)
+        (λ scope. rests.assigned scope (held_source held.now)
+        (values.calculated held.now.place (λ a b. a -ℤ b) first.now second.now))
+        state.old result state.new }
+{
+    let value = subtracted(held.place, first, second)?;
+    assign(state, &held.slot, value)
 }
 
 /// A visit, and how the statement ends.
@@ -201,8 +214,44 @@ impl Parts {
             state.old result state.new }
     {
         let first = read(state, &held.slot)?;
+        let done = self.add_value(state, held, &first, expr);
+        drop(first);
+        done
+    }
+
+    /// `+=`, with what the variable held.
+    fn add_value(
+        &self,
+        state: &mut State,
+        held: &Held,
+        first: &Value,
+        expr: &Code,
+    ) -> Result<(), Stop>
+        ensures { DoesWhere (λ scope. slot_fits held.now.slot scope && fits expr.now scope)
+            (λ scope. rests.add_value self.now.depth scope (held_source held.now) first.now
+            (source expr.now))
+            state.old result state.new }
+    {
         let second = self.value(state, expr)?;
-        let value = added(self.alloc, held.place, &first, &second)?;
+        let done = self.put_sum(state, held, first, &second);
+        drop(second);
+        done
+    }
+
+    /// A variable takes the sum of two values.
+    fn put_sum(
+        &self,
+        state: &mut State,
+        held: &Held,
+        first: &Value,
+        second: &Value,
+    ) -> Result<(), Stop>
+        ensures { DoesWhere (slot_fits held.now.slot)
+            (λ scope. rests.assigned scope (held_source held.now)
+            (values.added held.now.place first.now second.now))
+            state.old result state.new }
+    {
+        let value = added(self.alloc, held.place, first, second)?;
         assign(state, &held.slot, value)
     }
 
@@ -214,9 +263,28 @@ impl Parts {
             (source expr.now)) state.old result state.new }
     {
         let first = read(state, &held.slot)?;
+        let done = self.subtract_value(state, held, &first, expr);
+        drop(first);
+        done
+    }
+
+    /// `-=`, with what the variable held.
+    fn subtract_value(
+        &self,
+        state: &mut State,
+        held: &Held,
+        first: &Value,
+        expr: &Code,
+    ) -> Result<(), Stop>
+        ensures { DoesWhere (λ scope. slot_fits held.now.slot scope && fits expr.now scope)
+            (λ scope. rests.subtract_value self.now.depth scope (held_source held.now) first.now
+            (source expr.now))
+            state.old result state.new }
+    {
         let second = self.value(state, expr)?;
-        let value = subtracted(held.place, &first, &second)?;
-        assign(state, &held.slot, value)
+        let done = put_difference(state, held, first, &second);
+        drop(second);
+        done
     }
 
     /// `++` and `--`
@@ -226,8 +294,9 @@ impl Parts {
             (λ scope. spec.count scope (held_source held.now) by) state.old result state.new }
     {
         let first = read(state, &held.slot)?;
-        let value = one_more(held.place, &first, by)?;
-        assign(state, &held.slot, value)
+        let value = one_more(held.place, &first, by);
+        drop(first);
+        assign(state, &held.slot, value?)
     }
 
     #[tactic(auto, unfolding(sync_meaning::specs::Statements::expression))]
@@ -294,7 +363,9 @@ impl Parts {
             state.old result state.new }
     {
         let value = self.value(state, condition)?;
-        truth(place, &value)
+        let is_true = truth(place, &value);
+        drop(value);
+        is_true
     }
 
     /// The beginning of a `for`.
@@ -348,6 +419,8 @@ impl Parts {
     {
         state.visit(place)?;
         let value = self.value(state, expr)?;
-        Err(thrown(self.alloc, place, &value))
+        let stop = thrown(self.alloc, place, &value);
+        drop(value);
+        Err(stop)
     }
 }

@@ -13,6 +13,7 @@ ghost use Rattle.sync_code.specs.Steps.{rounds_fit, step_fits, step_source, step
 ghost use Rattle.sync_code.specs.Steps.{steps_fit};
 ghost use Rattle.sync_eval.specs.Nested.{DoesWhere};
 ghost use Rattle.sync_eval.specs.NestedSteps.{NestsStep};
+ghost use Rattle.sync_eval.specs.Rests as rests;
 
 use crate::simple::{Parts, items_in, jump, place_of_simple};
 use sqlite_items::Boxed;
@@ -197,6 +198,23 @@ impl<F: Fn(Global, u64, &mut State, &Step) -> Result<Completion, Stop>> Statemen
         self.all_rounds(state, place, condition, step, body)
     }
 
+    /// A round for an item.
+    fn round_of(
+        &self,
+        state: &mut State,
+        slot: &Slot,
+        body: &Step,
+        item: &Value,
+    ) -> Result<Completion, Stop>
+        requires { NestsStep self.now.depth (F.pre self.now.inner) (F.post self.now.inner) }
+        ensures { DoesWhere (step_fits body.now)
+            (λ scope. rests.round_of self.now.depth scope slot.now.name slot.now.number item.now
+            (step_source body.now)) state.old result state.new }
+    {
+        state.store(slot, item.share()?)?;
+        self.inner(state, body)
+    }
+
     /// A round for each item.
     fn each(
         &self,
@@ -212,8 +230,7 @@ impl<F: Fn(Global, u64, &mut State, &Step) -> Result<Completion, Stop>> Statemen
     {
         let mut left = items;
         while let [item, rest @ ..] = left {
-            state.store(slot, item.share()?)?;
-            match self.inner(state, body)? {
+            match self.round_of(state, slot, body, item)? {
                 Completion::Break => return Ok(Completion::Normal),
                 Completion::Return => return Ok(Completion::Return),
                 Completion::Normal | Completion::Continue => {}
@@ -243,7 +260,9 @@ impl<F: Fn(Global, u64, &mut State, &Step) -> Result<Completion, Stop>> Statemen
         state.visit(place)?;
         let value = self.parts().value(state, expr)?;
         let items = items_in(place, value)?;
-        self.each(state, &held.slot, body, items.get().as_slice())
+        let how = self.each(state, &held.slot, body, items.get().as_slice());
+        drop(items);
+        how
     }
 
     #[tactic(auto, unfolding(sync_meaning::specs::Statements::opened))]
