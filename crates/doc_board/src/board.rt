@@ -44,7 +44,6 @@ use sg_outside::Memory;
 use std::alloc::Global;
 use std::collections::{BTreeMap, HashMap};
 use std::marker::Model;
-use sync_meaning::Context;
 
 /// The most places among entries that wait: those of entries that do, and two for each room that is outstanding.
 const MOST_PLACES: u64 = 20_000;
@@ -125,7 +124,13 @@ impl Board {
     {
         histories();
         books();
-        let documents = documents_of(alloc, log.entries.as_slice())?;
+        let documents = match documents_of(alloc, log.entries.as_slice()) {
+            Ok(documents) => documents,
+            Err(fault) => {
+                drop(log);
+                return Err(fault);
+            }
+        };
         let stored = bytes_of(log.entries.as_slice());
         Ok(Board {
             alloc,
@@ -230,13 +235,12 @@ impl Board {
         base_of(&self.storage, index, last, doc, ancestors)
     }
 
-    /// The same in a context, where the grants are at the end of the log.
+    /// The same where the grants are at the end of the log.
     fn snapshot_in(
         &self,
         revision: &Revision,
         strict: bool,
         by: Option<&Name>,
-        context: Context,
     ) -> Result<Snapshot, Memory>
         requires known { self.now.known ≡ length self.now.log }
         ensures at { IfOk result (λ s. s.at ≡ length self.now.log) }
@@ -250,12 +254,14 @@ impl Board {
             (base_on self.now revision.now.doc revision.now.ancestors)) }
         ensures user { IfOk result (λ s. s.user_exists ≡ proposer_exists (newest_first self.now)
             (option_copied by.entry)) }
-        ensures context { IfOk result (λ s. s.context ≡ context) }
+        ensures context { IfOk result (λ s. IsContext (newest_first self.now)
+            (option_copied by.entry) s.context) }
     {
         let document = document::document_of(&self.storage.documents, &revision.doc);
         let last = document::last_of(document);
         let base = self.base_of(last, &revision.doc, revision.ancestors.as_slice())?;
         let exists = proposer_exists(self.grants.index(), self.storage.log.entries.as_slice(), by);
+        let context = context_at_end(self.alloc, &self.grants, by)?;
         let proposer = Proposer { exists, context };
         snapshot_of(
             self.alloc,
@@ -298,8 +304,7 @@ impl Board {
             (option_copied by.entry) s.context) }
     {
         self.apply_grants()?;
-        let context = context_at_end(self.alloc, &self.grants, by)?;
-        self.snapshot_in(revision, strict, by, context)
+        self.snapshot_in(revision, strict, by)
     }
 
     /// Why there is no room for a body of so many bytes, before memory is asked for.

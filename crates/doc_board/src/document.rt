@@ -63,8 +63,16 @@ fn make_place(alloc: Global, documents: &mut Documents, doc: &DocId) -> Result<(
         last: 0,
         tree: Tree::new(alloc),
     };
-    documents.insert(name, blank)?;
-    Ok(())
+    match documents.insert(name, blank) {
+        Ok(old) => {
+            drop(old);
+            Ok(())
+        }
+        Err(refused) => {
+            drop(refused);
+            Err(AllocError)
+        }
+    }
 }
 
 /// Makes a place for a document, where there is one to be made for, unless it has one.

@@ -40,13 +40,26 @@ fn context_of_user(alloc: Global, grants: &GrantHistory, user: &Name) -> Result<
         → grants.now.applied ≡ length entries → IsUserWith (reverse entries) user.now context) }
 {
     let end = grants.applied();
-    let roles = grants.roles_at(user, end)?;
     let channels = grants.channels_at(user, end)?;
-    Ok(Context {
-        user: Some(user.copy(alloc)?),
-        roles,
-        channels,
-    })
+    let roles = match grants.roles_at(user, end) {
+        Ok(roles) => roles,
+        Err(error) => {
+            drop(channels);
+            return Err(error);
+        }
+    };
+    match user.copy(alloc) {
+        Ok(name) => Ok(Context {
+            user: Some(name),
+            roles,
+            channels,
+        }),
+        Err(error) => {
+            drop(roles);
+            drop(channels);
+            Err(error)
+        }
+    }
 }
 
 /// Who proposes a revision, a user or the administrator, at the end of a log that is applied to its end.

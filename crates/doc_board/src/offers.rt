@@ -47,7 +47,9 @@ fn may_descend_from(alloc: Global, tree: &Tree, rev: &RevId) -> Result<Revs, All
     ensures { IfOk result (λ revs. revs ≡ offers.may_descend_from tree.now rev.now) }
 {
     let leaves = first_below(tree.leaves()?.into_vec(), rev.generation);
-    revs_of(alloc, leaves.as_slice())
+    let revs = revs_of(alloc, leaves.as_slice());
+    drop(leaves);
+    revs
 }
 
 fn copy_of(alloc: Global, leaf: Option<&Leaf>) -> Result<Option<Leaf>, AllocError>
@@ -78,13 +80,19 @@ fn answer_by(alloc: Global, tree: &Tree, offer: &Offer) -> Result<OfferAnswer, A
     } else {
         may_descend_from(alloc, tree, &offer.rev)?
     };
-    Ok(OfferAnswer {
-        known,
-        winner: copy_of(alloc, tree.winner())?,
-        parent: offer.parent.is_some(),
-        parent_wins: wins(tree.winner(), &offer.parent),
-        ancestors,
-    })
+    match copy_of(alloc, tree.winner()) {
+        Ok(winner) => Ok(OfferAnswer {
+            known,
+            winner,
+            parent: offer.parent.is_some(),
+            parent_wins: wins(tree.winner(), &offer.parent),
+            ancestors,
+        }),
+        Err(error) => {
+            drop(ancestors);
+            Err(error)
+        }
+    }
 }
 
 /// What is answered for an offer by the tree of its document; none where the document was never written.
@@ -101,5 +109,7 @@ pub fn answer_offer(
         None => &empty,
         Some(tree) => tree,
     };
-    answer_by(alloc, tree, offer)
+    let answer = answer_by(alloc, tree, offer);
+    drop(empty);
+    answer
 }

@@ -1,6 +1,6 @@
 //! A board of a log that was recorded.
 
-ghost use Rattle.std.specs.Prelude.{◌≡◌, ◌≢◌, ◌∷◌, ℕ, min, List, true, false, reverse, option_map, Some, Err, IfOk, IfSome, IfNone};
+ghost use Rattle.std.specs.Prelude.{◌≡◌, ◌≢◌, [], ◌∷◌, ℕ, min, List, true, false, reverse, option_map, Some, Err, IfOk, IfSome, IfNone, OnOk};
 ghost use Rattle.std.specs.BTreeMap.{get_by_text};
 ghost use Rattle.sg_history.specs.declared.entries.Entry.TheVariants as kinds;
 ghost use Rattle.sg_history.specs.History.{as_write};
@@ -34,7 +34,10 @@ fn is_document(alloc: Global, body: &[u8]) -> Result<bool, AllocError>
     ensures no { IfOk result (λ found. found ≡ false → ¬ HasDocument body.now) }
 {
     match read_doc(alloc, body) {
-        Ok(_) => Ok(true),
+        Ok(doc) => {
+            drop(doc);
+            Ok(true)
+        }
         Err(DocFault::Memory) => Err(AllocError),
         Err(_) => Ok(false),
     }
@@ -64,6 +67,7 @@ fn extended(tree: &Tree, write: &Write) -> Result<Option<Tree>, AllocError>
             if kept == ancestors.len() as u64 && wins(&tree, &write.winner) {
                 Ok(Some(tree))
             } else {
+                drop(tree);
                 Ok(None)
             }
         }
@@ -106,7 +110,9 @@ fn tree_after(
         None => &empty,
         Some(document) => &document.tree,
     };
-    extended(tree, write)
+    let after = extended(tree, write);
+    drop(empty);
+    after
 }
 
 /// Takes a write after older entries: false where no board has it after them.
@@ -130,10 +136,17 @@ fn take_write(
     let Some(tree) = tree_after(alloc, documents, write)? else {
         return Ok(false);
     };
-    document::make_place_for(alloc, documents, Some(&write.doc))?;
-    let last = older.len() as u64 + 1;
-    document::put(documents, &write.doc, Document { last, tree });
-    Ok(true)
+    match document::make_place_for(alloc, documents, Some(&write.doc)) {
+        Ok(()) => {
+            let last = older.len() as u64 + 1;
+            document::put(documents, &write.doc, Document { last, tree });
+            Ok(true)
+        }
+        Err(error) => {
+            drop(tree);
+            Err(error)
+        }
+    }
 }
 
 /// Takes an entry after older ones: false where no board has it after them.
@@ -160,6 +173,27 @@ fn take(
     }
 }
 
+/// Takes recorded entries, one after the other.
+fn take_all(alloc: Global, documents: &mut Documents, entries: &[Entry]) -> Result<(), OpenFault>
+    requires { AreKept [] documents.old }
+    ensures kept { OnOk result (AreKept (reverse entries.now) documents.new) }
+    ensures accepted { OnOk result ((doc : List ℕ) → AreAccepted
+        (writes_of (reverse entries.now) doc)) }
+    ensures following { OnOk result (AreFollowing (reverse entries.now)) }
+    ensures bad { (sequence : ℕ) → result ≡ Err (OpenFault.Bad sequence)
+        → IsFirstBad entries.now sequence }
+{
+    for (i, entry) in entries.iter().enumerate() {
+        let older = &entries[..i];
+        if !take(alloc, documents, older, entry)? {
+            return Err(OpenFault::Bad {
+                sequence: i as u64 + 1,
+            });
+        }
+    }
+    Ok(())
+}
+
 /// The documents of recorded entries.
 pub(crate) fn documents_of(alloc: Global, entries: &[Entry]) -> Result<Documents, OpenFault>
     ensures kept { IfOk result (λ documents. AreKept (reverse entries.now) documents) }
@@ -170,15 +204,13 @@ pub(crate) fn documents_of(alloc: Global, entries: &[Entry]) -> Result<Documents
         → IsFirstBad entries.now sequence }
 {
     let mut documents = BTreeMap::new(alloc);
-    for (i, entry) in entries.iter().enumerate() {
-        let older = &entries[..i];
-        if !take(alloc, &mut documents, older, entry)? {
-            return Err(OpenFault::Bad {
-                sequence: i as u64 + 1,
-            });
+    match take_all(alloc, &mut documents, entries) {
+        Ok(()) => Ok(documents),
+        Err(fault) => {
+            drop(documents);
+            Err(fault)
         }
     }
-    Ok(documents)
 }
 
 /// How many bytes the body of an entry has, where it is a write.

@@ -52,7 +52,9 @@ fn step_in(
         None => &empty,
         Some(document) => &document.tree,
     };
-    step_of(tree, revision, strict)
+    let step = step_of(tree, revision, strict);
+    drop(empty);
+    step
 }
 
 fn step_of(tree: &Tree, revision: &Revision, strict: bool) -> Result<Extended, AllocError>
@@ -102,8 +104,13 @@ fn outcome_of(
     ensures old { IfOk result (λ o. o.old ≡ option_map (λ w. w.body) (option_copied base.entry)) }
 {
     let step = step_in(alloc, document, revision, strict)?;
-    let old = body_of(alloc, base)?;
-    Ok(Found { step, old })
+    match body_of(alloc, base) {
+        Ok(old) => Ok(Found { step, old }),
+        Err(error) => {
+            drop(step);
+            Err(error)
+        }
+    }
 }
 
 /// Whether the one who proposes a revision exists at the end of the log: the user, or the administrator, who does.
@@ -144,15 +151,19 @@ pub(crate) fn snapshot_of(
     ensures user { IfOk result (λ s. s.user_exists ≡ by.exists) }
     ensures context { IfOk result (λ s. s.context ≡ by.context) }
 {
-    let Found { step, old } = outcome_of(alloc, document, base, revision, strict)?;
-    let Proposer { exists, context } = by;
-    Ok(Snapshot {
-        at,
-        last: document::last_of(document),
-        step,
-        old,
-        old_deleted: is_deletion(base),
-        user_exists: exists,
-        context,
-    })
+    match outcome_of(alloc, document, base, revision, strict) {
+        Ok(Found { step, old }) => Ok(Snapshot {
+            at,
+            last: document::last_of(document),
+            step,
+            old,
+            old_deleted: is_deletion(base),
+            user_exists: by.exists,
+            context: by.context,
+        }),
+        Err(error) => {
+            drop(by);
+            Err(error)
+        }
+    }
 }

@@ -16,10 +16,10 @@ invariant_of-result c =
     let h = c.args.log.entries in
     let es : List Entry = c.as_slice.result.now in
     let same : es ≡ h.list = c.as_slice.ensures in
-    let kept = subst (λ (x : List Entry). AreKept (reverse x) c.in_ok-documents.documents) same c.in_ok-documents.ensures.kept in
-    let accepted = subst (λ (x : List Entry). (doc : _) → AreAccepted (writes_of (reverse x) doc)) same c.in_ok-documents.ensures.accepted in
-    let following = subst (λ (x : List Entry). AreFollowing (reverse x)) same c.in_ok-documents.ensures.following in (
-      opened c.histories.ensures.writes c.histories.ensures.last c.books.ensures.of_rev h c.in_ok-documents.documents c.new.result (get nat_eq c.new-2.result) (spare c.new-2.result) c.bytes_of-stored.result c.new-3.result c.new.ensures c.new-3.ensures kept accepted (following_bodies (reverse h.list) following) c.requires
+    let kept = subst (λ (x : List Entry). AreKept (reverse x) c.in-Ok.documents) same c.in-Ok.ensures.kept in
+    let accepted = subst (λ (x : List Entry). (doc : _) → AreAccepted (writes_of (reverse x) doc)) same c.in-Ok.ensures.accepted in
+    let following = subst (λ (x : List Entry). AreFollowing (reverse x)) same c.in-Ok.ensures.following in (
+      opened c.histories.ensures.writes c.histories.ensures.last c.books.ensures.of_rev h c.in-Ok.documents c.new.result (get nat_eq c.new-2.result) (spare c.new-2.result) c.bytes_of-stored.result c.new-3.result c.new.ensures c.new-3.ensures kept accepted (following_bodies (reverse h.list) following) c.requires
           (c.bytes_of-stored.ensures ∙ ap (λ (x : List Entry). min (bytes_stored x) 18446744073709551615) c.as_slice-2.ensures),
       c.new-4.ensures.stands h.list,
     )

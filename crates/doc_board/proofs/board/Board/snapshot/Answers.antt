@@ -6,6 +6,7 @@ use Rattle.rev_tree.specs.declared.tree.Node.{Node}
 use Rattle.sg_history.specs.Book.{book_with}
 use Rattle.rev_tree.specs.Documents.{deletes, last_in, tree_in, base_in}
 use Rattle.doc_board.specs.Answers.{IsStep, proposer_exists}
+use Rattle.doc_board.specs.Contexts.{IsContext}
 use Rattle.doc_board.specs.State.{top_of}
 use Rattle.doc_board.proofs.SameOn.{same_on}
 use Rattle.doc_board.proofs.board.Board.snapshot.Goals as goal
@@ -33,3 +34,7 @@ returns-clause-old_deleted c =
 pub returns-clause-user : goal.returns-clause-user
 returns-clause-user c =
     subst (λ (es : List Entry). IfOk c.snapshot_in.result (λ s. s.user_exists ≡ proposer_exists es (option_copied c.args.by))) (ap (λ (es : List Entry). reverse es) c.apply_grants.ensures.log) c.snapshot_in.ensures.user
+
+pub returns-clause-context : goal.returns-clause-context
+returns-clause-context c =
+    subst (λ (es : List Entry). IfOk c.snapshot_in.result (λ s. IsContext es (option_copied c.args.by) s.context)) (ap (λ (es : List Entry). reverse es) c.apply_grants.ensures.log) c.snapshot_in.ensures.context

@@ -1,8 +1,13 @@
-use Rattle.std.proofs.Common.{◌≡◌, ◌∙◌, ℕ, List, Option, IfOk, ap, subst}
+use Rattle.std.proofs.Common.{◌≡◌, ◌∙◌, ℕ, List, Option, IfOk, length, reverse, ap, sym, subst}
+use Rattle.std.specs.Option.{option_copied}
+use Rattle.std.proofs.lemmas.Result.{IfOk-weaker}
+use Rattle.sg_history.specs.declared.entries.Entry.{Entry}
 use Rattle.sg_history.specs.Book.{book_with, writes_up_to}
 use Rattle.rev_tree.specs.declared.tree.Node.{Node}
+use Rattle.sync_meaning.specs.declared.state.Context.{Context}
 use Rattle.doc_board.specs.declared.document.Document.{Document}
 use Rattle.doc_board.specs.Answers.{IsStep}
+use Rattle.doc_board.specs.Contexts.{IsContext}
 use Rattle.doc_board.specs.Kept.{kept_last, kept_nodes}
 use Rattle.doc_board.specs.State.{State, top_of, last_on, tree_on}
 use Rattle.doc_board.proofs.Bodies.{old_document}
@@ -42,3 +47,11 @@ returns-clause-step c =
 
 pub returns-clause-old_document : goal.returns-clause-old_document
 returns-clause-old_document c = old_document c.snapshot_of.result c.in_ok-base.base c.in_ok-base.ensures.document c.snapshot_of.ensures.old
+
+pub returns-clause-context : goal.returns-clause-context
+returns-clause-context c =
+    let log = c.self.inside.storage.log.entries.list in
+    let same : log ≡ c.args.self.now.log = ap (λ (s : State). s.log) c.self.view_is in
+    let end : c.self.inside.grants.applied ≡ length log = ap (λ (s : State). s.known) c.self.view_is ∙ c.requires.known ∙ sym (ap (λ (es : List Entry). length es) same) in
+    let here : IsContext (reverse c.args.self.now.log) (option_copied c.args.by) c.in_ok-context.context = subst (λ (es : List Entry). IsContext (reverse es) (option_copied c.args.by) c.in_ok-context.context) same (c.in_ok-context.ensures log c.self.invariant.1 end) in
+    IfOk-weaker c.snapshot_of.result _ _ (λ s it. subst (λ (x : Context). IsContext (reverse c.args.self.now.log) (option_copied c.args.by) x) (sym it) here) c.snapshot_of.ensures.context

@@ -3,7 +3,7 @@ use Rattle.rev_tree.specs.Writes.{AreAccepted}
 use Rattle.doc_board.specs.Kept.{AreKept}
 use Rattle.doc_board.specs.Recorded.{AreFollowing}
 use Rattle.rev_tree.specs.Documents.{writes_of}
-use Rattle.doc_board.proofs.open.documents_of.Given as goal
+use Rattle.doc_board.proofs.open.take_all.Given as goal
 
 abbrev pub invariant-loop-i : goal.invariant-loop-i
 invariant-loop-i l = record {
