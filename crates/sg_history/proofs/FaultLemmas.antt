@@ -1,5 +1,5 @@
 -- what is wrong with a line, and the lines of entries
-use Rattle.std.proofs.Common.{◌≡◌, ℕ, zero, suc, ◌-◌, ◌≤◌, List, [], ◌∷◌, ◌++◌, ◌<◌, true, length, arith, refl, sym, ap, ◌∙◌, subst, Option, Some, None}
+use Rattle.std.proofs.Common.{◌≡◌, ℕ, zero, suc, ◌+◌, ◌-◌, ◌≤◌, List, [], ◌∷◌, ◌++◌, ◌<◌, true, length, arith, refl, sym, ap, ◌∙◌, subst, Option, Some, None}
 use Rattle.sg_history.specs.declared.entries.Entry.{Entry}
 use Rattle.sg_history.specs.declared.entries.Entry.TheVariants as entry
 use Rattle.sg_history.specs.declared.fault.Why.{Why}
@@ -8,7 +8,7 @@ use Rattle.sg_history.specs.declared.fault.LineFault.{LineFault}
 use Rattle.sg_history.specs.declared.fault.LineFault.TheVariants as line
 use Rattle.sg_history.specs.Journal.{IsEntry, fields_of}
 use Rattle.sg_history.specs.Line.{NoEntry}
-use Rattle.sg_history.specs.Faults.{Grammar, IsText, AreTexts, IsFirstBad, IsFaultAmong, IsFaultUnder, IsFault, AreTextsUnder, AreFields, grammars_of, HasReason, IsBadField}
+use Rattle.sg_history.specs.Faults.{Grammar, IsText, AreTexts, IsFirstBad, IsFaultAmong, IsFaultUnder, IsFault, AreTextsUnder, AreFields, grammars_of, HasReason, IsBadField, IsBadAmong}
 use Rattle.sg_names.specs.Grammar.{lacks}
 use Rattle.sg_history.specs.Pieces.{pieces}
 use Rattle.sg_history.proofs.PieceLemmas.{pieces-cut, pieces-lacking}
@@ -75,3 +75,51 @@ many_fields line kind rest why cut lacking many fault =
 
 pub one_field : (line : List ℕ) → lacks 9 line ≡ true → ¬ (12 < length (pieces 9 line))
 one_field line lacking many = omega (arith, many, ap length (pieces-lacking 9 line lacking))
+
+-- texts in their grammars behind others in theirs
+pub texts_joined : (gs hs : List Grammar) (ts us : List (List ℕ)) → AreTexts gs ts → AreTexts hs us → AreTexts (gs ++ hs) (ts ++ us)
+texts_joined [] hs [] us front back = back
+texts_joined [] hs (t ∷ ts) us front back = absurd front
+texts_joined (g ∷ gs) hs [] us front back = absurd front
+texts_joined (g ∷ gs) hs (t ∷ ts) us front back = (front.0, texts_joined gs hs ts us front.1 back)
+
+first_in : (gs hs : List Grammar) (ts us : List (List ℕ)) (n : ℕ) → IsFirstBad gs ts n → IsFirstBad (gs ++ hs) (ts ++ us) n
+first_in [] hs ts us n bad = absurd bad
+first_in (g ∷ gs) hs [] us n bad = absurd bad
+first_in (g ∷ gs) hs (t ∷ ts) us zero bad = bad
+first_in (g ∷ gs) hs (t ∷ ts) us (suc n) bad = (bad.0, first_in gs hs ts us n bad.1)
+
+first_behind : (gs hs : List Grammar) (ts us : List (List ℕ)) (n m : ℕ) → AreTexts gs ts → IsFirstBad hs us n → m ≡ length gs + n
+    → IsFirstBad (gs ++ hs) (ts ++ us) m
+first_behind [] hs [] us n m front bad e = let same : n ≡ m = omega arith in subst (IsFirstBad hs us) same bad
+first_behind [] hs (t ∷ ts) us n m front bad e = absurd front
+first_behind (g ∷ gs) hs [] us n m front bad e = absurd front
+first_behind (g ∷ gs) hs (t ∷ ts) us n zero front bad e = absurd (omega arith)
+first_behind (g ∷ gs) hs (t ∷ ts) us n (suc m) front bad e = (front.0, first_behind gs hs ts us n m front.1 bad (omega arith))
+
+-- the one text that is read is outside its grammar
+pub bad_alone : (n : ℕ) (g : Grammar) (t : List ℕ) (e : LineFault) → IsBadField n g t e → IsBadAmong n (g ∷ []) (t ∷ []) e
+bad_alone n g t (line.Bad why) bad = let place : n ≡ n + 0 = omega arith in (0, bad.0 ∙ ap reason.Field place, bad.1)
+bad_alone n g t line.Memory bad = tt
+
+-- one of the texts in front is outside its grammar
+pub bad_in_front : (n : ℕ) (gs hs : List Grammar) (ts us : List (List ℕ)) (e : LineFault) → IsBadAmong n gs ts e
+    → IsBadAmong n (gs ++ hs) (ts ++ us) e
+bad_in_front n gs hs ts us (line.Bad why) bad = (bad.0, bad.1, first_in gs hs ts us bad.0 bad.2)
+bad_in_front n gs hs ts us line.Memory bad = tt
+
+-- one of the texts behind those that are in their grammars is outside its own
+pub bad_behind : (n m : ℕ) (gs hs : List Grammar) (ts us : List (List ℕ)) (e : LineFault) → AreTexts gs ts → m ≡ n + length gs
+    → IsBadAmong m hs us e → IsBadAmong n (gs ++ hs) (ts ++ us) e
+bad_behind n m gs hs ts us (line.Bad why) front at bad =
+    let place : m + bad.0 ≡ n + (length gs + bad.0) = omega arith in
+    (length gs + bad.0, bad.1 ∙ ap reason.Field place, first_behind gs hs ts us bad.0 (length gs + bad.0) front bad.2 refl)
+bad_behind n m gs hs ts us line.Memory front at bad = tt
+
+-- one of the texts behind a kind is outside its grammar
+pub bad_among : (gs : List Grammar) (ts : List (List ℕ)) (e : LineFault) → length ts ≡ length gs → IsBadAmong 2 gs ts e
+    → HasReason (IsFaultAmong gs ts) e
+bad_among gs ts (line.Bad why) many bad =
+    let place : bad.0 ≡ 2 + bad.0 - 2 = omega arith in
+    subst (IsFaultAmong gs ts) (sym bad.1) (many, omega arith, subst (IsFirstBad gs ts) place bad.2)
+bad_among gs ts line.Memory many bad = tt

@@ -1,6 +1,8 @@
 pub mod PieceLemmas
 pub mod WriteFields
 pub mod FaultLemmas
+pub mod WriteParts
+pub mod KindLines
 pub mod LineTexts
 pub mod Revisions
 pub mod RuleLemmas

@@ -1,5 +1,5 @@
 -- What is wrong with a line: its kind, the number of its fields, or the first field outside its grammar.
-use Rattle.std.specs.Prelude.{◌≡◌, ◌≢◌, ℕ, zero, suc, ◌-◌, ◌≤◌, Bool, List, [], ◌∷◌, length, codes, Option, Some, None, IsTrue, IsUtf8, if◌then◌else◌}
+use Rattle.std.specs.Prelude.{◌≡◌, ◌≢◌, ℕ, zero, suc, ◌+◌, ◌-◌, ◌≤◌, Bool, List, [], ◌∷◌, length, codes, Option, Some, None, IsTrue, IsUtf8, if◌then◌else◌}
 use Rattle.std.specs.Str.{bytes_eq}
 use Rattle.sg_names.specs.declared.rev_id.RevId.{RevId}
 use Rattle.sg_names.specs.declared.grants.Grant.{Grant}
@@ -131,3 +131,7 @@ HasReason P line.Memory = Unit {0}
 abbrev pub IsBadField : ℕ → Grammar → List ℕ → LineFault → Type 0
 IsBadField n grammar text (line.Bad why) = (why ≡ reason.Field n) × ¬ (IsText grammar text)
 IsBadField n grammar text line.Memory = Unit {0}
+
+-- a refusal other than that memory ran out names the first of these texts that is outside its grammar, where the first text is the field of this number
+abbrev pub IsBadAmong : ℕ → List Grammar → List (List ℕ) → LineFault → Type 0
+IsBadAmong n grammars texts e = HasReason (λ why. (i : ℕ) × (why ≡ reason.Field (n + i)) × IsFirstBad grammars texts i) e

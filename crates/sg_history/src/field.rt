@@ -1,6 +1,6 @@
 //! The fields of a journal's lines, each read by its grammar.
 
-ghost use Rattle.std.specs.Prelude.{◌≡◌, ◌^◌, ◌<◌, ℕ, List, decimal, IsTrue, IsUtf8, IfOk, IfErr, MatchOption};
+ghost use Rattle.std.specs.Prelude.{◌≡◌, ◌^◌, ◌<◌, ◌∷◌, [], ℕ, List, decimal, IsTrue, IsUtf8, IfOk, IfErr, MatchOption};
 ghost use Rattle.sg_names.specs.Grammar.{is_name, is_doc_id};
 ghost use Rattle.sg_names.specs.RevId.{rev_text, is_rev};
 ghost use Rattle.sg_names.specs.Revs.{revs_text, is_revs};
@@ -12,7 +12,7 @@ ghost use Rattle.sg_names.specs.Hex.{hex_text, is_hex};
 ghost use Rattle.sg_history.specs.Journal.{mark_text, by_text, is_by};
 ghost use Rattle.sg_history.specs.Line.{IsLargeFront};
 ghost use Rattle.sg_history.specs.Faults as faults;
-ghost use Rattle.sg_history.specs.Faults.{IsText, IsBadField};
+ghost use Rattle.sg_history.specs.Faults.{AreTexts, IsText, IsBadAmong, IsBadField};
 
 use crate::fault::{LineFault, Why};
 use sg_names::{
@@ -48,6 +48,48 @@ pub fn read<T: Field>(alloc: Global, field: &[u8], number: u64) -> Result<T, Lin
         Err(TextFault::Bad) => Err(LineFault::Bad(Why::Field(number))),
         Err(TextFault::Memory) => Err(LineFault::Memory),
     }
+}
+
+/// Reads two fields side by side, of which the first has this number.
+pub fn read_two<A: Field, B: Field>(
+    alloc: Global,
+    first: &[u8],
+    second: &[u8],
+    number: u64,
+) -> Result<(A, B), LineFault>
+    requires { number < 2 ^ 63 }
+    ensures first { IfOk result (λ v. A.reads first.now v.0) }
+    ensures second { IfOk result (λ v. B.reads second.now v.1) }
+    ensures texts { IfOk result (λ _. AreTexts (A.grammar ∷ B.grammar ∷ [])
+        (first.now ∷ second.now ∷ [])) }
+    ensures fault { IfErr result (IsBadAmong number (A.grammar ∷ B.grammar ∷ [])
+        (first.now ∷ second.now ∷ [])) }
+{
+    let a = read(alloc, first, number)?;
+    let b = read(alloc, second, number + 1)?;
+    Ok((a, b))
+}
+
+/// Reads three fields side by side, of which the first has this number.
+pub fn read_three<A: Field, B: Field, C: Field>(
+    alloc: Global,
+    first: &[u8],
+    second: &[u8],
+    third: &[u8],
+    number: u64,
+) -> Result<(A, B, C), LineFault>
+    requires { number < 2 ^ 62 }
+    ensures first { IfOk result (λ v. A.reads first.now v.0) }
+    ensures second { IfOk result (λ v. B.reads second.now v.1) }
+    ensures third { IfOk result (λ v. C.reads third.now v.2) }
+    ensures texts { IfOk result (λ _. AreTexts (A.grammar ∷ B.grammar ∷ C.grammar ∷ [])
+        (first.now ∷ second.now ∷ third.now ∷ [])) }
+    ensures fault { IfErr result (IsBadAmong number (A.grammar ∷ B.grammar ∷ C.grammar ∷ [])
+        (first.now ∷ second.now ∷ third.now ∷ [])) }
+{
+    let a = read(alloc, first, number)?;
+    let (b, c) = read_two(alloc, second, third, number + 1)?;
+    Ok((a, b, c))
 }
 
 /// The text of a field.

@@ -2,7 +2,7 @@
 
 ghost use Rattle.std.specs.Prelude.{◌≡◌, ◌≢◌, ◌∷◌, ◌<◌, List, ℕ, map, length, codes, IfOk, IfErr, IfSome, IfNone};
 ghost use Rattle.sg_history.specs.Line.{texts_of, AreRead};
-ghost use Rattle.sg_history.specs.Faults.{AreFields, IsFault, HasReason};
+ghost use Rattle.sg_history.specs.Faults.{IsFault, HasReason};
 ghost use Rattle.sg_history.specs.Pieces.{pieces};
 
 use crate::entries::Entry;
@@ -62,7 +62,6 @@ fn write_texts<'a>(fields: &[&'a [u8]]) -> Option<WriteTexts<'a>>
 fn read_write_entry(alloc: Global, fields: &[&[u8]]) -> Result<ReadEntry, LineFault>
     ensures ok { IfOk result (λ read. AreRead (codes "W" ∷ map (λ p. p.now) fields.now)
         read.entry read.at_fits) }
-    ensures texts { IfOk result (λ _. AreFields (codes "W" ∷ map (λ p. p.now) fields.now)) }
     ensures reason { IfErr result (HasReason (IsFault (codes "W" ∷ map (λ p. p.now) fields.now))) }
 {
     let Some(texts) = write_texts(fields) else {
@@ -79,15 +78,12 @@ fn read_write_entry(alloc: Global, fields: &[&[u8]]) -> Result<ReadEntry, LineFa
 fn read_put_user(alloc: Global, fields: &[&[u8]]) -> Result<ReadEntry, LineFault>
     ensures ok { IfOk result (λ read. AreRead (codes "U" ∷ map (λ p. p.now) fields.now)
         read.entry read.at_fits) }
-    ensures texts { IfOk result (λ _. AreFields (codes "U" ∷ map (λ p. p.now) fields.now)) }
     ensures reason { IfErr result (HasReason (IsFault (codes "U" ∷ map (λ p. p.now) fields.now))) }
 {
     let [name, channels, roles] = fields else {
         return Err(LineFault::Bad(Why::Fields));
     };
-    let name = field::read(alloc, name, 2)?;
-    let channels = field::read(alloc, channels, 3)?;
-    let roles = field::read(alloc, roles, 4)?;
+    let (name, channels, roles) = field::read_three(alloc, name, channels, roles, 2)?;
     Ok(ReadEntry {
         entry: Entry::PutUser(name, channels, roles),
         at_fits: true,
@@ -98,14 +94,12 @@ fn read_put_user(alloc: Global, fields: &[&[u8]]) -> Result<ReadEntry, LineFault
 fn read_put_role(alloc: Global, fields: &[&[u8]]) -> Result<ReadEntry, LineFault>
     ensures ok { IfOk result (λ read. AreRead (codes "R" ∷ map (λ p. p.now) fields.now)
         read.entry read.at_fits) }
-    ensures texts { IfOk result (λ _. AreFields (codes "R" ∷ map (λ p. p.now) fields.now)) }
     ensures reason { IfErr result (HasReason (IsFault (codes "R" ∷ map (λ p. p.now) fields.now))) }
 {
     let [name, channels] = fields else {
         return Err(LineFault::Bad(Why::Fields));
     };
-    let name = field::read(alloc, name, 2)?;
-    let channels = field::read(alloc, channels, 3)?;
+    let (name, channels) = field::read_two(alloc, name, channels, 2)?;
     Ok(ReadEntry {
         entry: Entry::PutRole(name, channels),
         at_fits: true,
@@ -116,7 +110,6 @@ fn read_put_role(alloc: Global, fields: &[&[u8]]) -> Result<ReadEntry, LineFault
 fn read_drop_user(alloc: Global, fields: &[&[u8]]) -> Result<ReadEntry, LineFault>
     ensures ok { IfOk result (λ read. AreRead (codes "DU" ∷ map (λ p. p.now) fields.now)
         read.entry read.at_fits) }
-    ensures texts { IfOk result (λ _. AreFields (codes "DU" ∷ map (λ p. p.now) fields.now)) }
     ensures reason { IfErr result (HasReason (IsFault (codes "DU" ∷ map (λ p. p.now) fields.now))) }
 {
     let [name] = fields else {
@@ -133,7 +126,6 @@ fn read_drop_user(alloc: Global, fields: &[&[u8]]) -> Result<ReadEntry, LineFaul
 fn read_drop_role(alloc: Global, fields: &[&[u8]]) -> Result<ReadEntry, LineFault>
     ensures ok { IfOk result (λ read. AreRead (codes "DR" ∷ map (λ p. p.now) fields.now)
         read.entry read.at_fits) }
-    ensures texts { IfOk result (λ _. AreFields (codes "DR" ∷ map (λ p. p.now) fields.now)) }
     ensures reason { IfErr result (HasReason (IsFault (codes "DR" ∷ map (λ p. p.now) fields.now))) }
 {
     let [name] = fields else {
@@ -150,7 +142,6 @@ fn read_drop_role(alloc: Global, fields: &[&[u8]]) -> Result<ReadEntry, LineFaul
 fn read_unused(fields: &[&[u8]]) -> Result<ReadEntry, LineFault>
     ensures ok { IfOk result (λ read. AreRead (codes "X" ∷ map (λ p. p.now) fields.now)
         read.entry read.at_fits) }
-    ensures texts { IfOk result (λ _. AreFields (codes "X" ∷ map (λ p. p.now) fields.now)) }
     ensures reason { IfErr result (HasReason (IsFault (codes "X" ∷ map (λ p. p.now) fields.now))) }
 {
     let [] = fields else {
@@ -166,7 +157,6 @@ fn read_unused(fields: &[&[u8]]) -> Result<ReadEntry, LineFault>
 fn read_fields(alloc: Global, fields: &[&[u8]]) -> Result<ReadEntry, LineFault>
     ensures ok { IfOk result
         (λ read. AreRead (map (λ p. p.now) fields.now) read.entry read.at_fits) }
-    ensures texts { IfOk result (λ _. AreFields (map (λ p. p.now) fields.now)) }
     ensures reason { IfErr result (HasReason (IsFault (map (λ p. p.now) fields.now))) }
 {
     let [kind, further @ ..] = fields else {
@@ -207,7 +197,6 @@ fn fault_of_many(line: &[u8]) -> Why
 /// Reads a line, without its line feed, as an entry.
 pub fn read_line(alloc: Global, line: &[u8]) -> Result<ReadEntry, LineFault>
     ensures read { IfOk result (λ read. AreRead (pieces 9 line.now) read.entry read.at_fits) }
-    ensures texts { IfOk result (λ _. AreFields (pieces 9 line.now)) }
     ensures reason { IfErr result (HasReason (IsFault (pieces 9 line.now))) }
 {
     let mut fields: [&[u8]; MOST] = [&[]; MOST];

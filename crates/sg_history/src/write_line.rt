@@ -2,11 +2,11 @@
 
 ghost use Rattle.std.specs.Prelude.{◌≡◌, ◌<◌, unwrap_or, IsTrue, IfOk, IfErr};
 ghost use Rattle.sg_history.specs.Line.{texts_of, ReadsWrite};
-ghost use Rattle.sg_history.specs.Faults.{AreTexts, IsFaultAmong, HasReason, write_grammars};
+ghost use Rattle.sg_history.specs.Faults.{IsFaultAmong, HasReason, write_grammars};
 
 use crate::entries::Write;
 use crate::fault::LineFault;
-use crate::field;
+use crate::field::{read_three, read_two};
 use std::alloc::Global;
 
 /// The fields of a write's line, after its kind.
@@ -42,20 +42,15 @@ fn front_of(at: Option<u64>) -> u64
 /// Reads the fields of a write, from the first one on.
 pub fn read_write(alloc: Global, texts: WriteTexts<'_>) -> Result<ReadWrite, LineFault>
     ensures ok { IfOk result (λ read. ReadsWrite (texts_of texts.entry) read) }
-    ensures texts { IfOk result (λ _. AreTexts write_grammars (texts_of texts.entry)) }
     ensures reason { IfErr result (HasReason (IsFaultAmong write_grammars (texts_of texts.entry))) }
 {
-    let doc = field::read(alloc, texts.doc, 2)?;
-    let rev = field::read(alloc, texts.rev, 3)?;
-    let ancestors = field::read(alloc, texts.ancestors, 4)?;
-    let deleted = field::read(alloc, texts.deleted, 5)?;
-    let body = field::read(alloc, texts.body, 6)?;
-    let by = field::read(alloc, texts.by, 7)?;
-    let at: Option<u64> = field::read(alloc, texts.at, 8)?;
-    let winner = field::read(alloc, texts.winner, 9)?;
-    let channels = field::read(alloc, texts.channels, 10)?;
-    let grants = field::read(alloc, texts.grants, 11)?;
-    let roles = field::read(alloc, texts.roles, 12)?;
+    let revision = read_three(alloc, texts.doc, texts.rev, texts.ancestors, 2)?;
+    let content = read_three(alloc, texts.deleted, texts.body, texts.by, 5)?;
+    let place = read_three(alloc, texts.at, texts.winner, texts.channels, 8)?;
+    let (grants, roles) = read_two(alloc, texts.grants, texts.roles, 11)?;
+    let (doc, rev, ancestors) = revision;
+    let (deleted, body, by) = content;
+    let (at, winner, channels): (Option<u64>, _, _) = place;
     Ok(ReadWrite {
         write: Write {
             doc,

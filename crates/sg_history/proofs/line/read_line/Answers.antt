@@ -1,6 +1,6 @@
 use Rattle.std.proofs.Common.{subst, IfOk, IfErr, sym, arith}
 use Rattle.std.proofs.lemmas.List.{length-take-le}
-use Rattle.sg_history.specs.Faults.{AreFields, IsFault, HasReason}
+use Rattle.sg_history.specs.Faults.{IsFault, HasReason}
 use Rattle.sg_history.specs.Line.{AreRead}
 use Rattle.sg_history.proofs.line.read_line.Goals as goal
 
@@ -13,10 +13,6 @@ slice_bounds-read_fields-end c = sym (length-take-le c.in-Some.count c.fields_of
 pub returns-in-Some-clause-read : goal.returns-in-Some-clause-read
 returns-in-Some-clause-read c =
     subst (λ fields. IfOk c.read_fields.result (λ read. AreRead fields read.entry read.at_fits)) c.in-Some.ensures.all c.read_fields.ensures.ok
-
-pub returns-in-Some-clause-texts : goal.returns-in-Some-clause-texts
-returns-in-Some-clause-texts c =
-    subst (λ fields. IfOk c.read_fields.result (λ read. AreFields fields)) c.in-Some.ensures.all c.read_fields.ensures.texts
 
 pub returns-in-Some-clause-reason : goal.returns-in-Some-clause-reason
 returns-in-Some-clause-reason c =
