@@ -3,6 +3,7 @@ pub mod Batches
 pub mod ChangesRead
 pub mod Histories
 pub mod History
+pub mod Mapped
 pub mod NoFloats
 pub mod NoNul
 pub mod Numbers

@@ -7,6 +7,7 @@ use Rattle.serde_json.specs.Data.{Data, string, array}
 use Rattle.serde_json.specs.View.{items_of}
 use Rattle.sg_names.specs.RevId.{rev_text, is_rev}
 use Rattle.sg_names.specs.Revs.{revs_text, is_revs}
+use Rattle.sg_names.specs.Key.{ReadsKey, IsLowForm, IsBadKey}
 use Rattle.sg_names.specs.declared.key.Key.{Key}
 use Rattle.sg_names.specs.declared.key.KeyFault.{KeyFault}
 use Rattle.sg_names.specs.declared.key.KeyFault.TheVariants as key_faults
@@ -54,7 +55,14 @@ reading-one text (Err key_faults.BadKey) (Ok l) h i = absurd (h.0 l i)
 reading-one text (Err key_faults.BadKey) (Err key_faults.LowForm) h i = absurd (h.1 i)
 reading-one text (Err key_faults.BadKey) (Err key_faults.BadKey) h i = refl
 
-since-one : (value : Option (List ℕ)) (a b : Result Key KeyFault) → IsSince value a → IsSince value b → a ≡ b
+-- what reads keys and refuses all else reads the text so
+pub reading-of : (text : List ℕ) (r : Result Key KeyFault) → IfOk r (λ k. ReadsKey text k) → (r ≡ Err key_faults.LowForm → IsLowForm text)
+    → (r ≡ Err key_faults.BadKey → IsBadKey text) → IsReading text r
+reading-of text (Ok k) read low bad = read
+reading-of text (Err key_faults.LowForm) read low bad = low refl
+reading-of text (Err key_faults.BadKey) read low bad = bad refl
+
+pub since-one : (value : Option (List ℕ)) (a b : Result Key KeyFault) → IsSince value a → IsSince value b → a ≡ b
 since-one None a b h i = h ∙ sym i
 since-one (Some value) a b h i = reading-one _ a b h i
 

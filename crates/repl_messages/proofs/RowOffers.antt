@@ -1,16 +1,19 @@
 -- Rows and the offers that they are of.
-use Rattle.std.proofs.Common.{◌≡◌, ℕ, zero, suc, ◌<◌, ◌≤◌, List, [], ◌∷◌, ◌++◌, map, drop, length, get_or, Option, Some, None, Result, Ok, Err, IfOk, refl, sym, ap, ◌∙◌, subst, arith}
+use Rattle.std.proofs.Common.{◌≡◌, ℕ, zero, suc, ◌+◌, ◌<◌, ◌≤◌, List, [], ◌∷◌, ◌++◌, append_assoc, map, drop, length, get_or, IsTrue, true, Option, Some, None, Result, Ok, Err, IfOk, refl, sym, ap, ◌∙◌, subst, arith}
 use Rattle.std.proofs.Math.Seq.{drop-nil}
+use Rattle.std.specs.List.{slice_get}
 use Rattle.std.proofs.lemmas.List.{append-nil}
 use Rattle.serde_json.specs.Data.{Data, null, boolean, number, string, array, object, Items}
-use Rattle.serde_json.specs.Find.{as_array}
+use Rattle.serde_json.specs.Find.{as_array, as_str}
 use Rattle.serde_json.specs.View.{view, items_of}
 use Rattle.serde_json.specs.declared.value.Value.{Value}
+use Rattle.sg_names.specs.RevId.{rev_text, is_rev}
+use Rattle.sg_names.specs.declared.rev_id.RevId.{RevId}
 use Rattle.repl_messages.specs.declared.offers.Offer.{Offer}
 use Rattle.repl_messages.specs.declared.rows.Form.{Form}
 use Rattle.repl_messages.specs.Fields.{IsFound}
 use Rattle.repl_messages.specs.Json.{json_of}
-use Rattle.repl_messages.specs.Offers.{AreItems, IsRow, AreRows, AreOffers, IsOffering}
+use Rattle.repl_messages.specs.Offers.{NamesDocument, NamesRevision, IsParent, AreOfChange, AreOfProposal, is_sequence, AreItems, IsRow, AreRows, AreOffers, IsOffering}
 use Rattle.repl_messages.proofs.OneAnswer.{array-same}
 
 -- what has items is an array
@@ -81,6 +84,22 @@ too_many form value rows e many os (others, f, h, few) =
     let count : length os ≡ length rows = as_many form others os h ∙ ap length (sym same) in
     omega (arith, many, few, count)
 
+rows_from : (form : Form) (rows : List Value) (i : ℕ) (x : Value) (o : Offer) (rest : List Offer) → i < length rows → x ≡ get_or rows i x
+    → IsRow form (view x) o → AreRows form (map view (drop (suc i) rows)) rest → AreRows form (map view (drop i rows)) (o ∷ rest)
+rows_from form [] i x o rest low e is h = absurd (omega (arith, low))
+rows_from form (v ∷ vs) zero x o rest low e is h = (rw (sym e) is, h)
+rows_from form (v ∷ vs) (suc i) x o rest low e is h = rows_from form vs i x o rest (omega (arith, low)) e is h
+
+-- one row more, and its offer
+pub rows_more : (form : Form) (rows : List Value) (i : ℕ) (x : Value) (o : Offer) (os more : List Offer) → i < length rows → x ≡ get_or rows i x
+    → IsRow form (view x) o → more ≡ os ++ o ∷ []
+    → ((rest : List Offer) → AreRows form (map view (drop i rows)) rest → AreRows form (map view rows) (os ++ rest))
+    → (rest : List Offer) → AreRows form (map view (drop (i + 1) rows)) rest → AreRows form (map view rows) (more ++ rest)
+rows_more form rows i x o os more low e is pushed so_far = λ rest h.
+    let next : i + 1 ≡ suc i = omega arith in
+    let all = so_far (o ∷ rest) (rows_from form rows i x o rest low e is (subst (λ (k : ℕ). AreRows form (map view (drop k rows)) rest) next h)) in
+    rw (pushed, append_assoc) all
+
 past_end : {X : Type 0} (xs : List X) (i : ℕ) → length xs ≤ i → drop i xs ≡ []
 past_end [] i h = drop-nil i
 past_end (x ∷ xs) zero h = absurd (omega (arith, h))
@@ -102,3 +121,37 @@ body_found form body value (Ok None) e h = λ os (other, f, i).
     let same : value ≡ other = cc in
     h os (rw same i)
 body_found form body value (Err x) e h = tt
+
+str_with : (d : Data) (text : List ℕ) → Some text ≡ as_str d → d ≡ string text
+str_with null text e = cc
+str_with (boolean b) text e = cc
+str_with (number n) text e = cc
+str_with (string s) text e = cc
+str_with (array ds) text e = cc
+str_with (object ms) text e = cc
+
+-- an item whose text is that of a revision names it
+pub rev_named : (item : Data) (text : List ℕ) (r : RevId) → Some text ≡ as_str item → (text ≡ rev_text r) × IsTrue (is_rev r) → NamesRevision item r
+rev_named item text r e is = (str_with item text e ∙ ap string is.0, is.1)
+
+-- an item whose text is that of no revision names none
+pub no_rev : (item : Data) (text : List ℕ) → Some text ≡ as_str item → ((r : RevId) → IsTrue (is_rev r) → ¬ (text ≡ rev_text r))
+    → (r : RevId) → ¬ (NamesRevision item r)
+no_rev item text e none r names =
+    let same : Some text ≡ Some (rev_text r) = e ∙ ap as_str names.0 in
+    none r names.1 (cc)
+
+-- the items of a change, one taken after another
+pub change_is : (values more others : List Value) (sequence doc rev : Value) (d : List ℕ) (r : RevId) → values ≡ sequence ∷ more → more ≡ doc ∷ others
+    → Some rev ≡ slice_get others 0 → is_sequence (view sequence) ≡ true → NamesDocument (view doc) d → NamesRevision (view rev) r
+    → AreOfChange (map view values) (record { doc = d; rev = r; parent = None })
+change_is values more [] sequence doc rev d r e f g s nd nr = absurd (cc (g))
+change_is values more (w ∷ ws) sequence doc rev d r e f g s nd nr =
+    let head : rev ≡ w = cc in
+    rw (e, f) (s, nd, subst (λ (v : Value). NamesRevision (view v) r) head nr, refl)
+
+-- the items of a proposal, one taken after another
+pub proposal_is : (values more others : List Value) (doc rev : Value) (d : List ℕ) (r : RevId) (parent : Option RevId) → values ≡ doc ∷ more
+    → more ≡ rev ∷ others → NamesDocument (view doc) d → NamesRevision (view rev) r → IsParent (map view others) parent
+    → AreOfProposal (map view values) (record { doc = d; rev = r; parent = parent })
+proposal_is values more others doc rev d r parent e f nd nr is = rw (e, f) (nd, nr, is)

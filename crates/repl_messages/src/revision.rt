@@ -2,6 +2,7 @@
 
 ghost use Rattle.std.specs.Prelude.{◌≡◌, ◌≢◌, Ok, Err, IfOk, IfErr, option_and_then};
 ghost use Rattle.std.specs.Option.{option_copied};
+ghost use Rattle.repl_messages.specs.Fields as fields;
 ghost use Rattle.repl_messages.specs.Revisions as revisions;
 ghost use Rattle.repl_messages.specs.Revisions.{IsRevision, IsHistory, IsProposal};
 
@@ -27,18 +28,19 @@ pub struct Revision {
     pub body: Bytes,
 }
 
-/// The document that a property names.
-fn document_of(alloc: Global, value: Option<&str>) -> Result<Option<DocId>, AllocError>
-    ensures { IfOk result
-        (λ doc. doc ≡ option_and_then revisions.document_of (option_copied value.entry)) }
+/// The document that a property names; where it names none, the property is refused.
+fn document_of(alloc: Global, value: Option<&str>) -> Result<DocId, RequestFault>
+    ensures { result ≢ Err RequestFault.Memory → result
+        ≡ fields.or_bad Field.Id
+        (option_and_then revisions.document_of (option_copied value.entry)) }
 {
     let Some(text) = value else {
-        return Ok(None);
+        return Err(RequestFault::Bad400 { field: Field::Id });
     };
     match DocId::parse(alloc, text) {
-        Ok(doc) => Ok(Some(doc)),
-        Err(TextFault::Bad) => Ok(None),
-        Err(TextFault::Memory) => Err(AllocError),
+        Ok(doc) => Ok(doc),
+        Err(TextFault::Bad) => Err(RequestFault::Bad400 { field: Field::Id }),
+        Err(TextFault::Memory) => Err(RequestFault::Memory),
     }
 }
 
@@ -98,7 +100,7 @@ fn proposal(
     ensures { result ≢ Err RequestFault.Memory
         → result ≡ revisions.revision rev history payload.now }
 {
-    let doc = or_bad(Field::Id, document_of(alloc, payload.props.get("id"))?)?;
+    let doc = document_of(alloc, payload.props.get("id"))?;
     let rev = or_bad(Field::Rev, rev)?;
     let ancestors = or_bad(Field::History, history)?;
     Ok(Request::Rev(with_marks(alloc, doc, rev, ancestors, payload)?))
