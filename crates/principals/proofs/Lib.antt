@@ -3,3 +3,4 @@ pub mod Bodies
 pub mod FaultLemmas
 pub mod Scripts
 pub mod Either
+pub mod KindLines

@@ -52,8 +52,7 @@ pub fn read_doc(alloc: Global, fields: &[&[u8]]) -> Result<AdminLine, LineFault>
     };
     let doc = field::read(alloc, doc, 2)?;
     let parent = read_parent(alloc, parent)?;
-    let deleted = field::read(alloc, deleted, 4)?;
-    let body = field::read(alloc, body, 5)?;
+    let (deleted, body) = field::read_two(alloc, deleted, body, 4)?;
     Ok(AdminLine::Doc {
         doc,
         parent,

@@ -28,9 +28,7 @@ fn read_put_user(alloc: Global, fields: &[&[u8]]) -> Result<AdminLine, LineFault
     let [name, channels, roles] = fields else {
         return Err(LineFault::Bad(Why::Fields));
     };
-    let name = field::read(alloc, name, 2)?;
-    let channels = field::read(alloc, channels, 3)?;
-    let roles = field::read(alloc, roles, 4)?;
+    let (name, channels, roles) = field::read_three(alloc, name, channels, roles, 2)?;
     Ok(AdminLine::Command(Command::PutUser(name, channels, roles)))
 }
 
@@ -44,8 +42,7 @@ fn read_put_role(alloc: Global, fields: &[&[u8]]) -> Result<AdminLine, LineFault
     let [name, channels] = fields else {
         return Err(LineFault::Bad(Why::Fields));
     };
-    let name = field::read(alloc, name, 2)?;
-    let channels = field::read(alloc, channels, 3)?;
+    let (name, channels) = field::read_two(alloc, name, channels, 2)?;
     Ok(AdminLine::Command(Command::PutRole(name, channels)))
 }
 

@@ -51,7 +51,7 @@ pub fn read<T: Field>(alloc: Global, field: &[u8], number: u64) -> Result<T, Lin
 }
 
 /// Reads two fields side by side, of which the first has this number.
-pub(crate) fn read_two<A: Field, B: Field>(
+pub fn read_two<A: Field, B: Field>(
     alloc: Global,
     first: &[u8],
     second: &[u8],
@@ -71,7 +71,7 @@ pub(crate) fn read_two<A: Field, B: Field>(
 }
 
 /// Reads three fields side by side, of which the first has this number.
-pub(crate) fn read_three<A: Field, B: Field, C: Field>(
+pub fn read_three<A: Field, B: Field, C: Field>(
     alloc: Global,
     first: &[u8],
     second: &[u8],
