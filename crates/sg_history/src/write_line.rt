@@ -45,9 +45,31 @@ pub fn read_write(alloc: Global, texts: WriteTexts<'_>) -> Result<ReadWrite, Lin
     ensures reason { IfErr result (HasReason (IsFaultAmong write_grammars (texts_of texts.entry))) }
 {
     let revision = read_three(alloc, texts.doc, texts.rev, texts.ancestors, 2)?;
-    let content = read_three(alloc, texts.deleted, texts.body, texts.by, 5)?;
-    let place = read_three(alloc, texts.at, texts.winner, texts.channels, 8)?;
-    let (grants, roles) = read_two(alloc, texts.grants, texts.roles, 11)?;
+    // What was read is dropped by hand: on the way out of a `?` its proof would cost twice as much.
+    let content = match read_three(alloc, texts.deleted, texts.body, texts.by, 5) {
+        Ok(content) => content,
+        Err(fault) => {
+            drop(revision);
+            return Err(fault);
+        }
+    };
+    let place = match read_three(alloc, texts.at, texts.winner, texts.channels, 8) {
+        Ok(place) => place,
+        Err(fault) => {
+            drop(revision);
+            drop(content);
+            return Err(fault);
+        }
+    };
+    let (grants, roles) = match read_two(alloc, texts.grants, texts.roles, 11) {
+        Ok(grants) => grants,
+        Err(fault) => {
+            drop(revision);
+            drop(content);
+            drop(place);
+            return Err(fault);
+        }
+    };
     let (doc, rev, ancestors) = revision;
     let (deleted, body, by) = content;
     let (at, winner, channels): (Option<u64>, _, _) = place;

@@ -5,39 +5,32 @@ use Rattle.sg_history.proofs.write_line.read_write.Goals as goal
 
 pub returns-clause-ok : goal.returns-clause-ok
 returns-clause-ok c =
-    reads_write c.args.texts _ c.in_ok-place.place.0 c.is_some.result (record {
+    reads_write c.args.texts _ c.in-Ok-read_three.place.0 c.is_some.result (record {
       doc = c.in_ok-revision.ensures.first;
       rev = c.in_ok-revision.ensures.second;
       ancestors = c.in_ok-revision.ensures.third;
-      deleted = c.in_ok-content.ensures.first;
-      body = c.in_ok-content.ensures.second;
-      by = c.in_ok-content.ensures.third;
-      winner = c.in_ok-place.ensures.second;
-      channels = c.in_ok-place.ensures.third;
-      grants = c.in_ok-grants.ensures.first;
-      roles = c.in_ok-grants.ensures.second;
-    }) c.in_ok-place.ensures.first c.front_of.ensures c.is_some.ensures
+      deleted = c.in-Ok.ensures.first;
+      body = c.in-Ok.ensures.second;
+      by = c.in-Ok.ensures.third;
+      winner = c.in-Ok-read_three.ensures.second;
+      channels = c.in-Ok-read_three.ensures.third;
+      grants = c.in-Ok-read_two.ensures.first;
+      roles = c.in-Ok-read_two.ensures.second;
+    }) c.in-Ok-read_three.ensures.first c.front_of.ensures c.is_some.ensures
 
 pub returns-in_err-revision-clause-reason : goal.returns-in_err-revision-clause-reason
 returns-in_err-revision-clause-reason c =
     let exit = err_from_is_err_and c.from_residual.result c.from_residual.ensures.1 in
-    rw (exit.1, exit.2)
-    (bad_tree c.args.texts c.in_err-revision.field-0.0 c.in_err-revision.ensures.fault)
+    rw (exit.1, exit.2) (bad_tree c.args.texts c.in_err-revision.field-0.0 c.in_err-revision.ensures.fault)
 
-pub returns-in_err-content-clause-reason : goal.returns-in_err-content-clause-reason
-returns-in_err-content-clause-reason c =
-    let exit = err_from_is_err_and c.from_residual-in_err-content.result c.from_residual-in_err-content.ensures.1 in
-    rw (exit.1, exit.2)
-    (bad_content c.args.texts c.in_err-content.field-0.0 c.in_ok-revision.ensures.texts c.in_err-content.ensures.fault)
+pub returns-in-Err-clause-reason : goal.returns-in-Err-clause-reason
+returns-in-Err-clause-reason c = bad_content c.args.texts c.in-Err.fault c.in_ok-revision.ensures.texts c.in-Err.ensures.fault
 
-pub returns-in_err-place-clause-reason : goal.returns-in_err-place-clause-reason
-returns-in_err-place-clause-reason c =
-    let exit = err_from_is_err_and c.from_residual-in_err-place.result c.from_residual-in_err-place.ensures.1 in
-    rw (exit.1, exit.2)
-    (bad_place c.args.texts c.in_err-place.field-0.0 c.in_ok-revision.ensures.texts c.in_ok-content.ensures.texts c.in_err-place.ensures.fault)
+pub returns-in-Err-read_three-clause-reason : goal.returns-in-Err-read_three-clause-reason
+returns-in-Err-read_three-clause-reason c =
+    bad_place c.args.texts c.in-Err-read_three.fault c.in_ok-revision.ensures.texts c.in-Ok.ensures.texts c.in-Err-read_three.ensures.fault
 
-pub returns-in_err-grants-clause-reason : goal.returns-in_err-grants-clause-reason
-returns-in_err-grants-clause-reason c =
-    let exit = err_from_is_err_and c.from_residual-in_err-grants.result c.from_residual-in_err-grants.ensures.1 in
-    rw (exit.1, exit.2)
-    (bad_grants c.args.texts c.in_err-grants.field-0.0 c.in_ok-revision.ensures.texts c.in_ok-content.ensures.texts c.in_ok-place.ensures.texts c.in_err-grants.ensures.fault)
+pub returns-in-Err-read_two-clause-reason : goal.returns-in-Err-read_two-clause-reason
+returns-in-Err-read_two-clause-reason c =
+    bad_grants c.args.texts c.in-Err-read_two.fault c.in_ok-revision.ensures.texts c.in-Ok.ensures.texts c.in-Ok-read_three.ensures.texts
+    c.in-Err-read_two.ensures.fault
