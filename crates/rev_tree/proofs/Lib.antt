@@ -9,3 +9,4 @@ pub mod OfWrites
 pub mod Firsts
 pub mod Parents
 mod DocumentTrees
+pub mod Steps
