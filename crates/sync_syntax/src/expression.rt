@@ -7,6 +7,7 @@ ghost use Rattle.sync_syntax.specs.Expressions as spec;
 ghost use Rattle.sync_syntax.specs.Nests.{Nests};
 
 use crate::Memory;
+use crate::behind::closed;
 use crate::cursor::Tokens;
 use crate::fault::ParseFault;
 use crate::fitted::fitted;
@@ -136,7 +137,7 @@ impl<F: Fn(Global, &mut Tokens<'_>, usize, bool) -> Result<Expr, ParseFault>> Gr
             return Ok(Items::new(self.alloc));
         }
         let found = self.separated(tokens)?;
-        tokens.expect(close)?;
+        let found = closed(tokens, found, close)?;
         Ok(fitted(self.alloc, found)?)
     }
 
@@ -176,7 +177,7 @@ impl<F: Fn(Global, &mut Tokens<'_>, usize, bool) -> Result<Expr, ParseFault>> Gr
             return Ok(Items::new(self.alloc));
         }
         let found = self.some_members(tokens)?;
-        tokens.expect(Sign::BraceClose)?;
+        let found = closed(tokens, found, Sign::BraceClose)?;
         Ok(fitted(self.alloc, found)?)
     }
 
@@ -194,8 +195,7 @@ impl<F: Fn(Global, &mut Tokens<'_>, usize, bool) -> Result<Expr, ParseFault>> Gr
             Sign::ParenOpen => {
                 tokens.take();
                 let inner = self.nested(tokens, false)?;
-                tokens.expect(Sign::ParenClose)?;
-                Ok(inner)
+                closed(tokens, inner, Sign::ParenClose)
             }
             Sign::BracketOpen => {
                 tokens.take();
@@ -246,8 +246,7 @@ impl<F: Fn(Global, &mut Tokens<'_>, usize, bool) -> Result<Expr, ParseFault>> Gr
         }
         if tokens.eat(Sign::BracketOpen) {
             let at = self.nested(tokens, false)?;
-            tokens.expect(Sign::BracketClose)?;
-            return Ok(Suffix::Index(at));
+            return closed(tokens, Suffix::Index(at), Sign::BracketClose);
         }
         tokens.expect(Sign::ParenOpen)?;
         let found = self.list(tokens, Sign::ParenClose)?;

@@ -1,6 +1,7 @@
 //! The texts and trees of the sync language.
 #![tactic(auto)]
 
+mod behind;
 mod cursor;
 mod expression;
 mod fault;

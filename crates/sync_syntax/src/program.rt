@@ -10,6 +10,7 @@ ghost use Rattle.sync_syntax.specs.Reading.{Reads};
 ghost use Rattle.sync_syntax.specs.Statements as spec;
 ghost use Rattle.sync_syntax.specs.Statements.{Gives, max_len};
 
+use crate::behind::closed;
 use crate::cursor::Tokens;
 use crate::fault::{ParseFault, SyntaxFault};
 use crate::simple::named;
@@ -59,8 +60,7 @@ fn head(alloc: Global, tokens: &mut Tokens<'_>) -> Result<Head, ParseFault>
     tokens.expect(Sign::ParenOpen)?;
     let first = named(alloc, tokens)?;
     let second = second_parameter(alloc, tokens)?;
-    tokens.expect(Sign::ParenClose)?;
-    Ok((name, first, second))
+    closed(tokens, (name, first, second), Sign::ParenClose)
 }
 
 /// The body, and the end of the text behind it.

@@ -4,6 +4,7 @@ ghost use Rattle.std.specs.Prelude.{◌≡◌, ◌∷◌, ◌++◌};
 ghost use Rattle.sync_syntax.specs.Reading.{Reads};
 ghost use Rattle.sync_syntax.specs.Statements as spec;
 
+use crate::behind::ended;
 use crate::cursor::Tokens;
 use crate::expression::nested;
 use crate::fault::ParseFault;
@@ -25,7 +26,7 @@ pub(crate) fn named(alloc: Global, tokens: &mut Tokens<'_>) -> Result<Named, Par
 
 /// A `;`, which may be absent directly before a `}`.
 #[tactic(auto, unfolding(crate::specs::Statements::ending))]
-fn ending(tokens: &mut Tokens<'_>) -> Result<(), ParseFault>
+pub(crate) fn ending(tokens: &mut Tokens<'_>) -> Result<(), ParseFault>
     ensures { Reads (spec.ending tokens.old) result tokens.new }
 {
     if tokens.sees(Sign::BraceClose) {
@@ -235,8 +236,7 @@ impl Parts {
     {
         tokens.take();
         let found = self.returned(tokens)?;
-        ending(tokens)?;
-        Ok(Statement::Return(place, found))
+        ended(tokens, Statement::Return(place, found))
     }
 
     #[tactic(auto, unfolding(crate::specs::Statements::throw))]
@@ -245,8 +245,7 @@ impl Parts {
     {
         tokens.take();
         let found = self.expr(tokens)?;
-        ending(tokens)?;
-        Ok(Statement::Throw(place, found))
+        ended(tokens, Statement::Throw(place, found))
     }
 
     #[tactic(auto, unfolding(crate::specs::Statements::declare))]
@@ -261,8 +260,7 @@ impl Parts {
         tokens.take();
         let first = named(self.alloc, tokens)?;
         let found = self.declaration(tokens, place, declares, first)?;
-        ending(tokens)?;
-        Ok(Statement::Declare(found))
+        ended(tokens, Statement::Declare(found))
     }
 
     #[tactic(auto, unfolding(crate::specs::Statements::only_simple))]
@@ -270,8 +268,7 @@ impl Parts {
         ensures { Reads (spec.only_simple self.now.room tokens.old) result tokens.new }
     {
         let found = self.simple(tokens)?;
-        ending(tokens)?;
-        Ok(Statement::Simple(found))
+        ended(tokens, Statement::Simple(found))
     }
 
     /// A declaration, or another statement that no word begins.
