@@ -275,7 +275,13 @@ impl<F: Fn(Global, &mut Tokens<'_>, usize, bool) -> Result<Expr, ParseFault>> Gr
         ensures { Reads (spec.postfix (spec.nested self.now.room) tokens.old) result tokens.new }
     {
         let first = self.primary(tokens)?;
-        let found = self.suffixes(tokens)?;
+        let found = match self.suffixes(tokens) {
+            Ok(found) => found,
+            Err(fault) => {
+                drop(first);
+                return Err(fault);
+            }
+        };
         Ok(followed(self.alloc, first, found)?)
     }
 
@@ -341,7 +347,13 @@ impl<F: Fn(Global, &mut Tokens<'_>, usize, bool) -> Result<Expr, ParseFault>> Gr
             return self.unary(tokens);
         }
         let first = self.chain(tokens, level - 1)?;
-        let found = self.tails(tokens, level)?;
+        let found = match self.tails(tokens, level) {
+            Ok(found) => found,
+            Err(fault) => {
+                drop(first);
+                return Err(fault);
+            }
+        };
         Ok(chained(self.alloc, first, found)?)
     }
 

@@ -94,9 +94,16 @@ fn end(tokens: &mut Tokens<'_>) -> Result<(), ParseFault>
 fn program(alloc: Global, tokens: &mut Tokens<'_>) -> Result<Program, ParseFault>
     ensures { Reads (spec.program tokens.old) result tokens.new }
 {
-    let (name, first, second) = head(alloc, tokens)?;
+    let head = head(alloc, tokens)?;
     let place = tokens.place();
-    let body = body(alloc, tokens)?;
+    let body = match body(alloc, tokens) {
+        Ok(body) => body,
+        Err(fault) => {
+            drop(head);
+            return Err(fault);
+        }
+    };
+    let (name, first, second) = head;
     Ok(Program {
         name,
         first,

@@ -16,9 +16,9 @@ chain-returns-in_err-first g t c =
     let more = deeper (λ n. chain_in c.args.self.now.room n c.args.tokens.now) c.args.level (omega arith) in
     first_of (search rules, grind (arith, common_steps))
 
-pub chain-returns-in_err-found : goal.chain-returns-in_err-found
+pub chain-returns-in-Err : goal.chain-returns-in-Err
 unfolding chain
-chain-returns-in_err-found g t c =
+chain-returns-in-Err g t c =
     let more = deeper (λ n. chain_in c.args.self.now.room n c.args.tokens.now) c.args.level (omega arith) in
     first_of (search rules, grind (arith, common_steps))
 
