@@ -160,11 +160,23 @@ impl Core {
         ensures err { OnErr result (self.new ≡ self.old) }
     {
         match event {
-            Event::Whole(message) => self.take_message(alloc, &message),
+            Event::Whole(message) => {
+                let acts = self.take_message(alloc, &message);
+                drop(message);
+                acts
+            }
             Event::Idle { front } => self.take_idle(alloc, front),
             Event::Fed(fed) => self.take_fed(alloc, fed),
-            Event::Bodies(bodies) => self.take_bodies(alloc, &bodies),
-            Event::Asked(asked) => self.take_asked(alloc, &asked),
+            Event::Bodies(bodies) => {
+                let acts = self.take_bodies(alloc, &bodies);
+                drop(bodies);
+                acts
+            }
+            Event::Asked(asked) => {
+                let acts = self.take_asked(alloc, &asked);
+                drop(asked);
+                acts
+            }
             Event::Judged(outcome) => self.take_judged(alloc, outcome),
         }
     }
@@ -241,8 +253,14 @@ impl Core {
             Request::Rev(revision) => {
                 Ok(self.ask(alloc, Pending::Push(asker), Want::Propose { revision }))
             }
-            Request::GetCheckpoint { .. } => { self.refuse(alloc, asker, ErrorKind::NoHandler404) }
-            Request::SetCheckpoint { .. } => { self.refuse(alloc, asker, ErrorKind::NoHandler404) }
+            Request::GetCheckpoint { .. } => {
+                drop(request);
+                self.refuse(alloc, asker, ErrorKind::NoHandler404)
+            }
+            Request::SetCheckpoint { .. } => {
+                drop(request);
+                self.refuse(alloc, asker, ErrorKind::NoHandler404)
+            }
         }
     }
 
@@ -280,7 +298,7 @@ impl Core {
         requires sound { IsSound self.old.feed pending }
         ensures { IsDone (asks self.old pending want) self.new result }
     {
-        self.pending = pending;
+        set(&mut self.pending, pending);
         Acts {
             puts: Vec::new(alloc),
             want: Some(want),
@@ -297,11 +315,20 @@ impl Core {
         ensures err { OnErr result (self.new ≡ self.old) }
     {
         if self.feed.is_some() {
-            return self.refuse(alloc, asked.asker, ErrorKind::FeedRuns409);
+            let asker = asked.asker;
+            drop(asked);
+            return self.refuse(alloc, asker, ErrorKind::FeedRuns409);
         }
+        let options = match asked.options.copy(alloc) {
+            Ok(options) => options,
+            Err(fault) => {
+                drop(asked);
+                return Err(fault);
+            }
+        };
         let want = Want::Feed {
             since: asked.since,
-            options: asked.options.copy(alloc)?,
+            options,
         };
         Ok(self.ask(alloc, Pending::Feed(asked), want))
     }
@@ -401,8 +428,8 @@ impl Core {
             unreachable!();
         };
         self.requests += count;
-        self.feed = Some(feed.rest());
-        self.pending = Pending::More;
+        set(&mut self.feed, Some(feed.rest()));
+        set(&mut self.pending, Pending::More);
     }
 
     /// The rows on offer are answered by so many requests, and the feed goes on.
@@ -416,7 +443,7 @@ impl Core {
         let Some(feed) = self.feed.take() else {
             unreachable!();
         };
-        self.pending = Pending::Nothing;
+        set(&mut self.pending, Pending::Nothing);
         let requests = self.requests + count;
         self.settle(feed.rest(), requests);
     }
@@ -427,9 +454,9 @@ impl Core {
         ensures { self.new ≡ going_on self.old requests feed }
     {
         let (feed, requests) = feed.onward(requests);
-        self.feed = feed;
+        set(&mut self.feed, feed);
         self.requests = requests;
-        self.pending = Pending::Nothing;
+        set(&mut self.pending, Pending::Nothing);
     }
 
     // ---- answers of the history
@@ -445,7 +472,7 @@ impl Core {
         match (&self.pending, fed) {
             (Pending::Feed(asked), Fed::Future { front }) => {
                 let acts = refuse(alloc, asked.asker, ErrorKind::SincePast400 { front })?;
-                self.pending = Pending::Nothing;
+                set(&mut self.pending, Pending::Nothing);
                 Ok(put(acts))
             }
             (Pending::Feed(asked), Fed::Rows { front, rows }) => {
@@ -523,7 +550,7 @@ impl Core {
         let Some(feed) = self.feed.take() else {
             unreachable!();
         };
-        self.pending = Pending::Nothing;
+        set(&mut self.pending, Pending::Nothing);
         let requests = self.requests;
         self.settle(feed.with_rows(rows, front), requests);
     }
@@ -555,7 +582,7 @@ impl Core {
             unreachable!();
         };
         let acts = answer_offers(alloc, *asker, *proposed, asked)?;
-        self.pending = Pending::Nothing;
+        set(&mut self.pending, Pending::Nothing);
         Ok(put(acts))
     }
 
@@ -570,7 +597,7 @@ impl Core {
             unreachable!();
         };
         let acts = answer_outcome(alloc, *asker, outcome)?;
-        self.pending = Pending::Nothing;
+        set(&mut self.pending, Pending::Nothing);
         Ok(put(acts))
     }
 
@@ -595,6 +622,13 @@ impl Core {
         };
         Ok(self.ask(alloc, Pending::More, want))
     }
+}
+
+/// Sets this, and drops what was there.
+fn set<T: Drop>(place: &mut T, value: T)
+    ensures { place.new ≡ value }
+{
+    *place = value;
 }
 
 /// A plain number as a key.

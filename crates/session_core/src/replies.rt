@@ -29,14 +29,16 @@ fn reply(alloc: Global, asker: Asker, kind: Kind, payload: Payload) -> Result<Ve
     ensures { IfOk result (λ acts. acts.items ≡ reply_act asker kind payload) }
 {
     let mut acts = Vec::new(alloc);
-    if !asker.no_reply {
-        acts.push(Act::Reply {
-            number: asker.number,
-            kind,
-            urgent: asker.urgent,
-            payload,
-        })?;
+    if asker.no_reply {
+        drop(payload);
+        return Ok(acts);
     }
+    acts.push(Act::Reply {
+        number: asker.number,
+        kind,
+        urgent: asker.urgent,
+        payload,
+    })?;
     Ok(acts)
 }
 
@@ -44,7 +46,9 @@ fn reply(alloc: Global, asker: Asker, kind: Kind, payload: Payload) -> Result<Ve
 pub(crate) fn refuse(alloc: Global, asker: Asker, error: ErrorKind) -> Result<Vec<Act>, Memory>
     ensures { IfOk result (λ acts. acts.items ≡ refusal_act asker error) }
 {
-    reply(alloc, asker, Kind::Err, write_error(alloc, &error)?)
+    let payload = write_error(alloc, &error);
+    drop(error);
+    reply(alloc, asker, Kind::Err, payload?)
 }
 
 /// The empty reply.
