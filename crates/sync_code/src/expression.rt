@@ -120,8 +120,9 @@ fn member_of(
     ensures name { IfOk result (λ made. made.0 ≡ name.now) }
     ensures code { IfOk result (λ made. IsCode (source made.1) expr.now (fits made.1 scope.now)) }
 {
+    let name = name.copy(alloc)?;
     let code = code_of(alloc, slots, scope, expr)?;
-    Ok((name.copy(alloc)?, code))
+    Ok((name, code))
 }
 
 #[cycle(compile)]

@@ -57,7 +57,13 @@ fn declared_one(
         (fits_or_none made.1 scope.now)) }
 {
     let held = declared(alloc, slots, scope, declares, &name.0)?;
-    Ok((held, code_or_none(alloc, slots, scope, &name.1)?))
+    match code_or_none(alloc, slots, scope, &name.1) {
+        Ok(code) => Ok((held, code)),
+        Err(fault) => {
+            drop(held);
+            Err(fault)
+        }
+    }
 }
 
 /// The variables of a declaration.
@@ -111,7 +117,13 @@ fn write(
         (plain_fits made scope.now)) }
 {
     let held = written(alloc, slots, scope, name)?;
-    Ok(Plain::Write(held, how, boxed(alloc, slots, scope, expr)?))
+    match boxed(alloc, slots, scope, expr) {
+        Ok(code) => Ok(Plain::Write(held, how, code)),
+        Err(fault) => {
+            drop(held);
+            Err(fault)
+        }
+    }
 }
 
 /// The code of a simple statement.

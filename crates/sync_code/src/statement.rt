@@ -74,14 +74,25 @@ fn while_head(
 {
     let begin = begin_if_any(alloc, slots, scope, start)?;
     let inside = behind_start(alloc, scope, start)?;
-    let condition = code_or_none(alloc, slots, &inside, condition)?;
-    let last = plain_if_any(alloc, slots, &inside, last)?;
-    Ok(WhileHead {
-        begin,
-        condition,
-        last,
-        inside,
-    })
+    let condition = match code_or_none(alloc, slots, &inside, condition) {
+        Ok(condition) => condition,
+        Err(fault) => {
+            drop(inside);
+            return Err(fault);
+        }
+    };
+    match plain_if_any(alloc, slots, &inside, last) {
+        Ok(last) => Ok(WhileHead {
+            begin,
+            condition,
+            last,
+            inside,
+        }),
+        Err(fault) => {
+            drop(inside);
+            Err(fault)
+        }
+    }
 }
 
 /// The code of the head of a `for .. of`.
@@ -125,21 +136,43 @@ fn step_of(
             match last {
                 Some(last) => {
                     let behind = behind_first(alloc, scope, first.get())?;
-                    let last = boxed_step(alloc, slots, &behind, last.get())?;
+                    let last = boxed_step(alloc, slots, &behind, last.get());
+                    drop(behind);
+                    let last = last?;
                     Ok(Step::If(*place, condition, step, Some(last)))
                 }
                 None => Ok(Step::If(*place, condition, step, None)),
             }
         }
         Statement::For(place, start, condition, last, body) => {
-            let head = while_head(alloc, slots, scope, start, condition, last)?;
-            let body = boxed_step(alloc, slots, &head.inside, body.get())?;
-            Ok(Step::For(*place, head.begin, head.condition, head.last, body))
+            let WhileHead {
+                begin,
+                condition,
+                last,
+                inside,
+            } = while_head(alloc, slots, scope, start, condition, last)?;
+            let body = boxed_step(alloc, slots, &inside, body.get());
+            drop(inside);
+            Ok(Step::For(*place, begin, condition, last, body?))
         }
         Statement::ForOf(place, declares, name, expr, body) => {
-            let head = of_head(alloc, slots, scope, *declares, name, expr.get())?;
-            let body = boxed_step(alloc, slots, &head.inside, body.get())?;
-            Ok(Step::ForOf(*place, *declares, head.held, head.code, body))
+            let OfHead { held, code, inside } = of_head(
+                alloc,
+                slots,
+                scope,
+                *declares,
+                name,
+                expr.get(),
+            )?;
+            let body = boxed_step(alloc, slots, &inside, body.get());
+            drop(inside);
+            match body {
+                Ok(body) => Ok(Step::ForOf(*place, *declares, held, code, body)),
+                Err(fault) => {
+                    drop(held);
+                    Err(fault)
+                }
+            }
         }
         Statement::Return(place, expr) => {
             Ok(Step::Return(*place, code_or_none(alloc, slots, scope, expr)?))
