@@ -85,7 +85,7 @@ fn begins_suffix(tokens: &Tokens<'_>) -> bool
 }
 
 /// What the rules of expressions are read with.
-#[derive(Clone, Copy)]
+#[derive(Drop)]
 pub(crate) struct Grammar<F> {
     pub alloc: Global,
     /// How much more may be open.

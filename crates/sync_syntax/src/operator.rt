@@ -94,7 +94,7 @@ pub(crate) fn declares_by(kind: &Kind) -> Option<Declares>
 }
 
 /// What a sign behind a name does to a variable.
-#[derive(Clone, Copy, Debug)]
+#[derive(Clone, Copy)]
 pub(crate) enum Writing {
     Sets(Writes),
     Increments,

@@ -18,7 +18,7 @@ use std::alloc::Global;
 use sync_tokens::{Kind, Place, Sign, Word};
 
 /// What the rules are read with.
-#[derive(Clone, Copy)]
+#[derive(Drop)]
 pub(crate) struct Statements<F> {
     pub alloc: Global,
     /// How much more may be open.
