@@ -13,7 +13,7 @@ use std::alloc::Global;
 use sync_tokens::{Sign, Word};
 
 /// What stands last in a text, as far as the next token's space goes.
-#[derive(Clone, Copy, Debug)]
+#[derive(Clone, Copy)]
 pub(crate) enum Last {
     /// Nothing, or a sign that no space follows.
     Opening,

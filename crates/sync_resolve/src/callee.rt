@@ -6,7 +6,7 @@ ghost use Rattle.sync_resolve.specs.Rules.{rules};
 ghost use Rattle.sync_resolve.specs.Expressions as expressions;
 
 /// How many arguments a call takes.
-#[derive(Clone, Copy, Debug, PartialEq, Eq)]
+#[derive(Clone, Copy)]
 pub enum Takes {
     Nothing,
     One,

@@ -18,7 +18,7 @@ use sync_tokens::Place;
 
 /// A variable of `let` or `const`: the block that declares it, by how many blocks are open there,
 /// and whether it is a constant.
-#[derive(Clone, Copy, Debug)]
+#[derive(Clone, Copy)]
 pub struct Bound {
     pub block: usize,
     pub constant: bool,
