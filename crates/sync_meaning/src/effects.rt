@@ -247,7 +247,8 @@ impl Effects {
         grantees: &[Grantee],
         channels: &[ChannelName],
     ) -> Result<(), Stop>
-        ensures { Leaves (spec.add_grants place grantees.now channels.now self.old) result self.new }
+        ensures { Leaves (spec.add_grants place grantees.now channels.now self.old) result
+            self.new }
     {
         let mut left = grantees;
         while let [to, rest @ ..] = left {
