@@ -27,8 +27,12 @@ fn feed_of(alloc: Global, log: &Log, user: &Name, since: &Key) -> Result<Bytes, 
         active_only: false,
         revocations: true,
     };
-    let rows = rows(alloc, log, log.entries.len() as u64, user, since, &options)?;
-    print_rows(alloc, rows.as_slice())
+    let found = rows(alloc, log, log.entries.len() as u64, user, since, &options);
+    drop(options);
+    let rows = found?;
+    let text = print_rows(alloc, rows.as_slice());
+    drop(rows);
+    text
 }
 
 /// Writes a text to the output at once.
@@ -66,7 +70,11 @@ fn print_feed<O: Sink>(
         (O.faults out.old) (O.faults out.new) (O.taken out.old) (O.taken out.new) }
 {
     match take_journal(alloc, journal) {
-        Ok(log) => print_log(alloc, &log, user, since, out),
+        Ok(log) => {
+            let status = print_log(alloc, &log, user, since, out);
+            drop(log);
+            status
+        }
         Err(ReadLog::Bad(BadLine { place, why })) => Status::BadInput {
             file: JOURNAL,
             place,
