@@ -32,8 +32,13 @@ fn read_first(
         × (parsed (sync_of (members_of object.now)) ≡ Ok (arc_value p.1))) result }
 {
     let settings = read_settings(alloc, object)?;
-    let program = read_program(alloc, object)?;
-    Ok((settings, program))
+    match read_program(alloc, object) {
+        Ok(program) => Ok((settings, program)),
+        Err(fault) => {
+            drop(settings);
+            Err(fault)
+        }
+    }
 }
 
 /// Reads the roles and the users.
@@ -54,8 +59,15 @@ fn read_known(alloc: Global, object: &Object<'_, '_>) -> Result<Config, ConfigFa
     ensures { IsResultOf (first_of (known_tests object.now.path.now (members_of object.now)))
         (λ config. Says (members_of object.now) config) result }
 {
-    let (settings, program) = read_first(alloc, object)?;
-    let (roles, users) = read_principals(alloc, object)?;
+    let first = read_first(alloc, object)?;
+    let (roles, users) = match read_principals(alloc, object) {
+        Ok(principals) => principals,
+        Err(fault) => {
+            drop(first);
+            return Err(fault);
+        }
+    };
+    let (settings, program) = first;
     Ok(Config {
         database: settings.database,
         bind: settings.bind,
@@ -72,7 +84,7 @@ fn read_object(alloc: Global, object: &Object<'_, '_>) -> Result<Config, ConfigF
         (λ config. Says (members_of object.now) config) result }
 {
     let config = read_known(alloc, object)?;
-    object.only(
+    match object.only(
         alloc,
         &[
             "database",
@@ -83,8 +95,13 @@ fn read_object(alloc: Global, object: &Object<'_, '_>) -> Result<Config, ConfigF
             "roles",
             "users",
         ],
-    )?;
-    Ok(config)
+    ) {
+        Ok(()) => Ok(config),
+        Err(fault) => {
+            drop(config);
+            Err(fault)
+        }
+    }
 }
 
 /// What the bytes are read as.
@@ -130,5 +147,7 @@ pub fn read_config(alloc: Global, bytes: &[u8]) -> Result<Config, ConfigFault>
         ↔ (config_fault bytes.now ≡ Some fault)) }
 {
     let value = value_of(alloc, bytes)?;
-    read_value(alloc, &value)
+    let config = read_value(alloc, &value);
+    drop(value);
+    config
 }

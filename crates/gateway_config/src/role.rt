@@ -103,8 +103,13 @@ fn read_object<'a>(
         ≡ (bytes_eq (name_of (members_of object.now)) t || has seen.old t)) }
 {
     let role = read_holder(alloc, object, seen)?;
-    object.only(alloc, &["name", "channels"])?;
-    Ok(role)
+    match object.only(alloc, &["name", "channels"]) {
+        Ok(()) => Ok(role),
+        Err(fault) => {
+            drop(role);
+            Err(fault)
+        }
+    }
 }
 
 /// Reads the role at this place of the list.

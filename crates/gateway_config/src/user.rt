@@ -111,8 +111,15 @@ fn read_members<'a>(
         → has sessions.new t
         ≡ (is_session_text (session_of (members_of object.now)) t || has sessions.old t)) }
 {
-    let ConfigRole { name, channels } = read_holder(alloc, object, names)?;
-    let (roles, session) = read_further(alloc, object, sessions)?;
+    let holder = read_holder(alloc, object, names)?;
+    let (roles, session) = match read_further(alloc, object, sessions) {
+        Ok(further) => further,
+        Err(fault) => {
+            drop(holder);
+            return Err(fault);
+        }
+    };
+    let ConfigRole { name, channels } = holder;
     Ok(ConfigUser {
         name,
         channels,
@@ -138,8 +145,13 @@ fn read_object<'a>(
         ≡ (is_session_text (session_of (members_of object.now)) t || has sessions.old t)) }
 {
     let user = read_members(alloc, object, names, sessions)?;
-    object.only(alloc, &["name", "channels", "roles", "session"])?;
-    Ok(user)
+    match object.only(alloc, &["name", "channels", "roles", "session"]) {
+        Ok(()) => Ok(user),
+        Err(fault) => {
+            drop(user);
+            Err(fault)
+        }
+    }
 }
 
 /// Reads the user at this place of the list.

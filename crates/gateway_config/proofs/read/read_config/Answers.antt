@@ -16,14 +16,14 @@ returns-in_err-value-clause-refused c =
     refused_by (config_fault c.args.bytes.now) (λ config. IsTextOf c.args.bytes.now config) c.from_residual.result given
 
 pub returns-clause-exact : goal.returns-clause-exact
-returns-clause-exact c = config_read c.args.bytes.now (view c.in_ok-value.value) c.read_value.result c.in_ok-value.ensures.ok c.read_value.ensures
+returns-clause-exact c = config_read c.args.bytes.now (view c.in_ok-value.value) c.read_value-config.result c.in_ok-value.ensures.ok c.read_value-config.ensures
 
 pub returns-clause-accepted : goal.returns-clause-accepted
 returns-clause-accepted c =
-    accepted_by (config_fault c.args.bytes.now) (λ config. IsTextOf c.args.bytes.now config) c.read_value.result
-    (config_read c.args.bytes.now (view c.in_ok-value.value) c.read_value.result c.in_ok-value.ensures.ok c.read_value.ensures)
+    accepted_by (config_fault c.args.bytes.now) (λ config. IsTextOf c.args.bytes.now config) c.read_value-config.result
+    (config_read c.args.bytes.now (view c.in_ok-value.value) c.read_value-config.result c.in_ok-value.ensures.ok c.read_value-config.ensures)
 
 pub returns-clause-refused : goal.returns-clause-refused
 returns-clause-refused c =
-    refused_by (config_fault c.args.bytes.now) (λ config. IsTextOf c.args.bytes.now config) c.read_value.result
-    (config_read c.args.bytes.now (view c.in_ok-value.value) c.read_value.result c.in_ok-value.ensures.ok c.read_value.ensures)
+    refused_by (config_fault c.args.bytes.now) (λ config. IsTextOf c.args.bytes.now config) c.read_value-config.result
+    (config_read c.args.bytes.now (view c.in_ok-value.value) c.read_value-config.result c.in_ok-value.ensures.ok c.read_value-config.ensures)

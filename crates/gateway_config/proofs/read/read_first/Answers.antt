@@ -11,16 +11,16 @@ returns-in_err-settings c =
     let fault_is = first_part (setting_tests path ms) (sync_fault path ms ∷ []) c.in_err-settings.field-0.0 c.in_err-settings.ensures in
     search (rules, fault_is)
 
-pub returns-in_err-program : goal.returns-in_err-program
-returns-in_err-program c =
+pub returns-in-Err : goal.returns-in-Err
+returns-in-Err c =
     let ms = members_of c.args.object.now in
     let path = c.args.object.now.path.now in
-    let fault_is = second_part (setting_tests path ms) (sync_fault path ms ∷ []) c.in_err-program.field-0.0 c.in_ok-settings.ensures.0 (one_named (sync_fault path ms) c.in_err-program.field-0.0 c.in_err-program.ensures) in
+    let fault_is = second_part (setting_tests path ms) (sync_fault path ms ∷ []) c.in-Err.fault c.in_ok-settings.ensures.0 (one_named (sync_fault path ms) c.in-Err.fault c.in-Err.ensures) in
     search (rules, fault_is)
 
-pub returns : goal.returns
-returns c =
+pub returns-in-Ok : goal.returns-in-Ok
+returns-in-Ok c =
     let ms = members_of c.args.object.now in
     let path = c.args.object.now.path.now in
-    let none = both_parts (setting_tests path ms) (sync_fault path ms ∷ []) c.in_ok-settings.ensures.0 (one_none (sync_fault path ms) c.in_ok-program.ensures.0) in
+    let none = both_parts (setting_tests path ms) (sync_fault path ms ∷ []) c.in_ok-settings.ensures.0 (one_none (sync_fault path ms) c.in-Ok.ensures.0) in
     search (rules, none)

@@ -4,22 +4,22 @@ use Rattle.gateway_config.specs.Objects.{further_tests, holder_tests, members_of
 use Rattle.gateway_config.specs.Seen.{has}
 use Rattle.gateway_config.proofs.user.read_members.Goals as goal
 
-pub returns-in_err-name-clause-read : goal.returns-in_err-name-clause-read
-returns-in_err-name-clause-read c =
+pub returns-in_err-holder-clause-read : goal.returns-in_err-holder-clause-read
+returns-in_err-holder-clause-read c =
     let ms = members_of c.args.object.now in
     let path = c.args.object.now.path.now in
     let had = has c.args.names.now in
     let held = has c.args.sessions.now in
-    let fault_is = first_part (holder_tests path had ms) (further_tests path held ms) c.in_err-name.field-0.0 c.in_err-name.ensures.read in
+    let fault_is = first_part (holder_tests path had ms) (further_tests path held ms) c.in_err-holder.field-0.0 c.in_err-holder.ensures.read in
     search (rules, fault_is)
 
-pub returns-in_err-roles-clause-read : goal.returns-in_err-roles-clause-read
-returns-in_err-roles-clause-read c =
+pub returns-in-Err-clause-read : goal.returns-in-Err-clause-read
+returns-in-Err-clause-read c =
     let ms = members_of c.args.object.now in
     let path = c.args.object.now.path.now in
     let had = has c.args.names.now in
     let held = has c.args.sessions.now in
-    let fault_is = second_part (holder_tests path had ms) (further_tests path held ms) c.in_err-roles.field-0.0 c.in_ok-name.ensures.read.0 c.in_err-roles.ensures.read in
+    let fault_is = second_part (holder_tests path had ms) (further_tests path held ms) c.in-Err.fault c.in_ok-holder.ensures.read.0 c.in-Err.ensures.read in
     search (rules, fault_is)
 
 pub returns-clause-read : goal.returns-clause-read
@@ -28,5 +28,5 @@ returns-clause-read c =
     let path = c.args.object.now.path.now in
     let had = has c.args.names.now in
     let held = has c.args.sessions.now in
-    let none = both_parts (holder_tests path had ms) (further_tests path held ms) c.in_ok-name.ensures.read.0 c.in_ok-roles.ensures.read.0 in
+    let none = both_parts (holder_tests path had ms) (further_tests path held ms) c.in_ok-holder.ensures.read.0 c.in-Ok.ensures.read.0 in
     search (rules, none)
