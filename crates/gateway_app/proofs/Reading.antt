@@ -9,7 +9,9 @@ use Rattle.sg_history.specs.declared.fault.ReadLog.TheVariants as read
 use Rattle.sg_history.specs.declared.fault.Why.{Why}
 use Rattle.sg_history.specs.declared.fault.Why.TheVariants as whys
 use Rattle.gateway_config.specs.declared.config.Config.{Config}
-use Rattle.gateway_config.specs.Faults.{Fault, config_fault}
+use Rattle.gateway_config.specs.declared.fault.ConfigFault.{ConfigFault}
+use Rattle.gateway_config.specs.declared.fault.ConfigFault.TheVariants as config
+use Rattle.gateway_config.specs.Faults.{Fault, NamesFault, config_fault}
 use Rattle.gateway_config.specs.Values.{IsTextOf}
 use Rattle.principals.specs.declared.admin_line.AdminLine.{AdminLine}
 use Rattle.principals.specs.Script as script
@@ -20,7 +22,7 @@ use Rattle.record_file.specs.Faults.{NamesBadLine, bad_line}
 use Rattle.feed_command.specs.declared.status.Status.{Status}
 use Rattle.feed_command.specs.declared.status.Status.TheVariants as status
 use Rattle.gateway_app.specs.Inputs.{AreSessionsIn, Contents, HaveFiles, IsBadAdmin, IsBadAmong, IsBadConfig, IsBadSession, IsConfigIn, IsScriptIn, IsSessionIn, LacksFile}
-use Rattle.gateway_app.specs.Loading.{AreInputsRead, AreSessionsRead, IsConfigRead, IsRead, IsRefused, IsScriptRead, IsSessionRead}
+use Rattle.gateway_app.specs.Loading.{AreInputsRead, AreSessionsRead, IsConfigRead, IsRead, IsRefused, IsScriptRead, IsSessionRead, config_status}
 use Rattle.feed_command.specs.Run.{HasFile, HasNoFile, IsLoaded}
 
 -- ---- one file
@@ -72,10 +74,16 @@ pub is_session : (bytes loaded : List ℕ) (r : Recorded) → loaded ≡ bytes �
 is_session bytes loaded r same fits is = (fits, subst (λ (b : List ℕ). record_file.Spells b r) same is)
 
 -- bytes with a fault are no configuration
-pub no_config : (bytes loaded : List ℕ) (fault : Fault) → loaded ≡ bytes → length bytes ≤ largest_file → config_fault loaded ≡ Some fault → IsBadConfig bytes 0 (whys.Config fault.path fault.why) × ((c : Config) → ¬ IsConfigIn bytes c)
+no_config : (bytes loaded : List ℕ) (fault : Fault) → loaded ≡ bytes → length bytes ≤ largest_file → config_fault loaded ≡ Some fault → IsBadConfig bytes 0 (whys.Config fault.path fault.why) × ((c : Config) → ¬ IsConfigIn bytes c)
 no_config bytes loaded fault same fits found =
     let here : config_fault bytes ≡ Some fault = subst (λ (b : List ℕ). config_fault b ≡ Some fault) same found in
     (inr (fits, (fault, here, refl, refl)), λ c is. none-some fault (sym is.1 ∙ here))
+
+pub refused_config : (bytes loaded : List ℕ) (fault : ConfigFault) (s : Status) → loaded ≡ bytes → length bytes ≤ largest_file → s ≡ config_status fault → NamesFault (config_fault loaded) fault → IsConfigRead bytes (Err s)
+refused_config bytes loaded (config.Bad path why) s same fits is named =
+    let no = no_config bytes loaded (record { path = path; why = why }) same fits named in
+    subst (λ (t : Status). IsConfigRead bytes (Err t)) (sym is) ((refl, no.0), no.1)
+refused_config bytes loaded config.Memory s same fits is named = subst (λ (t : Status). IsConfigRead bytes (Err t)) (sym is) tt
 
 no_script : (bytes loaded : List ℕ) (place : ℕ) (why : Why) → loaded ≡ bytes → length bytes ≤ largest_file → IsBadScript loaded (record { place = place; why = why }) → ((ls : List AdminLine) → ¬ script.Spells loaded ls) → IsBadAdmin bytes place why × ((ls : List AdminLine) → ¬ IsScriptIn bytes ls)
 no_script bytes loaded place why same fits bad none = (

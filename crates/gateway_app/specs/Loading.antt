@@ -4,7 +4,10 @@ use Rattle.std.specs.Global.{Global}
 use Rattle.sg_history.specs.declared.fault.ReadLog.{ReadLog}
 use Rattle.sg_history.specs.declared.fault.ReadLog.TheVariants as read
 use Rattle.sg_history.specs.declared.fault.Why.{Why}
+use Rattle.sg_history.specs.declared.fault.Why.TheVariants as whys
 use Rattle.gateway_config.specs.declared.config.Config.{Config}
+use Rattle.gateway_config.specs.declared.fault.ConfigFault.{ConfigFault}
+use Rattle.gateway_config.specs.declared.fault.ConfigFault.TheVariants as config
 use Rattle.principals.specs.declared.admin_line.AdminLine.{AdminLine}
 use Rattle.record_file.specs.declared.record.Recorded.{Recorded}
 use Rattle.replay.specs.Replay.{IsReplay}
@@ -42,6 +45,11 @@ inputs_of i = record { config = i.config; lines = i.lines; records = i.sessions.
 
 abbrev pub AreInputsRead : Contents → Result LoadedInputs Status → Type 0
 AreInputsRead contents result = IsRead inputs_of (AreInputs contents) (IsFirstBad contents) result
+
+-- how the run ends where the configuration is refused
+abbrev pub config_status : ConfigFault → Status
+config_status (config.Bad path why) = status.BadInput 1 0 (whys.Config path why)
+config_status config.Memory = status.Memory
 
 -- a refusal of the file with this number
 abbrev pub IsRefused : ℕ → ReadLog → Status → Type 0

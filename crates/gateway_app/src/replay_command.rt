@@ -3,7 +3,7 @@
 ghost use Rattle.std.specs.Prelude.{◌≡◌, ◌≢◌, ℕ, List, IfOk, IsErrAnd, map, string_bytes};
 ghost use Rattle.principals.specs.Script.{AreLines};
 ghost use Rattle.gateway_app.specs.Inputs.{Contents, HaveContents, HaveFiles, LacksFile, LacksOne};
-ghost use Rattle.gateway_app.specs.Loading.{AreInputsRead, AreSessionsRead, IsConfigRead, IsRefused, IsScriptRead, IsSessionRead, PrintsReplay, inputs_of};
+ghost use Rattle.gateway_app.specs.Loading.{AreInputsRead, AreSessionsRead, IsConfigRead, IsRefused, IsScriptRead, IsSessionRead, PrintsReplay, config_status, inputs_of};
 ghost use Rattle.gateway_app.specs.Replays.{EndsReplay, EndsWithout};
 ghost use Rattle.gateway_app.specs.Request.{replay_of};
 ghost use Rattle.feed_command.specs.Run.{Counted, EndsAbsent, EndsLoaded, HasFile, HasNoFile, Silent};
@@ -28,6 +28,20 @@ fn refused(file: u64, fault: ReadLog) -> Status
     }
 }
 
+/// The refusal of a configuration, whose file is the first one.
+fn config_refused(fault: ConfigFault) -> Status
+    ensures { result ≡ config_status fault }
+{
+    match fault {
+        ConfigFault::Bad { path, why } => Status::BadInput {
+            file: 1,
+            place: 0,
+            why: Why::Config { path, why },
+        },
+        ConfigFault::Memory => Status::Memory,
+    }
+}
+
 /// The configuration of a file, the first one.
 fn load_config<F: Files>(alloc: Global, files: &mut F, path: &str) -> Result<Config, Status>
     ensures recorded { (bytes : List ℕ) → HasFile (F.recorded files.old) path.now bytes
@@ -39,12 +53,7 @@ fn load_config<F: Files>(alloc: Global, files: &mut F, path: &str) -> Result<Con
     let bytes = load(alloc, files, path, 1)?;
     match read_config(alloc, bytes.as_slice()) {
         Ok(config) => Ok(config),
-        Err(ConfigFault::Bad { path, why }) => Err(Status::BadInput {
-            file: 1,
-            place: 0,
-            why: Why::Config { path, why },
-        }),
-        Err(ConfigFault::Memory) => Err(Status::Memory),
+        Err(fault) => Err(config_refused(fault)),
     }
 }
 
@@ -100,8 +109,16 @@ fn load_sessions<F: Files>(
 {
     let mut sessions = Vec::new(alloc);
     for (i, path) in paths.iter().enumerate() {
-        let recorded = load_session(alloc, files, path.as_str(), i as u64 + 3)?;
-        if sessions.push(recorded).is_err() {
+        let recorded = match load_session(alloc, files, path.as_str(), i as u64 + 3) {
+            Ok(recorded) => recorded,
+            Err(status) => {
+                drop(sessions);
+                return Err(status);
+            }
+        };
+        if let Err(refused) = sessions.push(recorded) {
+            drop(refused);
+            drop(sessions);
             return Err(Status::Memory);
         }
     }
@@ -132,13 +149,25 @@ fn load_inputs<F: Files>(
     ensures kept { F.recorded files.new ≡ F.recorded files.old }
 {
     let config = load_config(alloc, files, request.config)?;
-    let lines = load_script(alloc, files, request.admin)?;
-    let sessions = load_sessions(alloc, files, request.sessions)?;
-    Ok(LoadedInputs {
-        config,
-        lines,
-        sessions,
-    })
+    let lines = match load_script(alloc, files, request.admin) {
+        Ok(lines) => lines,
+        Err(status) => {
+            drop(config);
+            return Err(status);
+        }
+    };
+    match load_sessions(alloc, files, request.sessions) {
+        Ok(sessions) => Ok(LoadedInputs {
+            config,
+            lines,
+            sessions,
+        }),
+        Err(status) => {
+            drop(config);
+            drop(lines);
+            Err(status)
+        }
+    }
 }
 
 /// Replays what the files hold, and prints the transcript.

@@ -1,21 +1,18 @@
 use Rattle.std.proofs.Common.{◌≡◌, ◌<◌, ◌+◌, ◌++◌, ◌∷◌, [], suc, length, get_or, take, string_bytes, String, Global, arith, rules}
 use Rattle.std.proofs.lemmas.List.{take_all}
-use Rattle.std.proofs.lemmas.Result.{err_from_is_err_and}
 use Rattle.feed_command.specs.Run.{HasNoFile}
 use Rattle.gateway_app.proofs.Reading.{as_many, file_at, lacks_behind, one_more, session_failed}
 use Rattle.gateway_app.proofs.replay_command.load_sessions.Goals as goal
 
-pub returns-in_err-recorded-clause-recorded : goal.returns-in_err-recorded-clause-recorded
-returns-in_err-recorded-clause-recorded g c = λ contents have.
+pub returns-in-Err-clause-recorded : goal.returns-in-Err-clause-recorded
+returns-in-Err-clause-recorded g c = λ contents have.
     let text = λ (w : String Global). string_bytes w in
     let x = c.index-paths-i.result in
     let low : c.loop-i.i < length c.args.paths.now = omega arith in
     let many = as_many (g.F.Files.recorded c.args.files.now) text c.args.paths.now contents have in
     let has = file_at (g.F.Files.recorded c.args.files.now) text c.args.paths.now contents c.loop-i.i x have low c.index-paths-i.is in
-    let exit = err_from_is_err_and c.from_residual.result c.from_residual.ensures.1 in
-    rw (exit.1, exit.2)
-    (session_failed contents c.loop-i.i c.loop-i.sessions.items c.in_err-recorded.field-0.0 (omega (arith, many)) (c.loop-i.invariant.read contents have)
-    (c.in_err-recorded.ensures.recorded (get_or contents c.loop-i.i []) (rw (c.loop-i.invariant.kept, c.as_str.ensures.value) has)))
+    session_failed contents c.loop-i.i c.loop-i.sessions.items c.in-Err.status (omega (arith, many)) (c.loop-i.invariant.read contents have)
+    (c.in-Err.ensures.recorded (get_or contents c.loop-i.i []) (rw (c.loop-i.invariant.kept, c.as_str.ensures.value) has))
 
 pub loop-i-preserved : goal.loop-i-preserved
 loop-i-preserved g c =
@@ -29,11 +26,11 @@ loop-i-preserved g c =
       read = λ contents have.
           let many = as_many (g.F.Files.recorded c.args.files.now) text c.args.paths.now contents have in
           let has = file_at (g.F.Files.recorded c.args.files.now) text c.args.paths.now contents c.loop-i.i x have low c.index-paths-i.is in
-          let is = c.in_ok-recorded.ensures.recorded (get_or contents c.loop-i.i []) (rw (c.loop-i.invariant.kept, c.as_str.ensures.value) has) in
-          let pushed : c.push.new.self.items ≡ c.loop-i.sessions.items ++ (c.in_ok-recorded.recorded ∷ []) = rw c.if-is_err.ensures.negation at c.push.ensures.items in
-          rw (more, pushed) (one_more contents c.loop-i.i c.loop-i.sessions.items c.in_ok-recorded.recorded (omega (arith, many)) (c.loop-i.invariant.read contents have) is);
+          let is = c.in-Ok.ensures.recorded (get_or contents c.loop-i.i []) (rw (c.loop-i.invariant.kept, c.as_str.ensures.value) has) in
+          let pushed : c.push.new.self.items ≡ c.loop-i.sessions.items ++ (c.in-Ok.recorded ∷ []) = c.in_default.ensures.items in
+          rw (more, pushed) (one_more contents c.loop-i.i c.loop-i.sessions.items c.in-Ok.recorded (omega (arith, many)) (c.loop-i.invariant.read contents have) is);
       behind = λ lacks.
-          let there : ¬ HasNoFile (g.F.Files.recorded c.args.files.now) (string_bytes x) = λ none. c.in_ok-recorded.ensures.absent (rw (c.loop-i.invariant.kept, c.as_str.ensures.value) none) in
+          let there : ¬ HasNoFile (g.F.Files.recorded c.args.files.now) (string_bytes x) = λ none. c.in-Ok.ensures.absent (rw (c.loop-i.invariant.kept, c.as_str.ensures.value) none) in
           rw more (lacks_behind (g.F.Files.recorded c.args.files.now) text c.args.paths.now c.loop-i.i x low c.index-paths-i.is there (c.loop-i.invariant.behind lacks));
     }
 
