@@ -89,3 +89,7 @@ on_err (Err e) P h = h
 pub err_too : {A E : Type 0} (r : Result A E) (P Q : Type 0) → OnErr r P → (P → Q) → OnErr r Q
 err_too (Ok x) P Q h f = tt
 err_too (Err e) P Q h f = f h
+
+pub ok_too : {A E : Type 0} (r : Result A E) (P Q : Type 0) → OnOk r P → (P → Q) → OnOk r Q
+ok_too (Ok x) P Q h f = f h
+ok_too (Err e) P Q h f = tt

@@ -3,6 +3,7 @@ pub mod Remembered
 pub mod Joining
 pub mod InboxStates
 pub mod Owing
+pub mod Owed
 pub mod Order
 pub mod Acknowledgements
 pub mod Sending

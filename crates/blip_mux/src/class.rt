@@ -6,7 +6,7 @@ ghost use Rattle.blip_mux.specs.Class.{class_of};
 use blip_frame::Kind;
 
 /// A message is a request, or a reply to one.
-#[derive(Clone, Copy, Debug, PartialEq, Eq)]
+#[derive(Clone, Copy)]
 pub(crate) enum Class {
     Request,
     Reply,

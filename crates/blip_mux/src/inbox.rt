@@ -148,7 +148,7 @@ impl Inbox {
             (parts_of frame.now) }
     {
         match class_of(frame.kind) {
-            Class::Request => self.requests.checked_add(1) == Some(frame.number),
+            Class::Request => self.requests < frame.number && frame.number - self.requests == 1,
             Class::Reply => self.expected.contains(frame.number),
         }
     }
@@ -167,15 +167,17 @@ impl Inbox {
         ensures unchanged { OnErr result (self.new ≡ self.old) }
     {
         if frame.kind == Kind::Msg {
-            let taken = self.requests_begun.take(frame)?;
-            self.requests = self.requests.max(frame.number);
-            return Ok(taken);
+            let taken = self.requests_begun.take(frame);
+            if taken.is_ok() {
+                self.requests = self.requests.max(frame.number);
+            }
+            return taken;
         }
-        let taken = self.replies_begun.take(frame)?;
-        if !frame.more {
+        let taken = self.replies_begun.take(frame);
+        if taken.is_ok() && !frame.more {
             self.expected.remove(frame.number);
         }
-        Ok(taken)
+        taken
     }
 }
 

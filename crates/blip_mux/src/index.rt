@@ -49,11 +49,14 @@ impl Index {
         ensures absent { OnErr result
             (stamp_at class number self.old.requests self.old.replies ≡ None) }
     {
-        match class {
-            Class::Request => self.requests.insert(number, stamp)?,
-            Class::Reply => self.replies.insert(number, stamp)?,
+        let put = match class {
+            Class::Request => self.requests.insert(number, stamp),
+            Class::Reply => self.replies.insert(number, stamp),
         };
-        Ok(())
+        match put {
+            Ok(_) => Ok(()),
+            Err(_) => Err(AllocError),
+        }
     }
 
     /// Takes the stamp of a message away.

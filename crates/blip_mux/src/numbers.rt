@@ -45,8 +45,10 @@ impl Numbers {
         ensures ok { OnOk result (self.new ≡ set.insert self.old number) }
         ensures err { OnErr result (self.new ≡ self.old) }
     {
-        self.numbers.insert(number)?;
-        Ok(())
+        match self.numbers.insert(number) {
+            Ok(_) => Ok(()),
+            Err(_) => Err(AllocError),
+        }
     }
 
     pub(crate) fn remove(&mut self, number: u64)

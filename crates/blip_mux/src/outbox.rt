@@ -220,7 +220,10 @@ impl Outbox {
             Class::Reply => self.replies,
         };
         let sent = self.waiting.sent_of(kind, number);
-        let passes = sent.is_some_and(|sent| bytes > sent);
+        let passes = match sent {
+            Some(sent) => bytes > sent,
+            None => false,
+        };
         if number == 0 || number > last || passes {
             return Err(BadAck {
                 number,

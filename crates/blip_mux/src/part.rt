@@ -3,7 +3,8 @@
 ghost use Rattle.std.specs.Prelude.{◌≡◌, ◌≢◌, ◌≤◌, ◌<◌, ◌^◌, ◌++◌, length, Ok, Err, IfOk, IfErr, OnOk, OnErr};
 ghost use Rattle.blip_frame.specs.Frame.{parts_of};
 ghost use Rattle.blip_frame.specs.Payload.{payload_at};
-ghost use Rattle.blip_mux.specs.Joining.{begun_by, with_frame, part_by, message_by, with_fault, acknowledges, acknowledge_after};
+ghost use Rattle.blip_mux.specs.Joining.{begun_by, with_frame, message_by, with_fault, acknowledges, acknowledge_after};
+ghost use Rattle.blip_mux.specs.Owed.{owed_by, taken_of};
 
 use crate::class::{Class, class_of};
 use crate::inbox::{TakeFault, Taken};
@@ -59,9 +60,10 @@ impl Part {
         self.kind
     }
 
-    /// Takes a frame that is not the last.
-    pub(crate) fn take(&mut self, frame: &Frame<'_>) -> Result<Taken, Memory>
-        ensures taken { IfOk result (λ taken. taken ≡ part_by self.old (parts_of frame.now)) }
+    /// Takes a frame that is not the last. Answers how many bytes have come, where an acknowledgement of
+    /// them is owed.
+    pub(crate) fn take(&mut self, frame: &Frame<'_>) -> Result<Option<u64>, Memory>
+        ensures owed { IfOk result (λ owed. owed ≡ owed_by self.old (parts_of frame.now)) }
         ensures after { OnOk result (self.new ≡ with_frame self.old (parts_of frame.now)) }
         ensures err { OnErr result (self.new ≡ self.old) }
     {
@@ -69,14 +71,10 @@ impl Part {
         let unacknowledged = self.unacknowledged + frame.payload.len();
         if unacknowledged < ACKNOWLEDGE_AFTER {
             self.unacknowledged = unacknowledged;
-            return Ok(Taken::Nothing);
+            return Ok(None);
         }
         self.unacknowledged = 0;
-        Ok(Taken::Owed {
-            kind: acknowledges(frame.kind),
-            number: frame.number,
-            bytes: self.bytes.len() as u64,
-        })
+        Ok(Some(self.bytes.len() as u64))
     }
 
     /// The message whose last frame this is, whose body then has the part's buffer. At a fault the part
@@ -168,6 +166,21 @@ fn fault_of(fault: PayloadFault) -> TakeFault
     match fault {
         PayloadFault::Memory => TakeFault::Memory,
         other => TakeFault::Payload(other),
+    }
+}
+
+/// What a frame gives that is not the last of its message, where an acknowledgement of so many bytes is
+/// owed, or none.
+pub(crate) fn taken_of(frame: &Frame<'_>, owed: Option<u64>) -> Taken
+    ensures { result ≡ taken_of (parts_of frame.now) owed }
+{
+    match owed {
+        Some(bytes) => Taken::Owed {
+            kind: acknowledges(frame.kind),
+            number: frame.number,
+            bytes,
+        },
+        None => Taken::Nothing,
     }
 }
 

@@ -1,15 +1,15 @@
 //! The messages of one class that are not whole, by their numbers.
 
 ghost use Rattle.std.specs.Prelude.{◌≡◌, ◌≢◌, Some, None, Ok, Err, IfOk, IfErr, IfSome, OnOk, OnErr, option_map};
-ghost use Rattle.std.specs.Option.{option_map_or};
 ghost use Rattle.std.specs.FinMap as map;
 ghost use Rattle.blip_frame.specs.Frame.{parts_of};
-ghost use Rattle.blip_mux.specs.Joining.{begun_by, begun_or, with_frame, part_by, message_by, given_by};
+ghost use Rattle.blip_mux.specs.Joining.{begun_by, begun_or, with_frame, message_by, given_by};
 ghost use Rattle.blip_mux.specs.InboxStates.{begun_after};
+ghost use Rattle.blip_mux.specs.Owed.{owed_by};
 
 use crate::inbox::{TakeFault, Taken};
 use crate::message::Message;
-use crate::part::{Part, only_message};
+use crate::part::{Part, only_message, taken_of};
 use blip_frame::{Frame, Kind, PayloadFault};
 use sg_outside::Memory;
 use std::alloc::{AllocError, Global};
@@ -70,38 +70,42 @@ impl Parts {
         self.parts.remove(&number);
     }
 
-    /// Takes a frame that is not the last, where its message has begun.
-    fn grow(&mut self, frame: &Frame<'_>) -> Result<Option<Taken>, Memory>
-        ensures answer { IfOk result (λ found. found ≡ option_map
-            (λ b. part_by b (parts_of frame.now)) (map.get self.old frame.now.number)) }
-        ensures after { OnOk result (self.new ≡ option_map_or
-            (λ b. map.insert self.old frame.now.number (with_frame b (parts_of frame.now)))
-            (map.get self.old frame.now.number) self.old) }
+    /// Takes the first frame of a message, which has more.
+    fn begin(&mut self, frame: &Frame<'_>) -> Result<Option<u64>, Memory>
+        ensures owed { IfOk result (λ owed. owed
+            ≡ owed_by (begun_by (parts_of frame.now)) (parts_of frame.now)) }
+        ensures after { OnOk result (self.new ≡ map.insert self.old frame.now.number
+            (with_frame (begun_by (parts_of frame.now)) (parts_of frame.now))) }
         ensures err { OnErr result (self.new ≡ self.old) }
     {
-        match self.parts.get_mut(&frame.number) {
-            Some(part) => Ok(Some(part.take(frame)?)),
-            None => Ok(None),
+        let mut part = Part::new(self.alloc, frame);
+        match part.take(frame) {
+            Ok(owed) => {
+                self.put(frame.number, part)?;
+                Ok(owed)
+            }
+            Err(refused) => {
+                drop(part);
+                Err(refused)
+            }
         }
     }
 
-    /// Takes a frame that is not the last of its message.
-    fn take_more(&mut self, frame: &Frame<'_>) -> Result<Taken, Memory>
-        ensures taken { IfOk result (λ taken. taken
-            ≡ part_by (begun_or (map.get self.old frame.now.number) (parts_of frame.now))
+    /// Takes a frame that is not the last of its message. Answers how many bytes of it have come, where
+    /// an acknowledgement of them is owed.
+    fn take_more(&mut self, frame: &Frame<'_>) -> Result<Option<u64>, Memory>
+        ensures owed { IfOk result (λ owed. owed
+            ≡ owed_by (begun_or (map.get self.old frame.now.number) (parts_of frame.now))
             (parts_of frame.now)) }
         ensures after { OnOk result (self.new ≡ map.insert self.old frame.now.number
             (with_frame (begun_or (map.get self.old frame.now.number) (parts_of frame.now))
             (parts_of frame.now))) }
         ensures err { OnErr result (self.new ≡ self.old) }
     {
-        if let Some(taken) = self.grow(frame)? {
-            return Ok(taken);
+        match self.parts.get_mut(&frame.number) {
+            Some(part) => part.take(frame),
+            None => self.begin(frame),
         }
-        let mut part = Part::new(self.alloc, frame);
-        let taken = part.take(frame)?;
-        self.put(frame.number, part)?;
-        Ok(taken)
     }
 
     /// The message whose last frame this is. At a fault all stays as it was.
@@ -137,7 +141,7 @@ impl Parts {
     {
         if frame.more {
             return match self.take_more(frame) {
-                Ok(taken) => Ok(taken),
+                Ok(owed) => Ok(taken_of(frame, owed)),
                 Err(_) => Err(TakeFault::Memory),
             };
         }

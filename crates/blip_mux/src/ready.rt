@@ -7,7 +7,7 @@ use crate::stamps::Stamps;
 use std::alloc::{AllocError, Global};
 
 /// A message that may send: whether it is urgent, and its stamp.
-#[derive(Clone, Copy, Debug, PartialEq, Eq)]
+#[derive(Clone, Copy)]
 pub(crate) struct ReadyMessage {
     pub urgent: bool,
     pub stamp: u64,

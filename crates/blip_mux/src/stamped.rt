@@ -237,8 +237,13 @@ impl Stamped {
         ensures some { (q : ℕ) → stands class number self.now ≡ Some q
             → result ≡ option_map (λ w. w.sent) (message_at self.now q) }
     {
-        let stamp = self.index.get(class, number)?;
-        Some(self.messages.get(&stamp)?.sent())
+        let Some(stamp) = self.index.get(class, number) else {
+            return None;
+        };
+        match self.messages.get(&stamp) {
+            Some(message) => Some(message.sent()),
+            None => None,
+        }
     }
 
     /// Notes that so many bytes of a message have come, of those that were sent.
@@ -406,7 +411,9 @@ fn take_ack(
         then Some (record { urgent = w.urgent; stamp = stamp }) else None)) }
     ensures ordered { IsOrdered nat_cmp messages.new }
 {
-    let message = messages.get_mut(&stamp)?;
+    let Some(message) = messages.get_mut(&stamp) else {
+        return None;
+    };
     if message.acked(bytes) {
         return Some(ReadyMessage {
             urgent: message.is_urgent(),
