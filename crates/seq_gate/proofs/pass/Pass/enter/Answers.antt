@@ -42,3 +42,10 @@ exchange-requires g c =
       c.load-served.ensures.0 ∙ c.loop.invariant.2 ∙ c.requires.here ∙ sym c.gate.view_is,
       (Some t.0, carried ∙ ap (λ (l : List (ℕ × Option g.row.B.Denot)). (0, Some t.0) ∷ rest l) (sym carried)),
     )
+
+pub loop-preserved : goal.loop-preserved
+loop-preserved g c =
+    let i = c.loop.invariant.3 in
+    let looks = c.load-served.ensures.2 i.0 (ap (λ (m : Me (Option g.row.B.Denot) View). m.0.ticket) i.2) in
+    let same = looks.1 (λ e. c.if-served-ticket.false (e ∙ sym i.1)) in
+    (tt, tt, c.load-served.ensures.0 ∙ c.loop.invariant.2, (i.0, i.1, same ∙ i.2))
