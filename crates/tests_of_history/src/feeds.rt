@@ -59,7 +59,9 @@ pub fn write_feed(
     text: &mut Bytes,
 ) -> Result<(), AllocError> {
     let found = rows(alloc, log, log.entries.len() as u64, user, since, options)?;
-    write_rows(&found, text)
+    let written = write_rows(&found, text);
+    drop(found);
+    written
 }
 
 /// The same of a user, a key that is one number, and options, with a blank between each two.
@@ -99,7 +101,11 @@ fn write_found(
         return text.extend_from_slice(b"past the log");
     }
     match channels_of(alloc, log, front, user)? {
-        Some(channels) => write_channels(&channels, text),
+        Some(channels) => {
+            let written = write_channels(&channels, text);
+            drop(channels);
+            written
+        }
         None => text.extend_from_slice(b"none"),
     }
 }

@@ -53,8 +53,13 @@ struct Seen {
 /// The rows of ann's feed since 1, as a text.
 fn rows_of_ann(alloc: Global, log: &Log) -> Result<Bytes, TextFault> {
     let mut text = Bytes::new(alloc);
-    write_feed_of(alloc, log, "ann 1 revocations", &mut text)?;
-    Ok(text)
+    match write_feed_of(alloc, log, "ann 1 revocations", &mut text) {
+        Ok(()) => Ok(text),
+        Err(fault) => {
+            drop(text);
+            Err(fault)
+        }
+    }
 }
 
 /// What a pass sees, which leaves the board in its turn as it was.
@@ -74,7 +79,13 @@ fn seen_by<R: Wait>(
     let rows = rows_of_ann(alloc, &turn.board().log);
     let mut pass = turn.leave(gate);
     let front = pass.front(gate);
-    Ok((pass, Seen { front, rows: rows? }))
+    match rows {
+        Ok(rows) => Ok((pass, Seen { front, rows })),
+        Err(fault) => {
+            drop(pass);
+            Err(fault)
+        }
+    }
 }
 
 /// Draws a number and stores a write of d1 there in one turn, and what the pass sees then.
@@ -90,7 +101,13 @@ fn store_d1<R: Wait>(
     ensures gate { IfOk result (λ r. r.0.gate ≡ pass.gate) }
     ensures knows { IfOk result (λ r. HoldsNothing r.0.knows (share pass.knows)) }
 {
-    let entry = d1_in_a(alloc)?;
+    let entry = match d1_in_a(alloc) {
+        Ok(entry) => entry,
+        Err(fault) => {
+            drop(pass);
+            return Err(fault);
+        }
+    };
     let pass = store_new(rt, gate, pass, entry)?;
     seen_by(rt, alloc, gate, pass)
 }
@@ -128,9 +145,23 @@ fn held_and_given_up<R: Wait>(
     let mut one = one;
     let two = one.split(&gate);
     let number = one.draw(&gate).spend();
-    let (two, before) = store_d1(rt, alloc, &gate, two)?;
-    let (one, after) = give_up(rt, alloc, &gate, one, number)?;
-    Ok((before, after, close_both(gate, one, two)))
+    let (two, before) = match store_d1(rt, alloc, &gate, two) {
+        Ok(seen) => seen,
+        Err(fault) => {
+            drop(one);
+            drop(gate);
+            return Err(fault);
+        }
+    };
+    match give_up(rt, alloc, &gate, one, number) {
+        Ok((one, after)) => Ok((before, after, close_both(gate, one, two))),
+        Err(fault) => {
+            drop(two);
+            drop(gate);
+            drop(before);
+            Err(fault)
+        }
+    }
 }
 
 /// The put of ann, who has A.
@@ -147,7 +178,10 @@ fn board_of_ann(alloc: Global) -> Result<Plain, TextFault>
 {
     let entry = ann_in_a(alloc)?;
     let mut log = Log::new(alloc);
-    log.entries.push(entry)?;
+    if let Err(fault) = log.entries.push(entry) {
+        drop(log);
+        return Err(TextFault::from(fault));
+    }
     Ok(board_of(alloc, log, 2)?)
 }
 
@@ -162,16 +196,17 @@ fn held_number<R: Wait>(rt: &R, alloc: Global) -> Result<(Seen, Seen, Plain), Te
 fn a_held_number_withholds_the_front(rt: HostRuntime) -> Result<(), Fail> {
     let alloc = rt.alloc();
     let (before, after, board) = held_number(&rt, alloc)?;
+    let waiting = board.pending.len();
+    let are_three = matches!(
+        board.log.entries.as_slice(),
+        [Entry::PutUser(..), Entry::Unused, Entry::Write(_)]
+    );
+    drop(board);
     assert!(rt; before.front == 1);
     assert!(rt; before.rows.is_empty());
     assert!(rt; after.front == 3);
     assert!(rt; after.rows.as_slice() == b"3 d1 1-a 0;".as_slice());
-    assert!(rt; board.pending.len() == 0);
-    assert!(rt;
-        matches!(
-            board.log.entries.as_slice(),
-            [Entry::PutUser(..), Entry::Unused, Entry::Write(_)]
-        )
-    );
+    assert!(rt; waiting == 0);
+    assert!(rt; are_three);
     Ok(())
 }

@@ -11,7 +11,10 @@ fn applied(alloc: Global, log: &Log) -> Result<GrantHistory, AllocError> {
     let mut history = GrantHistory::new(alloc);
     let mut reads = LogReads::new(log);
     let length = reads.length();
-    history.apply(&mut reads, length)?;
+    if let Err(fault) = history.apply(&mut reads, length) {
+        drop(history);
+        return Err(fault);
+    }
     Ok(history)
 }
 
@@ -45,14 +48,27 @@ pub fn write_periods_of(
     user: &str,
     text: &mut Bytes,
 ) -> Result<(), TextFault> {
-    let user = Name::parse(alloc, user)?;
     let history = applied(alloc, log)?;
-    Ok(write_found(&history, &user, text)?)
+    let written = write_found_of(alloc, &history, user, text);
+    drop(history);
+    written
+}
+
+fn write_found_of(
+    alloc: Global,
+    history: &GrantHistory,
+    user: &str,
+    text: &mut Bytes,
+) -> Result<(), TextFault> {
+    let user = Name::parse(alloc, user)?;
+    Ok(write_found(history, &user, text)?)
 }
 
 fn write_found(history: &GrantHistory, user: &Name, text: &mut Bytes) -> Result<(), AllocError> {
     let periods = history.periods(user)?;
-    write_periods(periods.as_slice(), text)
+    let written = write_periods(periods.as_slice(), text);
+    drop(periods);
+    written
 }
 
 /// Channels, each with a blank before it.
@@ -91,8 +107,17 @@ fn write_state(
         return text.extend_from_slice(b"none");
     }
     let channels = history.channels_at(user, k)?;
-    let roles = history.roles_at(user, k)?;
-    write_has(&channels, &roles, text)
+    let roles = match history.roles_at(user, k) {
+        Ok(roles) => roles,
+        Err(fault) => {
+            drop(channels);
+            return Err(fault);
+        }
+    };
+    let written = write_has(&channels, &roles, text);
+    drop(roles);
+    drop(channels);
+    written
 }
 
 /// The same of a place and a user, with a blank between.
@@ -102,8 +127,19 @@ pub fn write_state_of(
     asked: &str,
     text: &mut Bytes,
 ) -> Result<(), TextFault> {
+    let history = applied(alloc, log)?;
+    let written = write_asked(alloc, &history, asked, text);
+    drop(history);
+    written
+}
+
+fn write_asked(
+    alloc: Global,
+    history: &GrantHistory,
+    asked: &str,
+    text: &mut Bytes,
+) -> Result<(), TextFault> {
     let (k, user) = cut(asked, ' ');
     let user = Name::parse(alloc, user)?;
-    let history = applied(alloc, log)?;
-    Ok(write_state(&history, &user, number_of(k), text)?)
+    Ok(write_state(history, &user, number_of(k), text)?)
 }

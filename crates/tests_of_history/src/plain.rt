@@ -31,8 +31,16 @@ pub fn board_of(alloc: Global, log: Log, more: u64) -> Result<Plain, AllocError>
 {
     let mut log = log;
     let mut pending = Pending::new(alloc);
-    log.entries.reserve(more as usize)?;
-    pending.reserve(more)?;
+    if let Err(fault) = log.entries.reserve(more as usize) {
+        drop(pending);
+        drop(log);
+        return Err(fault);
+    }
+    if let Err(fault) = pending.reserve(more) {
+        drop(pending);
+        drop(log);
+        return Err(fault);
+    }
     Ok(Plain { log, pending })
 }
 

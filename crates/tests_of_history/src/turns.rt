@@ -32,7 +32,10 @@ fn store_in(turn: &mut Turn<Plain>, number: u64, entry: Entry) -> Result<(), All
 {
     boards();
     let board = turn.board();
-    board.make_place()?;
+    if let Err(fault) = board.make_place() {
+        drop(entry);
+        return Err(fault);
+    }
     board.store(number, entry);
     Ok(())
 }
@@ -56,7 +59,10 @@ pub fn store_at<R: Wait>(
     let mut turn = pass.enter(rt, gate);
     let stored = store_in(&mut turn, number, entry);
     let pass = turn.leave(gate);
-    stored?;
+    if let Err(fault) = stored {
+        drop(pass);
+        return Err(fault);
+    }
     Ok(pass)
 }
 
@@ -97,7 +103,10 @@ pub fn store_new<R: Wait>(
     let number = turn.draw(gate).spend();
     let stored = store_in(&mut turn, number, entry);
     let pass = turn.leave(gate);
-    stored?;
+    if let Err(fault) = stored {
+        drop(pass);
+        return Err(fault);
+    }
     Ok(pass)
 }
 

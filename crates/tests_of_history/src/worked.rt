@@ -133,7 +133,9 @@ fn answer(alloc: Global, call: &str, asked: &str) -> Result<Bytes, Fail> {
     let (name, asked) = cut(asked, ' ');
     let log = log_of(alloc, journal_of(name))?;
     let mut text = Bytes::new(alloc);
-    write_answer(alloc, &log, call, asked, &mut text)?;
+    let written = write_answer(alloc, &log, call, asked, &mut text);
+    drop(log);
+    written?;
     Ok(text)
 }
 
