@@ -41,8 +41,13 @@ fn store_user<R: Wait>(
     ensures left { IfOk result (λ p. p.knows.left + 1 ≡ pass.knows.left) }
     ensures knows { IfOk result (λ p. HoldsNothing p.knows (share pass.knows)) }
 {
-    let entry = put_of(alloc, name, number)?;
-    Ok(draw_and_store(rt, gate, pass, entry)?)
+    match put_of(alloc, name, number) {
+        Ok(entry) => Ok(draw_and_store(rt, gate, pass, entry)?),
+        Err(fault) => {
+            drop(pass);
+            Err(fault)
+        }
+    }
 }
 
 /// A thousand times draws a number, and then stores the put of a user with a name of its own there in a turn.
@@ -92,7 +97,22 @@ fn in_two<R: Threads + Wait + Sync>(
             ensures { IfOk result (λ p. (p.gate ≡ gate) × HoldsNothing p.knows (share two.knows)) }
         { store_all(rt, alloc, &gate, two, "bob") },
     );
-    Ok(close_both(gate, one?, two?))
+    let one = match one {
+        Ok(one) => one,
+        Err(fault) => {
+            drop(two);
+            drop(gate);
+            return Err(fault);
+        }
+    };
+    match two {
+        Ok(two) => Ok(close_both(gate, one, two)),
+        Err(fault) => {
+            drop(one);
+            drop(gate);
+            Err(fault)
+        }
+    }
 }
 
 /// What two passes in two threads leave of an empty board.
@@ -145,10 +165,13 @@ fn two_threads_a_thousand_each(rt: HostRuntime) -> Result<(), Fail> {
     let alloc = rt.alloc();
     let board = board_of(alloc, Log::new(alloc), 2000)?;
     let left = stored_by_two(&rt, alloc, board)?;
-    let entries = left.log.entries.as_slice();
-    assert!(rt; entries.len() == 2000);
-    assert!(rt; left.pending.len() == 0);
-    let counts = counts_of(alloc, entries)?;
+    let entries = left.log.entries.len();
+    let waiting = left.pending.len();
+    let counts = counts_of(alloc, left.log.entries.as_slice());
+    drop(left);
+    assert!(rt; entries == 2000);
+    assert!(rt; waiting == 0);
+    let counts = counts?;
     assert!(rt; counts.len() == 2000);
     assert!(rt; counts.iter().all(|count| *count == 1));
     Ok(())
