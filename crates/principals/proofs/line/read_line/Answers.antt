@@ -5,8 +5,8 @@ use Rattle.principals.specs.Faults.{IsFault}
 use Rattle.principals.proofs.Texts.{lines_read}
 use Rattle.principals.proofs.line.read_line.Goals as goal
 
-pub slice_bounds-into-end-in-Some : goal.slice_bounds-into-end-in-Some
-slice_bounds-into-end-in-Some c = omega (arith, c.in-Some.ensures.within, c.in-Some.ensures.room)
+pub slice_bounds-fields-end-in-Some : goal.slice_bounds-fields-end-in-Some
+slice_bounds-fields-end-in-Some c = omega (arith, c.in-Some.ensures.within, c.in-Some.ensures.room)
 
 pub slice_bounds-read_fields-end : goal.slice_bounds-read_fields-end
 slice_bounds-read_fields-end c = sym (length-take-le c.in-Some.count c.fields_of.new.into (omega (arith, c.in-Some.ensures.within, c.in-Some.ensures.room)))
