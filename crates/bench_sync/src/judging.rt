@@ -94,7 +94,7 @@ fn plain_channels(alloc: Global, doc: &Doc) -> Result<u32, AllocError> {
         }
     }
     found.sort_by(|a, b| a.as_bytes().cmp(b.as_bytes()))?;
-    Ok(found.len() as u32)
+    Ok(u32::try_from(found.len()).unwrap_or(u32::MAX))
 }
 
 /// The channel of the count of items that are `b`.
