@@ -230,7 +230,7 @@ impl Holding {
         }
     }
 
-    /// Keeps one thing more, and answers where.
+    /// Keeps one thing more, and answers a place at which `take` looks first; no clause says that it is there.
     fn keep(&mut self, alloc: Global, held: Held, at: u64) -> Result<usize, Memory>
         requires place { place_of self.old.items held.what ≡ None }
         requires since { self.old.since ≤ at }
@@ -313,7 +313,8 @@ impl Holding {
         self.give_first(i, what, at)
     }
 
-    /// One source more gives it from a place of the log on. Answers where it stands among all.
+    /// One source more gives it from a place of the log on. Answers a place at which `take` looks first; no
+    /// clause says that it is there.
     pub fn give(&mut self, alloc: Global, what: &What, at: u64) -> Result<usize, Memory>
         requires up_to { AreUpTo self.old.items at }
         requires since { self.old.since ≤ at }
@@ -334,7 +335,7 @@ impl Holding {
     }
 
     /// One source that gave it does not from a place of the log on. It is looked for at `near` first,
-    /// which is where it stands as `give` answered it.
+    /// which is what `give` answered.
     pub fn take(&mut self, alloc: Global, what: &What, near: usize, at: u64)
         requires given { 0 < count_in self.old.items what.now }
         requires up_to { AreUpTo self.old.items at }

@@ -29,8 +29,8 @@ pub enum Source<'a> {
     Role(&'a Name),
 }
 
-/// What a source gives, and where each of that stood when it was given, among what its user or role
-/// has or had.
+/// What a source gives, and for each of that the place, among what its user or role has or had, at
+/// which it is looked for first when it is taken back; no clause says that it stands there.
 #[derive(Drop)]
 pub struct SourceFacts {
     pub facts: Vec<Fact>,
