@@ -1,5 +1,0 @@
-use Rattle.std.proofs.Common.{◌≡◌, ◌≤◌, ◌+◌}
-use Rattle.bench_gates.proofs.draw_all.Given as goal
-
-abbrev pub invariant-loop : goal.invariant-loop
-invariant-loop l = record { gate : l.pass.gate ≡ l.gate; left : l.count ≤ l.pass.knows.left + l.counter }

@@ -1,0 +1,132 @@
+//! Does work of histories, gates and the sync language, so that what it takes can be measured from outside. The first word is the
+//! job. `draw`, `turn` and `lock` take how many threads and how often. All others take a file: `entries`, `apply`, `channels`,
+//! `roles` and `periods` a journal and how often; `propose`, `pull` and `lose` a journal and how many; `parse`, `print` and `fault` a
+//! function and how often; `judge`, `plain_channels`, `plain_count` and `plain_pass` besides a document.
+#![tactic(auto)]
+
+mod functions;
+mod grants;
+mod grounds;
+mod judging;
+mod passes;
+mod stop;
+
+use functions::told;
+use judging::{judged, plain};
+use sg_outside::{Bytes, Files, RealFiles};
+use std::alloc::{AllocError, Global};
+use std::sync::Wait;
+use std::thread::Threads;
+use std::{env, io};
+use stop::{Stop, load};
+
+/// The job, what it takes, how often it is done, and a second file.
+#[derive(Drop)]
+struct Asked {
+    job: String,
+    of: String,
+    count: u64,
+    document: String,
+}
+
+fn text_of(alloc: Global, count: u64) -> Result<String, Stop> {
+    Ok(format!(in alloc; "{count}")?)
+}
+
+/// The count as one of the sync language's jobs, which make at most so many.
+fn few(count: u64) -> u32 {
+    u32::try_from(count).unwrap_or(u32::MAX)
+}
+
+/// How many judgements of a document accepted, or how many channels or items the plain work came to.
+fn worked<F: Files>(
+    alloc: Global,
+    files: &mut F,
+    asked: &Asked,
+    text: &str,
+) -> Result<String, Stop> {
+    let document = load(alloc, files, asked.document.as_str())?;
+    let found = match asked.job.as_str() {
+        "judge" => judged(alloc, text, document.as_slice(), few(asked.count))?,
+        job => plain(alloc, job, document.as_slice(), few(asked.count))?,
+    };
+    text_of(alloc, u64::from(found))
+}
+
+/// What comes of a function of the sync language.
+fn of_function<F: Files>(
+    alloc: Global,
+    files: &mut F,
+    asked: &Asked,
+    bytes: &Bytes,
+) -> Result<String, Stop> {
+    let Ok(text) = std::str::from_utf8(bytes.as_slice()) else {
+        return Err(Stop::Text);
+    };
+    if asked.document.is_empty() {
+        return Ok(told(alloc, asked.job.as_str(), text, few(asked.count))?);
+    }
+    worked(alloc, files, asked, text)
+}
+
+/// What comes of a file.
+fn of_file<F: Files>(alloc: Global, files: &mut F, asked: &Asked) -> Result<String, Stop> {
+    let bytes = load(alloc, files, asked.of.as_str())?;
+    match asked.job.as_str() {
+        "entries" | "apply" | "channels" | "roles" | "periods" => {
+            let found = grants::job(alloc, bytes, asked.job.as_str(), asked.count)?;
+            text_of(alloc, found)
+        }
+        "propose" | "pull" | "lose" => {
+            let found = grounds::job(alloc, bytes, asked.job.as_str(), asked.count)?;
+            text_of(alloc, found)
+        }
+        _ => of_function(alloc, files, asked, &bytes),
+    }
+}
+
+/// What comes of passes through a gate: the words again.
+fn of_passes<R: Threads + Wait + Sync>(
+    rt: &R,
+    alloc: Global,
+    asked: &Asked,
+) -> Result<String, AllocError> {
+    let two = asked.of.as_str() == "2";
+    passes::run(rt, alloc, asked.job.as_str(), two, asked.count)?;
+    format!(in alloc; "{} {} {}", asked.job, asked.of, asked.count)
+}
+
+fn run<R: Threads + Wait + Sync, F: Files>(
+    rt: &R,
+    alloc: Global,
+    files: &mut F,
+    asked: &Asked,
+) -> Result<String, Stop> {
+    match asked.job.as_str() {
+        "draw" | "turn" | "lock" => Ok(of_passes(rt, alloc, asked)?),
+        _ => of_file(alloc, files, asked),
+    }
+}
+
+fn main(rt: HostRuntime) -> io::Result<()> {
+    let mut words = env::args(&rt)?;
+    let _program = words.next();
+    let (Some(job), Some(of)) = (words.next(), words.next()) else {
+        return Ok(());
+    };
+    let count = words
+        .next()
+        .map_or(0, |word| word.parse::<u64>().unwrap_or(0));
+    let document = words.next().unwrap_or(String::new(rt.alloc()));
+    let asked = Asked {
+        job,
+        of,
+        count,
+        document,
+    };
+    let mut files = RealFiles::new(&rt);
+    match run(&rt, rt.alloc(), &mut files, &asked) {
+        Ok(text) => println!(rt; "{text}"),
+        Err(stop) => println!(rt; "{stop:?}"),
+    }
+}

@@ -1,1 +1,0 @@
-function(doc, oldDoc) { channel(doc.channels); }
