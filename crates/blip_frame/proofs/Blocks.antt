@@ -1,5 +1,5 @@
 -- Property blocks read.
-use Rattle.std.proofs.Common.{◌≡◌, ℕ, zero, suc, ◌+◌, ◌-◌, ◌%◌, ◌<◌, Bool, true, false, ◌||◌, ◌&&◌, cond, eqb, List, [], ◌∷◌, ◌++◌, length, get_or, take, drop, refl, sym, ap, subst, ◌∙◌, add-one, arith, inl, inr, append_assoc, length-append, length-drop}
+use Rattle.std.proofs.Common.{◌≡◌, ℕ, zero, suc, ◌+◌, ◌-◌, ◌%◌, ◌<◌, Bool, true, false, ◌||◌, ◌&&◌, cond, eqb, List, [], ◌∷◌, ◌++◌, length, get_or, take, drop, refl, sym, ap, subst, ◌∙◌, add-one, arith, inl, inr, append_assoc, length-drop}
 use Rattle.std.specs.Prelude.{IsUtf8, All, count_by, Option, Some, None, unwrap_or}
 use Rattle.std.specs.List.{list_any, list_all, AllByRecursion}
 use Rattle.std.specs.Str.{bytes_eq, is_utf8}
@@ -12,7 +12,7 @@ use Rattle.std.proofs.lemmas.List.Elements.{All-from_recursion}
 use Rattle.std.proofs.lemmas.List.Recursion.{is_count_by}
 use Rattle.std.proofs.lemmas.Slice.Eq.{bytes_eq-Decides}
 use Rattle.std.proofs.lemmas.Str.{IsUtf8-nil, IsUtf8-take, IsUtf8-drop, IsUtf8-append, IsUtf8-from_is_utf8, is_utf8-from_IsUtf8, IsUtf8-string_bytes, encode_ascii, IsCharBoundary-before_ascii, IsCharBoundary-after_ascii}
-use Rattle.std.proofs.Math.Seq.{drop-cons, drop-append-add}
+use Rattle.std.proofs.Math.Seq.{drop-cons}
 use Rattle.memchr.specs.Find.{IsFirstByte, is_byte}
 use Rattle.blip_frame.specs.declared.props.Prop.{Prop}
 use Rattle.blip_frame.specs.Props.{Pair, pair_of, pairs_of, keys_of, stands_twice, AreUtf8}
@@ -167,12 +167,6 @@ not_utf8 text off = not_true (is_utf8 text) (λ e. off (IsUtf8-from_is_utf8 text
 pub after_both : (bytes front rest : List ℕ) (size : ℕ) (body : List ℕ) → bytes ≡ front ++ rest → body ≡ drop size rest → (before : List ℕ) × (bytes ≡ before ++ body)
 after_both bytes front rest size body e is =
     (front ++ take size rest, e ∙ ap (λ (xs : List ℕ). front ++ xs) (sym (take-append-drop size rest)) ∙ sym (append_assoc front (take size rest) (drop size rest)) ∙ ap (λ (xs : List ℕ). (front ++ take size rest) ++ xs) (sym is))
-
--- the end of bytes stands as many bytes before their end as it has
-pub dropped_front : (bytes front body : List ℕ) → bytes ≡ front ++ body → drop (length bytes - length body) bytes ≡ body
-dropped_front bytes front body e =
-    let place : length bytes - length body ≡ length front + 0 = omega (arith, simp length-append at (ap length e)) in
-    rw (place, e) (drop-append-add front body 0)
 
 -- ---- keys
 

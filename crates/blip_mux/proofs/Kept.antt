@@ -41,9 +41,6 @@ same_key classes.Reply classes.Reply n m P e p = subst (P classes.Reply) (eqb-tr
 same_key classes.Request classes.Reply n m P e p = absurd cc
 same_key classes.Reply classes.Request n m P e p = absurd cc
 
-pub back_key : (c d : Class) (n m : ℕ) (P : Class → ℕ → Type 0) → is_same c n d m ≡ true → P d m → P c n
-back_key c d n m P e p = same_key c d n m (λ a k. P a k → P c n) e (λ q. q) p
-
 pub its_key : (k : Kind) (m : ℕ) (c : Class) (n : ℕ) → (is_in c k && eqb m n) ≡ true → is_same (class_of k) m c n ≡ true
 its_key kinds.Msg m classes.Request n e = e
 its_key kinds.Rpy m classes.Request n e = absurd cc
@@ -196,19 +193,6 @@ turns_within u (e ∷ es) =
       at_most : (b : Bool) → cond {A = ℕ} b 1 0 ≤ 1
       at_most true = omega arith
       at_most false = omega arith
-
--- room is made, and a stamp chosen
-pub reserved_kept : (es : Entries) (next s : ℕ) (at : Class → ℕ → Option ℕ) (r r' : Ready) → IsKept es next at r → ((u : Bool) → stamps_in u r' ≡ stamps_in u r) → ((u : Bool) → count_in u r' ≡ count_in u r)
-    → ((u : Bool) → room_in u r ≤ room_in u r') → ((q : ℕ) → s ≤ q → look es q ≡ None) → IsKept es s at r'
-reserved_kept es next s at r r' kept same counts room below = record {
-  sorted = kept.sorted;
-  below = below;
-  found = kept.found;
-  known = kept.known;
-  ready = λ u q. ap (times q) (same u) ∙ kept.ready u q;
-  counted = λ u. counts u ∙ kept.counted u;
-  room = λ u. let a = kept.room u in let b = room u in omega arith;
-}
 
 pub put_kept_by : (es es' : Entries) (s next : ℕ) (w : Waiting) (class : Class) (number : ℕ) (urgent may : Bool) (at at' : Class → ℕ → Option ℕ) (r r' : Ready)
     → class ≡ class_of w.kind → number ≡ w.number → urgent ≡ w.urgent → may ≡ may_send w

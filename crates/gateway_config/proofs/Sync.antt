@@ -1,15 +1,10 @@
 -- the sync function's text, its program and the faults of its names
-use Rattle.std.proofs.Common.{◌≡◌, List, [], ◌∷◌, refl, true, false, arith}
+use Rattle.std.proofs.Common.{◌≡◌, List, [], refl, true, false}
 use Rattle.std.specs.Prelude.{Result, Err}
-use Rattle.std.specs.List.{Contains}
 use Rattle.sync_syntax.specs.declared.fault.ParseFault.{ParseFault}
 use Rattle.sync_syntax.specs.declared.tree.Program.{Program}
 use Rattle.sync_resolve.specs.declared.fault.ResolveFault.{ResolveFault}
 use Rattle.gateway_config.specs.Faults.{is_sound, no_faults}
-
-pub some_fault : (e : ResolveFault) (es : List ResolveFault) → Contains es e → no_faults es ≡ false
-some_fault e [] h = absurd (omega (arith, h.1))
-some_fault e (x ∷ es) h = refl
 
 pub none_of : (es : List ResolveFault) → es ≡ [] → no_faults es ≡ true
 none_of es h = rw h refl

@@ -1,7 +1,7 @@
 -- entries that wait by rising numbers, and one that is put among them
 use Rattle.std.proofs.Common.{◌≡◌, ◌≢◌, ◌⊎◌, inl, inr, ℕ, ◌+◌, ◌<◌, ◌≤◌, Bool, true, false, cond, List, [], ◌∷◌, length, Option, Some, None, refl, sym, ap, ◌∙◌, arith}
 use Rattle.std.specs.Prelude.{nat_eq, nat_lt, count_by, IsTrue, if◌then◌else◌}
-use Rattle.std.proofs.lemmas.Bool.{ltb-true, ltb-false, lt-ltb, eqb-false, eq-eqb, ne_eqb, and_parts, and_from, cases_eq, cases_lt}
+use Rattle.std.proofs.lemmas.Bool.{ltb-true, ltb-false, lt-ltb, eqb-false, eq-eqb, ne_eqb, and_parts, and_from, cases_eq}
 use Rattle.std.proofs.lemmas.List.Sums.{sum_by-cons}
 use Rattle.std.proofs.lemmas.Option.{none-some}
 use Rattle.sg_history.specs.declared.book.Waiting.{Waiting}
@@ -140,16 +140,3 @@ put_here w (f ∷ fs) free = go (nat_lt w.number f.number) (put_here w fs (apart
     go : (b : Bool) → waiting_at (put_waiting w fs) w.number ≡ Some w.entry → waiting_at (if b then w ∷ f ∷ fs else f ∷ put_waiting w fs) w.number ≡ Some w.entry
     go true more = at_first w (f ∷ fs) w.number refl
     go false more = at_other f (put_waiting w fs) w.number (apart_first f fs w.number free).0 ∙ more
-
--- an entry below all others is put first
-pub put_lowest : (w : Waiting) (ws : List Waiting) → ((n : ℕ) → n ≤ w.number → times n ws ≡ 0) → put_waiting w ws ≡ w ∷ ws
-put_lowest w [] none = refl
-put_lowest w (f ∷ fs) none = go (cases_lt w.number f.number)
-  where
-    go : (w.number < f.number) ⊎ (f.number ≤ w.number) → put_waiting w (f ∷ fs) ≡ w ∷ f ∷ fs
-    go (inl below) = ap (λ (b : Bool). if b then w ∷ f ∷ fs else f ∷ put_waiting w fs) (lt-ltb w.number f.number below)
-    go (inr least) =
-        let first = times_cons f.number f fs in
-        let same = one_same f.number f.number refl in
-        let nothing = none f.number least in
-        absurd (omega arith)

@@ -44,10 +44,6 @@ row_found form row items (Err x) e h = tt
 pub no_row : (form : Form) (row : Data) → None ≡ as_array row → (o : Offer) → IsRow form row o → ⊥
 no_row form row e o (items, f, h) = no_array row (items_of items) e f
 
--- what is no array is no offers
-pub no_offers : (form : Form) (value : Data) → None ≡ as_array value → (os : List Offer) → AreOffers form value os → ⊥
-no_offers form value e os (rows, f, h, few) = no_array value (items_of rows) e f
-
 -- one row that is of no offer
 pub rows_none : (form : Form) (rows : List Value) (i : ℕ) (x : Value) → i < length rows → x ≡ get_or rows i x → ((o : Offer) → ¬ IsRow form (view x) o)
     → (os : List Offer) → ¬ AreRows form (map view rows) os

@@ -29,5 +29,4 @@ pub use profile::{Profile, profile_of};
 pub use request::{Field, Request, RequestFault, Version, read_request};
 pub use rev::{write_norev, write_rev};
 pub use revision::Revision;
-pub use sub_changes::is_continuous;
 pub use wanted::{Flags, Wanted, read_wanted};

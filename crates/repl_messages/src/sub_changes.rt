@@ -1,6 +1,6 @@
 //! Reading subChanges.
 
-ghost use Rattle.std.specs.Prelude.{◌≡◌, ◌≢◌, ◌==◌, Ok, Err, IfOk, IfErr, Result, map, false, IsTrue, codes};
+ghost use Rattle.std.specs.Prelude.{◌≡◌, ◌≢◌, ◌==◌, Ok, Err, IfOk, IfErr, Result, map, false, IsTrue};
 ghost use Rattle.std.specs.List.{list_all, slice_split};
 ghost use Rattle.std.specs.Option.{option_copied};
 ghost use Rattle.sg_names.specs.Grammar.{is_channel_name};
@@ -15,13 +15,6 @@ use crate::request::{Field, Request, RequestFault, Version};
 use blip_frame::Props;
 use sg_history::{ChannelName, Channels, Key, KeyFault, Options, TextFault};
 use std::alloc::{AllocError, Global};
-
-/// Whether a subChanges asks for the changes that come later, too.
-pub fn is_continuous(props: &Props) -> bool
-    ensures { result ≡ properties.is_set (codes "continuous") props.now }
-{
-    is_set("continuous", props)
-}
 
 /// Reads the properties of a subChanges.
 pub(crate) fn read_sub_changes(

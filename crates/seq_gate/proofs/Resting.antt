@@ -1,11 +1,10 @@
 -- What passes and turns keep of their seats, step by step.
-use Rattle.std.proofs.Common.{◌≡◌, ◌≤◌, ◌<◌, ◌+◌, ◌-◌, ◌^◌, ◌%◌, ℕ, refl, sym, ap, subst, ◌∙◌, arith, List, [], ◌∷◌, Option, Some, None}
+use Rattle.std.proofs.Common.{◌≡◌, ◌≤◌, ◌<◌, ◌-◌, ◌^◌, ◌%◌, ℕ, refl, sym, ap, subst, ◌∙◌, arith, List, [], ◌∷◌, Option, Some, None}
 use mathlib.Core.Option.{none}
 use Rattle.std.proofs.lemmas.Option.{same_Some}
 use Rattle.atomic_table.specs.Table.{Me, step, rest}
-use Rattle.sg_history.specs.declared.entries.Entry.{Entry}
-use Rattle.sg_history.specs.Board.{BoardState, board_book}
-use Rattle.seq_gate.specs.Passes.{share, drawn, drawn_in_turn, with_lowest_front, after_turn, split_from, split_off, joined, IsNew, IsAboveBook, Finds, StoresHeld}
+use Rattle.sg_history.specs.Board.{BoardState}
+use Rattle.seq_gate.specs.Passes.{drawn, drawn_in_turn, with_lowest_front, after_turn, split_from, split_off, Finds}
 use Rattle.seq_gate.specs.Resting.{HasDraws, IsResting, IsServed, found_of}
 use Rattle.seq_gate.specs.Rule.{idle}
 use Rattle.seq_gate.specs.Turns.{knowing, ticketed, in_turn, leaving, passing, passed, Looks, Raises, Passes}
@@ -37,13 +36,6 @@ draws_split p count has some =
 
 pub draws_off : (p : Known) → HasDraws (split_off p) (2 ^ 32)
 draws_off p = record { least = omega arith; most = omega arith; left = refl }
-
-pub draws_joined : (p q : Known) (count more : ℕ) → HasDraws p count → HasDraws q more → share (joined p q) ≤ 2 ^ 62 → HasDraws (joined p q) (count + more)
-draws_joined p q count more has other most =
-    let least = has.least in
-    let left = has.left in
-    let its = other.left in
-    record { least = omega (arith, least); most = most; left = omega (arith, left, its) }
 
 pub draws_after : (p : Known) (count : ℕ) (found left : BoardState) → HasDraws p count → HasDraws (after_turn p found left) count
 draws_after p count found left has = record { least = has.least; most = has.most; left = has.left }
@@ -125,11 +117,3 @@ module _ {B : Type 0} (seen : B → BoardState) where
   -- the turn is passed on
   pub passed_seat : (q : Known) (ticket slots word : ℕ) (m n : Me (Option B) View) → m ≡ (passing q ticket, []) → Passes (step slots 2 1 0 none) m word n → n ≡ (idle q, [])
   passed_seat q ticket slots word m n is fits = fits ∙ ap (λ (x : Me (Option B) View). (passed x.0, x.1)) is
-
--- a number that is drawn in a turn is above each of the board in hand
-pub above_hand : (p : Known) (found hand : BoardState) (n : ℕ) → IsNew p n → IsAboveBook n (board_book found) → StoresHeld p found hand → IsAboveBook n (board_book hand)
-above_hand p found hand n new above stores k e is = go (board_book found k) refl
-  where
-    go : (o : Option Entry) → board_book found k ≡ o → k < n
-    go (Some x) there = above k x there
-    go None there = new.held k (stores k e is there)

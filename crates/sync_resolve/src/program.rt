@@ -59,13 +59,6 @@ impl Resolved {
     {
         &self.code
     }
-
-    /// Gives the program back, which allocates nothing.
-    pub fn into_program(self) -> Program
-        ensures { result ≡ self }
-    {
-        self.program
-    }
 }
 
 /// The parameters.
