@@ -5,7 +5,7 @@ use Rattle.sg_outside.specs.declared.wire.Got.TheVariants as got
 use native.Mathlib.Numerals.{unary_clauses}
 use Rattle.sg_outside.specs.declared.sink.Gave.{Gave}
 use Rattle.sg_outside.specs.declared.mem_wire.Input.{Input}
-use Rattle.sg_outside.specs.Wire.{Traffic, CountsGot, Receives, next_of, after_next, received}
+use Rattle.sg_outside.specs.Wire.{Traffic, no_line, CountsGot, Receives, next_of, after_next, received}
 use Rattle.sg_outside.specs.MemWire.{got_of, results, traffic}
 
 -- the input at a place gives the next result
@@ -34,7 +34,7 @@ results_next [] (suc (suc k)) = ap (λ rs. got.End ∷ rs) (results_next [] (suc
 results_next (x ∷ xs) zero = refl
 results_next (x ∷ xs) (suc k) = ap (λ rs. x ∷ rs) (results_next xs k)
 
-same_traffic : {a b c d : List Got} (sent : List (List ℕ)) (gave : List Gave) → a ≡ b → c ≡ d → ◌≡◌ {A = Traffic} (record { got = a; sent = sent; gave = gave; coming = c }) (record { got = b; sent = sent; gave = gave; coming = d })
+same_traffic : {a b c d : List Got} (sent : List (List ℕ)) (gave : List Gave) → a ≡ b → c ≡ d → ◌≡◌ {A = Traffic} (record { got = a; sent = sent; gave = gave; coming = c; line = no_line }) (record { got = b; sent = sent; gave = gave; coming = d; line = no_line })
 same_traffic sent gave p q = rw (p, q) refl
 
 -- once a result was received the wire records one result more

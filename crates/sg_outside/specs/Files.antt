@@ -7,6 +7,11 @@ use Rattle.sg_outside.specs.declared.files.Loaded.TheVariants.{Whole, Longer, Fa
 abbrev pub largest_file : ℕ
 largest_file = 1073741824
 
+-- a load: the name, and the answer
+pub record Load : Type 0 where
+  pub name : List ℕ
+  pub answer : Loaded
+
 -- a failure is counted, and the count never falls
 abbrev pub CountsLoad : ℕ → Loaded → ℕ → Type 0
 CountsLoad before Whole after = before ≤ after

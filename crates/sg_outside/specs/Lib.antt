@@ -1,4 +1,6 @@
 pub mod Files
+pub mod SeenName
+pub mod Loads
 pub mod MemFiles
 pub mod Sink
 pub mod Wire

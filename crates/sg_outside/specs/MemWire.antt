@@ -6,7 +6,7 @@ use Rattle.sg_outside.specs.declared.wire.Got.{Got}
 use Rattle.sg_outside.specs.declared.wire.Got.TheVariants as got
 use Rattle.sg_outside.specs.declared.mem_wire.Input.{Input}
 use Rattle.sg_outside.specs.declared.mem_wire.Input.TheVariants as input
-use Rattle.sg_outside.specs.Wire.{Traffic}
+use Rattle.sg_outside.specs.Wire.{Traffic, no_line}
 
 -- what receiving an input gives
 abbrev pub got_of : Input → Got
@@ -20,9 +20,9 @@ results zero script = []
 results (suc n) [] = got.End ∷ results n []
 results (suc n) (result ∷ script) = result ∷ results n script
 
--- what a wire records that has a script of results, after so many of them
+-- what a wire records that no line gave and that has a script of results, after so many of them
 abbrev pub traffic : List Got → ℕ → List (List ℕ) → List Gave → Traffic
-traffic script calls sent gave = record { got = results calls script; sent = sent; gave = gave; coming = drop calls script }
+traffic script calls sent gave = record { got = results calls script; sent = sent; gave = gave; coming = drop calls script; line = no_line }
 
 -- every sending succeeded
 abbrev pub all_done : List (List ℕ) → List Gave

@@ -5,12 +5,30 @@ use Rattle.sg_outside.specs.declared.sink.Gave.TheVariants as gave
 use Rattle.sg_outside.specs.declared.wire.Got.{Got}
 use Rattle.sg_outside.specs.declared.wire.Got.TheVariants as got
 
--- what a wire records: the results of receiving so far, the frames that were sent, what each sending answered, and the results still to come, all in order
+-- a result of reading from a line: bytes, that nothing is there yet, its end, or a fault
+pub data LineRead : Type 0 where
+  Bytes : List ℕ → LineRead
+  Idle : LineRead
+  End : LineRead
+  Failed : LineRead
+
+-- what a line records before its socket is made: the results of reading, in order, the bytes that it took, and what each write answered
+pub record LinkRecord : Type 0 where
+  pub read : List LineRead
+  pub taken : List ℕ
+  pub gave : List Gave
+
+-- what stands for the line of a wire that no line gave
+abbrev pub no_line : LinkRecord
+no_line = record { read = []; taken = []; gave = [] }
+
+-- what a wire records: the results of receiving so far, the frames that were sent, what each sending answered, and the results still to come, all in order; and what its line recorded
 pub record Traffic : Type 0 where
   pub got : List Got
   pub sent : List (List ℕ)
   pub gave : List Gave
   pub coming : List Got
+  pub line : LinkRecord
 
 -- a fault is counted, and the count never falls
 abbrev pub CountsGot : ℕ → Got → ℕ → Type 0

@@ -88,7 +88,7 @@ impl Bytes {
         self.items.extend_from_slice(bytes)
     }
 
-    /// Makes room for `more` further bytes, so that putting them at the end allocates nothing.
+    /// Asks for room for `more` further bytes; the bytes stay as they are.
     pub fn reserve(&mut self, more: usize) -> Result<(), AllocError>
         ensures { self.new ≡ self.old }
     {
@@ -102,7 +102,7 @@ impl Bytes {
         self.items.truncate(len);
     }
 
-    /// Lets the first `count` bytes go, and the memory that the others do not need.
+    /// Lets the first `count` bytes go.
     pub fn drop_front(&mut self, count: usize)
         requires { count ≤ length self.old }
         ensures { self.new ≡ drop count self.old }

@@ -1,7 +1,7 @@
 //! Files that are read whole.
 
-ghost use Rattle.std.specs.Prelude.{◌≡◌, ◌⊎◌, ℕ, List, Option, Some};
-ghost use Rattle.sg_outside.specs.Files.{CountsLoad, LoadsIfRecorded};
+ghost use Rattle.std.specs.Prelude.{◌≡◌, ◌⊎◌, ◌++◌, ◌∷◌, [], ℕ, List, Option, Some};
+ghost use Rattle.sg_outside.specs.Files.{Load, CountsLoad, LoadsIfRecorded};
 
 use crate::bytes::Bytes;
 use std::alloc::{AllocError, Global};
@@ -42,9 +42,14 @@ pub trait Files: Drop {
     /// The bytes under each name that has a file, where it records them.
     ghost recorded: { Self → Option (List ℕ → Option (List ℕ)) };
 
+    /// The loads so far, in order.
+    ghost loads: { Self → List Load };
+
     /// Appends the whole file to `into`; every answer but `Whole` leaves `into` as it was.
     fn load(&mut self, name: &str, into: &mut Bytes) -> Loaded
         ensures counted { CountsLoad (faults self.old) result (faults self.new) }
         ensures kept { recorded self.new ≡ recorded self.old }
+        ensures loads { loads self.new
+            ≡ loads self.old ++ record { name = name.now; answer = result } ∷ [] }
         ensures loaded { LoadsIfRecorded (recorded self.old) name.now result into.old into.new };
 }

@@ -4,11 +4,13 @@
 
 mod bytes;
 mod files;
+mod load_trail;
 mod mem_files;
 pub mod mem_wire;
 mod real;
 mod scripted_sink;
 mod scripted_wire;
+mod seen_name;
 pub mod sink;
 mod streams;
 pub mod wire;

@@ -2,12 +2,13 @@
 
 ghost use Rattle.std.specs.Prelude.{◌≡◌, ◌≢◌, ◌⊎◌, [], ◌≤◌, ◌<◌, IfSome, IfNone, IfOk, OnOk, OnErr, Some, None, string_bytes};
 ghost use Rattle.std.specs.Option.{option_copied};
-ghost use Rattle.sg_outside.specs.Files.{Loads};
+ghost use Rattle.sg_outside.specs.Files.{CountsLoad, Loads};
 ghost use Rattle.sg_outside.specs.MemFiles.{file_under, bytes_under};
-ghost use Rattle.sg_outside.specs.Scripts.{fails_at, one_more};
+ghost use Rattle.sg_outside.specs.Scripts.{LoadsByScript, fails_at, one_more};
 
 use crate::bytes::Bytes;
 use crate::files::{Files, LARGEST_FILE, Loaded, count_fault};
+use crate::load_trail::LoadTrail;
 use std::alloc::{AllocError, Global};
 
 /// A file in memory.
@@ -47,15 +48,18 @@ fn append(bytes: &[u8], into: &mut Bytes) -> Loaded
 #[derive(Drop)]
 pub struct MemFiles {
     pub files: Vec<MemFile>,
+    trail: LoadTrail,
 }
 
 impl MemFiles {
     /// No files. Allocates nothing.
     pub fn new(alloc: Global) -> MemFiles
-        ensures { result.files.items ≡ [] }
+        ensures files { result.files.items ≡ [] }
+        ensures loads { ⟦<MemFiles as Files>⟧.loads result ≡ [] }
     {
         MemFiles {
             files: Vec::new(alloc),
+            trail: LoadTrail::new(),
         }
     }
 }
@@ -65,11 +69,15 @@ impl Files for MemFiles {
 
     ghost recorded = { λ f. Some (λ name. Some (bytes_under f.files.items name)) };
 
+    ghost loads = { λ f. f.trail };
+
     fn load(&mut self, name: &str, into: &mut Bytes) -> Loaded {
-        match find(self.files.as_slice(), name) {
+        let answer = match find(self.files.as_slice(), name) {
             Some(bytes) => append(bytes.as_slice(), into),
             None => append(&[], into),
-        }
+        };
+        self.trail.add(name, answer);
+        answer
     }
 }
 
@@ -81,6 +89,7 @@ pub struct ScriptedFiles {
     pub fails: Vec<bool>,
     calls: usize,
     faults: u64,
+    trail: LoadTrail,
 }
 
 impl ScriptedFiles {
@@ -92,17 +101,21 @@ impl ScriptedFiles {
         ensures fails { result.fails.items ≡ fails.items }
         ensures calls { loads_of result ≡ 0 }
         ensures faults { ⟦<ScriptedFiles as Files>⟧.faults result ≡ 0 }
+        ensures loads { ⟦<ScriptedFiles as Files>⟧.loads result ≡ [] }
     {
         ScriptedFiles {
             files,
             fails,
             calls: 0,
             faults: 0,
+            trail: LoadTrail::new(),
         }
     }
 
     /// The faults so far; the count stands still at its type's end.
-    pub fn faults(&self) -> u64 {
+    pub fn faults(&self) -> u64
+        ensures { result ≡ ⟦<ScriptedFiles as Files>⟧.faults self.now }
+    {
         self.faults
     }
 }
@@ -120,13 +133,36 @@ pub(crate) fn next_fails(fails: &[bool], calls: &mut usize) -> bool
     }
 }
 
+/// Loads a file, or fails where that is to be or where there is no such file.
+fn load_or_fail(
+    files: &[MemFile],
+    name: &str,
+    fails: bool,
+    into: &mut Bytes,
+    faults: &mut u64,
+) -> Loaded
+    ensures counted { CountsLoad faults.old result faults.new }
+    ensures loaded { Loads (file_under files.now name.now) result into.old into.new }
+    ensures script { LoadsByScript fails (file_under files.now name.now) result }
+{
+    if fails {
+        return count_fault(faults);
+    }
+    match find(files, name) {
+        Some(bytes) => append(bytes.as_slice(), into),
+        None => count_fault(faults),
+    }
+}
+
 impl Files for ScriptedFiles {
-    ghost use Rattle.sg_outside.specs.Files.{CountsLoad};
-    ghost use Rattle.sg_outside.specs.Scripts.{LoadsByScript, loads_of};
+    ghost use Rattle.std.specs.Prelude.{◌++◌, ◌∷◌};
+    ghost use Rattle.sg_outside.specs.Scripts.{loads_of};
 
     ghost faults = { λ f. f.faults };
 
     ghost recorded = { λ f. Some (λ name. file_under f.files.items name) };
+
+    ghost loads = { λ f. f.trail };
 
     fn load(&mut self, name: &str, into: &mut Bytes) -> Loaded
         ensures counted { CountsLoad self.old.faults result self.new.faults }
@@ -135,13 +171,12 @@ impl Files for ScriptedFiles {
         ensures script { LoadsByScript (fails_at self.old.fails.items (loads_of self.old))
             (file_under self.old.files.items name.now) result }
         ensures calls { loads_of self.new ≡ one_more (loads_of self.old) }
+        ensures loads { self.new.trail
+            ≡ self.old.trail ++ record { name = name.now; answer = result } ∷ [] }
     {
-        if next_fails(self.fails.as_slice(), &mut self.calls) {
-            return count_fault(&mut self.faults);
-        }
-        match find(self.files.as_slice(), name) {
-            Some(bytes) => append(bytes.as_slice(), into),
-            None => count_fault(&mut self.faults),
-        }
+        let fails = next_fails(self.fails.as_slice(), &mut self.calls);
+        let answer = load_or_fail(self.files.as_slice(), name, fails, into, &mut self.faults);
+        self.trail.add(name, answer);
+        answer
     }
 }

@@ -1,11 +1,12 @@
 //! The real files and the real standard output: the trusted edge. They count their faults and record nothing
 //! of content.
 
-ghost use Rattle.std.specs.Prelude.{◌≡◌, None};
+ghost use Rattle.std.specs.Prelude.{◌≡◌, [], None};
 ghost use Rattle.sg_outside.specs.Files.{Appends, CountsLoad};
 
 use crate::bytes::Bytes;
 use crate::files::{Files, Loaded};
+use crate::load_trail::LoadTrail;
 use crate::sink::{Gave, Sink};
 use crate::streams::{load_fault, read_whole, write_whole};
 use std::rt::Files as RuntimeFiles;
@@ -16,13 +17,19 @@ use std::{fs, io};
 pub struct RealFiles<'r, R: RuntimeFiles + Drop> {
     rt: &'r R,
     faults: u64,
+    trail: LoadTrail,
 }
 
 impl<'r, R: RuntimeFiles + Drop> RealFiles<'r, R> {
     pub fn new(rt: &'r R) -> RealFiles<'r, R>
-        ensures { ⟦<RealFiles<'r, R> as Files>⟧.faults result ≡ 0 }
+        ensures faults { ⟦<RealFiles<'r, R> as Files>⟧.faults result ≡ 0 }
+        ensures loads { ⟦<RealFiles<'r, R> as Files>⟧.loads result ≡ [] }
     {
-        RealFiles { rt, faults: 0 }
+        RealFiles {
+            rt,
+            faults: 0,
+            trail: LoadTrail::new(),
+        }
     }
 }
 
@@ -44,8 +51,12 @@ impl<'r, R: RuntimeFiles + Drop> Files for RealFiles<'r, R> {
 
     ghost recorded = { λ _. None };
 
+    ghost loads = { λ f. f.trail };
+
     fn load(&mut self, name: &str, into: &mut Bytes) -> Loaded {
-        load_path(self.rt, name, &mut self.faults, into)
+        let answer = load_path(self.rt, name, &mut self.faults, into);
+        self.trail.add(name, answer);
+        answer
     }
 }
 

@@ -37,7 +37,9 @@ impl ScriptedSink {
     }
 
     /// The faults so far; the count stands still at its type's end.
-    pub fn faults(&self) -> u64 {
+    pub fn faults(&self) -> u64
+        ensures { result ≡ ⟦<ScriptedSink as Sink>⟧.faults self.now }
+    {
         self.faults
     }
 }

@@ -130,20 +130,32 @@ impl ScriptedWire {
     }
 
     /// The faults so far; the count stands still at its type's end.
-    pub fn faults(&self) -> u64 {
+    pub fn faults(&self) -> u64
+        ensures { result ≡ ⟦<ScriptedWire as Wire>⟧.faults self.now }
+    {
         self.faults
     }
 }
 
 impl Wire for ScriptedWire {
-    ghost use Rattle.sg_outside.specs.Scripts.{fails_at, sendings_of};
-    ghost use Rattle.sg_outside.specs.Wire.{SendsIfRecorded};
+    ghost use Rattle.sg_outside.specs.Scripts.{fails_at, one_more, sendings_of};
+    ghost use Rattle.sg_outside.specs.Wire.{ReceivesIfRecorded, SendsIfRecorded};
 
     ghost faults = { λ w. w.faults };
 
     ghost recorded = { λ w. Some (traffic w.script.items w.calls w.sent.items w.gave.items) };
 
-    fn recv(&mut self) -> Got {
+    fn recv(&mut self) -> Got
+        ensures counted { CountsGot self.old.faults result self.new.faults }
+        ensures recorded { ReceivesIfRecorded
+            (Some (traffic self.old.script.items self.old.calls self.old.sent.items
+            self.old.gave.items))
+            result
+            (Some (traffic self.new.script.items self.new.calls self.new.sent.items
+            self.new.gave.items)) }
+        ensures sendings { sendings_of self.new ≡ sendings_of self.old }
+        ensures kept { self.new.send_fails ≡ self.old.send_fails }
+    {
         if self.calls == usize::MAX {
             return Got::Memory;
         }
@@ -170,11 +182,12 @@ impl Wire for ScriptedWire {
         ensures script { SendsByScript
             (fails_at self.old.send_fails.items (sendings_of self.old)) result }
         ensures kept { self.new.send_fails ≡ self.old.send_fails }
+        ensures calls { sendings_of self.new ≡ one_more (sendings_of self.old) }
     {
+        let fails = next_fails(self.send_fails.as_slice(), &mut self.sendings);
         if self.gave.reserve(1).is_err() {
             return Gave::Memory;
         }
-        let fails = next_fails(self.send_fails.as_slice(), &mut self.sendings);
         send_or_fail(
             self.alloc,
             frame,
