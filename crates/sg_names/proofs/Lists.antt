@@ -130,9 +130,6 @@ pub record Passed {X : Type 0} (text : X → List ℕ) (admits : X → Bool) (wh
   pub admitted : list_all admits items ≡ true
   pub parts : slice_split is_comma whole ≡ map text items ++ slice_split is_comma rest
 
-pub passed_none : {X : Type 0} (text : X → List ℕ) (admits : X → Bool) (whole : List ℕ) → Passed text admits whole whole
-passed_none text admits whole = record { items = []; admitted = refl; parts = refl }
-
 all_with : {X : Type 0} (admits : X → Bool) (items : List X) (x : X) → list_all admits items ≡ true → admits x ≡ true → list_all admits (items ++ x ∷ []) ≡ true
 all_with admits items x h is = list_all-append admits items (x ∷ []) ∙ and_from _ _ h (and_from _ _ is refl)
 
@@ -180,10 +177,6 @@ pub record Behind {X : Type 0} (text : X → List ℕ) (admits : X → Bool) (or
   pub admitted : list_all admits items ≡ true
   pub parts : slice_split is_comma rest ≡ map text items
   pub same : rises order items ≡ rises order xs
-
-pub behind_none : {X : Type 0} (text : X → List ℕ) (admits : X → Bool) (order : X → X → Ordering) (xs : List X) (whole : List ℕ) → list_all admits xs ≡ true
-    → slice_split is_comma whole ≡ map text xs → Behind text admits order xs whole
-behind_none text admits order xs whole h e = record { items = xs; admitted = h; parts = e; same = refl }
 
 -- the first two items of the rest
 pub record Two {X : Type 0} (text : X → List ℕ) (admits : X → Bool) (items : List X) (part next : List ℕ) (behind : List (List ℕ)) : Type 0 where

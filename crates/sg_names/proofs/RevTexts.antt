@@ -3,7 +3,7 @@ use Rattle.std.proofs.Common.{◌≡◌, ◌≢◌, ℕ, ◌<◌, ◌≤◌, ◌
 use Rattle.std.specs.Prelude.{decimal, nat_le, nat_lt}
 use Rattle.std.proofs.lemmas.Bool.{and_parts, and_from, leb-true, le-leb, lt-ltb}
 use borrow.Author.Tests.{ltb-true}
-use Rattle.sg_names.proofs.Cuts.{cut_same, lacks_seam}
+use Rattle.sg_names.proofs.Cuts.{cut_same}
 use Rattle.sg_names.proofs.Decimals.{lacks-decimal}
 use Rattle.sg_names.specs.Grammar.{is_digest, lacks}
 use Rattle.sg_names.specs.RevId.{is_rev, rev_text}
@@ -28,10 +28,6 @@ rev_spelled text front back generation cut spelled low high none digest =
     none (record { generation = generation; digest = back })
     (and_from _ _ (and_from _ _ (le-leb 1 generation low) (lt-ltb generation 4294967296 (omega (arith, high)))) digest)
     (cut ∙ ap (λ f. f ++ 45 ∷ back) spelled)
-
--- a text without `-` is no revision's
-pub rev_whole : (text : List ℕ) (r : RevId) → lacks 45 text ≡ true → text ≢ rev_text r
-rev_whole text r none = lacks_seam 45 text (decimal r.generation) r.digest none
 
 -- a revision's text is cut behind the generation
 pub rev_cut : (text front back : List ℕ) (r : RevId) → text ≡ front ++ 45 ∷ back → lacks 45 front ≡ true → is_rev r ≡ true

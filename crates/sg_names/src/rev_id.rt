@@ -11,6 +11,7 @@ use crate::{grammar, pieces};
 use itoa::Buffer;
 use sg_outside::{Bytes, Memory};
 use std::alloc::{AllocError, Global};
+use std::cmp::Ordering;
 use std::marker::Model;
 
 /// A revision: a generation from 1 upward, and a digest. Its text is `GENERATION-DIGEST`.
@@ -21,7 +22,7 @@ pub struct RevId {
 }
 
 impl RevId {
-    ghost use Rattle.sg_names.specs.RevId.{same_rev, rev_text, is_rev};
+    ghost use Rattle.sg_names.specs.RevId.{same_rev, rev_cmp, rev_text, is_rev};
     ghost use Rattle.sg_names.specs.declared.rev_id.RevId.{RevId};
 
     /// Reads one: `Bad` where the text is outside the grammar.
@@ -50,6 +51,15 @@ impl RevId {
         ensures same { IsTrue result ↔ (self.now ≡ other.now) }
     {
         self.generation == other.generation && self.digest.equals(&other.digest)
+    }
+
+    /// The order by generation, then by the digest's bytes.
+    pub fn order(&self, other: &RevId) -> Ordering
+        ensures { result ≡ rev_cmp self.now other.now }
+    {
+        self.generation
+            .cmp(&other.generation)
+            .then(self.digest.order(&other.digest))
     }
 
     pub fn copy(&self, alloc: Global) -> Result<RevId, AllocError>
