@@ -191,10 +191,6 @@ pub spelled_behind : (r : Result Log ReadLog) (bytes lines : List ℕ) → bytes
 spelled_behind (Ok log) bytes lines cut spelled = (spelled.0, cut ∙ ap (λ t. header ++ t) spelled.1)
 spelled_behind (Err e) bytes lines cut spelled = tt
 
--- a text without a line feed that is not the header's does not begin with the header
-pub no_header : (bytes : List ℕ) → lacks 10 bytes ≡ true → (rest : List ℕ) → bytes ≢ header ++ rest
-no_header bytes lacking rest e = lacks_seam 10 bytes title rest lacking e
-
 -- another first line
 pub other_header : (bytes first lines : List ℕ) → bytes ≡ first ++ 10 ∷ lines → lacks 10 first ≡ true → first ≢ title → IsHeadFault bytes reason.Head
 other_header bytes first lines cut lacking other = inr (
@@ -202,10 +198,6 @@ other_header bytes first lines cut lacking other = inr (
   (λ e. lacks_seam 10 title first lines refl (sym e ∙ cut)),
   (λ rest e. other (cut_same 10 first lines title rest lacking refl (sym cut ∙ e)).0),
 )
-
--- the header, and what is behind it
-pub same_header : (bytes first lines : List ℕ) → bytes ≡ first ++ 10 ∷ lines → first ≡ title → bytes ≡ header ++ lines
-same_header bytes first lines cut same = cut ∙ ap (λ f. f ++ 10 ∷ lines) same
 
 -- what is behind the header, when it is dropped
 pub dropped_header : (bytes lines : List ℕ) (n : ℕ) → bytes ≡ header ++ lines → n ≡ length bytes → drop (n - length lines) bytes ≡ lines

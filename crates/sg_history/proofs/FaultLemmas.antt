@@ -1,5 +1,5 @@
 -- what is wrong with a line, and the lines of entries
-use Rattle.std.proofs.Common.{◌≡◌, ℕ, zero, suc, ◌+◌, ◌-◌, ◌≤◌, List, [], ◌∷◌, ◌++◌, ◌<◌, true, length, arith, refl, sym, ap, ◌∙◌, subst, Option, Some, None}
+use Rattle.std.proofs.Common.{◌≡◌, ℕ, zero, suc, ◌+◌, ◌-◌, List, [], ◌∷◌, ◌++◌, ◌<◌, true, length, arith, refl, sym, ap, ◌∙◌, subst, Option, Some, None}
 use Rattle.sg_history.specs.declared.entries.Entry.{Entry}
 use Rattle.sg_history.specs.declared.entries.Entry.TheVariants as entry
 use Rattle.sg_history.specs.declared.fault.Why.{Why}
@@ -8,7 +8,7 @@ use Rattle.sg_history.specs.declared.fault.LineFault.{LineFault}
 use Rattle.sg_history.specs.declared.fault.LineFault.TheVariants as line
 use Rattle.sg_history.specs.Journal.{IsEntry, fields_of}
 use Rattle.sg_history.specs.Line.{NoEntry}
-use Rattle.sg_history.specs.Faults.{Grammar, IsText, AreTexts, IsFirstBad, IsFaultAmong, IsFaultUnder, IsFault, AreTextsUnder, AreFields, grammars_of, HasReason, IsBadField, IsBadAmong}
+use Rattle.sg_history.specs.Faults.{Grammar, AreTexts, IsFirstBad, IsFaultAmong, IsFaultUnder, IsFault, AreTextsUnder, AreFields, grammars_of, HasReason, IsBadField, IsBadAmong}
 use Rattle.sg_names.specs.Grammar.{lacks}
 use Rattle.sg_history.specs.Pieces.{pieces}
 use Rattle.sg_history.proofs.PieceLemmas.{pieces-cut, pieces-lacking}
@@ -58,14 +58,6 @@ entry_fields entry.Unused is = tt
 pub no_entry : (fields : List (List ℕ)) (why : Why) → IsFault fields why → NoEntry fields
 no_entry fields why fault e is spelled = apart fields why fault (subst AreFields (sym spelled) (entry_fields e is))
 
--- a field that is outside its grammar, behind fields that are in theirs
-pub bad_field : (grammars : List Grammar) (texts : List (List ℕ)) (n : ℕ) (grammar : Grammar) (text : List ℕ) (e : LineFault)
-    → length texts ≡ length grammars → 2 ≤ n → (¬ (IsText grammar text) → IsFirstBad grammars texts (n - 2)) → IsBadField n grammar text e
-    → HasReason (IsFaultAmong grammars texts) e
-bad_field grammars texts n grammar text (line.Bad why) many low first h =
-    subst (IsFaultAmong grammars texts) (sym h.0) (many, low, first h.1)
-bad_field grammars texts n grammar text line.Memory many low first h = tt
-
 -- a line of too many fields
 pub many_fields : (line kind rest : List ℕ) (why : Why) → line ≡ kind ++ 9 ∷ rest → lacks 9 kind ≡ true → 12 < length (pieces 9 line)
     → ((texts : List (List ℕ)) → 11 < length texts → IsFault (kind ∷ texts) why) → IsFault (pieces 9 line) why
@@ -75,13 +67,6 @@ many_fields line kind rest why cut lacking many fault =
 
 pub one_field : (line : List ℕ) → lacks 9 line ≡ true → ¬ (12 < length (pieces 9 line))
 one_field line lacking many = omega (arith, many, ap length (pieces-lacking 9 line lacking))
-
--- texts in their grammars behind others in theirs
-pub texts_joined : (gs hs : List Grammar) (ts us : List (List ℕ)) → AreTexts gs ts → AreTexts hs us → AreTexts (gs ++ hs) (ts ++ us)
-texts_joined [] hs [] us front back = back
-texts_joined [] hs (t ∷ ts) us front back = absurd front
-texts_joined (g ∷ gs) hs [] us front back = absurd front
-texts_joined (g ∷ gs) hs (t ∷ ts) us front back = (front.0, texts_joined gs hs ts us front.1 back)
 
 first_in : (gs hs : List Grammar) (ts us : List (List ℕ)) (n : ℕ) → IsFirstBad gs ts n → IsFirstBad (gs ++ hs) (ts ++ us) n
 first_in [] hs ts us n bad = absurd bad

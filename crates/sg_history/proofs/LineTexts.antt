@@ -111,9 +111,3 @@ line_whole e is = joined_lack 10 9 refl (fields_of e) (all_lack 10 (omega arith)
 pub no_line : (line : List ℕ) (fields : List (List ℕ)) → fields ≡ pieces 9 line → NoEntry fields → NoLine line
 no_line line fields parts none e is spelled = none e is (parts ∙ ap (pieces 9) spelled ∙ line_pieces e is)
 
--- no entry has more than twelve fields
-pub no_long_line : (line : List ℕ) → 12 < length (pieces 9 line) → NoLine line
-no_long_line line more e is spelled =
-    let same = ap length (ap (pieces 9) spelled ∙ line_pieces e is) in
-    let count = fields_count e in
-    omega (arith, more, same, count.1)

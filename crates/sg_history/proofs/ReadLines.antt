@@ -2,7 +2,6 @@
 use Rattle.std.proofs.Common.{◌≡◌, ℕ, ◌+◌, ◌-◌, ◌≤◌, true, List, [], ◌∷◌, ◌++◌, length, drop, refl, sym, ap, ◌∙◌, subst, arith, append_assoc, length-append, Option, Some, None}
 use Rattle.std.specs.Prelude.{is_some}
 use Rattle.std.proofs.Math.Seq.{drop-append_seam}
-use Rattle.std.proofs.lemmas.List.{append-nil}
 use Rattle.sg_history.specs.declared.entries.Entry.{Entry}
 use Rattle.sg_history.specs.declared.fault.Why.{Why}
 use Rattle.sg_history.specs.Reading.{AreAllLines, AreLines, BeginsWith, ReadsPart}
@@ -21,10 +20,6 @@ lines_append : (text : List ℕ) (es : List Entry) (middle : List ℕ) (more : L
     → AreLines text (es ++ more) rest
 lines_append text [] middle more rest lines further = subst (λ t. AreLines t more rest) (sym lines) further
 lines_append text (x ∷ es) middle more rest lines further = (lines.0, lines.1, lines_append lines.0 es middle more rest lines.2 further)
-
--- nothing was read yet
-pub part_start : (text : List ℕ) (entries : List Entry) → ReadsPart text entries text None entries
-part_start text entries = record { more = []; appended = sym (append-nil entries); lines = refl; stops = tt }
 
 -- one line more
 pub part_more : (text : List ℕ) (before : List Entry) (rest : List ℕ) (entries : List Entry) (e : Entry) (after : List ℕ) (now : List Entry)
@@ -59,12 +54,6 @@ lines_front text (e ∷ es) rest lines =
       long = omega (arith, later.long, length-append line (10 ∷ later.front));
     }
 
--- there are no more lines than bytes
-pub lines_count : (text : List ℕ) (es : List Entry) (rest : List ℕ) → AreLines text es rest → length es + length rest ≤ length text
-lines_count text es rest lines =
-    let front = lines_front text es rest lines in
-    omega (arith, front.long, ap length front.whole, length-append front.front rest)
-
 -- the rest is at the end of the text
 pub rest_is : (text : List ℕ) (before : List Entry) (rest : List ℕ) (fault : Option Why) (after : List Entry) → ReadsPart text before rest fault after
     → drop (length text - length rest) text ≡ rest
@@ -72,10 +61,6 @@ rest_is text before rest fault after part =
     let front = lines_front text part.more rest part.lines in
     let long : length text - length rest ≡ length front.front = omega (arith, ap length front.whole, length-append front.front rest) in
     (λ i. drop (long i) (front.whole i)) ∙ drop-append_seam front.front rest
-
-pub all_count : (text : List ℕ) (es : List Entry) (fault : Option Why) → AreAllLines text es fault → length es ≤ length text
-all_count text es None lines = omega (arith, lines_count text es [] lines)
-all_count text es (Some why) lines = omega (arith, lines_count text es lines.0 lines.1)
 
 -- what was read before, and a part more, up to a fault
 pub lines_stop : (text : List ℕ) (before : List Entry) (middle rest : List ℕ) (fault : Option Why) (after : List Entry)

@@ -1,9 +1,14 @@
 -- the revisions that were written, as keys of a set
-use Rattle.std.proofs.Common.{◌≡◌, ℕ, Bool, true, false, ◌&&◌, ◌||◌, cond, List, [], ◌∷◌, map, refl, sym, ◌∙◌, Bor}
+use Rattle.std.proofs.Common.{◌≡◌, ℕ, Bool, true, false, ◌&&◌, ◌||◌, cond, List, [], ◌∷◌, map, refl, sym, ap, ◌∙◌, Bor}
 use Rattle.std.specs.List.{list_any}
 use Rattle.std.specs.Str.{bytes_eq}
-use Rattle.std.specs.Cmp.{nat_eq_equiv}
+use Rattle.std.specs.Cmp.{nat_eq_equiv, unsigned_tied}
 use Rattle.std.specs.Prelude.{nat_eq}
+use Rattle.std.specs.Ordering.{nat_cmp, ordering_then, is_eq}
+use Rattle.std.specs.Cmp.Lexicographic.{slice_cmp}
+use Rattle.std.specs.declared.cmp.Ordering.{Ordering}
+use Rattle.std.specs.declared.cmp.Ordering.TheVariants.{Less, Equal, Greater}
+use Rattle.std.proofs.lemmas.Map.Text.{is_eq-slice_cmp}
 use Rattle.sg_names.specs.declared.rev_id.RevId.{RevId}
 use Rattle.sg_history.specs.Written.{DocRev, is_rev_of, has}
 
@@ -53,15 +58,35 @@ inserted old new k each doc rev =
     sym (found q new) ∙ each q ∙ or_of (key_eq k q) (list_any (λ x. key_eq q x) old)
     ∙ (λ i. same_key k q i || found q old i)
 
+-- how a set orders keys
+abbrev pub key_cmp : Key → Key → Ordering
+key_cmp q k = ordering_then (ordering_then (slice_cmp nat_cmp q.0.now k.0.now) (nat_cmp q.1 k.1)) (slice_cmp nat_cmp q.2.now k.2.now)
+
+eq_then : (a b : Ordering) → is_eq (ordering_then a b) ≡ (is_eq a && is_eq b)
+eq_then Less b = refl
+eq_then Equal b = refl
+eq_then Greater b = refl
+
+-- keys that are level are equal
+same_place : (q k : Key) → is_eq (key_cmp q k) ≡ key_eq q k
+same_place q k =
+    eq_then (ordering_then (slice_cmp nat_cmp q.0.now k.0.now) (nat_cmp q.1 k.1)) (slice_cmp nat_cmp q.2.now k.2.now)
+    ∙ ap (λ b. b && is_eq (slice_cmp nat_cmp q.2.now k.2.now)) (eq_then (slice_cmp nat_cmp q.0.now k.0.now) (nat_cmp q.1 k.1))
+    ∙ (λ i. (is_eq-slice_cmp q.0.now k.0.now i && unsigned_tied q.1 k.1 i) && is_eq-slice_cmp q.2.now k.2.now i)
+
+found_place : (q : Key) (ks : List Key) → list_any (λ k. is_eq (key_cmp q k)) ks ≡ list_any (λ k. key_eq q k) ks
+found_place q [] = refl
+found_place q (k ∷ ks) = λ i. same_place q k i || found_place q ks i
+
 -- what a look at the keys finds of a document's revision
 pub found_rev : (q : Key) (ks : List Key) (doc : List ℕ) (rev : RevId) → q.0.now ≡ doc → q.1 ≡ rev.generation → q.2.now ≡ rev.digest
-    → list_any (λ k. key_eq q k) ks ≡ has (map doc_rev ks) doc rev
+    → list_any (λ k. is_eq (key_cmp q k)) ks ≡ has (map doc_rev ks) doc rev
 found_rev q ks doc rev same generation digest =
-    found q ks ∙ (λ i. has (map doc_rev ks) (same i) (record { generation = generation i; digest = digest i }))
+    found_place q ks ∙ found q ks ∙ (λ i. has (map doc_rev ks) (same i) (record { generation = generation i; digest = digest i }))
 
 pub inserted_rev : (old new : List Key) (k : Key) (doc : List ℕ) (rev : RevId) → k.0.now ≡ doc → k.1 ≡ rev.generation → k.2.now ≡ rev.digest
-    → ((q : Key) → list_any (λ x. key_eq q x) new ≡ cond (key_eq k q) true (list_any (λ x. key_eq q x) old))
+    → ((q : Key) → list_any (λ x. is_eq (key_cmp q x)) new ≡ cond (is_eq (key_cmp k q)) true (list_any (λ x. is_eq (key_cmp q x)) old))
     → (other : List ℕ) (r : RevId) → has (map doc_rev new) other r ≡ (is_rev_of (record { doc = doc; rev = rev }) other r || has (map doc_rev old) other r)
 inserted_rev old new k doc rev same generation digest each other r =
-    inserted old new k each other r
+    inserted old new k (λ q. sym (found_place q new) ∙ each q ∙ (λ i. cond (same_place k q i) true (found_place q old i))) other r
     ∙ (λ i. is_rev_of (record { doc = same i; rev = record { generation = generation i; digest = digest i } }) other r || has (map doc_rev old) other r)

@@ -1,24 +1,21 @@
 -- the rules of writes, and the revisions that were written
-use Rattle.std.proofs.Common.{◌≡◌, ℕ, ◌+◌, ◌<◌, ◌-◌, ◌^◌, length, Bool, true, false, ◌&&◌, ◌||◌, not, List, [], ◌∷◌, ◌++◌, reverse, refl, sym, ap, ◌∙◌, arith, if◌then◌else◌, Option, Some, None}
+use Rattle.std.proofs.Common.{◌≡◌, ℕ, ◌+◌, ◌<◌, ◌-◌, ◌^◌, length, Bool, true, false, ◌&&◌, ◌||◌, not, List, ◌∷◌, ◌++◌, reverse, refl, sym, ap, ◌∙◌, arith, if◌then◌else◌, Option, Some, None}
 use Rattle.std.specs.Prelude.{is_some, nat_lt}
 use Rattle.std.specs.List.{join_with_byte}
 use Rattle.std.proofs.lemmas.Bool.{and_parts, le-ltb}
-use Rattle.std.proofs.lemmas.List.{reverse-append}
-use Rattle.std.specs.Str.{bytes_eq}
 use Rattle.sg_names.specs.declared.rev_id.RevId.{RevId}
 use Rattle.sg_names.specs.RevId.{same_rev}
 use Rattle.sg_history.specs.declared.entries.Entry.{Entry}
 use Rattle.sg_history.specs.declared.entries.Entry.TheVariants as entry
 use Rattle.sg_history.specs.declared.entries.Write.{Write}
 use Rattle.sg_history.specs.declared.fault.Why.{Why}
-use Rattle.sg_history.specs.Current.{Sequenced, write_of_rev, with_rev_or}
+use Rattle.sg_history.specs.Current.{Sequenced, with_rev_or}
 use Rattle.sg_history.specs.History.{as_write}
 use Rattle.sg_history.specs.Journal.{IsEntry, IsNext, falls_from, fields_of, has_rev, line_of, may_follow, write_may_follow}
 use Rattle.sg_history.specs.Line.{AreRead, IsLargeWrite}
 use Rattle.sg_history.specs.Pieces.{pieces}
 use Rattle.sg_history.specs.Reading.{BeginsWith}
 use Rattle.sg_history.specs.Rules.{as_fault, rule_fault, write_fault}
-use Rattle.sg_history.specs.Written.{DocRev, is_rev_of, has, Knows}
 use Rattle.sg_history.proofs.JournalTexts.{NoNext}
 use Rattle.sg_history.proofs.LineTexts.{joined_pieces, no_line}
 use Rattle.sg_history.proofs.OneLine.{large_apart, line_same}
@@ -28,21 +25,6 @@ chosen true true w other = refl
 chosen true false w other = refl
 chosen false right w other = refl
 
-chosen_write : (same : Bool) (w : Write) (seq : ℕ) (rev : RevId) (other : Option Sequenced)
-    → is_some (with_rev_or (if same then Some w else None) seq rev other) ≡ ((same && same_rev w.rev rev) || is_some other)
-chosen_write true w seq rev other = chosen true (same_rev w.rev rev) (record { seq = seq; write = w }) other
-chosen_write false w seq rev other = refl
-
--- one more write
-pub knows_write : (written after : List DocRev) (entries : List Entry) (w : Write) → Knows written entries
-    → ((doc : List ℕ) (rev : RevId) → has after doc rev ≡ (is_rev_of (record { doc = w.doc; rev = w.rev }) doc rev || has written doc rev))
-    → Knows after (entries ++ entry.Write w ∷ [])
-knows_write written after entries w knows each doc rev =
-    each doc rev
-    ∙ (λ i. is_rev_of (record { doc = w.doc; rev = w.rev }) doc rev || knows doc rev i)
-    ∙ sym (chosen_write (bytes_eq w.doc doc) w (length (reverse entries) + 1) rev (write_of_rev (reverse entries) doc rev))
-    ∙ ap (λ older. has_rev older doc rev) (sym (reverse-append entries (entry.Write w ∷ [])))
-
 -- an entry that is no write
 unwritten : (older : List Entry) (e : Entry) (doc : List ℕ) (rev : RevId) → as_write e ≡ None → has_rev older doc rev ≡ has_rev (e ∷ older) doc rev
 unwritten older (entry.Write w) doc rev none = absurd (cc (none))
@@ -51,14 +33,6 @@ unwritten older (entry.PutRole name channels) doc rev none = refl
 unwritten older (entry.DropUser name) doc rev none = refl
 unwritten older (entry.DropRole name) doc rev none = refl
 unwritten older entry.Unused doc rev none = refl
-
--- one more entry that is no write
-pub knows_other : (written : List DocRev) (entries : List Entry) (e : Entry) → Knows written entries → as_write e ≡ None → Knows written (entries ++ e ∷ [])
-knows_other written entries e knows none doc rev =
-    knows doc rev ∙ unwritten (reverse entries) e doc rev none ∙ ap (λ older. has_rev older doc rev) (sym (reverse-append entries (e ∷ [])))
-
-pub knows_none : Knows [] []
-knows_none doc rev = refl
 
 -- a front that is too large is above each front that may be
 late : (older : List Entry) (w : Write) → length older < 2 ^ 64 - 2 → w.at ≡ 18446744073709551615 → nat_lt w.at (length older + 1) ≡ false

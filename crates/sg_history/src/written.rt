@@ -6,13 +6,13 @@ ghost use Rattle.sg_history.specs.Written.{has, is_rev_of};
 
 use sg_names::{DocId, RevId};
 use std::alloc::{AllocError, Global};
-use std::collections::HashSet;
+use std::collections::BTreeSet;
 use std::marker::Model;
 
 /// Revisions of documents, each once. Their texts are borrowed.
 #[derive(Drop)]
 pub struct Written<'a> {
-    keys: HashSet<(&'a [u8], u32, &'a [u8])>,
+    keys: BTreeSet<(&'a [u8], u32, &'a [u8])>,
 }
 
 impl<'a> Model for Written<'a> {
@@ -30,7 +30,7 @@ impl<'a> Written<'a> {
         ensures { result ≡ [] }
     {
         Written {
-            keys: HashSet::new(alloc),
+            keys: BTreeSet::new(alloc),
         }
     }
 
