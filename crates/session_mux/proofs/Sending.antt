@@ -167,12 +167,6 @@ still : (s : Sending) (acknowledgements : List Acknowledgement) → picked_of ac
 still s (a ∷ acknowledgements) none = absurd (none-some (ack_frame a) (sym none))
 still s [] none = ap (λ ws. record s { waiting = ws }) (still_waiting s.waiting (chosen s.waiting) none)
 
-pub none_picked : (s after : Sending) (value value_after : ℕ) (next : Next) (old new : List ℕ) → next ≡ nexts.Idle → Sends (picked s) next value value_after old new → after ≡ after_picked s
-    → (picked s ≡ None) × (s ≡ after) × (value ≡ value_after)
-none_picked s after value value_after next old new is sends e =
-    let found : (picked s ≡ None) × (value_after ≡ value) = none_at (picked s) value value_after old new (subst (λ n. Sends (picked s) n value value_after old new) is sends) in
-    (found.0, sym (still s s.acknowledgements found.0) ∙ sym e, sym found.1)
-
 -- what went before the end
 pub gone : (before : Sending) (value : ℕ) (traffic : Option Traffic) (s : Sending) (value_now : ℕ) (traffic_now traffic_after : Option Traffic) (result : Gave) (now : Sending) (now_value : ℕ)
     → Records traffic_now [] [] (failure_of result) traffic_after → IsLeft result s value_now now now_value

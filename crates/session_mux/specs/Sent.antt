@@ -25,12 +25,12 @@ AreNext coming (g ∷ got) left = (g ≡ next_of coming) × AreNext (after_next 
 abbrev pub answered : List (List ℕ) → List Gave → List Gave
 answered sent failed = map (λ _. gave.Done) sent ++ failed
 
--- the wire, where it records, records these further results, which came next, these further frames, and that after them so many sendings failed
+-- the wire, where it records, records these further results, which came next, these further frames, and that after them so many sendings failed; what its line recorded stays
 abbrev pub Records : Option Traffic → List Got → List (List ℕ) → List Gave → Option Traffic → Type 0
 Records None got sent failed after = after ≡ None
 Records (Some before) got sent failed after =
     (t : Traffic) × (after ≡ Some t) × (t.got ≡ before.got ++ got) × (t.sent ≡ before.sent ++ sent)
-    × (t.gave ≡ before.gave ++ answered sent failed) × AreNext before.coming got t.coming
+    × (t.gave ≡ before.gave ++ answered sent failed) × (t.line ≡ before.line) × AreNext before.coming got t.coming
 
 -- an inbox once messages were put: the reply to each request that wants one is expected
 abbrev pub expecting_by : Message → InboxState → InboxState
