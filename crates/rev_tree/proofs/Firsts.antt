@@ -17,7 +17,8 @@ use Rattle.sg_names.specs.declared.rev_id.RevId.{RevId}
 use Rattle.sg_names.specs.RevId.{same_rev}
 use Rattle.rev_tree.specs.declared.leaf.Leaf.{Leaf}
 use Rattle.rev_tree.specs.declared.tree.Node.{Node}
-use Rattle.rev_tree.specs.Order.{rev_cmp, leaf_cmp, comes_before, sooner, first_leaf, insert_leaf, in_order, falls_by_rev, IsFirst}
+use Rattle.sg_names.specs.RevId.{rev_cmp}
+use Rattle.rev_tree.specs.Order.{leaf_cmp, comes_before, sooner, first_leaf, insert_leaf, in_order, falls_by_rev, IsFirst}
 use Rattle.rev_tree.specs.Tree.{knows}
 use Rattle.rev_tree.proofs.Sames.{same_is_equal}
 use Rattle.rev_tree.proofs.Hanging.{leaves_by}

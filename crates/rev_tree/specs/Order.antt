@@ -1,15 +1,10 @@
--- the orders of revisions and of leaves
+-- the order of leaves
 use Rattle.std.specs.Prelude.{◌≡◌, Bool, true, false, ◌&&◌, not, List, [], ◌∷◌, Option, Some, None, if◌then◌else◌}
 use Rattle.std.specs.List.{All, Contains}
-use Rattle.std.specs.Ordering.{nat_cmp, bool_cmp, ordering_then, is_lt}
-use Rattle.std.specs.Cmp.Lexicographic.{slice_cmp}
+use Rattle.std.specs.Ordering.{bool_cmp, ordering_then, is_lt}
 use Rattle.std.specs.declared.cmp.Ordering.{Ordering}
-use Rattle.sg_names.specs.declared.rev_id.RevId.{RevId}
+use Rattle.sg_names.specs.RevId.{rev_cmp}
 use Rattle.rev_tree.specs.declared.leaf.Leaf.{Leaf}
-
--- by generation, then by the digest's bytes
-abbrev pub rev_cmp : RevId → RevId → Ordering
-rev_cmp a b = ordering_then (nat_cmp a.generation b.generation) (slice_cmp nat_cmp a.digest b.digest)
 
 -- one that is not deleted before one that is, then the greater revision first
 abbrev pub leaf_cmp : Leaf → Leaf → Ordering

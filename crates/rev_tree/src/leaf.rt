@@ -75,22 +75,13 @@ impl Leaves {
     }
 }
 
-/// By generation, then by the digest's bytes.
-pub fn order_of_revs(a: &RevId, b: &RevId) -> Ordering
-    ensures { result ≡ order.rev_cmp a.now b.now }
-{
-    a.generation
-        .cmp(&b.generation)
-        .then(a.digest.order(&b.digest))
-}
-
 /// One that is not deleted before one that is, then the greater revision first.
 pub fn order_of_leaves(a: &Leaf, b: &Leaf) -> Ordering
     ensures { result ≡ order.leaf_cmp a.now b.now }
 {
     a.deleted
         .cmp(&b.deleted)
-        .then(order_of_revs(&b.rev, &a.rev))
+        .then(b.rev.order(&a.rev))
 }
 
 fn sooner<'a>(leaf: &'a Leaf, other: Option<&'a Leaf>) -> &'a Leaf
@@ -120,7 +111,7 @@ fn place_of(leaves: &[Leaf], leaf: &Leaf) -> usize
     ensures place { order.insert_leaf leaf.now leaves.now ≡ insert leaves.now result leaf.now }
 {
     for (i, other) in leaves.iter().enumerate() {
-        if !order_of_revs(&leaf.rev, &other.rev).is_lt() {
+        if !leaf.rev.order(&other.rev).is_lt() {
             return i;
         }
     }
