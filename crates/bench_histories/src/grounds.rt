@@ -8,7 +8,10 @@ use crate::stop::Stop;
 use doc_board::laws::recorded;
 use doc_board::{Board, Outcome};
 use repl_messages::{Body, Fed, Revision};
-use sg_history::{Digest, DocId, Key, Log, Name, Options, RevId, Revs, Row, Rows, take_journal};
+use sg_history::{
+    ChannelName, Channels, Digest, DocId, Key, Log, Name, Options, RevId, Revs, Row, Rows,
+    take_journal,
+};
 use sg_outside::Bytes;
 use std::alloc::Global;
 use sync_resolve::{Resolved, resolve};
@@ -167,12 +170,42 @@ fn pulled(
     counted(alloc, ground, user, rows.as_slice(), batch)
 }
 
+/// The names `c0`, `c1` and so on, so many of them, and `A`.
+fn names(alloc: Global, count: u64) -> Result<Channels, Stop> {
+    let mut names = Channels::new(alloc);
+    for number in 0..count {
+        let name = format!(in alloc; "c{number}")?;
+        names.push(ChannelName::parse(alloc, name.as_str())?)?;
+    }
+    names.push(ChannelName::parse(alloc, "A")?)?;
+    Ok(names)
+}
+
+/// How many rows a feed from the start has under a filter of so many names and `A`; without one where there are none.
+fn filtered(alloc: Global, ground: &mut SoloGround, user: &Name, count: u64) -> Result<u64, Stop> {
+    let options = Options {
+        filter: if count == 0 {
+            None
+        } else {
+            Some(names(alloc, count)?)
+        },
+        active_only: false,
+        revocations: false,
+    };
+    match ground.feed(alloc, user, &START, &options)? {
+        Fed::Rows { rows, .. } => Ok(rows.as_slice().len() as u64),
+        Fed::Future { .. } => Ok(0),
+    }
+}
+
 /// What is done with a ground.
 fn done(alloc: Global, ground: &mut SoloGround, name: &str, number: u64) -> Result<u64, Stop> {
     let user = Name::parse(alloc, "ann")?;
     match name {
         "propose" => stored(alloc, ground, &user, number),
         "lose" => pulled(alloc, ground, &user, &AFTER_START, number),
+        "filter" => filtered(alloc, ground, &user, number),
+        "names" => Ok(names(alloc, number)?.as_slice().len() as u64),
         _ => pulled(alloc, ground, &user, &START, number),
     }
 }

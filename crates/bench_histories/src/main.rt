@@ -1,6 +1,6 @@
 //! Does work of histories, gates and the sync language, so that what it takes can be measured from outside. The first word is the
 //! job. `draw`, `turn` and `lock` take how many threads and how often. All others take a file: `entries`, `apply`, `channels`,
-//! `roles` and `periods` a journal and how often; `propose`, `pull` and `lose` a journal and how many; `parse`, `print` and `fault` a
+//! `roles` and `periods` a journal and how often; `propose`, `pull`, `lose`, `filter` and `names` a journal and how many; `parse`, `print` and `fault` a
 //! function and how often; `judge`, `plain_channels`, `plain_count` and `plain_pass` besides a document.
 #![tactic(auto)]
 
@@ -77,7 +77,7 @@ fn of_file<F: Files>(alloc: Global, files: &mut F, asked: &Asked) -> Result<Stri
             let found = grants::job(alloc, bytes, asked.job.as_str(), asked.count)?;
             text_of(alloc, found)
         }
-        "propose" | "pull" | "lose" => {
+        "propose" | "pull" | "lose" | "filter" | "names" => {
             let found = grounds::job(alloc, bytes, asked.job.as_str(), asked.count)?;
             text_of(alloc, found)
         }
