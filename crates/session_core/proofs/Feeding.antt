@@ -45,7 +45,7 @@ use Rattle.session_core.specs.declared.machine.Pending.{Pending}
 use Rattle.session_core.specs.declared.machine.Pending.TheVariants as pending
 use Rattle.session_core.specs.Acts.{messages_from, request_message, reply_message, error_of, reply_act, refusal_act, acceptance_act, outcome_act, body_act, body_acts, offer_act}
 use Rattle.session_core.specs.Conduct.{requests_among, WantsFor}
-use Rattle.session_core.specs.Feeds.{AreOffered, not_offered, rows_at, feed_look, feed_looks, LeadsFeed}
+use Rattle.session_core.specs.Feeds.{AreOffered, not_offered, rows_at, feed_look, feed_looks, LeadsFeed, RunsFeed}
 use Rattle.session_core.specs.Right.{IsRight, AreRight}
 use Rattle.session_core.specs.Running.{Running, rest, is_none, is_silent, waits, next_since, next_acts, next_feed, next_feed_with}
 use Rattle.session_core.specs.State.{Machine, new_machine, AwaitsBy, Awaits}
@@ -527,13 +527,20 @@ right_before : (h : List Entry) (user : List ℕ) (program : Program) (strict : 
 right_before h user program strict [] earlier right = right
 right_before h user program strict (s ∷ more) earlier (one, right) = right_before h user program strict more earlier right
 
-pub offers_are_rows : (h : List Entry) (user : List ℕ) (version : Version) (program : Program) (strict : Bool) (asked : Subscription) (front : ℕ) (rows : List Row) (earlier more : List Step) (before first after : Machine) (s : Step)
+offers_are : (h : List Entry) (user : List ℕ) (version : Version) (program : Program) (strict : Bool) (asked : Subscription) (front : ℕ) (rows : List Row) (earlier more : List Step) (before first after : Machine) (s : Step)
     → Leads (new_machine user version strict) earlier before → before.pending ≡ pending.Feed asked → s.event ≡ event.Fed (fed.Rows front rows) → Steps before s first
     → LeadsFeed first more after → AreRight h user program strict (more ++ s ∷ earlier)
     → (offered : List Row) × AreOffered version (put_by (more ++ s ∷ [])) offered
     × (offered ++ not_offered after.feed ≡ rows_at h user asked.since asked.options (feed_looks (more ++ s ∷ [])))
-offers_are_rows h user version program strict asked front rows earlier more before first after s leads awaited came made feeds right =
+offers_are h user version program strict asked front rows earlier more before first after s leads awaited came made feeds right =
     let all : Offering h user version asked (put_by (more ++ s ∷ [])) (feed_looks (more ++ s ∷ [])) after =
     feed_goes h user version program strict asked earlier s first (before, leads, made)
     (begins h user version program strict asked front rows earlier before s first leads awaited came made (right_before h user program strict more (s ∷ earlier) right)) more after feeds right in
     (all.offered, all.are, all.sum)
+
+pub offers_are_rows : (h : List Entry) (user : List ℕ) (version : Version) (program : Program) (strict : Bool) (earlier : List Step) (begin : Step) (more : List Step) (after : Machine)
+    → (f : RunsFeed user version strict earlier begin more after) → AreRight h user program strict (more ++ begin ∷ earlier)
+    → (offered : List Row) × AreOffered version (put_by (more ++ begin ∷ [])) offered
+    × (offered ++ not_offered after.feed ≡ rows_at h user f.asked.since f.asked.options (feed_looks (more ++ begin ∷ [])))
+offers_are_rows h user version program strict earlier begin more after f right =
+    offers_are h user version program strict f.asked f.front f.rows earlier more f.before f.first after begin f.leads f.awaited f.event f.begins f.runs right

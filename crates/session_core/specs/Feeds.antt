@@ -1,5 +1,5 @@
 -- What a session offers of a feed.
-use Rattle.std.specs.Prelude.{◌≡◌, ◌⊎◌, ℕ, true, List, [], ◌∷◌, ◌++◌, drop, codes, Option, Some, None, IsSome}
+use Rattle.std.specs.Prelude.{◌≡◌, ◌⊎◌, ℕ, Bool, true, List, [], ◌∷◌, ◌++◌, drop, codes, Option, Some, None, IsSome}
 use Rattle.blip_frame.specs.Props.{value_at}
 use Rattle.blip_mux.specs.declared.message.Message.{Message}
 use Rattle.blip_mux.specs.Joining.{is_request}
@@ -11,13 +11,16 @@ use Rattle.sg_history.specs.Device.{plain}
 use Rattle.sg_history.specs.Feed.{feed}
 use Rattle.sg_history.specs.History.{past}
 use Rattle.repl_messages.specs.declared.request.Version.{Version}
+use Rattle.repl_messages.specs.declared.looks.Fed.TheVariants as fed
 use Rattle.repl_messages.specs.Changes.{changes_payload}
 use Rattle.repl_messages.specs.Looks.{front_of}
 use Rattle.session_core.specs.declared.event.Event.{Event}
 use Rattle.session_core.specs.declared.event.Event.TheVariants as event
+use Rattle.session_core.specs.declared.machine.Pending.TheVariants as pending
+use Rattle.session_core.specs.declared.machine.Subscription.{Subscription}
 use Rattle.session_core.specs.Running.{Running}
-use Rattle.session_core.specs.State.{Machine}
-use Rattle.session_core.specs.Steps.{Step, Steps}
+use Rattle.session_core.specs.State.{Machine, new_machine}
+use Rattle.session_core.specs.Steps.{Step, Steps, Leads}
 
 -- ---- what is offered
 
@@ -63,3 +66,16 @@ feed_looks (s ∷ earlier) = feed_look s.event ++ feed_looks earlier
 abbrev pub LeadsFeed : Machine → List Step → Machine → Type 0
 LeadsFeed start [] after = after ≡ start
 LeadsFeed start (s ∷ earlier) after = (before : Machine) × LeadsFeed start earlier before × IsSome before.feed × Steps before s after
+
+-- after earlier steps of a session a feed that a device asked for begins at a step, and runs before each of more steps
+pub record RunsFeed (user : List ℕ) (version : Version) (strict : Bool) (earlier : List Step) (begin : Step) (more : List Step) (after : Machine) : Type 0 where
+  pub before : Machine
+  pub first : Machine
+  pub asked : Subscription
+  pub front : ℕ
+  pub rows : List Row
+  pub leads : Leads (new_machine user version strict) earlier before
+  pub awaited : before.pending ≡ pending.Feed asked
+  pub event : begin.event ≡ event.Fed (fed.Rows front rows)
+  pub begins : Steps before begin first
+  pub runs : LeadsFeed first more after

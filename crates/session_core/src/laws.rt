@@ -3,16 +3,13 @@
 ghost use Rattle.std.specs.Prelude.{◌≡◌, ◌<◌, ◌++◌, ◌∷◌, [], ℕ, Bool, true, List};
 ghost use Rattle.sg_history.specs.declared.entries.Entry.{Entry};
 ghost use Rattle.sg_history.specs.declared.row.Row.{Row};
-ghost use Rattle.repl_messages.specs.declared.looks.Fed.{Fed};
 ghost use Rattle.repl_messages.specs.declared.request.Version.{Version};
 ghost use Rattle.sync_syntax.specs.declared.tree.Program.{Program};
-ghost use Rattle.session_core.specs.declared.machine.Pending.{Pending};
-ghost use Rattle.session_core.specs.declared.machine.Subscription.{Subscription};
-ghost use Rattle.session_core.specs.Feeds.{AreOffered, not_offered, rows_at, feed_looks, LeadsFeed};
+ghost use Rattle.session_core.specs.Feeds.{AreOffered, not_offered, rows_at, feed_looks, RunsFeed};
 ghost use Rattle.session_core.specs.Right.{AreRight};
-ghost use Rattle.session_core.specs.Steps.{Step, Steps, Leads, put_by};
+ghost use Rattle.session_core.specs.Steps.{Step, put_by};
 ghost use Rattle.session_core.specs.declared.event.Event.{Event};
-ghost use Rattle.session_core.specs.State.{Machine, Awaits, new_machine};
+ghost use Rattle.session_core.specs.State.{Machine, Awaits};
 ghost use Rattle.session_core.specs.Transitions.{Done, Does};
 ghost use Rattle.session_core.specs.Conduct.{AreAnswers, due_at, IsStillDue, WantsFor, most_answers, is_answer, IsKept};
 
@@ -38,13 +35,11 @@ pub fn conduct()
 /// in order, each once.
 pub fn feeds()
     ensures { (h : List Entry) (user : List ℕ) (version : Version) (program : Program)
-        (strict : Bool) (asked : Subscription) (front : ℕ) (rows : List Row)
-        (earlier more : List Step) (before first after : Machine) (s : Step)
-        → Leads (new_machine user version strict) earlier before
-        → before.pending ≡ Pending.Feed asked
-        → s.event ≡ Event.Fed (Fed.Rows front rows) → Steps before s first
-        → LeadsFeed first more after → AreRight h user program strict (more ++ s ∷ earlier)
-        → (offered : List Row) × AreOffered version (put_by (more ++ s ∷ [])) offered
+        (strict : Bool) (earlier : List Step) (begin : Step) (more : List Step) (after : Machine)
+        → (runs : RunsFeed user version strict earlier begin more after)
+        → AreRight h user program strict (more ++ begin ∷ earlier)
+        → (offered : List Row) × AreOffered version (put_by (more ++ begin ∷ [])) offered
         × (offered ++ not_offered after.feed
-        ≡ rows_at h user asked.since asked.options (feed_looks (more ++ s ∷ []))) }
+        ≡ rows_at h user runs.asked.since runs.asked.options
+        (feed_looks (more ++ begin ∷ []))) }
 {}
