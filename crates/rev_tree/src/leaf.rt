@@ -79,9 +79,7 @@ impl Leaves {
 pub fn order_of_leaves(a: &Leaf, b: &Leaf) -> Ordering
     ensures { result ≡ order.leaf_cmp a.now b.now }
 {
-    a.deleted
-        .cmp(&b.deleted)
-        .then(b.rev.order(&a.rev))
+    a.deleted.cmp(&b.deleted).then(b.rev.order(&a.rev))
 }
 
 fn sooner<'a>(leaf: &'a Leaf, other: Option<&'a Leaf>) -> &'a Leaf

@@ -110,4 +110,3 @@ line_whole e is = joined_lack 10 9 refl (fields_of e) (all_lack 10 (omega arith)
 -- fields that are no entry's make a line that is none's
 pub no_line : (line : List ℕ) (fields : List (List ℕ)) → fields ≡ pieces 9 line → NoEntry fields → NoLine line
 no_line line fields parts none e is spelled = none e is (parts ∙ ap (pieces 9) spelled ∙ line_pieces e is)
-
