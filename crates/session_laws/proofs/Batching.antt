@@ -24,7 +24,7 @@ use Rattle.session_core.specs.declared.machine.Subscription.{Subscription}
 use Rattle.session_core.specs.declared.machine.Pending.TheVariants as pending
 use Rattle.session_core.specs.Acts.{messages_from, acceptance_act, offer_act}
 use Rattle.session_core.specs.Conduct.{requests_among, WantsFor}
-use Rattle.session_core.specs.Feeds.{not_offered, rows_at, feed_look, feed_looks, LeadsFeed}
+use Rattle.session_core.specs.Feeds.{not_offered, rows_at, feed_look, feed_looks, LeadsFeed, RunsFeed}
 use Rattle.session_core.specs.Right.{IsRight, AreRight}
 use Rattle.session_core.specs.Running.{Running, rest, is_none, is_silent, next_since, next_acts, next_feed, next_feed_with}
 use Rattle.session_core.specs.State.{Machine, new_machine, Awaits}
@@ -326,14 +326,21 @@ right_before : (h : List Entry) (user : List ℕ) (program : Program) (strict : 
 right_before h user program strict [] earlier right = right
 right_before h user program strict (s ∷ more) earlier (one, right) = right_before h user program strict more earlier right
 
-pub offers_are_batches : Wants → Keeps → (h : List Entry) (user : List ℕ) (version : Version) (program : Program) (strict : Bool) (asked : Subscription) (front : ℕ) (rows : List Row) (earlier more : List Step) (before first after : Machine) (s : Step)
+are_batches : Wants → Keeps → (h : List Entry) (user : List ℕ) (version : Version) (program : Program) (strict : Bool) (asked : Subscription) (front : ℕ) (rows : List Row) (earlier more : List Step) (before first after : Machine) (s : Step)
     → Leads (new_machine user version strict) earlier before → before.pending ≡ pending.Feed asked → s.event ≡ event.Fed (fed.Rows front rows) → Steps before s first
     → LeadsFeed first more after → AreRight h user program strict (more ++ s ∷ earlier)
     → (offers : List (List Row)) × AreOffers version (put_by (more ++ s ∷ [])) offers
     × (with_rows offers ++ batches asked.batch (not_offered after.feed) ≡ flat_map (batches asked.batch) (looks_at h user asked.since asked.options (feed_looks (more ++ s ∷ []))))
-offers_are_batches wants keeps h user version program strict asked front rows earlier more before first after s leads awaited came made feeds right =
+are_batches wants keeps h user version program strict asked front rows earlier more before first after s leads awaited came made feeds right =
     let all : Batched h user version asked (put_by (more ++ s ∷ [])) (feed_looks (more ++ s ∷ [])) after =
     feed_batched wants keeps h user version program strict asked earlier s first (before, leads, made)
     (begins h user version program strict asked front rows before s first (wanted_after earlier) (same_version keeps user version strict earlier before leads) awaited came made
     (wants_after wants user version strict earlier before leads) (right_before h user program strict more (s ∷ earlier) right).0) more after feeds right in
     (all.offers, all.are, all.sum)
+
+pub offers_are_batches : Wants → Keeps → (h : List Entry) (user : List ℕ) (version : Version) (program : Program) (strict : Bool) (earlier : List Step) (begin : Step) (more : List Step) (after : Machine)
+    → (f : RunsFeed user version strict earlier begin more after) → AreRight h user program strict (more ++ begin ∷ earlier)
+    → (offers : List (List Row)) × AreOffers version (put_by (more ++ begin ∷ [])) offers
+    × (with_rows offers ++ batches f.asked.batch (not_offered after.feed) ≡ flat_map (batches f.asked.batch) (looks_at h user f.asked.since f.asked.options (feed_looks (more ++ begin ∷ []))))
+offers_are_batches wants keeps h user version program strict earlier begin more after f right =
+    are_batches wants keeps h user version program strict f.asked f.front f.rows earlier more f.before f.first after begin f.leads f.awaited f.event f.begins f.runs right

@@ -39,12 +39,12 @@ use Rattle.session_core.specs.declared.machine.Subscription.{Subscription}
 use Rattle.session_core.specs.declared.machine.Pending.{Pending}
 use Rattle.session_core.specs.declared.machine.Pending.TheVariants as pending
 use Rattle.session_core.specs.Acts.{messages_from, reply_act, refusal_act, acceptance_act, outcome_act, error_of, body_act, body_acts}
-use Rattle.session_core.specs.Feeds.{feed_look, feed_looks, LeadsFeed}
+use Rattle.session_core.specs.Feeds.{feed_look, feed_looks, LeadsFeed, RunsFeed}
 use Rattle.session_core.specs.Running.{Running, rest, is_none, waits, next_acts, next_feed}
 use Rattle.session_core.specs.State.{Machine, new_machine, AwaitsBy}
 use Rattle.session_core.specs.Steps.{Step, Steps, Leads, put_by}
 use Rattle.session_core.specs.Transitions.{Done, puts, asks, goes_on, looks_again, answered_by, most_ancestors, asker_of, refused, on_sub_changes, on_changes, on_served, on_request, answers, wanted_of, on_wanted, on_reply, first_of, on_first_look, on_next_look, on_fed, on_bodies_of, on_bodies, on_asked, on_judged, on_idle, Does, DoesByMessage}
-use Rattle.session_laws.specs.Exchanges.{IsAboveLast, IsFromLast, empty_offers, has_caught_up, RunsFeed}
+use Rattle.session_laws.specs.Exchanges.{IsAboveLast, IsFromLast, empty_offers, has_caught_up}
 use Rattle.session_laws.proofs.BatchSizes.{HasBatch, ReadHasBatch, read_batch}
 
 -- ---- empty offers among messages

@@ -1,6 +1,9 @@
 -- Resuming, over the feeds of sessions.
-use Rattle.std.proofs.Common.{◌≡◌, ◌⊎◌, ◌≤◌, ℕ, Bool, List, [], ◌∷◌, ◌++◌, length, Option, Some, None, refl, sym, ◌∙◌, ap, subst, arith}
+use Rattle.std.proofs.Common.{◌≡◌, ◌⊎◌, ◌≤◌, ℕ, Bool, List, [], ◌∷◌, ◌++◌, length, Option, Some, None, refl, sym, ◌∙◌, ap, subst, arith, le_trans}
 use Rattle.std.proofs.lemmas.List.{append_assoc, map-append}
+use Rattle.std.specs.Arc.{arc_value}
+use Rattle.sg_outside.specs.declared.sink.Gave.{Gave}
+use Rattle.sg_outside.specs.declared.wire.Got.{Got}
 use Rattle.sg_history.specs.declared.entries.Entry.{Entry}
 use Rattle.sg_history.specs.declared.row.Options.{Options}
 use Rattle.sg_history.specs.declared.row.Row.{Row}
@@ -8,7 +11,7 @@ use Rattle.sg_history.specs.Feed.{feed}
 use Rattle.sg_names.specs.declared.key.Key.{Key}
 use Rattle.repl_messages.specs.declared.looks.Fed.TheVariants as fed
 use Rattle.repl_messages.specs.declared.request.Version.{Version}
-use Rattle.feed_rows.specs.Laws.{HasRow, IsAhead, all_of}
+use Rattle.feed_rows.specs.Laws.{HasRow, IsAhead, Rising, all_of}
 use Rattle.sync_syntax.specs.declared.tree.Program.{Program}
 use Rattle.session_core.specs.declared.act.Want.{Want}
 use Rattle.session_core.specs.declared.act.Want.TheVariants as want
@@ -18,15 +21,19 @@ use Rattle.session_core.specs.declared.machine.Pending.{Pending}
 use Rattle.session_core.specs.declared.machine.Pending.TheVariants as pending
 use Rattle.session_core.specs.declared.machine.Subscription.{Subscription}
 use Rattle.session_core.specs.Conduct.{WantsFor, AreWithin}
-use Rattle.session_core.specs.Feeds.{AreOffered, LeadsFeed, not_offered, rows_at, feed_look, feed_looks}
+use Rattle.session_core.specs.Feeds.{AreOffered, RunsFeed, not_offered, rows_at, feed_look, feed_looks}
 use Rattle.session_core.specs.Fronts.{look_of, looks_of, fronts_of, RiseBetween}
 use Rattle.session_core.specs.Right.{IsRight, AreRight}
 use Rattle.session_core.specs.Running.{Running}
 use Rattle.session_core.specs.State.{Machine, Awaits, new_machine}
-use Rattle.session_core.specs.Steps.{Step, Steps, Leads, put_by, wanted_after}
+use Rattle.session_core.specs.Steps.{Step, Leads, put_by, wanted_after}
 use Rattle.session_core.specs.Transitions.{Done, Does}
 use Rattle.write_path.specs.Reads.{IsLaterThanAll}
+use Rattle.session_run.specs.declared.ended.Ended.{Ended}
+use Rattle.session_run.specs.declared.serve.Setup.{Setup}
 use Rattle.session_run.specs.Answered.{Moment, AreAnswered, look_fronts}
+use Rattle.session_run.specs.Served.{IsSession}
+use Rattle.session_run.specs.Turns.{undone, steps_of}
 use Rattle.session_laws.specs.Rising.{AreFronts, IsWithin}
 use Rattle.session_laws.proofs.Opening.{asked_sized}
 use Rattle.session_laws.proofs.Resuming.{Members, Ordered, Plainly, looks_rise, resumes}
@@ -85,6 +92,10 @@ drop_tail : (low : ℕ) (first second : List ℕ) (high : ℕ) → AreFronts low
 drop_tail low [] second high are = omega arith
 drop_tail low (front ∷ first) second high (below, are) = (below, drop_tail low first second front are)
 
+last_rise : (more : List Step) (begin : Step) (earlier : List Step) (low high : ℕ) → AreFronts low (feed_looks (more ++ begin ∷ earlier)) high → AreFronts 0 (feed_looks (more ++ begin ∷ [])) high
+last_rise more begin earlier low high are =
+    drop_tail low (feed_looks (more ++ begin ∷ [])) (feed_looks earlier) high (subst (λ fs. AreFronts low fs high) (looks_split more begin earlier) are)
+
 capped : (fronts : List ℕ) (high most : ℕ) → AreFronts 0 fronts high → AreWithin most fronts → AreFronts 0 fronts most
 capped [] high most are within = omega arith
 capped (front ∷ fronts) high most (below, are) (first, within) = (first, are)
@@ -127,38 +138,91 @@ AnswersWithin = (start now : Moment) (user : List ℕ) (program : Program) (stri
     → AreWithin (length h) (look_fronts (looks_of steps))
 
 abbrev pub Feeds : Type 0
-Feeds = (h : List Entry) (user : List ℕ) (version : Version) (program : Program) (strict : Bool) (asked : Subscription) (front : ℕ) (rows : List Row) (earlier more : List Step) (before first after : Machine) (s : Step)
-    → Leads (new_machine user version strict) earlier before → before.pending ≡ pending.Feed asked → s.event ≡ event.Fed (fed.Rows front rows) → Steps before s first
-    → LeadsFeed first more after → AreRight h user program strict (more ++ s ∷ earlier)
-    → (offered : List Row) × AreOffered version (put_by (more ++ s ∷ [])) offered
-    × (offered ++ not_offered after.feed ≡ rows_at h user asked.since asked.options (feed_looks (more ++ s ∷ [])))
+Feeds = (h : List Entry) (user : List ℕ) (version : Version) (program : Program) (strict : Bool) (earlier : List Step) (begin : Step) (more : List Step) (after : Machine)
+    → (f : RunsFeed user version strict earlier begin more after) → AreRight h user program strict (more ++ begin ∷ earlier)
+    → (offered : List Row) × AreOffered version (put_by (more ++ begin ∷ [])) offered
+    × (offered ++ not_offered after.feed ≡ rows_at h user f.asked.since f.asked.options (feed_looks (more ++ begin ∷ [])))
 
 pub resume_sessions : Members → Ordered → Plainly → Wants → Feeds → AnswersRight → AnswersRise → AnswersWithin
-    → (start now : Moment) (h : List Entry) (user : List ℕ) (version : Version) (program : Program) (strict : Bool) (asked : Subscription) (front : ℕ) (rows : List Row) (earlier more : List Step) (before first after : Machine) (s : Step)
-    → Leads (new_machine user version strict) earlier before → before.pending ≡ pending.Feed asked → s.event ≡ event.Fed (fed.Rows front rows) → Steps before s first
-    → LeadsFeed first more after → AreAnswered start user program strict (more ++ s ∷ earlier) now → IsLaterThanAll now.read h
-    → (offered : List Row) × AreOffered version (put_by (more ++ s ∷ [])) offered
-    × ((sent row : Row) → HasRow offered sent → HasRow (feed (all_of h) user asked.since asked.options) row
-    → HasRow offered row ⊎ IsAhead (feed (all_of h) user sent.key asked.options) sent.key row)
-resume_sessions members ordered plainly wants feeds rights rises within start now h user version program strict asked front rows earlier more before first after s leads awaited came made feed answered later =
-    let right : AreRight h user program strict (more ++ s ∷ earlier) = rights start now user program strict (more ++ s ∷ earlier) h answered later in
-    let by : asked.since.by ≤ front =
-    first_within h user program strict asked front rows (wanted_after earlier) s.event (wanted_at wants user version strict earlier before asked leads awaited) came (right_at h user program strict more s earlier right) in
-    let first_look : IsWithin asked.since.by (feed_looks (more ++ s ∷ [])) =
-    subst (IsWithin asked.since.by) (sym (looks_append more (s ∷ []) ∙ ap (λ (e : Event). feed_looks more ++ (feed_look e ++ [])) came)) (within_on asked.since.by (feed_looks more) front by) in
-    let all_rise : AreFronts start.lowest (feed_looks (more ++ s ∷ earlier)) now.lowest =
-    looks_rise (more ++ s ∷ earlier) start.lowest now.lowest (rises start now user program strict (more ++ s ∷ earlier) answered) in
-    let rise : AreFronts 0 (feed_looks (more ++ s ∷ [])) now.lowest =
-    drop_tail start.lowest (feed_looks (more ++ s ∷ [])) (feed_looks earlier) now.lowest (subst (λ fs. AreFronts start.lowest fs now.lowest) (looks_split more s earlier) all_rise) in
-    let bounded : AreWithin (length h) (feed_looks (more ++ s ∷ [])) =
-    (split_within (length h) (feed_looks (more ++ s ∷ [])) (feed_looks earlier) (subst (AreWithin (length h)) (looks_split more s earlier)
-    (feeds_within (length h) (more ++ s ∷ earlier) (within start now user program strict (more ++ s ∷ earlier) h answered later)))).0 in
-    let fronts : AreFronts 0 (feed_looks (more ++ s ∷ [])) (length h) = capped (feed_looks (more ++ s ∷ [])) now.lowest (length h) rise bounded in
-    let given : (offered : List Row) × AreOffered version (put_by (more ++ s ∷ [])) offered
-    × (offered ++ not_offered after.feed ≡ rows_at h user asked.since asked.options (feed_looks (more ++ s ∷ []))) =
-    feeds h user version program strict asked front rows earlier more before first after s leads awaited came made feed right in (
+    → (start now : Moment) (h : List Entry) (user : List ℕ) (version : Version) (program : Program) (strict : Bool) (earlier : List Step) (begin : Step) (more : List Step) (after : Machine)
+    → (f : RunsFeed user version strict earlier begin more after) → AreAnswered start user program strict (more ++ begin ∷ earlier) now → IsLaterThanAll now.read h
+    → (offered : List Row) × AreOffered version (put_by (more ++ begin ∷ [])) offered
+    × (offered ++ not_offered after.feed ≡ rows_at h user f.asked.since f.asked.options (feed_looks (more ++ begin ∷ [])))
+    × ((sent row : Row) → HasRow offered sent → HasRow (feed (all_of h) user f.asked.since f.asked.options) row
+    → HasRow offered row ⊎ IsAhead (feed (all_of h) user sent.key f.asked.options) sent.key row)
+resume_sessions members ordered plainly wants feeds rights rises within start now h user version program strict earlier begin more after f answered later =
+    let right : AreRight h user program strict (more ++ begin ∷ earlier) = rights start now user program strict (more ++ begin ∷ earlier) h answered later in
+    let by : f.asked.since.by ≤ f.front =
+    first_within h user program strict f.asked f.front f.rows (wanted_after earlier) begin.event (wanted_at wants user version strict earlier f.before f.asked f.leads f.awaited) f.event (right_at h user program strict more begin earlier right) in
+    let first_look : IsWithin f.asked.since.by (feed_looks (more ++ begin ∷ [])) =
+    subst (IsWithin f.asked.since.by) (sym (looks_append more (begin ∷ []) ∙ ap (λ (e : Event). feed_looks more ++ (feed_look e ++ [])) f.event)) (within_on f.asked.since.by (feed_looks more) f.front by) in
+    let rise : AreFronts 0 (feed_looks (more ++ begin ∷ [])) now.lowest =
+    last_rise more begin earlier start.lowest now.lowest (looks_rise (more ++ begin ∷ earlier) start.lowest now.lowest (rises start now user program strict (more ++ begin ∷ earlier) answered)) in
+    let bounded : AreWithin (length h) (feed_looks (more ++ begin ∷ [])) =
+    (split_within (length h) (feed_looks (more ++ begin ∷ [])) (feed_looks earlier) (subst (AreWithin (length h)) (looks_split more begin earlier)
+    (feeds_within (length h) (more ++ begin ∷ earlier) (within start now user program strict (more ++ begin ∷ earlier) h answered later)))).0 in
+    let fronts : AreFronts 0 (feed_looks (more ++ begin ∷ [])) (length h) = capped (feed_looks (more ++ begin ∷ [])) now.lowest (length h) rise bounded in
+    let given : (offered : List Row) × AreOffered version (put_by (more ++ begin ∷ [])) offered
+    × (offered ++ not_offered after.feed ≡ rows_at h user f.asked.since f.asked.options (feed_looks (more ++ begin ∷ []))) =
+    feeds h user version program strict earlier begin more after f right in (
       given.0,
       given.1,
+      given.2,
       λ sent row has there.
-          resumes members ordered plainly h user asked.since asked.options (feed_looks (more ++ s ∷ [])) given.0 (not_offered after.feed) sent row (asked_sized user version strict earlier before asked leads awaited).2 first_look fronts given.2 has there,
+          resumes members ordered plainly h user f.asked.since f.asked.options (feed_looks (more ++ begin ∷ [])) given.0 (not_offered after.feed) sent row (asked_sized user version strict earlier f.before f.asked f.leads f.awaited).2 first_look fronts given.2 has there,
+    )
+
+-- ---- whole sessions
+
+abbrev pub Rights : Type 0
+Rights = (setup : Setup) (start final : Moment) (ended : Ended) (results : List Got) (sent : List (List ℕ)) (failed : List Gave) (h : List Entry)
+    → (session : IsSession setup start final ended results sent failed) → IsLaterThanAll final.read h → AreRight h setup.user (arc_value setup.program) setup.strict (steps_of session.turns)
+
+abbrev pub RowsRise : Type 0
+RowsRise = (h : List Entry) (user : List ℕ) (since : Key) (options : Options) (fronts : List ℕ) (high : ℕ) → AreFronts 0 fronts high → Rising (rows_at h user since options fronts)
+
+abbrev pub LooksRise : Type 0
+LooksRise = (steps : List Step) (low high : ℕ) → RiseBetween low (fronts_of steps) high → AreFronts low (feed_looks steps) high
+
+right_behind : (h : List Entry) (user : List ℕ) (program : Program) (strict : Bool) (later steps : List Step) → AreRight h user program strict (later ++ steps) → AreRight h user program strict steps
+right_behind h user program strict [] steps right = right
+right_behind h user program strict (s ∷ later) steps right = right_behind h user program strict later steps right.1
+
+raised : (low : ℕ) (fronts : List ℕ) (middle high : ℕ) → AreFronts low fronts middle → middle ≤ high → AreFronts low fronts high
+raised low [] middle high are below = le_trans are below
+raised low (front ∷ fronts) middle high (first, are) below = (le_trans first below, are)
+
+drop_head : (low : ℕ) (first second : List ℕ) (high : ℕ) → AreFronts low (first ++ second) high → AreFronts low second high
+drop_head low [] second high are = are
+drop_head low (front ∷ first) second high (below, are) = raised low second front high (drop_head low first second front are) below
+
+-- the fronts of the looks of the first steps don't fall, since those of all don't
+first_rise : (later steps : List Step) (low high : ℕ) → AreFronts low (feed_looks (later ++ steps)) high → AreFronts low (feed_looks steps) high
+first_rise later steps low high are =
+    drop_head low (feed_looks later) (feed_looks steps) high (subst (λ fs. AreFronts low fs high) (looks_append later steps) are)
+
+pub offered_whole : Feeds → RowsRise → LooksRise → AnswersRise → Rights
+    → (setup : Setup) (start final : Moment) (ended : Ended) (results : List Got) (sent : List (List ℕ)) (failed : List Gave) (h : List Entry) (earlier : List Step) (begin : Step) (more later : List Step) (after : Machine)
+    → (session : IsSession setup start final ended results sent failed) → steps_of session.turns ≡ later ++ (more ++ begin ∷ earlier)
+    → (f : RunsFeed setup.user setup.version setup.strict earlier begin more after) → IsLaterThanAll final.read h
+    → (offered : List Row) × AreOffered setup.version (put_by (more ++ begin ∷ [])) offered
+    × (offered ++ not_offered after.feed ≡ rows_at h setup.user f.asked.since f.asked.options (feed_looks (more ++ begin ∷ [])))
+    × Rising (offered ++ not_offered after.feed)
+offered_whole feeds rows_rise looks_rise rises rights setup start final ended results sent failed h earlier begin more later after session split f is_later =
+    let given : (offered : List Row) × AreOffered setup.version (put_by (more ++ begin ∷ [])) offered
+    × (offered ++ not_offered after.feed ≡ rows_at h setup.user f.asked.since f.asked.options (feed_looks (more ++ begin ∷ []))) =
+    feeds h setup.user setup.version (arc_value setup.program) setup.strict earlier begin more after f
+    (right_behind h setup.user (arc_value setup.program) setup.strict later (more ++ begin ∷ earlier)
+    (subst (AreRight h setup.user (arc_value setup.program) setup.strict) split (rights setup start final ended results sent failed h session is_later))) in
+    let all : AreFronts start.lowest (feed_looks (steps_of session.turns)) session.now.lowest =
+    first_rise (undone session.halted) (steps_of session.turns) start.lowest session.now.lowest
+    (looks_rise (undone session.halted ++ steps_of session.turns) start.lowest session.now.lowest
+    (rises start session.now setup.user (arc_value setup.program) setup.strict (undone session.halted ++ steps_of session.turns) session.answered)) in
+    let fronts : AreFronts 0 (feed_looks (more ++ begin ∷ [])) session.now.lowest =
+    last_rise more begin earlier start.lowest session.now.lowest
+    (first_rise later (more ++ begin ∷ earlier) start.lowest session.now.lowest (subst (λ (steps : List Step). AreFronts start.lowest (feed_looks steps) session.now.lowest) split all)) in (
+      given.0,
+      given.1,
+      given.2,
+      subst Rising (sym given.2) (rows_rise h setup.user f.asked.since f.asked.options (feed_looks (more ++ begin ∷ [])) session.now.lowest fronts),
     )

@@ -5,20 +5,14 @@ use Rattle.blip_frame.specs.Props.{value_at}
 use Rattle.blip_mux.specs.declared.message.Message.{Message}
 use Rattle.blip_mux.specs.Joining.{is_request, is_reply}
 use Rattle.sg_history.specs.Device.{plain}
-use Rattle.sg_history.specs.declared.row.Row.{Row}
-use Rattle.repl_messages.specs.declared.looks.Fed.TheVariants as fed
-use Rattle.repl_messages.specs.declared.request.Version.{Version}
 use Rattle.session_core.specs.declared.act.Want.{Want}
 use Rattle.session_core.specs.declared.act.Want.TheVariants as want
 use Rattle.session_core.specs.declared.event.Event.{Event}
 use Rattle.session_core.specs.declared.event.Event.TheVariants as event
-use Rattle.session_core.specs.declared.machine.Subscription.{Subscription}
 use Rattle.session_core.specs.declared.machine.Pending.{Pending}
 use Rattle.session_core.specs.declared.machine.Pending.TheVariants as pending
-use Rattle.session_core.specs.Feeds.{LeadsFeed}
 use Rattle.session_core.specs.Running.{Running}
-use Rattle.session_core.specs.State.{Machine, new_machine}
-use Rattle.session_core.specs.Steps.{Step, Steps, Leads}
+use Rattle.session_core.specs.Steps.{Step}
 
 -- ---- requests and their replies
 
@@ -84,16 +78,3 @@ empty_offers (m ∷ messages) = (if is_empty_offer m then 1 else 0) + empty_offe
 abbrev pub has_caught_up : Option Running → Bool
 has_caught_up None = true
 has_caught_up (Some r) = r.caught_up
-
--- after earlier steps of a session a feed that a device asked for begins at a step, and runs before each of more steps
-pub record RunsFeed (user : List ℕ) (version : Version) (strict : Bool) (earlier : List Step) (begin : Step) (more : List Step) (after : Machine) : Type 0 where
-  pub before : Machine
-  pub first : Machine
-  pub asked : Subscription
-  pub front : ℕ
-  pub rows : List Row
-  pub leads : Leads (new_machine user version strict) earlier before
-  pub awaited : before.pending ≡ pending.Feed asked
-  pub event : begin.event ≡ event.Fed (fed.Rows front rows)
-  pub begins : Steps before begin first
-  pub runs : LeadsFeed first more after

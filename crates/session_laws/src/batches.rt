@@ -6,16 +6,14 @@ ghost use Rattle.sg_names.specs.declared.key.Key.{Key};
 ghost use Rattle.sg_history.specs.declared.entries.Entry.{Entry};
 ghost use Rattle.sg_history.specs.declared.row.Row.{Row};
 ghost use Rattle.sg_history.specs.declared.row.Options.{Options};
-ghost use Rattle.repl_messages.specs.declared.looks.Fed.{Fed};
 ghost use Rattle.repl_messages.specs.declared.request.Version.{Version};
 ghost use Rattle.sync_syntax.specs.declared.tree.Program.{Program};
-ghost use Rattle.session_core.specs.declared.event.Event.{Event};
 ghost use Rattle.session_core.specs.declared.machine.Pending.{Pending};
 ghost use Rattle.session_core.specs.declared.machine.Subscription.{Subscription};
-ghost use Rattle.session_core.specs.Feeds.{not_offered, rows_at, feed_looks, LeadsFeed};
+ghost use Rattle.session_core.specs.Feeds.{not_offered, rows_at, feed_looks, RunsFeed};
 ghost use Rattle.session_core.specs.Right.{AreRight};
 ghost use Rattle.session_core.specs.State.{Machine, new_machine};
-ghost use Rattle.session_core.specs.Steps.{Step, Steps, Leads, put_by};
+ghost use Rattle.session_core.specs.Steps.{Step, Leads, put_by};
 ghost use Rattle.session_laws.specs.Batches.{batches, AreFull, looks_at, AreOffers, with_rows, offers_among, WantReplies, closed_by, open_after};
 
 /// While a feed runs, its offers that aren't empty, and then the batches of the rows that it has not offered yet, are the batches of
@@ -23,16 +21,14 @@ ghost use Rattle.session_laws.specs.Batches.{batches, AreFull, looks_at, AreOffe
 /// says, from 1 to 10,000, but for the last batch of a look, which may have fewer.
 pub fn full()
     ensures offers { (h : List Entry) (user : List ℕ) (version : Version) (program : Program)
-        (strict : Bool) (asked : Subscription) (front : ℕ) (rows : List Row)
-        (earlier more : List Step) (before first after : Machine) (s : Step)
-        → Leads (new_machine user version strict) earlier before
-        → before.pending ≡ Pending.Feed asked
-        → s.event ≡ Event.Fed (Fed.Rows front rows) → Steps before s first
-        → LeadsFeed first more after → AreRight h user program strict (more ++ s ∷ earlier)
-        → (offers : List (List Row)) × AreOffers version (put_by (more ++ s ∷ [])) offers
-        × (with_rows offers ++ batches asked.batch (not_offered after.feed)
-        ≡ flat_map (batches asked.batch)
-        (looks_at h user asked.since asked.options (feed_looks (more ++ s ∷ [])))) }
+        (strict : Bool) (earlier : List Step) (begin : Step) (more : List Step) (after : Machine)
+        → (runs : RunsFeed user version strict earlier begin more after)
+        → AreRight h user program strict (more ++ begin ∷ earlier)
+        → (offers : List (List Row)) × AreOffers version (put_by (more ++ begin ∷ [])) offers
+        × (with_rows offers ++ batches runs.asked.batch (not_offered after.feed)
+        ≡ flat_map (batches runs.asked.batch)
+        (looks_at h user runs.asked.since runs.asked.options
+        (feed_looks (more ++ begin ∷ [])))) }
     ensures size { (user : List ℕ) (version : Version) (strict : Bool)
         (steps : List Step) (m : Machine) (asked : Subscription)
         → Leads (new_machine user version strict) steps m → m.pending ≡ Pending.Feed asked

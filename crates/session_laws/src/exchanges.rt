@@ -4,11 +4,11 @@ ghost use Rattle.std.specs.Prelude.{◌≡◌, ◌≢◌, ◌↔◌, ◌++◌, �
 ghost use Rattle.repl_messages.specs.declared.request.Version.{Version};
 ghost use Rattle.session_core.specs.declared.event.Event.{Event};
 ghost use Rattle.session_core.specs.declared.machine.Pending.{Pending};
-ghost use Rattle.session_core.specs.Feeds.{feed_looks};
+ghost use Rattle.session_core.specs.Feeds.{feed_looks, RunsFeed};
 ghost use Rattle.session_core.specs.Running.{waits};
 ghost use Rattle.session_core.specs.State.{Machine, new_machine};
 ghost use Rattle.session_core.specs.Steps.{Step, Steps, Leads, put_by};
-ghost use Rattle.session_laws.specs.Exchanges.{asked_by, replied, owed, IsAboveLast, IsFromLast, empty_offers, has_caught_up, RunsFeed};
+ghost use Rattle.session_laws.specs.Exchanges.{asked_by, replied, owed, IsAboveLast, IsFromLast, empty_offers, has_caught_up};
 
 /// Each request that wants a reply has one reply of its number, in the order in which the requests became whole, and no other reply
 /// is put: the replies that were put, and the one that waits for an answer of the history, are those to the requests that came.

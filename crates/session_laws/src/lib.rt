@@ -1,6 +1,6 @@
 //! Laws of the feeds of whole sessions, and of what a device and a session exchange.
 #![tactic(auto)]
 
-mod batches;
-mod exchanges;
+pub mod batches;
+pub mod exchanges;
 pub mod laws;
