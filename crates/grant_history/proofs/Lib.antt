@@ -14,5 +14,4 @@ pub mod Winning
 pub mod Reading
 pub mod Sweeping
 pub mod Dividing
-pub mod Sorting
 pub mod Cutting

@@ -12,7 +12,7 @@ ghost use Rattle.std.specs.BTreeMap.{get_by_text};
 use crate::facts::What;
 use crate::held::Held;
 use crate::holders::Holders;
-use crate::sorted::in_order;
+use log_views::in_order;
 use sg_history::{ChannelName, Name};
 use sg_outside::Memory;
 use std::alloc::Global;

@@ -16,7 +16,6 @@ mod ledger;
 mod periods;
 mod places;
 mod reads;
-pub mod sorted;
 mod spells;
 mod store;
 mod track;

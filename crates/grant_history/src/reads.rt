@@ -12,7 +12,7 @@ ghost use Rattle.grant_history.specs.Sorted.{AreSorted};
 use crate::facts::What;
 use crate::held::{Held, Holding};
 use crate::holders::{self, Holders};
-use crate::sorted::in_order;
+use log_views::in_order;
 use sg_history::{ChannelName, Name, TextFault};
 use sg_outside::Memory;
 use std::alloc::{AllocError, Global};

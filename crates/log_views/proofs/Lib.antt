@@ -6,3 +6,5 @@ pub mod Having
 pub mod Puts
 pub mod Sets
 pub mod Stated
+pub mod Sorting
+pub mod Searched

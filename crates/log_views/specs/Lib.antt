@@ -1,3 +1,5 @@
 pub mod At
 pub mod Has
+pub mod Sorted
+pub mod Filters
 pub mod States

@@ -5,9 +5,13 @@
 mod access;
 mod at;
 mod documents;
+mod filter;
+mod sorted;
 mod views;
 
 pub use access::{UserChannels, channels, user_exists};
 pub use at::write_at;
 pub use documents::{DocState, state, write_of_rev};
+pub use filter::Filter;
+pub use sorted::in_order;
 pub use views::shown;

@@ -12,7 +12,7 @@ ghost use Rattle.replay.specs.Shape.{HasOwnLog, IsGrownByAll, IsOpened, is_taken
 
 use crate::script::run_command;
 use gateway_config::{ConfigRole, ConfigRoles, ConfigUser, ConfigUsers};
-use grant_history::sorted::in_order;
+use log_views::in_order;
 use sg_history::{ChannelName, Channels, Name, Names};
 use sg_outside::Memory;
 use std::alloc::AllocError;

@@ -1,7 +1,7 @@
 //! Names that are put in their order, each once.
 
 use crate::texts::write_all;
-use grant_history::sorted::in_order;
+use log_views::in_order;
 use sg_history::Name;
 use sg_outside::Bytes;
 use std::alloc::{AllocError, Global};

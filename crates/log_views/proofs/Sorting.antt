@@ -14,7 +14,7 @@ use Rattle.std.proofs.lemmas.Cmp.{nat_list_cmp_total}
 use Rattle.std.proofs.lemmas.Map.Text.{is_eq-slice_cmp}
 use Rattle.sg_history.specs.History.{among}
 use Rattle.sg_names.specs.ItemList.{rises}
-use Rattle.grant_history.specs.Sorted.{AreSorted}
+use Rattle.log_views.specs.Sorted.{AreSorted}
 
 -- a name that ties is the same
 tied : (a b : List ℕ) → is_eq (slice_cmp nat_cmp a b) ≡ true → a ≡ b

@@ -1,8 +1,8 @@
 use Rattle.std.proofs.Common.{◌≡◌, rules}
 use Rattle.std.specs.List.{dedup}
 use Rattle.std.proofs.lemmas.Fn.{dedup_same}
-use Rattle.grant_history.proofs.Sorting.{tie_by, among_kept, sorted_kept}
-use Rattle.grant_history.proofs.sorted.in_order.Goals as goal
+use Rattle.log_views.proofs.Sorting.{tie_by, among_kept, sorted_kept}
+use Rattle.log_views.proofs.sorted.in_order.Goals as goal
 
 pub returns-clause-among : goal.returns-clause-among
 returns-clause-among g c = λ x.
