@@ -14,5 +14,5 @@ mod RowLists
 mod Settled
 mod ShownRows
 mod Steps
-mod Switches
+mod Lastings
 mod LastChanges

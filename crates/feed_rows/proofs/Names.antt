@@ -117,9 +117,3 @@ pub get_there : {X : Type 0} (f : List ℕ → X) (name : List ℕ) (names : Lis
 get_there f name [] k x h = absurd (none-some _ h)
 get_there f name (n ∷ ns) zero x h = ap f (same_Some n name h)
 get_there f name (n ∷ ns) (suc k) x h = get_there f name ns k x h
-
-pub added_there : (name : List ℕ) (names : List (List ℕ)) → among names name ≡ true → add_name name names ≡ names
-added_there name names h = ap (λ (b : Bool). if b then names else names ++ name ∷ []) h
-
-pub added_new : (name : List ℕ) (names : List (List ℕ)) → among names name ≡ false → add_name name names ≡ names ++ name ∷ []
-added_new name names h = ap (λ (b : Bool). if b then names else names ++ name ∷ []) h

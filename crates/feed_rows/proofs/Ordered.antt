@@ -200,3 +200,7 @@ module _ (es : List Entry) (user : List ℕ) (since : Key) (options : Options) w
       listed doc h =
           sym (list_any-IsPermutation (λ t. bytes_eq t doc) (written_names es) (reverse (written_names es)) (IsPermutation-reverse (written_names es)))
           ∙ any_distinct (λ t. bytes_eq t doc) (documents es) ∙ has_among (documents es) doc h
+
+-- a row that is not asked for is not put in
+pub not_asked : (options : Options) (since : Key) (row : Row) (before : List Row) → keeps options since row ≡ false → insert_asked options since (Some row) before ≡ before
+not_asked options since row before out = ap (λ (b : Bool). if b then insert_over row before else before) out

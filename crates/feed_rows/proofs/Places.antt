@@ -48,16 +48,6 @@ dated_within has user xs m h =
     dated_before has user (reverse (drop m xs)) (reverse (take m xs))
     (subst (λ (es : List Entry). Dated has user es) (ap (λ (l : List Entry). reverse l) (sym (take-append-drop m xs)) ∙ reverse-append (take m xs) (drop m xs)) h)
 
-pub reverse_next : (xs : List Entry) (i : ℕ) (e : Entry) → i < length xs → e ≡ get_or xs i e → reverse (take (i + 1) xs) ≡ e ∷ reverse (take i xs)
-reverse_next xs i e h is =
-    let one : ◌≡◌ {A = ℕ} (i + 1) (suc i) = omega arith in
-    ap (λ (n : ℕ). reverse (take n xs)) one ∙ ap (λ (l : List Entry). reverse l) (next xs i h is) ∙ reverse-append (take i xs) (e ∷ [])
-  where
-    next : (ys : List Entry) (n : ℕ) → n < length ys → e ≡ get_or ys n e → take (suc n) ys ≡ take n ys ++ e ∷ []
-    next [] n lt at = absurd (omega (arith, lt))
-    next (y ∷ ys) zero lt at = ap (λ (x : Entry). x ∷ []) (sym at)
-    next (y ∷ ys) (suc n) lt at = ap (λ (l : List Entry). y ∷ l) (next ys n (omega (arith, lt)) at)
-
 pub take_all : (xs : List Entry) → take (length xs) xs ≡ xs
 take_all [] = refl
 take_all (x ∷ xs) = ap (λ (l : List Entry). x ∷ l) (take_all xs)

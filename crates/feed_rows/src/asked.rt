@@ -8,11 +8,12 @@ ghost use Rattle.sg_history.specs.Feed as feed;
 ghost use Rattle.sg_history.specs.View.{Shown};
 ghost use Rattle.grant_history.specs.Winners.{AreWinners};
 ghost use Rattle.feed_rows.specs.Known.{known_at, known_in, row_in};
-ghost use Rattle.feed_rows.specs.Ordered.{asked_rows, insert_asked, under_key};
+ghost use Rattle.feed_rows.specs.Ordered.{asked_rows, insert_asked, insert_over, under_key};
 ghost use Rattle.feed_rows.specs.PassAt.{IsViewer};
 ghost use Rattle.feed_rows.specs.Lasting.{AreToSearch};
 
-use crate::document::{Change, Document, change_up_to};
+use crate::by_channels::Switches;
+use crate::document::{Change, Document, change_at};
 use crate::pass::pass_over;
 use crate::shown::Viewer;
 use sg_history::{DocId, Entry, Key, Options, Row};
@@ -50,72 +51,82 @@ fn is_start(key: &Key) -> bool
     key.by == 0 && key.seq == 0
 }
 
-/// Whether a row is asked for.
-fn keeps(options: &Options, since: &Key, row: &Row) -> bool
-    ensures { result ≡ feed.keeps options.now since.now row.now }
+/// Whether a row of this key and these bits is asked for.
+fn keeps(options: &Options, since: &Key, key: &Key, bits: u8) -> bool
+    ensures { (row : Row) → row.key ≡ key.now → row.bits ≡ bits
+        → result ≡ feed.keeps options.now since.now row }
 {
-    since.order(&row.key).is_lt()
-        && (!is_start(since)
-            || !is_gone(row.bits) && !(options.active_only && is_deleted(row.bits)))
-        && (options.revocations || row.bits != 2)
+    since.order(key).is_lt()
+        && (!is_start(since) || !is_gone(bits) && !(options.active_only && is_deleted(bits)))
+        && (options.revocations || bits != 2)
 }
 
 /// The row of a document by its last change.
-fn row_by_change(
+fn make_row(
     alloc: Global,
     name: &DocId,
-    change: Option<Change<'_>>,
-) -> Result<Option<Row>, AllocError>
-    ensures { IfOk result (λ row. row ≡ row_in name.now change.entry) }
+    change: Change<'_>,
+    key: Key,
+    bits: u8,
+) -> Result<Row, AllocError>
+    ensures { IfOk result (λ row. row ≡ record {
+      key = key;
+      doc = name.now;
+      rev = change.entry.latest.write.now.rev;
+      bits = bits;
+    }) }
 {
-    match change {
-        None => Ok(None),
-        Some(change) => Ok(Some(Row {
-            key: Key {
-                by: change.by,
-                seq: change.latest.seq,
-            },
-            doc: name.copy(alloc)?,
-            rev: change.latest.write.rev.copy(alloc)?,
-            bits: bits_of(change.is_shown, change.wrote, change.latest.write.deleted),
-        })),
+    let doc = name.copy(alloc)?;
+    match change.latest.write.rev.copy(alloc) {
+        Ok(rev) => Ok(Row {
+            key,
+            doc,
+            rev,
+            bits,
+        }),
+        Err(error) => {
+            drop(doc);
+            Err(error)
+        }
     }
 }
 
-/// Puts a row under its key, where there is one and it is asked for.
-fn add_row(
-    options: &Options,
-    since: &Key,
-    row: Option<Row>,
-    rows: &mut BTreeMap<(u64, u64), Row>,
-) -> Result<(), AllocError>
+/// Puts a row under its key.
+fn put_row(row: Row, rows: &mut BTreeMap<(u64, u64), Row>) -> Result<(), AllocError>
     ensures { OnOk result ((before : List Row) → rows.old.entries ≡ map under_key before
-        → rows.new.entries ≡ map under_key (insert_asked options.now since.now row before)) }
+        → rows.new.entries ≡ map under_key (insert_over row before)) }
 {
-    if let Some(row) = row {
-        if keeps(options, since, &row) {
-            rows.insert((row.key.by, row.key.seq), row)?;
-        }
-    }
+    rows.insert((row.key.by, row.key.seq), row)?;
     Ok(())
 }
 
-/// The row of a document after some entries.
-fn row_of(
+/// Puts the row of a document by its last change under its key, where there is one and it is asked for; only then
+/// it is made.
+fn add_row(
     alloc: Global,
-    viewer: &Viewer<'_>,
-    document: Document<'_>,
-    to: u64,
-) -> Result<Option<Row>, AllocError>
-    requires { AreToSearch viewer.now.periods.now }
-    ensures { IfOk result (λ row. (es : List Entry) → to ≡ length es → IsViewer viewer.now es
-        → known_in document.entry ≡ known_at es viewer.now.user.now viewer.now.filter.now
-        document.entry.name.now
-        → row ≡ feed.row_of es viewer.now.user.now viewer.now.filter.now
-        document.entry.name.now) }
+    options: &Options,
+    since: &Key,
+    name: &DocId,
+    change: Option<Change<'_>>,
+    rows: &mut BTreeMap<(u64, u64), Row>,
+) -> Result<(), AllocError>
+    ensures { OnOk result ((before : List Row) → rows.old.entries ≡ map under_key before
+        → rows.new.entries ≡ map under_key (insert_asked options.now since.now
+        (row_in name.now change.entry) before)) }
 {
-    let change = change_up_to(viewer, document.latest, document.change, to);
-    row_by_change(alloc, document.name, change)
+    let Some(change) = change else {
+        return Ok(());
+    };
+    let key = Key {
+        by: change.by,
+        seq: change.latest.seq,
+    };
+    let bits = bits_of(change.is_shown, change.wrote, change.latest.write.deleted);
+    if !keeps(options, since, &key, bits) {
+        return Ok(());
+    }
+    let row = make_row(alloc, name, change, key, bits)?;
+    put_row(row, rows)
 }
 
 /// The rows of these documents that are asked for, after some entries.
@@ -135,10 +146,11 @@ fn map_of(
         viewer.now.user.now viewer.now.filter.now d.name.now) documents.now)))) }
 {
     let to = entries.len() as u64;
+    let mut switches = Switches::new(alloc);
     let mut rows = BTreeMap::new(alloc);
     for document in documents {
-        let row = row_of(alloc, viewer, *document, to)?;
-        add_row(options, since, row, &mut rows)?;
+        let change = change_at(alloc, viewer, &mut switches, *document, to)?;
+        add_row(alloc, options, since, document.name, change, &mut rows)?;
     }
     Ok(rows)
 }

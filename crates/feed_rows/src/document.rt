@@ -1,6 +1,6 @@
 //! What the pass over the log keeps of a document.
 
-ghost use Rattle.std.specs.Prelude.{◌≡◌, ◌<◌, ◌∷◌, ℕ, List, length, map, slice_set, is_some};
+ghost use Rattle.std.specs.Prelude.{◌≡◌, ◌<◌, ◌∷◌, ℕ, List, Some, length, map, slice_set, is_some, IfOk, OnOk};
 ghost use Rattle.sg_history.specs.declared.entries.Entry.{Entry};
 ghost use Rattle.sg_history.specs.declared.entries.Entry.TheVariants as kinds;
 ghost use Rattle.sg_history.specs.Current.{current};
@@ -8,12 +8,16 @@ ghost use Rattle.sg_history.specs.Feed.{row_of};
 ghost use Rattle.sg_history.specs.View.{view};
 ghost use Rattle.sg_history.specs.declared.entries.Write.{Write};
 ghost use Rattle.feed_rows.specs.Known.{known_at, known_in, row_before, row_in, there};
-ghost use Rattle.feed_rows.specs.Latest.{current_in};
+ghost use Rattle.feed_rows.specs.Latest.{current_in, winner_in};
+ghost use Rattle.feed_rows.specs.Shown.{AreSwitches, IsLastSwitch, is_shown};
+ghost use Rattle.feed_rows.specs.declared.shown.Viewer as shown;
 ghost use Rattle.feed_rows.specs.PassAt.{IsViewer, IsWritten};
 ghost use Rattle.feed_rows.specs.Lasting.{AreToSearch};
 
-use crate::shown::{Viewer, last_switch, lasting_shown};
+use crate::by_channels::{Switches, switch_after};
+use crate::shown::{Switch, Viewer, last_switch, lasting_shown};
 use sg_history::{DocId, Write};
+use std::alloc::{AllocError, Global};
 
 /// A document's winner, with the sequence of its last write.
 #[derive(Clone, Copy)]
@@ -40,6 +44,31 @@ pub struct Document<'a> {
     pub change: Option<Change<'a>>,
 }
 
+/// The last change of a document, given that up to its last write, and where it changed last since then whether
+/// it is shown.
+fn change_by_switch<'a>(
+    latest: Latest<'a>,
+    change: Option<Change<'a>>,
+    switch: Option<Switch>,
+) -> Option<Change<'a>>
+    ensures { (viewer : shown.Viewer) (es : List Entry) (doc : List ℕ) → IsViewer viewer es
+        → Some (winner_in latest.entry) ≡ current es doc
+        → IsLastSwitch (is_shown viewer.periods.now viewer.filter.now
+        latest.entry.write.now.channels) latest.entry.seq (length es) switch
+        → row_in doc change.entry ≡ row_before es viewer.user.now viewer.filter.now doc
+        → row_in doc result ≡ row_of es viewer.user.now viewer.filter.now doc }
+{
+    match switch {
+        None => change,
+        Some(switch) => Some(Change {
+            by: switch.by,
+            latest,
+            is_shown: switch.is_shown,
+            wrote: false,
+        }),
+    }
+}
+
 /// The last change of a document up to a place, given that up to its last write.
 pub fn change_up_to<'a>(
     viewer: &Viewer<'_>,
@@ -56,16 +85,36 @@ pub fn change_up_to<'a>(
 {
     match latest {
         None => change,
-        Some(latest) => match last_switch(viewer, latest.write, latest.seq, to) {
-            None => change,
-            Some(switch) => Some(Change {
-                by: switch.by,
-                latest,
-                is_shown: switch.is_shown,
-                wrote: false,
-            }),
-        },
+        Some(latest) => {
+            let switch = last_switch(viewer, latest.write, latest.seq, to);
+            change_by_switch(latest, change, switch)
+        }
     }
+}
+
+/// The last change of a document up to a place, by what is kept of documents in the same channels.
+pub fn change_at<'a>(
+    alloc: Global,
+    viewer: &Viewer<'_>,
+    switches: &mut Switches<'a>,
+    document: Document<'a>,
+    to: u64,
+) -> Result<Option<Change<'a>>, AllocError>
+    requires to_search { AreToSearch viewer.now.periods.now }
+    requires kept { AreSwitches viewer.now to switches.old.kept }
+    ensures kept { OnOk result (AreSwitches viewer.now to switches.new.kept) }
+    ensures change { IfOk result (λ change. (es : List Entry) (doc : List ℕ) → to ≡ length es
+        → IsViewer viewer.now es → current_in document.entry.latest ≡ current es doc
+        → row_in doc document.entry.change
+        ≡ row_before es viewer.now.user.now viewer.now.filter.now doc
+        → row_in doc change ≡ row_of es viewer.now.user.now viewer.now.filter.now doc) }
+{
+    let Some(latest) = document.latest else {
+        return Ok(document.change);
+    };
+    let last = switches.last(alloc, viewer, latest.write, to)?;
+    let switch = switch_after(last, latest.seq);
+    Ok(change_by_switch(latest, document.change, switch))
 }
 
 /// Whether a document was shown at a place.

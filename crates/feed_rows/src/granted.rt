@@ -3,6 +3,7 @@
 ghost use Rattle.std.specs.Prelude.{◌≡◌, ◌≤◌, ℕ, List, length, is_some, IfOk, IfSome};
 ghost use Rattle.sg_history.specs.History.{entries_of, past, among};
 ghost use Rattle.sg_history.specs.Principals as principals;
+ghost use Rattle.grant_history.specs.Sorted.{AreSorted};
 ghost use Rattle.grant_history.specs.Stands.{StandsFor};
 
 use grant_history::GrantHistory;
@@ -22,6 +23,7 @@ fn channels_by(
     requires within { front ≤ length (entries_of log.now) }
     ensures exists { IfOk result (λ found. is_some found ≡ principals.exists
         (principals.user_at (past (entries_of log.now) front) user.now)) }
+    ensures sorted { IfOk result (λ found. IfSome found (λ channels. AreSorted channels)) }
     ensures channels { IfOk result (λ found. IfSome found
         (λ channels. (channel : List ℕ) → among channels channel ≡ principals.has_channel
         (past (entries_of log.now) front) user.now channel)) }
@@ -35,7 +37,7 @@ fn channels_by(
     Ok(Some(channels))
 }
 
-/// The channels that a user has at the end of the first `front` entries of a log, each once, by rising bytes; none
+/// The channels that a user has at the end of the first `front` entries of a log, by rising bytes; none
 /// where the user does not exist there.
 pub fn channels_of(
     alloc: Global,
@@ -46,6 +48,7 @@ pub fn channels_of(
     requires { front ≤ length (entries_of log.now) }
     ensures exists { IfOk result (λ found. is_some found ≡ principals.exists
         (principals.user_at (past (entries_of log.now) front) user.now)) }
+    ensures sorted { IfOk result (λ found. IfSome found (λ channels. AreSorted channels)) }
     ensures channels { IfOk result (λ found. IfSome found
         (λ channels. (channel : List ℕ) → among channels channel ≡ principals.has_channel
         (past (entries_of log.now) front) user.now channel)) }

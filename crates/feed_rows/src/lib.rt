@@ -2,6 +2,7 @@
 #![tactic(auto)]
 
 mod asked;
+mod by_channels;
 mod document;
 mod granted;
 mod index;

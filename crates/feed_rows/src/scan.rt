@@ -1,25 +1,23 @@
 //! The rows of a feed.
 
-ghost use Rattle.std.specs.Prelude.{◌≡◌, ◌≤◌, ℕ, List, length, IfOk};
+ghost use Rattle.std.specs.Prelude.{◌≡◌, ◌≤◌, ℕ, List, length, reverse, IfOk};
 ghost use Rattle.sg_history.specs.declared.entries.Entry.{Entry};
 ghost use Rattle.sg_history.specs.History.{entries_of, past};
 ghost use Rattle.sg_history.specs.Principals.{has_channel};
 ghost use Rattle.sg_history.specs.Feed as feed;
 ghost use Rattle.grant_history.specs.Periods.{AreInOrder, ArePeriods};
+ghost use Rattle.grant_history.specs.Winners.{AreWinners};
 ghost use Rattle.feed_rows.specs.PassAt.{IsViewer};
 
 use crate::asked::rows_of_pass;
 use crate::shown::Viewer;
 use grant_history::{Period, periods_by, winners_of};
-use sg_history::{Channels, Key, Log, Name, Options, Rows};
+use log_views::Filter;
+use sg_history::{Entry, Key, Log, Name, Options, Row, Rows};
 use std::alloc::{AllocError, Global};
 
 /// A user with a filter, by the periods of the user's channels. Allocates nothing.
-pub fn viewer_of<'a>(
-    user: &'a Name,
-    filter: &'a Option<Channels>,
-    periods: &'a [Period],
-) -> Viewer<'a>
+pub fn viewer_of<'a>(user: &'a Name, filter: &'a Filter<'a>, periods: &'a [Period]) -> Viewer<'a>
     ensures user { result.user.now ≡ user.now }
     ensures filter { result.filter.now ≡ filter.now }
     ensures viewer { (entries : List Entry) (front : ℕ) → front ≤ length entries
@@ -31,6 +29,28 @@ pub fn viewer_of<'a>(
         filter,
         periods,
     }
+}
+
+/// The rows of a user's changes feed at the end of some entries, given the winners at them.
+fn rows_of(
+    alloc: Global,
+    entries: &[Entry],
+    winners: &[u64],
+    user: &Name,
+    filter: &Filter<'_>,
+    since: &Key,
+    options: &Options,
+) -> Result<Vec<Row>, AllocError>
+    requires winners { AreWinners entries.now winners.now (length entries.now) }
+    requires filter { options.now.filter ≡ filter.now }
+    ensures { IfOk result (λ rows. rows.items ≡ feed.feed
+        (reverse entries.now) user.now since.now options.now) }
+{
+    let periods = periods_by(alloc, entries, winners, user)?;
+    let viewer = viewer_of(user, filter, periods.as_slice());
+    let rows = rows_of_pass(alloc, &viewer, entries, winners, since, options);
+    drop(periods);
+    rows
 }
 
 /// The rows of a user's changes feed over the first `front` entries of a log, after a since key, in rising
@@ -49,8 +69,15 @@ pub fn rows(
 {
     let entries = &log.entries.as_slice()[..front as usize];
     let winners = winners_of(alloc, entries)?;
-    let periods = periods_by(alloc, entries, winners.as_slice(), user)?;
-    let viewer = viewer_of(user, &options.filter, periods.as_slice());
-    let rows = rows_of_pass(alloc, &viewer, entries, winners.as_slice(), since, options)?;
+    let filter = Filter::new(alloc, &options.filter)?;
+    let rows = rows_of(
+        alloc,
+        entries,
+        winners.as_slice(),
+        user,
+        &filter,
+        since,
+        options,
+    )?;
     Ok(Rows::from_vec(rows))
 }

@@ -2,7 +2,6 @@
 
 ghost use Rattle.std.specs.Prelude.{◌≡◌, ◌||◌, ◌∷◌, ℕ, Bool, false};
 ghost use Rattle.std.specs.List.{list_any};
-ghost use Rattle.sg_history.specs.History.{among};
 ghost use Rattle.sg_history.specs.View as view;
 ghost use Rattle.grant_history.specs.Periods.{periods_have};
 ghost use Rattle.feed_rows.specs.Lasting.{AreToSearch, Lasts};
@@ -11,13 +10,14 @@ ghost use Rattle.feed_rows.specs.Shown.{IsLastSwitch};
 
 use crate::lasting::{Lasting, channel_lasting};
 use grant_history::Period;
-use sg_history::{ChannelName, Channels, Name, Write};
+use log_views::Filter;
+use sg_history::{ChannelName, Name, Write};
 
 /// A user, with the filter and the periods in which the user has channels.
 #[derive(Clone, Copy)]
 pub struct Viewer<'a> {
     pub user: &'a Name,
-    pub filter: &'a Option<Channels>,
+    pub filter: &'a Filter<'a>,
     pub periods: &'a [Period],
 }
 
@@ -26,27 +26,6 @@ pub struct Viewer<'a> {
 pub struct Switch {
     pub by: u64,
     pub is_shown: bool,
-}
-
-fn names(filter: &Channels, channel: &[u8]) -> bool
-    ensures { result ≡ among filter.now channel.now }
-{
-    filter.as_slice().iter().any(|c| c.as_bytes() == channel)
-}
-
-fn names_some(filter: &Channels, channels: &[ChannelName]) -> bool
-    ensures { result ≡ list_any (λ c. among filter.now c) channels.now }
-{
-    channels.iter().any(|c| names(filter, c.as_bytes()))
-}
-
-fn passes(filter: &Option<Channels>, channels: &[ChannelName]) -> bool
-    ensures { result ≡ view.passes filter.now (view.every ∷ channels.now) }
-{
-    match filter {
-        None => true,
-        Some(filter) => names(filter, b"*") || names_some(filter, channels),
-    }
 }
 
 /// Whether one of two tests holds at a place, the first of which does not.
@@ -80,32 +59,44 @@ fn lasting_of(periods: &[Period], channels: &[ChannelName], k: u64) -> Lasting
     none
 }
 
+/// Whether the user has `*` or one of these channels at a place.
+fn lasting_of_every(periods: &[Period], channels: &[ChannelName], k: u64) -> Lasting
+    requires { AreToSearch periods.now }
+    ensures { Lasts (λ j. list_any (λ c. periods_have periods.now c j) (view.every ∷ channels.now))
+        k result }
+{
+    let every = channel_lasting(periods, "*", k);
+    if every.holds {
+        return every;
+    }
+    either(every, lasting_of(periods, channels, k))
+}
+
 /// Whether a document with this winner is shown at a place.
 pub fn lasting_shown(viewer: &Viewer<'_>, winner: &Write, k: u64) -> Lasting
     requires { AreToSearch viewer.now.periods.now }
-    ensures { Lasts (λ j. shown.is_shown viewer.now.periods.now viewer.now.filter.now winner.now j)
-        k result }
+    ensures { Lasts (shown.is_shown viewer.now.periods.now viewer.now.filter.now
+        winner.now.channels) k result }
 {
     let channels = winner.channels.as_slice();
-    if !passes(viewer.filter, channels) {
+    let had = lasting_of_every(viewer.periods, channels, k);
+    if !had.holds {
+        return had;
+    }
+    if !viewer.filter.passes(channels) {
         return Lasting {
             holds: false,
             since: 0,
         };
     }
-    let every = channel_lasting(viewer.periods, "*", k);
-    if every.holds {
-        return every;
-    }
-    either(every, lasting_of(viewer.periods, channels, k))
+    had
 }
 
 /// The last place after one, up to another, at which it changed whether a document with this winner is shown.
 pub fn last_switch(viewer: &Viewer<'_>, winner: &Write, from: u64, to: u64) -> Option<Switch>
     requires { AreToSearch viewer.now.periods.now }
-    ensures { IsLastSwitch
-        (λ j. shown.is_shown viewer.now.periods.now viewer.now.filter.now winner.now j)
-        from to result }
+    ensures { IsLastSwitch (shown.is_shown viewer.now.periods.now viewer.now.filter.now
+        winner.now.channels) from to result }
 {
     let now = lasting_shown(viewer, winner, to);
     let mut since = now.since;

@@ -1,12 +1,27 @@
-use Rattle.std.proofs.Common.{◌∙◌, sym, ap}
-use Rattle.std.specs.BTreeMap.{insert_entry}
-use Rattle.std.specs.Ordering.{nat_cmp, ordering_then}
-use Rattle.feed_rows.proofs.Ordered.{inserted, asked_inserted}
+use Rattle.std.proofs.Common.{◌≡◌, ◌∙◌, false, sym, ap, refl, map, Option, Some}
+use Rattle.sg_history.specs.declared.row.Row.{Row}
+use Rattle.sg_history.specs.Feed.{bits_of, keeps}
+use Rattle.feed_rows.specs.declared.document.Change.{Change}
+use Rattle.feed_rows.specs.Known.{row_in, view_when}
+use Rattle.feed_rows.specs.Latest.{winner_in}
+use Rattle.feed_rows.specs.Ordered.{insert_asked, under_key}
+use Rattle.feed_rows.proofs.Ordered.{not_asked}
+use Rattle.feed_rows.proofs.Settled.{shown_some}
 use Rattle.feed_rows.proofs.asked.add_row.Goals as goal
 
-pub returns-in_ok-insert : goal.returns-in_ok-insert
-returns-in_ok-insert c = λ before h.
-    c.in_ok-insert.ensures.entries
-    ∙ ap (λ es. insert_entry (λ x y. ordering_then (nat_cmp x.0 y.0) (nat_cmp x.1 y.1)) es (c.in-Some.row.key.by, c.in-Some.row.key.seq) c.in-Some.row) h
-    ∙ inserted c.in-Some.row before
-    ∙ sym (asked_inserted c.args.options.now c.args.since.now _ c.in-Some.row before c.in-Some.is (sym c.keeps.ensures ∙ c.if-keeps.true))
+pub returns-then-not-keeps : goal.returns-then-not-keeps
+returns-then-not-keeps c = λ before h.
+    let change = c.in-Some.change in
+    let winner = winner_in change.latest in
+    let options = c.args.options.now in
+    let since = c.args.since.now in
+    let row : Row = record {
+      key = record { by = change.by; seq = change.latest.seq };
+      doc = c.args.name.now;
+      rev = change.latest.write.now.rev;
+      bits = bits_of (view_when change.is_shown winner) change.wrote change.latest.write.now.deleted;
+    } in
+    let out : keeps options since row ≡ false = sym (c.keeps.ensures row refl (sym (c.bits_of-bits.ensures (view_when change.is_shown winner) (shown_some change.is_shown winner)))) ∙ c.if-not-keeps.true in
+    h
+    ∙ ap (map under_key) (sym (not_asked options since row before out))
+    ∙ ap (λ (o : Option Change). map under_key (insert_asked options since (row_in c.args.name.now o) before)) (sym c.in-Some.is)

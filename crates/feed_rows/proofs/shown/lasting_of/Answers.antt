@@ -2,7 +2,7 @@ use Rattle.std.proofs.Common.{◌≡◌, ◌∙◌, ◌<◌, ◌≤◌, ◌||◌
 use Rattle.std.specs.List.{list_any}
 use Rattle.std.proofs.lemmas.Bool.{or_from}
 use Rattle.grant_history.specs.Periods.{periods_have}
-use Rattle.feed_rows.proofs.Switches.{lasts_same, any_more, take_all}
+use Rattle.feed_rows.proofs.Lastings.{lasts_same, any_more, take_all}
 use Rattle.feed_rows.proofs.shown.lasting_of.Goals as goal
 
 pub loop-channel-preserved : goal.loop-channel-preserved
