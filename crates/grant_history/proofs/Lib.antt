@@ -15,3 +15,4 @@ pub mod Reading
 pub mod Sweeping
 pub mod Dividing
 pub mod Cutting
+pub mod Members

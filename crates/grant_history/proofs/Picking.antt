@@ -7,7 +7,7 @@ use Rattle.std.specs.Option.{option_copied}
 use Rattle.std.specs.Slice.{IsItemAt}
 use Rattle.std.proofs.lemmas.Bool.{false≢true, cases_lt, le-leb}
 use Rattle.std.proofs.lemmas.Option.{none-some, same_Some, slice_get-get_or, slice_get_past}
-use Rattle.log_views.proofs.Members.{both_ways}
+use Rattle.grant_history.proofs.Members.{both_ways}
 use Rattle.grant_history.specs.declared.held.Held.{Held}
 use Rattle.grant_history.specs.declared.track.Track.{Track}
 use Rattle.grant_history.specs.declared.blocks.Blocks.{Blocks}

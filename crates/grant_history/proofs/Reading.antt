@@ -9,7 +9,7 @@ use Rattle.sg_names.specs.declared.grants.Grantee.{Grantee}
 use Rattle.sg_names.specs.declared.grants.Grantee.TheVariants.{User, Role}
 use Rattle.sg_history.specs.declared.entries.Entry.{Entry}
 use Rattle.sg_history.specs.Principals.{PrincipalState, Put, as_put, same_grantee, principal_after, role_named, role_put, roles_put, exists, names_role, names_channel, everyone, user_at, role_at, is_granted, is_given, has_role, role_has_channel, has_channel}
-use Rattle.log_views.proofs.Members.{IsIn, both_ways, passing, passes_in, in_left, in_right}
+use Rattle.grant_history.proofs.Members.{IsIn, both_ways, passing, passes_in, in_left, in_right}
 use Rattle.grant_history.specs.declared.facts.What.{What}
 use Rattle.grant_history.specs.declared.facts.What.TheVariants as what
 use Rattle.grant_history.specs.declared.facts.Fact.{Fact}

@@ -14,7 +14,7 @@ use Rattle.grant_history.proofs.Ordered.{HaveEnded, closed_any, closed_ended}
 use Rattle.grant_history.specs.Facts.{same_what}
 use Rattle.grant_history.specs.Holdings.{place_of, count_in, held_in, AreUpTo, one_more, one_less}
 use Rattle.grant_history.proofs.Same.{whats, what_itself}
-use Rattle.log_views.proofs.Members.{both_ways}
+use Rattle.grant_history.proofs.Members.{both_ways}
 
 pub whats_swap : (a b : What) → same_what a b ≡ same_what b a
 whats_swap a b = both_ways (same_what a b) (same_what b a)

@@ -3,8 +3,6 @@ use Rattle.std.proofs.Common.{◌≡◌, ◌≢◌, ◌<◌, ◌≤◌, ◌+◌,
 use Rattle.std.specs.BTreeMap.{get_by_text}
 use Rattle.std.specs.Str.{bytes_eq}
 use Rattle.std.specs.Cmp.Lexicographic.{bytes_decides}
-use Rattle.sg_names.specs.declared.grants.Grantee.{Grantee}
-use Rattle.sg_names.specs.declared.grants.Grantee.TheVariants.{User, Role}
 use Rattle.sg_names.specs.declared.rev_id.RevId.{RevId}
 use Rattle.sg_names.specs.RevId.{same_rev}
 use Rattle.sg_history.specs.declared.entries.Entry.{Entry}
@@ -14,9 +12,9 @@ use Rattle.sg_history.specs.History.{write_to}
 use Rattle.sg_history.specs.Current.{Sequenced, sequenced_or, with_rev_or, write_or, last_write, write_of_rev}
 use Rattle.log_index.specs.declared.documents.Document.{Document}
 use Rattle.log_index.specs.declared.index.LogIndex.{LogIndex}
-use Rattle.log_index.specs.Places.{earlier_or, first_seq, first_or, seq_alone, revision_seq, document_by, document_at, put_by, put_or, last_put}
+use Rattle.log_index.specs.Places.{earlier_or, first_seq, first_or, seq_alone, revision_seq, document_by, document_at}
 use Rattle.log_index.specs.Index.{HasPlaces}
-use Rattle.log_index.specs.Representation.{seq_in, put_in, winning_seq}
+use Rattle.log_index.specs.Representation.{seq_in, winning_seq}
 use Rattle.log_index.proofs.Firsts.{within, nowhere, somewhere, first_of, first_at, no_revision, one_first, earlier_within}
 
 -- where a document stands, by its first write, its revisions and its last write
@@ -60,7 +58,7 @@ chosen true found last = refl
 chosen false None last = refl
 chosen false (Some found) last = refl
 
--- what is kept of a document, of revisions and of users and roles once a write was taken
+-- what is kept of a document and of revisions once a write was taken
 pub record Took (old new : LogIndex) (w : Write) (seq : ℕ) : Type 0 where
   pub count : new.count ≡ seq
   pub documents : (name : List ℕ) → get_by_text new.documents name
@@ -69,16 +67,14 @@ pub record Took (old new : LogIndex) (w : Write) (seq : ℕ) : Type 0 where
       else get_by_text old.documents name)
   pub revisions : (other : ℕ) (rev : RevId) → seq_in new.revisions other rev
       ≡ (if nat_eq (first_or (get_by_text old.documents w.doc) seq) other && same_rev w.rev rev then Some seq else seq_in old.revisions other rev)
-  pub users : new.users ≡ old.users
-  pub roles : new.roles ≡ old.roles
 
 -- that from what the calls answered
 pub took_write : (old new : LogIndex) (w : Write) (seq first winning : ℕ) (before : Option Document)
     → before ≡ get_by_text old.documents w.doc → first ≡ first_or before seq → winning ≡ winning_seq old w first seq
     → ((name : List ℕ) → get_by_text new.documents name ≡ (if bytes_eq w.doc name then Some (record { first = first; last = seq; winning = winning }) else get_by_text old.documents name))
     → ((other : ℕ) (rev : RevId) → seq_in new.revisions other rev ≡ (if nat_eq first other && same_rev w.rev rev then Some seq else seq_in old.revisions other rev))
-    → new.count ≡ seq → new.users ≡ old.users → new.roles ≡ old.roles → Took old new w seq
-took_write old new w seq first winning before looked first_is winning_is documents revisions count users roles =
+    → new.count ≡ seq → Took old new w seq
+took_write old new w seq first winning before looked first_is winning_is documents revisions count =
     let at : first ≡ first_or (get_by_text old.documents w.doc) seq = first_is ∙ ap (λ (d : Option Document). first_or d seq) looked in
     record {
       count = count;
@@ -88,8 +84,6 @@ took_write old new w seq first winning before looked first_is winning_is documen
           ∙ ap (λ (k : ℕ). if bytes_eq w.doc name then Some (record { first = k; last = seq; winning = winning_seq old w k seq }) else get_by_text old.documents name) at;
       revisions = λ other rev.
           revisions other rev ∙ ap (λ (k : ℕ). if nat_eq k other && same_rev w.rev rev then Some seq else seq_in old.revisions other rev) at;
-      users = users;
-      roles = roles;
     }
 
 module _ (old new : LogIndex) (es : List Entry) (e : Entry) (w : Write) (is : HasPlaces old es) (writes : e ≡ entry.Write w) (took : Took old new w (length es + 1)) where
@@ -187,15 +181,10 @@ module _ (old new : LogIndex) (es : List Entry) (e : Entry) (w : Write) (is : Ha
       let other : first ≢ k = λ same. omega (arith, first_within, above, same) in
       put_there k rev false (grind (arith)) ∙ is.unused k rev (omega (arith, above))
 
-  puts_were : (whom : Grantee) → put_in new whom ≡ put_in old whom
-  puts_were (User name) = ap (λ users. get_by_text users name) took.users
-  puts_were (Role name) = ap (λ roles. get_by_text roles name) took.roles
-
   pub write_taken : HasPlaces new (e ∷ es)
   write_taken = record {
     count = took.count ∙ omega (arith);
     documents = λ doc. documents_are doc (bytes_eq w.doc doc) refl;
     revisions = λ doc rev pos. revisions_are doc rev (bytes_eq w.doc doc) refl pos;
     unused = unused_are;
-    puts = λ whom. puts_were whom ∙ is.puts whom ∙ ap (λ (of : Option Grantee). put_or of whom n (last_put es whom)) (sym (ap put_by writes));
   }

@@ -1,15 +1,13 @@
 -- When an index is that of these entries.
 use Rattle.std.specs.Prelude.{◌≡◌, ◌<◌, ℕ, List, length, reverse, None}
 use Rattle.std.specs.BTreeMap.{get_by_text}
-use Rattle.sg_names.specs.declared.grants.Grantee.{Grantee}
 use Rattle.sg_names.specs.declared.rev_id.RevId.{RevId}
 use Rattle.sg_history.specs.declared.entries.Entry.{Entry}
 use Rattle.log_index.specs.declared.index.LogIndex.{LogIndex}
-use Rattle.log_index.specs.Places.{first_seq, revision_seq, document_at, last_put, granting_seqs, documents_before}
-use Rattle.log_index.specs.Representation.{seq_in, put_in}
+use Rattle.log_index.specs.Places.{first_seq, revision_seq, document_at, documents_before}
+use Rattle.log_index.specs.Representation.{seq_in}
 
--- where documents, revisions, users and roles stand in the index is where they stand in these
--- entries, the newest first
+-- where documents and revisions stand in the index is where they stand in these entries, the newest first
 pub record HasPlaces (index : LogIndex) (es : List Entry) : Type 0 where
   pub count : index.count ≡ length es
   pub documents : (doc : List ℕ) → get_by_text index.documents doc ≡ document_at es doc
@@ -17,10 +15,8 @@ pub record HasPlaces (index : LogIndex) (es : List Entry) : Type 0 where
       → seq_in index.revisions (first_seq es doc) rev ≡ revision_seq es doc rev
   pub unused : (first : ℕ) (rev : RevId) → length es < first
       → seq_in index.revisions first rev ≡ None
-  pub puts : (whom : Grantee) → put_in index whom ≡ last_put es whom
 
 -- the index is that of these entries, the newest first
 pub record Indexes (index : LogIndex) (es : List Entry) : Type 0 where
   pub places : HasPlaces index es
-  pub granting : index.granting.items ≡ reverse (granting_seqs es)
   pub before : index.before.items ≡ reverse (documents_before es)

@@ -1,15 +1,11 @@
--- Where documents, revisions, users and roles stand in a history, given its entries, the newest
+-- Where documents and revisions stand in a history, given its entries, the newest
 -- first.
-use Rattle.std.specs.Prelude.{ℕ, nat_eq, ◌+◌, zero, suc, Bool, true, false, List, [], ◌∷◌, length, Option, Some, None, option_map, if◌then◌else◌}
-use Rattle.sg_names.specs.declared.grants.Grantee.{Grantee}
-use Rattle.sg_names.specs.declared.grants.Grant.{Grant}
-use Rattle.sg_names.specs.declared.role_grants.RoleGrant.{RoleGrant}
+use Rattle.std.specs.Prelude.{ℕ, nat_eq, ◌+◌, zero, suc, List, [], ◌∷◌, length, Option, Some, None, option_map, if◌then◌else◌}
 use Rattle.sg_names.specs.declared.rev_id.RevId.{RevId}
 use Rattle.sg_history.specs.declared.entries.Entry.{Entry}
 use Rattle.sg_history.specs.declared.entries.Write.{Write}
 use Rattle.sg_history.specs.History.{as_write, write_to}
 use Rattle.sg_history.specs.Current.{Sequenced, last_write, write_of_rev, winning_of}
-use Rattle.sg_history.specs.Principals.{as_put, same_grantee}
 use Rattle.log_index.specs.declared.documents.Document.{Document}
 
 -- the earlier sequence where there is one, else that of the write, if there is one
@@ -50,38 +46,6 @@ document_at es doc = document_by es doc (last_write es doc)
 abbrev pub first_or : Option Document → ℕ → ℕ
 first_or None seq = seq
 first_or (Some document) seq = document.first
-
--- the user or role that an entry puts or drops, if it does
-abbrev pub put_by : Entry → Option Grantee
-put_by e = option_map (λ put. put.of) (as_put e)
-
--- the sequence of a put or drop where it is of this user or role, else the one before
-abbrev pub put_or : Option Grantee → Grantee → ℕ → Option ℕ → Option ℕ
-put_or None whom seq before = before
-put_or (Some of) whom seq before = if same_grantee of whom then Some seq else before
-
--- the sequence of the last put or drop of a user or role
-abbrev pub last_put : List Entry → Grantee → Option ℕ
-last_put [] whom = None
-last_put (e ∷ older) whom = put_or (put_by e) whom (length older + 1) (last_put older whom)
-
--- whether there is a channel that is granted, or a role that is given
-abbrev pub is_any : List Grant → List RoleGrant → Bool
-is_any [] [] = false
-is_any [] (g ∷ roles) = true
-is_any (g ∷ grants) roles = true
-
--- whether a write grants a channel or gives a role to anybody
-abbrev pub grants_any : Option Write → Bool
-grants_any None = false
-grants_any (Some w) = is_any w.grants w.roles
-
--- the sequences of the writes that grant a channel or give a role, the last one first
-abbrev pub granting_seqs : List Entry → List ℕ
-granting_seqs [] = []
-granting_seqs (e ∷ older) =
-    if grants_any (as_write e) then (length older + 1) ∷ granting_seqs older
-    else granting_seqs older
 
 -- where the document of a write stands; none where there is no write, or its document was never written
 abbrev pub document_before : List Entry → Option Write → Option Document

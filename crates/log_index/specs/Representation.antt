@@ -4,8 +4,6 @@ use Rattle.std.specs.BTreeMap.{BTreeMap, get_by, get_by_text}
 use Rattle.std.specs.Global.{Global}
 use Rattle.std.specs.Ordering.{nat_cmp, ordering_then}
 use Rattle.std.specs.Cmp.Lexicographic.{slice_cmp}
-use Rattle.sg_names.specs.declared.grants.Grantee.{Grantee}
-use Rattle.sg_names.specs.declared.grants.Grantee.TheVariants.{User, Role}
 use Rattle.sg_names.specs.declared.rev_id.RevId.{RevId}
 use Rattle.sg_names.specs.RevId.{same_rev}
 use Rattle.sg_history.specs.declared.entries.Write.{Write}
@@ -17,11 +15,6 @@ abbrev pub seq_in : BTreeMap (ℕ × ℕ × String Global) ℕ → ℕ → RevId
 seq_in revisions first rev =
     get_by (λ k. ordering_then (ordering_then (nat_cmp first k.0) (nat_cmp rev.generation k.1))
     (slice_cmp nat_cmp rev.digest (string_bytes k.2))) revisions
-
--- the sequence that is kept of a user or a role
-abbrev pub put_in : LogIndex → Grantee → Option ℕ
-put_in index (User name) = get_by_text index.users name
-put_in index (Role name) = get_by_text index.roles name
 
 -- the sequence of the winner's write after a write of this sequence, by the first write of its
 -- document: its own where it wins, or where the winner that it names is not there

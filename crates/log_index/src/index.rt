@@ -1,24 +1,19 @@
 //! The index.
 
-ghost use Rattle.std.specs.Prelude.{◌≡◌, ◌<◌, ◌+◌, List, [], ◌∷◌, length, reverse, Some, None, option_map, vec_len, vec_capacity, OnOk, OnErr, IfOk};
+ghost use Rattle.std.specs.Prelude.{◌≡◌, ◌<◌, ◌+◌, List, [], ◌∷◌, length, Some, OnOk, OnErr, IfOk};
 ghost use Rattle.std.specs.Option.{option_copied};
 ghost use Rattle.sg_history.specs.declared.entries.Entry.{Entry};
 ghost use Rattle.sg_history.specs.declared.entries.Entry.TheVariants as kinds;
 ghost use Rattle.sg_history.specs.History.{as_write};
-ghost use Rattle.sg_history.specs.Puts.{grantee_in};
-ghost use Rattle.sg_names.specs.declared.grants.Grantee.TheVariants as grantee;
 ghost use Rattle.log_index.specs.Index.{HasPlaces, Indexes};
-ghost use Rattle.log_index.specs.Places as places;
-ghost use Rattle.log_index.specs.Places.{document_at, revision_seq, last_put, granting_seqs, document_before, before_at};
+ghost use Rattle.log_index.specs.Places.{document_at, revision_seq, document_before, before_at};
 ghost use Rattle.std.specs.BTreeMap.{get_by_text};
 ghost use Rattle.log_index.specs.Representation.{kept_of, winning_seq};
 
 use crate::by_name::put;
 use crate::documents::{Document, Documents, document_in, document_of, first_or, put_back};
-use crate::granting::{grants_any, keep_if};
-use crate::principals::{Puts, put_by, put_of};
 use crate::revisions::{Revisions, put_revision, seq_of};
-use sg_history::{DocId, Entry, Name, Principal, RevId, Write};
+use sg_history::{DocId, Entry, RevId, Write};
 use std::alloc::{AllocError, Global};
 use std::collections::BTreeMap;
 
@@ -29,22 +24,7 @@ pub struct LogIndex {
     count: u64,
     documents: Documents,
     revisions: Revisions,
-    users: Puts,
-    roles: Puts,
-    granting: Vec<u64>,
     before: Vec<Option<Document>>,
-}
-
-/// Makes room for one more in each list.
-fn make_room(granting: &mut Vec<u64>, before: &mut Vec<Option<Document>>) -> Result<(), AllocError>
-    ensures granting_room { OnOk result (vec_len granting.new < vec_capacity granting.new) }
-    ensures before_room { OnOk result (vec_len before.new < vec_capacity before.new) }
-    ensures granting { granting.new.items ≡ granting.old.items }
-    ensures before { before.new.items ≡ before.old.items }
-{
-    granting.reserve(1)?;
-    before.reserve(1)?;
-    Ok(())
 }
 
 impl LogIndex {
@@ -57,9 +37,6 @@ impl LogIndex {
             count: 0,
             documents: BTreeMap::new(alloc),
             revisions: BTreeMap::new(alloc),
-            users: BTreeMap::new(alloc),
-            roles: BTreeMap::new(alloc),
-            granting: Vec::new(alloc),
             before: Vec::new(alloc),
         }
     }
@@ -87,30 +64,6 @@ impl LogIndex {
             None => Ok(None),
             Some(document) => seq_of(self.alloc, &self.revisions, document.first, rev),
         }
-    }
-
-    /// The sequence of a user's last put or drop, if it had one. Allocates nothing.
-    pub fn user(&self, name: &Name) -> Option<u64>
-        ensures { (es : List Entry) → Indexes self.now es
-            → result ≡ last_put es (grantee.User name.now) }
-    {
-        put_of(&self.users, name)
-    }
-
-    /// The sequence of a role's last put or drop, if it had one. Allocates nothing.
-    pub fn role(&self, name: &Name) -> Option<u64>
-        ensures { (es : List Entry) → Indexes self.now es
-            → result ≡ last_put es (grantee.Role name.now) }
-    {
-        put_of(&self.roles, name)
-    }
-
-    /// The sequences of the writes that grant a channel or give a role, in their order.
-    pub fn granting(&self) -> &[u64]
-        ensures { (es : List Entry) → Indexes self.now es
-            → result.now ≡ reverse (granting_seqs es) }
-    {
-        self.granting.as_slice()
     }
 
     /// Where the document that the entry of a sequence writes stood before that entry: none where it
@@ -148,10 +101,9 @@ impl LogIndex {
     {
         let seq = self.count + 1;
         let before = self.place_of_write(entry.as_write());
-        make_room(&mut self.granting, &mut self.before)?;
+        self.before.reserve(1)?;
         let document = self.keep(entry, before, seq)?;
         self.count = seq;
-        keep_if(&mut self.granting, grants_any(entry.as_write()), seq);
         self.before.push_reserved(before);
         Ok(document)
     }
@@ -172,36 +124,11 @@ impl LogIndex {
         ensures err { OnErr result ((es : List Entry) → HasPlaces self.old es
             → HasPlaces self.new es) }
         ensures count { self.new.count ≡ self.old.count }
-        ensures granting { self.new.granting ≡ self.old.granting }
         ensures before { self.new.before ≡ self.old.before }
     {
         match entry.as_write() {
             Some(write) => Ok(Some(self.keep_write(write, before, seq)?)),
-            None => {
-                self.keep_principal(put_by(entry), seq)?;
-                Ok(None)
-            }
-        }
-    }
-
-    fn keep_principal(
-        &mut self,
-        principal: Option<Principal<'_>>,
-        seq: u64,
-    ) -> Result<(), AllocError>
-        ensures ok { OnOk result ((es : List Entry) (e : Entry) → as_write e ≡ None
-            → places.put_by e ≡ option_map grantee_in principal.entry → seq ≡ length es + 1
-            → HasPlaces self.old es → HasPlaces (record self.new { count = seq }) (e ∷ es)) }
-        ensures err { OnErr result ((es : List Entry) → HasPlaces self.old es
-            → HasPlaces self.new es) }
-        ensures count { self.new.count ≡ self.old.count }
-        ensures granting { self.new.granting ≡ self.old.granting }
-        ensures before { self.new.before ≡ self.old.before }
-    {
-        match principal {
-            None => Ok(()),
-            Some(Principal::User(name)) => put(self.alloc, &mut self.users, name.as_str(), seq),
-            Some(Principal::Role(name)) => put(self.alloc, &mut self.roles, name.as_str(), seq),
+            None => Ok(None),
         }
     }
 
@@ -231,7 +158,6 @@ impl LogIndex {
         ensures err { OnErr result ((es : List Entry) → HasPlaces self.old es
             → HasPlaces self.new es) }
         ensures count { self.new.count ≡ self.old.count }
-        ensures granting { self.new.granting ≡ self.old.granting }
         ensures before { self.new.before ≡ self.old.before }
     {
         let first = first_or(before, seq);

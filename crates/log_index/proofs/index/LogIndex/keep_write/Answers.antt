@@ -12,14 +12,11 @@ returns-in-Ok-clause-ok c = λ es e writes seq is.
       count = c.args.seq;
       documents = c.put.new.map;
       revisions = c.put_revision.new.revisions;
-      users = c.args.self.now.users;
-      roles = c.args.self.now.roles;
-      granting = c.args.self.now.granting;
       before = c.args.self.now.before;
     } in
     let took : Took c.args.self.now new c.args.write.now c.args.seq =
     took_write c.args.self.now new c.args.write.now c.args.seq c.first_or-first.result c.in_ok-winning.field-0 c.args.before
     c.requires c.first_or-first.ensures c.in_ok-winning.ensures
     (subst (λ (d : List ℕ). (name : List ℕ) → get_by_text c.put.new.map name ≡ (if bytes_eq d name then Some (record { first = c.first_or-first.result; last = c.args.seq; winning = c.in_ok-winning.field-0 }) else get_by_text c.args.self.now.documents name)) c.as_str.ensures.value c.in_ok-put.ensures.ok)
-    c.in-Ok.ensures.ok refl refl refl in
+    c.in-Ok.ensures.ok refl in
     write_taken c.args.self.now new es e c.args.write.now is writes (subst (λ n. Took c.args.self.now new c.args.write.now n) seq took)
