@@ -5,6 +5,7 @@ ghost use Rattle.std.specs.Option.{option_copied};
 ghost use Rattle.sg_history.specs.Book.{waiting_at};
 ghost use Rattle.sg_history.specs.History.{entries_of, among};
 ghost use Rattle.sg_history.specs.Principals as principals;
+ghost use Rattle.grant_history.specs.Sorted.{AreSorted};
 ghost use Rattle.pending_front.specs.Storing.{MayStore};
 ghost use Rattle.rev_tree.specs.Writes.{AreAccepted};
 ghost use Rattle.rev_tree.specs.Documents.{tree_when, deletes};
@@ -193,8 +194,11 @@ impl Board {
         ensures pending { self.new.pending ≡ self.old.pending }
         ensures rooms { self.new.rooms ≡ self.old.rooms }
         ensures known { OnOk result (self.new.known ≡ length self.old.log) }
+        ensures known_rises { self.old.known ≤ self.new.known }
+        ensures known_within { self.new.known ≤ length self.old.log }
         ensures reads { self.new.reads
             ≤ self.old.reads + 2 * (length self.old.log - self.old.known) }
+        ensures reads_rise { self.old.reads ≤ self.new.reads }
     {
         let front = self.front();
         let mut log = LogReads::new(&self.storage.log);
@@ -203,16 +207,20 @@ impl Board {
         applied
     }
 
-    /// The channels of a user at the end of the log, each once; none where the user does not exist.
+    /// The channels of a user at the end of the log, by rising bytes; none where the user does not exist.
     pub fn channels(&mut self, user: &Name) -> Result<Option<Channels>, Memory>
         ensures log { self.new.log ≡ self.old.log }
         ensures pending { self.new.pending ≡ self.old.pending }
         ensures rooms { self.new.rooms ≡ self.old.rooms }
         ensures known { OnOk result (self.new.known ≡ length self.old.log) }
+        ensures known_rises { self.old.known ≤ self.new.known }
+        ensures known_within { self.new.known ≤ length self.old.log }
         ensures reads { self.new.reads
             ≤ self.old.reads + 2 * (length self.old.log - self.old.known) }
+        ensures reads_rise { self.old.reads ≤ self.new.reads }
         ensures exists { IfOk result (λ found. is_some found ≡ principals.exists
             (principals.user_at (newest_first self.old) user.now)) }
+        ensures sorted { IfOk result (λ found. IfSome found (λ channels. AreSorted channels)) }
         ensures channels { IfOk result (λ found. IfSome found
             (λ channels. (channel : List ℕ) → among channels channel ≡ principals.has_channel
             (newest_first self.old) user.now channel)) }
@@ -287,8 +295,11 @@ impl Board {
         ensures pending { self.new.pending ≡ self.old.pending }
         ensures rooms { self.new.rooms ≡ self.old.rooms }
         ensures known { OnOk result (self.new.known ≡ length self.old.log) }
+        ensures known_rises { self.old.known ≤ self.new.known }
+        ensures known_within { self.new.known ≤ length self.old.log }
         ensures reads { self.new.reads
             ≤ self.old.reads + 2 * (length self.old.log - self.old.known) }
+        ensures reads_rise { self.old.reads ≤ self.new.reads }
         ensures at { IfOk result (λ s. s.at ≡ length self.old.log) }
         ensures last { IfOk result (λ s. s.last ≡ last_on self.old revision.now.doc) }
         ensures step { IfOk result

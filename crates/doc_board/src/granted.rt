@@ -6,6 +6,7 @@ ghost use Rattle.doc_board.specs.Contexts.{IsContext, IsUserWith};
 ghost use Rattle.sg_history.specs.declared.entries.Entry.{Entry};
 ghost use Rattle.sg_history.specs.History.{among};
 ghost use Rattle.sg_history.specs.Principals.{exists, user_at, has_channel};
+ghost use Rattle.grant_history.specs.Sorted.{AreSorted};
 ghost use Rattle.grant_history.specs.Stands.{StandsFor};
 
 use grant_history::GrantHistory;
@@ -23,6 +24,7 @@ pub(crate) fn channels_at_end(
     ensures exists { IfOk result (λ found. (entries : List Entry) → StandsFor grants.now entries
         → grants.now.applied ≡ length entries
         → is_some found ≡ exists (user_at (reverse entries) user.now)) }
+    ensures sorted { IfOk result (λ found. IfSome found (λ channels. AreSorted channels)) }
     ensures channels { IfOk result (λ found. (entries : List Entry) → StandsFor grants.now entries
         → grants.now.applied ≡ length entries → IfSome found (λ channels. (c : List ℕ)
         → among channels c ≡ has_channel (reverse entries) user.now c)) }
