@@ -1,5 +1,5 @@
 -- the body of each write of a board is a document
-use Rattle.std.proofs.Common.{◌≡◌, ℕ, zero, suc, Bool, true, false, List, [], ◌∷◌, Option, Some, None, option_map, Result, Ok, Err, Bor, refl, sym, subst, if◌then◌else◌}
+use Rattle.std.proofs.Common.{◌≡◌, ℕ, zero, suc, Bool, true, false, List, Option, Some, None, option_map, Result, Ok, Err, Bor, refl, sym, subst, if◌then◌else◌}
 use Rattle.std.specs.Prelude.{IfOk, IfSome}
 use Rattle.std.specs.Option.{option_copied}
 use Rattle.doc_board.specs.declared.snapshot.Snapshot.{Snapshot}
@@ -13,19 +13,8 @@ use Rattle.sg_history.specs.Book.{Book, written_in, writes_up_to, first_of_rev, 
 use Rattle.sg_history.specs.Current.{Sequenced, sequenced_before, write_alone}
 use Rattle.rev_tree.specs.Extension.{first_of}
 use Rattle.rev_tree.specs.Documents.{rev_written_in, base_in}
-use Rattle.doc_board.specs.Kept.{HaveDocuments, AreRight, IsRightBy}
-use Rattle.doc_board.specs.Recorded.{HasDocument, WriteMayFollow, AreFollowing}
-
--- ---- one more entry
-
-following_one : (older : List Entry) (o : Option Write) → WriteMayFollow older o → IfSome o (λ w. HasDocument w.body)
-following_one older None h = tt
-following_one older (Some w) h = h.0
-
--- entries that a board may have
-pub following_bodies : (es : List Entry) → AreFollowing es → HaveDocuments es
-following_bodies [] h = tt
-following_bodies (e ∷ older) h = (following_one older (as_write e) h.0, following_bodies older h.1)
+use Rattle.doc_board.specs.Kept.{AreRight, IsRightBy}
+use Rattle.doc_board.specs.Recorded.{HasDocument}
 
 -- ---- what is found of a revision
 

@@ -1,23 +1,21 @@
 -- what is kept of documents is right after each entry
-use Rattle.std.proofs.Common.{◌≡◌, ◌+◌, ℕ, Bool, true, false, List, [], ◌∷◌, length, Option, Some, None, BTreeMap, String, Global, refl, sym, ap, ◌∙◌, subst, arith, true≢false, if◌then◌else◌, nat_eq}
-use Rattle.std.specs.Prelude.{MatchOption, IsTrue, is_some}
+use Rattle.std.proofs.Common.{◌≡◌, ◌+◌, ℕ, Bool, true, false, List, [], ◌∷◌, length, Option, Some, None, BTreeMap, String, Global, refl, sym, ap, ◌∙◌, subst, arith, if◌then◌else◌}
+use Rattle.std.specs.Prelude.{MatchOption, IsTrue}
 use Rattle.std.specs.BTreeMap.{get_by_text}
 use Rattle.std.specs.Str.{bytes_eq}
-use Rattle.std.proofs.lemmas.Bool.{ne_eqb}
 use Rattle.std.proofs.lemmas.Slice.Eq.{bytes_eq-Decides}
 use Rattle.sg_history.specs.declared.entries.Entry.{Entry}
 use Rattle.sg_history.specs.declared.entries.Entry.TheVariants as entry
 use Rattle.sg_history.specs.declared.entries.Write.{Write}
-use Rattle.sg_history.specs.History.{as_write, of_document, write_to}
+use Rattle.sg_history.specs.History.{write_to}
 use Rattle.sg_history.specs.Current.{Sequenced, sequenced_or, last_write}
 use Rattle.rev_tree.specs.declared.tree.Node.{Node}
 use Rattle.rev_tree.specs.Extension.{Recorded, with_write}
 use Rattle.rev_tree.specs.Writes.{tree_of, is_accepted, AreAccepted}
 use Rattle.doc_board.specs.declared.document.Document.{Document}
-use Rattle.sg_history.specs.Line.{is_write}
 use Rattle.doc_board.specs.Candidates.{ExtendsTree}
-use Rattle.doc_board.specs.Kept.{document_at, AreKept, or_blank, placed, blank, kept_last, kept_tree, kept_nodes}
-use Rattle.rev_tree.specs.Documents.{recorded, recorded_before, writes_of, tree_at, sequence_of, last_at, tree_when}
+use Rattle.doc_board.specs.Kept.{document_at, AreKept, or_blank, placed, blank, kept_nodes}
+use Rattle.rev_tree.specs.Documents.{recorded, recorded_before, writes_of, tree_at, sequence_of, last_at}
 
 abbrev pub Documents : Type 0
 Documents = BTreeMap (String Global) Document
@@ -40,31 +38,7 @@ pub never : (es : List Entry) (doc : List ℕ) → writes_of es doc ≡ [] → l
 never [] doc h = refl
 never (e ∷ older) doc h = never_next (write_to e doc) (writes_of older doc) (length older + 1) (last_write older doc) (never older doc) h
 
-there_next : (o : Option Write) (ws : List Recorded) (n : ℕ) (last : Option Sequenced) → (if nat_eq (sequence_of last) 0 then None else Some (tree_of ws)) ≡ tree_when ws → (if nat_eq (sequence_of (sequenced_or o (n + 1) last)) 0 then None else Some (tree_of (recorded_before o ws))) ≡ tree_when (recorded_before o ws)
-there_next None ws n last before = before
-there_next (Some w) ws n last before =
-    ap (λ (b : Bool). if b then None else Some (tree_of (recorded w ∷ ws))) (ne_eqb (n + 1) 0 (λ e. omega arith))
-
--- the tree of a document is there where it has a last write
-there : (es : List Entry) (doc : List ℕ) → (if nat_eq (last_at es doc) 0 then None else Some (tree_at es doc)) ≡ tree_when (writes_of es doc)
-there [] doc = refl
-there (e ∷ older) doc = there_next (write_to e doc) (writes_of older doc) (length older) (last_write older doc) (there older doc)
-
 -- ---- what is found of a document
-
-pub last_found : (es : List Entry) (documents : Documents) (doc : List ℕ) → AreKept es documents → kept_last (get_by_text documents doc) ≡ last_at es doc
-last_found es documents doc kept = go (get_by_text documents doc) (kept doc)
-  where
-    go : (found : Option Document) → IsPlaced es doc found → kept_last found ≡ last_at es doc
-    go None h = sym (never es doc h)
-    go (Some d) h = ap (λ (k : Document). k.last) h
-
-pub tree_found : (es : List Entry) (documents : Documents) (doc : List ℕ) → AreKept es documents → kept_tree (get_by_text documents doc) ≡ tree_when (writes_of es doc)
-tree_found es documents doc kept = go (get_by_text documents doc) (kept doc)
-  where
-    go : (found : Option Document) → IsPlaced es doc found → kept_tree found ≡ tree_when (writes_of es doc)
-    go None h = sym (ap tree_when h)
-    go (Some d) h = ap (λ (k : Document). kept_tree (Some k)) h ∙ there es doc
 
 pub nodes_found : (es : List Entry) (documents : Documents) (doc : List ℕ) → AreKept es documents → kept_nodes (get_by_text documents doc) ≡ tree_at es doc
 nodes_found es documents doc kept = go (get_by_text documents doc) (kept doc)
@@ -96,36 +70,6 @@ pub place_made : (es : List Entry) (before after : Documents) (doc : Option (Lis
 place_made es before after doc made kept name =
     let P : Option Document → Type 0 = IsPlaced es name in
     subst P (sym (made name)) (placed_is es before doc name kept)
-
--- ---- an entry that is no write
-
-no_write_to : (o : Option Write) (doc : List ℕ) → is_some o ≡ false → of_document o doc ≡ None
-no_write_to None doc h = refl
-no_write_to (Some w) doc h = absurd (true≢false h)
-
-no_write : (e : Entry) (doc : List ℕ) → is_write e ≡ false → write_to e doc ≡ None
-no_write e doc h = no_write_to (as_write e) doc h
-
-pub writes_past : (e : Entry) (es : List Entry) (doc : List ℕ) → is_write e ≡ false → writes_of (e ∷ es) doc ≡ writes_of es doc
-writes_past e es doc h = ap (λ (o : Option Write). recorded_before o (writes_of es doc)) (no_write e doc h)
-
-last_past : (e : Entry) (es : List Entry) (doc : List ℕ) → is_write e ≡ false → last_at (e ∷ es) doc ≡ last_at es doc
-last_past e es doc h = ap (λ (o : Option Write). sequence_of (sequenced_or o (length es + 1) (last_write es doc))) (no_write e doc h)
-
-document_past : (e : Entry) (es : List Entry) (doc : List ℕ) → is_write e ≡ false → document_at es doc ≡ document_at (e ∷ es) doc
-document_past e es doc h =
-    ap (λ (n : ℕ). record { last = n; tree = tree_at es doc }) (sym (last_past e es doc h))
-    ∙ ap (λ (ws : List Recorded). record { last = last_at (e ∷ es) doc; tree = tree_of ws }) (sym (writes_past e es doc h))
-
-pub kept_past : (e : Entry) (es : List Entry) (documents : Documents) → is_write e ≡ false → AreKept es documents → AreKept (e ∷ es) documents
-kept_past e es documents h kept doc = go (get_by_text documents doc) (kept doc)
-  where
-    go : (found : Option Document) → IsPlaced es doc found → IsPlaced (e ∷ es) doc found
-    go None none = writes_past e es doc h ∙ none
-    go (Some d) is = is ∙ document_past e es doc h
-
-pub accepted_past : (e : Entry) (es : List Entry) → is_write e ≡ false → ((doc : List ℕ) → AreAccepted (writes_of es doc)) → (doc : List ℕ) → AreAccepted (writes_of (e ∷ es) doc)
-accepted_past e es h accepted doc = subst AreAccepted (sym (writes_past e es doc h)) (accepted doc)
 
 -- ---- a write
 

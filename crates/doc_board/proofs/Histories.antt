@@ -1,6 +1,6 @@
 -- the entries of a log and those of its book
 use Rattle.std.proofs.Common.{◌≡◌, ◌≤◌, ◌<◌, ◌+◌, ◌∙◌, ℕ, zero, suc, Bool, true, ◌&&◌, ◌||◌, not, List, [], ◌∷◌, ◌++◌, take, length, reverse, Option, Some, None, refl, sym, ap, subst, arith}
-use Rattle.std.specs.Prelude.{slice_get, nat_lt, is_some, IfSome}
+use Rattle.std.specs.Prelude.{slice_get, nat_lt, is_some}
 use Rattle.std.proofs.Math.Seq.{take-length}
 use Rattle.std.proofs.lemmas.List.{reverse-append, length-reverse}
 use Rattle.std.proofs.lemmas.Option.{none-some, same_Some, slice_get_within}
@@ -13,14 +13,22 @@ use Rattle.sg_history.specs.Book.{Book, book_of, book_with, entry_or, waiting_at
 use Rattle.sg_history.specs.Current.{Sequenced, write_of_rev}
 use Rattle.sg_history.specs.History.{as_write, past}
 use Rattle.sg_history.specs.Journal.{falls_from, has_rev, follows_rules, write_may_follow, IsEntry}
-use Rattle.doc_board.specs.Kept.{AreRight, IsRightBy, HaveDocuments, is_written_by, follows_writes}
+use Rattle.rev_tree.specs.declared.tree.Node.{Node}
+use Rattle.rev_tree.specs.Documents.{writes_in, writes_of, tree_at}
+use Rattle.rev_tree.specs.Extension.{Recorded}
+use Rattle.rev_tree.specs.Writes.{tree_of}
+use Rattle.doc_board.specs.Kept.{AreRight, IsRightBy, is_written_by, follows_writes, trees_by}
 use Rattle.doc_board.specs.Lawful.{AreLawful}
-use Rattle.doc_board.specs.Recorded.{HasDocument}
+use Rattle.doc_board.specs.Recorded.{AreFollowing, Follows, IsFirstBad, WriteMayFollow}
 use Rattle.doc_board.proofs.Puts.{same_up_to}
 
 -- what the law of books says of revisions
 abbrev pub SameOfRev : Type 0
 SameOfRev = (h : List Entry) (number : ℕ) (doc : List ℕ) (rev : RevId) → write_of_rev_up_to (book_of h) number doc rev ≡ write_of_rev (past h number) doc rev
+
+-- what the law of histories says of writes
+abbrev pub SameWrites : Type 0
+SameWrites = (h : List Entry) (number : ℕ) (doc : List ℕ) → writes_in (book_of h) number doc ≡ writes_of (past h number) doc
 
 -- ---- one place more
 
@@ -66,9 +74,21 @@ module _ (same : SameOfRev) (h : List Entry) (book : Book) (is_of : (m : ℕ) �
   may_by k low None right = refl
   may_by k low (Some w) right = sym (rules_same k low w) ∙ right.1
 
-  right_by : (k : ℕ) → k ≤ length h → (o : Option Write) → write_may_follow (past h k) o ≡ true → IfSome o (λ w. HasDocument w.body) → IsRightBy book (suc k) o
-  right_by k low None may body = tt
-  right_by k low (Some w) may body = (body, rules_same k low w ∙ may)
+  -- the tree of the writes of a book is that of the older entries
+  tree_same : SameWrites → (k : ℕ) → k ≤ length h → (doc : List ℕ) → trees_by (writes_up_to book k doc) ≡ tree_at (past h k) doc
+  tree_same same_writes k low doc =
+      ap (λ (ws : List Sequenced). trees_by ws) (same_up_to book (book_of h) doc k (λ m least under. ap (λ (o : Option Entry). written_in o doc) (is_of m least (omega (arith, low, under)))))
+      ∙ ap (λ (ws : List Recorded). tree_of ws) (same_writes h k doc)
+
+  right_by : SameWrites → (k : ℕ) → k ≤ length h → (o : Option Write) → write_may_follow (past h k) o ≡ true → WriteMayFollow (past h k) o → IsRightBy book (suc k) o
+  right_by same_writes k low None may next = tt
+  right_by same_writes k low (Some w) may next =
+      (next.0, rules_same k low w ∙ may, subst (λ (t : List Node). Follows t w) (sym (tree_same same_writes k low w.doc)) next.1)
+
+  next_by : SameWrites → (k : ℕ) → k ≤ length h → (o : Option Write) → IsRightBy book (suc k) o → WriteMayFollow (past h k) o
+  next_by same_writes k low None right = tt
+  next_by same_writes k low (Some w) right =
+      (right.0, subst (λ (t : List Node). Follows t w) (tree_same same_writes k low w.doc) right.2)
 
   -- the log of a book whose entries are right is lawful
   lawful_up_to : AreRight book → (k : ℕ) → k ≤ length h → AreLawful (past h k)
@@ -83,6 +103,20 @@ module _ (same : SameOfRev) (h : List Entry) (book : Book) (is_of : (m : ℕ) �
   pub lawful_log : AreRight book → AreLawful (reverse h)
   lawful_log right =
       subst AreLawful (ap (λ (es : List Entry). reverse es) (take-length h)) (lawful_up_to right (length h) (omega arith))
+
+  -- and a board may have its entries
+  following_up_to : SameWrites → AreRight book → (k : ℕ) → k ≤ length h → AreFollowing (past h k)
+  following_up_to same_writes right zero low = tt
+  following_up_to same_writes right (suc k) low =
+      let at = there h k (omega (arith, low)) in
+      let in_book : book (suc k) ≡ Some at.0 = is_of (suc k) (omega arith) low ∙ at.1 in
+      let is = right (suc k) at.0 in_book in
+      subst AreFollowing (sym (past_next h k at.0 at.1))
+      (next_by same_writes k (omega (arith, low)) (as_write at.0) is.1, following_up_to same_writes right k (omega (arith, low)))
+
+  pub following_log : SameWrites → AreRight book → AreFollowing (reverse h)
+  following_log same_writes right =
+      subst AreFollowing (ap (λ (es : List Entry). reverse es) (take-length h)) (following_up_to same_writes right (length h) (omega arith))
 
 -- ---- a log that was recorded
 
@@ -103,9 +137,9 @@ difference zero b low = (b, omega arith)
 difference (suc a) zero low = absurd (omega (arith, low))
 difference (suc a) (suc b) low = let rest = difference a b (omega (arith, low)) in (rest.0, omega (arith, rest.1))
 
-pub right_log : SameOfRev → (h : List Entry) → AreLawful (reverse h) → HaveDocuments (reverse h) → AreRight (book_with h [])
-right_log same h lawful bodies zero e is = absurd (none-some e is)
-right_log same h lawful bodies (suc k) e is = go (slice_get h k) refl is
+pub right_log : SameOfRev → SameWrites → (h : List Entry) → AreLawful (reverse h) → AreFollowing (reverse h) → AreRight (book_with h [])
+right_log same same_writes h lawful following zero e is = absurd (none-some e is)
+right_log same same_writes h lawful following (suc k) e is = go (slice_get h k) refl is
   where
     alone : (m : ℕ) → 1 ≤ m → m ≤ length h → book_with h [] m ≡ book_of h m
     alone m least low = pick (book_of h m)
@@ -121,10 +155,18 @@ right_log same h lawful bodies (suc k) e is = go (slice_get h k) refl is
         let here : slice_get h k ≡ Some e = at ∙ is in
         let left = difference (suc k) (length h) (omega (arith, low)) in
         let rules = subst AreLawful (past_next h k e here) (down_to AreLawful (λ f es p. p.2) h (suc k) left.0 left.1 lawful) in
-        let body = subst HaveDocuments (past_next h k e here) (down_to HaveDocuments (λ f es p. p.1) h (suc k) left.0 left.1 bodies) in (
+        let next = subst AreFollowing (past_next h k e here) (down_to AreFollowing (λ f es p. p.1) h (suc k) left.0 left.1 following) in (
           rules.0,
-          right_by same h (book_with h []) alone k (omega (arith, low)) (as_write e) rules.1 body.0,
+          right_by same h (book_with h []) alone same_writes k (omega (arith, low)) (as_write e) rules.1 next.0,
         )
+
+-- no entry of entries that a board may have is the first that it may not
+pub none_bad : (h : List Entry) (sequence : ℕ) → AreFollowing (reverse h) → ¬ IsFirstBad h sequence
+none_bad h sequence following bad =
+    let low : bad.place < length h = slice_get_within h bad.place bad.bad bad.there in
+    let left = difference (suc bad.place) (length h) (omega (arith, low)) in
+    let next = subst AreFollowing (past_next h bad.place bad.bad bad.there) (down_to AreFollowing (λ f es p. p.1) h (suc bad.place) left.0 left.1 following) in
+    bad.refused next.0
 
 -- at the places of a log its book has the log's entries
 pub in_log_book : (h : List Entry) (waiting : List Waiting) (m : ℕ) → 1 ≤ m → m ≤ length h → book_with h waiting m ≡ book_of h m

@@ -4,6 +4,7 @@ pub mod BoardTrees
 pub mod Bodies
 pub mod Documents
 pub mod Empty
+pub mod Following
 pub mod Histories
 pub mod LaterBoards
 pub mod Lawful

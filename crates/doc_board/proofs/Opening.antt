@@ -10,23 +10,23 @@ use Rattle.sg_history.specs.Book.{book_of, book_with, entry_or, written_in, writ
 use Rattle.sg_history.specs.Current.{Sequenced}
 use Rattle.sg_history.specs.History.{past}
 use Rattle.pending_front.specs.Pending.{Reserved}
-use Rattle.rev_tree.specs.Documents.{recorded, sequence_of, writes_in, last_in, writes_of, last_at}
+use Rattle.rev_tree.specs.Documents.{recorded, sequence_of, last_in, writes_of, last_at}
 use Rattle.rev_tree.specs.Extension.{Recorded}
 use Rattle.rev_tree.specs.Writes.{AreAccepted, tree_of}
 use Rattle.doc_board.specs.declared.document.Document.{Document}
 use Rattle.doc_board.specs.Boards.{bytes_stored}
-use Rattle.doc_board.specs.Kept.{AreKept, HasNoneAbove, HaveDocuments, IsBoard, document_at, document_with}
+use Rattle.doc_board.specs.Kept.{AreKept, HasNoneAbove, IsBoard, document_at, document_with}
 use Rattle.doc_board.specs.Lawful.{AreLawful}
+use Rattle.doc_board.specs.Recorded.{AreFollowing, IsFirstBad}
+use Rattle.doc_board.specs.declared.open.OpenFault.{OpenFault}
+use Rattle.doc_board.specs.declared.open.OpenFault.TheVariants.{Bad, Memory}
 use Rattle.doc_board.proofs.Documents.{Documents}
-use Rattle.doc_board.proofs.Histories.{SameOfRev, right_log}
+use Rattle.doc_board.proofs.Histories.{SameOfRev, SameWrites, none_bad, right_log}
 use Rattle.doc_board.proofs.OnBoards.{whole}
 use Rattle.doc_board.proofs.Puts.{same_up_to, meets, no_write_where_none}
 use Rattle.doc_board.proofs.Steps.{past_log}
 
--- what the laws of histories say
-abbrev pub SameWrites : Type 0
-SameWrites = (h : List Entry) (number : ℕ) (doc : List ℕ) → writes_in (book_of h) number doc ≡ writes_of (past h number) doc
-
+-- what the law of histories says of the last write
 abbrev pub SameLast : Type 0
 SameLast = (h : List Entry) (number : ℕ) (doc : List ℕ) → last_in (book_of h) number doc ≡ last_at (past h number) doc
 
@@ -58,15 +58,15 @@ kept_by es doc ws (Some k) writes last h =
     ∙ ap (λ (rs : List Recorded). record { last = sequence_of (first_write ws); tree = tree_of rs }) (sym writes)
 
 opened_with : SameWrites → SameLast → SameOfRev → (log : entries.EntryList) (documents : Documents) (left : ℕ) (bases : ℕ → Option ℕ) (spare stored : ℕ)
-    → AreKept (reverse log.list) documents → ((doc : List ℕ) → AreAccepted (writes_of (reverse log.list) doc)) → HaveDocuments (reverse log.list) → AreLawful (reverse log.list)
+    → AreKept (reverse log.list) documents → ((doc : List ℕ) → AreAccepted (writes_of (reverse log.list) doc)) → AreFollowing (reverse log.list) → AreLawful (reverse log.list)
     → stored ≡ min (bytes_stored log.list) 18446744073709551615
     → IsBoard log (record { waiting = []; spare = left }) documents bases spare [] stored
-opened_with same_writes same_last same_rev log documents left bases spare stored kept accepted bodies lawful bytes = record {
+opened_with same_writes same_last same_rev log documents left bases spare stored kept accepted following lawful bytes = record {
   standing = record {
     kept = record {
       documents = λ top over doc. kept_by (reverse log.list) doc (writes_up_to (book_with log.list []) top doc) (get_by_text documents doc) (writes_are log.list top over doc same_writes) (last_is log.list top over doc same_last) (kept doc);
       accepted = λ top over doc. subst AreAccepted (sym (writes_are log.list top over doc same_writes)) (accepted doc);
-      right = right_log same_rev log.list lawful bodies;
+      right = right_log same_rev same_writes log.list lawful following;
     };
     beyond = λ place least low. refl;
     based = λ number e w least waits is. absurd (none-some _ waits);
@@ -82,10 +82,15 @@ opened_with same_writes same_last same_rev log documents left bases spare stored
 
 pub opened : SameWrites → SameLast → SameOfRev → (log : entries.EntryList) (documents : Documents) (p : Reserved) (bases : ℕ → Option ℕ) (spare stored : ℕ) (rooms : List RoomFor)
     → p.waiting ≡ [] → rooms ≡ []
-    → AreKept (reverse log.list) documents → ((doc : List ℕ) → AreAccepted (writes_of (reverse log.list) doc)) → HaveDocuments (reverse log.list) → AreLawful (reverse log.list)
+    → AreKept (reverse log.list) documents → ((doc : List ℕ) → AreAccepted (writes_of (reverse log.list) doc)) → AreFollowing (reverse log.list) → AreLawful (reverse log.list)
     → stored ≡ min (bytes_stored log.list) 18446744073709551615
     → IsBoard log p documents bases spare rooms stored
-opened same_writes same_last same_rev log documents p bases spare stored rooms none_waits none_out kept accepted bodies lawful bytes =
+opened same_writes same_last same_rev log documents p bases spare stored rooms none_waits none_out kept accepted following lawful bytes =
     subst (λ (ws : _). IsBoard log (record { waiting = ws; spare = p.spare }) documents bases spare rooms stored) (sym none_waits)
     (subst (λ (rs : List RoomFor). IsBoard log (record { waiting = []; spare = p.spare }) documents bases spare rs stored) (sym none_out)
-    (opened_with same_writes same_last same_rev log documents p.spare bases spare stored kept accepted bodies lawful bytes))
+    (opened_with same_writes same_last same_rev log documents p.spare bases spare stored kept accepted following lawful bytes))
+
+-- a log that a board may have is refused for memory alone
+pub memory_alone : (h : List Entry) (fault : OpenFault) → ((sequence : ℕ) → fault ≡ Bad sequence → IsFirstBad h sequence) → AreFollowing (reverse h) → fault ≡ Memory
+memory_alone h (Bad sequence) bad following = absurd (none_bad h sequence following (bad sequence refl))
+memory_alone h Memory bad following = refl

@@ -21,9 +21,10 @@ use Rattle.rev_tree.specs.Documents.{recorded, sequence_of, last_in, tree_in}
 use Rattle.rev_tree.specs.Writes.{AreAccepted, is_accepted, tree_of}
 use Rattle.doc_board.specs.Boards.{body_size, bytes_stored, bytes_waiting}
 use Rattle.doc_board.specs.Candidates.{ExtendsTree}
-use Rattle.doc_board.specs.Kept.{AreRight, AreBases, HasNoneAbove, IsKept, IsRightBy, below, follows_writes}
-use Rattle.doc_board.specs.Recorded.{HasDocument}
+use Rattle.doc_board.specs.Kept.{AreRight, AreBases, HasNoneAbove, IsKept, IsRightBy, below, follows_writes, trees_by}
+use Rattle.doc_board.specs.Recorded.{Follows, HasDocument}
 use Rattle.doc_board.proofs.Documents.{Documents, same_names}
+use Rattle.doc_board.proofs.Following.{extension_follows}
 use Rattle.doc_board.proofs.Lawful.{SameRevisions, SameLeaves, follows}
 use Rattle.doc_board.proofs.Places.{more_by, same_by}
 use Rattle.doc_board.proofs.Puts as puts
@@ -86,7 +87,11 @@ module _ (old new : Book) (n : ℕ) (e : Entry) (from : 1 ≤ n) (free : old n �
   right_older : (m : ℕ) (x : Entry) → old m ≡ Some x → (o : Option Write) → as_write x ≡ o → IsRightBy old m o → IsRightBy new m o
   right_older m x there None is right = tt
   right_older m x there (Some v) is right =
-      (right.0, subst (λ (ws : List Sequenced). IsTrue (follows_writes ws m v)) (sym (puts.below_old old new n e from free put above m x v there is)) right.1)
+      let same = puts.below_old old new n e from free put above m x v there is in (
+        right.0,
+        subst (λ (ws : List Sequenced). IsTrue (follows_writes ws m v)) (sym same) right.1,
+        subst (λ (ws : List Sequenced). Follows (trees_by ws) v) (sym same) right.2,
+      )
 
   right_more : AreRight old → IsEntry e × IsRightBy new n (as_write e) → AreRight new
   right_more right it m x there = go (cases_eq n m)
@@ -249,6 +254,7 @@ module _ (old new : Book) (n : ℕ) (w : Write) (from : 1 ≤ n) (free : old n �
         body,
         subst (λ (ws : List Sequenced). IsTrue (follows_writes ws n w)) (sym below_it)
             (follows same_revisions same_leaves w (writes_up_to old whole w.doc) n tree (kept.accepted whole over_whole w.doc) extends judged),
+        subst (λ (ws : List Sequenced). Follows (trees_by ws) w) (sym below_it) (extension_follows (tree_in old whole w.doc) w tree extends),
       ),
     );
   }

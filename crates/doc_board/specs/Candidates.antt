@@ -41,9 +41,10 @@ abbrev pub made_at : Candidate → ℕ → ℕ
 made_at (candidate.Write w tree base) before = w.at
 made_at (candidate.Plain e) before = before
 
--- the tree accepts the write, the new tree is the one with it, and the write names that tree's winner
+-- the tree accepts the write, which has at most 1,000 ancestors, the new tree is the one with it, and the write names that tree's winner
 pub record ExtendsTree (before : List Node) (w : Write) (after : List Node) : Type 0 where
   pub accepted : IsTrue (is_accepted before (recorded w))
+  pub few : length w.ancestors ≤ 1000
   pub tree : after ≡ with_write before (recorded w)
   pub winner : option_map (λ l. l.rev) (winner_of after) ≡ Some w.winner
 

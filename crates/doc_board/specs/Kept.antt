@@ -1,5 +1,5 @@
 -- what a board keeps beside its log
-use Rattle.std.specs.Prelude.{◌≡◌, ◌≤◌, ◌<◌, ◌+◌, ◌*◌, ℕ, zero, suc, min, Bool, true, ◌&&◌, ◌||◌, not, List, [], ◌∷◌, map, length, is_some, Option, Some, None, IfSome, IsTrue, MatchOption, nat_eq, nat_lt, if◌then◌else◌}
+use Rattle.std.specs.Prelude.{◌≡◌, ◌≤◌, ◌<◌, ◌+◌, ◌*◌, ℕ, zero, suc, min, Bool, true, ◌&&◌, ◌||◌, not, List, [], map, length, is_some, Option, Some, None, IsTrue, MatchOption, nat_eq, nat_lt, if◌then◌else◌}
 use Rattle.std.specs.BTreeMap.{BTreeMap, get_by_text}
 use Rattle.std.specs.List.{list_all}
 use Rattle.std.specs.Str.{bytes_eq}
@@ -21,7 +21,7 @@ use Rattle.rev_tree.specs.Writes.{AreAccepted, tree_of}
 use Rattle.doc_board.specs.declared.document.Document.{Document}
 use Rattle.sg_history.specs.declared.room.RoomFor.{RoomFor}
 use Rattle.doc_board.specs.Boards.{bytes_stored, bytes_waiting}
-use Rattle.doc_board.specs.Recorded.{HasDocument}
+use Rattle.doc_board.specs.Recorded.{Follows, HasDocument}
 use Rattle.rev_tree.specs.Documents.{recorded, sequence_of, writes_in, writes_of, tree_at, last_at}
 
 -- what is to be kept of a document after these entries, the newest first
@@ -65,11 +65,6 @@ abbrev pub kept_nodes : Option Document → List Node
 kept_nodes None = []
 kept_nodes (Some kept) = kept.tree
 
--- the body of each write among these entries is a document
-abbrev pub HaveDocuments : List Entry → Type 0
-HaveDocuments [] = Unit {0}
-HaveDocuments (e ∷ older) = IfSome (as_write e) (λ w. HasDocument w.body) × HaveDocuments older
-
 -- ---- what is kept of a board's book
 
 -- the tree of these writes, the last one first
@@ -99,10 +94,10 @@ follows_writes ws number w =
     not (is_written_by ws w.rev) && falls_from w.rev.generation w.ancestors && nat_lt w.at number
     && (same_rev w.winner w.rev || is_written_by ws w.winner)
 
--- a write at a number of a book, where there is one: its body is a document, and it follows the rules after the writes of its document below
+-- a write at a number of a book, where there is one: its body is a document, it follows the rules after the writes of its document below, and the tree of those accepts it
 abbrev pub IsRightBy : Book → ℕ → Option Write → Type 0
 IsRightBy book number None = Unit {0}
-IsRightBy book number (Some w) = HasDocument w.body × IsTrue (follows_writes (below book number w.doc) number w)
+IsRightBy book number (Some w) = HasDocument w.body × IsTrue (follows_writes (below book number w.doc) number w) × Follows (trees_by (below book number w.doc)) w
 
 -- each entry of a book is in its grammar, and right where it is a write
 abbrev pub AreRight : Book → Type 0

@@ -1,6 +1,6 @@
 //! The board: the log, each document's tree, and the rooms that are outstanding.
 
-ghost use Rattle.std.specs.Prelude.{◌≡◌, ◌≢◌, ◌≤◌, ◌<◌, ◌+◌, ◌-◌, ◌*◌, ◌++◌, ◌∷◌, [], ℕ, List, false, true, length, reverse, is_some, Some, None, option_map, OnOk, OnErr, IfOk, IfSome, IfNone, IsTrue, Err};
+ghost use Rattle.std.specs.Prelude.{◌≡◌, ◌≢◌, ◌≤◌, ◌<◌, ◌+◌, ◌-◌, ◌*◌, ◌++◌, ◌∷◌, [], ℕ, List, false, true, length, reverse, is_some, Some, None, option_map, OnOk, OnErr, IfOk, IfErr, IfSome, IfNone, IsTrue, Err};
 ghost use Rattle.std.specs.Option.{option_copied};
 ghost use Rattle.sg_history.specs.Book.{waiting_at};
 ghost use Rattle.sg_history.specs.History.{entries_of, among};
@@ -122,6 +122,8 @@ impl Board {
         ensures following { IfOk result (λ board. AreFollowing (reverse (entries_of log))) }
         ensures bad { (sequence : ℕ) → result ≡ Err (OpenFault.Bad sequence) → IsFirstBad
             (entries_of log) sequence }
+        ensures accepts { AreFollowing (reverse (entries_of log))
+            → IfErr result (λ fault. fault ≡ OpenFault.Memory) }
     {
         histories();
         books();
@@ -162,13 +164,15 @@ impl Board {
         self.storage.log.entries.as_slice().len() as u64
     }
 
-    /// The log. Allocates nothing.
+    /// The log, which `open` accepts. Allocates nothing.
     pub fn log(&self) -> &Log
         ensures log { entries_of result.now ≡ self.now.log }
         ensures lawful { AreLawful (newest_first self.now) }
         ensures entries { AreEntries (book_on self.now) }
         ensures accepted { (doc : List ℕ) → AreAccepted (writes_on self.now doc) }
+        ensures following { AreFollowing (newest_first self.now) }
     {
+        histories();
         books();
         &self.storage.log
     }

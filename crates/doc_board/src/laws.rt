@@ -1,6 +1,6 @@
 //! Laws of boards' logs. Each is the contract of a function that does nothing.
 
-ghost use Rattle.std.specs.Prelude.{◌≡◌, ◌≢◌, ◌≤◌, ◌<◌, ◌+◌, ◌++◌, ◌∷◌, [], ℕ, false, length, reverse, List, Option, IsTrue};
+ghost use Rattle.std.specs.Prelude.{◌≡◌, ◌≢◌, ◌≤◌, ◌<◌, ◌+◌, ◌++◌, ◌∷◌, [], ℕ, Bool, false, length, reverse, List, Option, IsTrue};
 ghost use Rattle.sg_history.specs.declared.entries.Entry.{Entry};
 ghost use Rattle.sg_history.specs.Board.{BoardState, board_book};
 ghost use Rattle.sg_history.specs.Book.{Book, Later, book_of};
@@ -16,6 +16,7 @@ ghost use Rattle.sg_names.specs.RevId.{is_rev};
 ghost use Rattle.sg_names.specs.declared.rev_id.RevId.{RevId};
 ghost use Rattle.rev_tree.specs.declared.tree.Node.{Node};
 ghost use Rattle.rev_tree.specs.Documents.{tree_in, tree_when, last_at, base_in};
+ghost use Rattle.rev_tree.specs.Extension.{extends_tree, verdict_of};
 ghost use Rattle.rev_tree.specs.Writes.{AreAccepted};
 ghost use Rattle.repl_messages.specs.declared.revision.Revision.{Revision};
 ghost use Rattle.sync_syntax.specs.declared.tree.Program.{Program};
@@ -43,6 +44,12 @@ pub fn winners()
 {
     trees_of_writes();
 }
+
+/// A revision that extends a tree has at most 1,000 ancestors.
+pub fn few_ancestors()
+    ensures { (tree : List Node) (rev : RevId) (ancestors : List RevId) (strict : Bool)
+        → verdict_of tree rev ancestors strict ≡ extends_tree → length ancestors ≤ 1000 }
+{}
 
 /// A board as plain data says of a document what its book says: its last write, its tree, which has no
 /// revisions where the document was never written, and the write on which a revision is based.

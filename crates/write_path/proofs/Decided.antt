@@ -1,5 +1,6 @@
 -- the outcome of a revision by a board, from the steps that judge it
-use Rattle.std.proofs.Common.{◌≡◌, ◌∙◌, ℕ, Bool, List, length, reverse, take, Option, Ok, Err, Some, sym, ap, subst, option_map}
+use Rattle.std.proofs.Common.{◌≡◌, ◌≤◌, ◌∙◌, arith, ℕ, Bool, List, length, reverse, take, Option, Ok, Err, Some, sym, ap, subst, option_map}
+use Rattle.sg_names.specs.declared.rev_id.RevId.{RevId}
 use Rattle.sg_history.specs.declared.entries.Entry.{Entry}
 use Rattle.sg_history.specs.declared.entries.Entry.TheVariants as kinds
 use Rattle.sg_history.specs.declared.entries.Write.{Write}
@@ -10,7 +11,7 @@ use Rattle.rev_tree.specs.declared.extend.Extended.{Extended}
 use Rattle.rev_tree.specs.declared.extend.Extended.TheVariants as extended
 use Rattle.rev_tree.specs.declared.tree.Node.{Node}
 use Rattle.rev_tree.specs.Documents.{deletes}
-use Rattle.rev_tree.specs.Extension.{extends_tree}
+use Rattle.rev_tree.specs.Extension.{extends_tree, verdict_of}
 use Rattle.rev_tree.specs.Tree.{winner_of}
 use Rattle.sync_syntax.specs.declared.tree.Program.{Program}
 use Rattle.sync_meaning.specs.declared.effects.Effects.{Effects}
@@ -39,19 +40,26 @@ use Rattle.write_path.proofs.Grown.{last_still}
 use Rattle.write_path.proofs.Judged.{said_on}
 use Rattle.write_path.proofs.Proposed.{same_board}
 
+-- what the law of ancestors says
+abbrev pub FewExtend : Type 0
+FewExtend = (tree : List Node) (rev : RevId) (ancestors : List RevId) (strict : Bool) → verdict_of tree rev ancestors strict ≡ extends_tree → length ancestors ≤ 1000
+
 -- ---- by a snapshot of a board
 
 module _ (s : State) (strict : Bool) (by : Option (List ℕ)) (r : Revision) (snapshot : Snapshot) (is : IsSnapshot s strict by r snapshot) where
   step_is : (e : Extended) → snapshot.step ≡ e → IsStep (board_tree (board_of s) r.doc) r strict e
   step_is e step = subst (λ (x : Extended). IsStep (board_tree (board_of s) r.doc) r strict x) step is.step
 
-  pub extends_at : (judged : Judged) → IsExtension snapshot judged → IsExtensionAt s by r judged
-  extends_at judged new = record {
-    at = new.at ∙ is.at;
-    base = new.base ∙ is.last;
-    tree = (step_is (extended.NewTree judged.tree judged.kept) new.step).1;
-    basis = subst (λ (b : Basis). IsBasis s by r b) (sym new.basis) is.basis;
-  }
+  pub extends_at : FewExtend → (judged : Judged) → IsExtension snapshot judged → IsExtensionAt s by r judged
+  extends_at few judged new =
+      let step = step_is (extended.NewTree judged.tree judged.kept) new.step in
+      record {
+        at = new.at ∙ is.at;
+        base = new.base ∙ is.last;
+        tree = step.1;
+        few = omega (arith, step.1.within, few (board_tree (board_of s) r.doc) r.rev r.ancestors strict step.0);
+        basis = subst (λ (b : Basis). IsBasis s by r b) (sym new.basis) is.basis;
+      }
 
   pub judged_at : IsWellFormed r → (judged : Judged) → IsExtension snapshot judged → IsJudged strict by r (board_of s) extends_tree judged.at
   judged_at formed judged new =
@@ -98,8 +106,8 @@ pub made_of : (s : State) (program : Program) (by : Option (List ℕ)) (r : Revi
     → board_tree (board_of s) r.doc ≡ tree_on s r.doc → IsExtensionAt s by r judged → IsWritten by r judged.at judged.tree judged.kept effects w → IsEntry (kinds.Write w) → HasDocument w.body
     → IsSaid program by r (board_of s) (Ok effects) → IsMade s program by r (record { entry = w; tree = judged.tree; base = judged.base })
 made_of s program by r judged effects w same new is entry document said =
-    let extends : ExtendsTree (board_tree (board_of s) r.doc) w judged.tree = extends_new (board_tree (board_of s) r.doc) by r judged.at judged.tree judged.kept effects w new.tree is in
-    let on : ExtendsTree (tree_on s w.doc) w judged.tree = extends_on s by r judged.at judged.tree judged.kept effects w same new.tree is in
+    let extends : ExtendsTree (board_tree (board_of s) r.doc) w judged.tree = extends_new (board_tree (board_of s) r.doc) by r judged.at judged.tree judged.kept effects w new.tree new.few is in
+    let on : ExtendsTree (tree_on s w.doc) w judged.tree = extends_on s by r judged.at judged.tree judged.kept effects w same new.tree new.few is in
     record {
       is_write = record {
         doc = is.doc;
@@ -143,6 +151,7 @@ module _ (s m : State) (same : IsAsBefore s m) where
     at = is.at ∙ sym (ap (λ (es : List Entry). length es) same.log);
     base = is.base ∙ last_still s m r.doc same.log same.pending;
     tree = subst (λ (b : BoardState). IsNewTree (board_tree b r.doc) r judged.tree judged.kept) (sym boards_same) is.tree;
+    few = is.few;
     basis = basis_still by r judged.basis is.basis;
   }
 

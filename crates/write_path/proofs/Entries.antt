@@ -1,9 +1,10 @@
 -- the write of a revision in its grammar is an entry in its grammar
-use Rattle.std.proofs.Common.{◌≡◌, ◌<◌, ◌^◌, ℕ, Bool, true, false, ◌&&◌, List, [], ◌∷◌, map, length, take, zero, suc, Option, Some, None, refl, sym, ap, ◌∙◌, subst, arith, IsTrue, decimal}
+use Rattle.std.proofs.Common.{◌≡◌, ◌<◌, ◌≤◌, ◌^◌, ℕ, Bool, true, false, ◌&&◌, List, [], ◌∷◌, map, length, take, zero, suc, Option, Some, None, refl, sym, ap, ◌∙◌, subst, arith, IsTrue, decimal}
 use Rattle.std.specs.Prelude.{IsUtf8, nat_le, nat_lt, nat_eq, not, IfSome}
 use Rattle.std.specs.List.{list_all, join_with_byte}
 use Rattle.std.specs.Str.{IsAscii}
 use Rattle.std.proofs.lemmas.Bool.{and_parts, and_from, ltb-true, leb-true, lt-ltb, eqb-false, not-true}
+use Rattle.std.proofs.lemmas.List.{length-take}
 use Rattle.std.proofs.lemmas.Fmt.{IsAscii-decimal}
 use Rattle.std.proofs.lemmas.Str.{IsAscii-append, IsUtf8-from_ascii}
 use Rattle.std.proofs.lemmas.Str.Ascii.{IsAscii-nil, IsAscii-cons}
@@ -130,18 +131,22 @@ recorded_same author r front tree kept effects w is =
     ∙ ap (λ (ancestors : List RevId). record { rev = r.rev; ancestors = ancestors; deleted = w.deleted }) is.ancestors
     ∙ ap (λ (deleted : Bool). record { rev = r.rev; ancestors = take kept r.ancestors; deleted = deleted }) is.deleted
 
+taken_few : (k : ℕ) (revs : List RevId) → k ≤ 1000 → length (take k revs) ≤ 1000
+taken_few k revs few = omega (arith, few, length-take k revs)
+
 -- the write of a revision that extends a tree extends it
-pub extends_new : (before : List Node) (author : Option (List ℕ)) (r : Revision) (front : ℕ) (tree : List Node) (kept : ℕ) (effects : Effects) (w : Write) → IsNewTree before r tree kept → IsWritten author r front tree kept effects w → ExtendsTree before w tree
-extends_new before author r front tree kept effects w new is = record {
+pub extends_new : (before : List Node) (author : Option (List ℕ)) (r : Revision) (front : ℕ) (tree : List Node) (kept : ℕ) (effects : Effects) (w : Write) → IsNewTree before r tree kept → kept ≤ 1000 → IsWritten author r front tree kept effects w → ExtendsTree before w tree
+extends_new before author r front tree kept effects w new few is = record {
   accepted = subst (λ (x : Recorded). IsTrue (is_accepted before x)) (sym (recorded_same author r front tree kept effects w is)) new.accepted;
+  few = subst (λ (ancestors : List RevId). length ancestors ≤ 1000) (sym is.ancestors) (taken_few kept r.ancestors few);
   tree = new.tree ∙ ap (with_write before) (sym (recorded_same author r front tree kept effects w is));
   winner = is.winner;
 }
 
-pub extends_on : (s : State) (author : Option (List ℕ)) (r : Revision) (front : ℕ) (tree : List Node) (kept : ℕ) (effects : Effects) (w : Write) → board_tree (board_of s) r.doc ≡ tree_on s r.doc → IsNewTree (board_tree (board_of s) r.doc) r tree kept → IsWritten author r front tree kept effects w → ExtendsTree (tree_on s w.doc) w tree
-extends_on s author r front tree kept effects w same new is =
+pub extends_on : (s : State) (author : Option (List ℕ)) (r : Revision) (front : ℕ) (tree : List Node) (kept : ℕ) (effects : Effects) (w : Write) → board_tree (board_of s) r.doc ≡ tree_on s r.doc → IsNewTree (board_tree (board_of s) r.doc) r tree kept → kept ≤ 1000 → IsWritten author r front tree kept effects w → ExtendsTree (tree_on s w.doc) w tree
+extends_on s author r front tree kept effects w same new few is =
     let on : ExtendsTree (tree_on s r.doc) w tree =
-    subst (λ (t : List Node). ExtendsTree t w tree) same (extends_new (board_tree (board_of s) r.doc) author r front tree kept effects w new is) in
+    subst (λ (t : List Node). ExtendsTree t w tree) same (extends_new (board_tree (board_of s) r.doc) author r front tree kept effects w new few is) in
     subst (λ (doc : List ℕ). ExtendsTree (tree_on s doc) w tree) (sym is.doc) on
 
 positive : (n : ℕ) → nat_eq n 0 ≡ false → 0 < n

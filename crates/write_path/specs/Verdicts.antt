@@ -1,5 +1,5 @@
 -- What the functions that judge a revision hand on to one another. Only proofs need this.
-use Rattle.std.specs.Prelude.{◌≡◌, ℕ, Bool, true, false, List, length, reverse, option_map, Option, Some, None, Ok, Err, IfSome}
+use Rattle.std.specs.Prelude.{◌≡◌, ◌≤◌, ℕ, Bool, true, false, List, length, reverse, option_map, Option, Some, None, Ok, Err, IfSome}
 use Rattle.sg_history.specs.Board.{BoardState}
 use Rattle.json_doc.specs.Tree.{Tree}
 use Rattle.repl_messages.specs.declared.revision.Revision.{Revision}
@@ -96,9 +96,10 @@ IsStoppedBy front exists step (outcome.Conflict409 at leaf) = (exists ≡ true) 
 IsStoppedBy front exists step outcome.Memory507 = Unit {0}
 IsStoppedBy front exists step other = ⊥
 
--- the board's front, the last write of the revision's document, the tree with the revision, and what the program is to judge it on
+-- the board's front, the last write of the revision's document, the tree with the revision, on at most 1,000 ancestors, and what the program is to judge it on
 pub record IsExtensionAt (s : State) (by : Option (List ℕ)) (r : Revision) (judged : Judged) : Type 0 where
   pub at : judged.at ≡ length s.log
   pub base : judged.base ≡ last_on s r.doc
   pub tree : IsNewTree (board_tree (board_of s) r.doc) r judged.tree judged.kept
+  pub few : judged.kept ≤ 1000
   pub basis : IsBasis s by r judged.basis

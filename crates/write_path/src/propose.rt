@@ -31,7 +31,7 @@ use crate::judging::{Basis, document_in, said_of};
 use crate::refused::without_room;
 use crate::retry::Ready;
 use crate::texts::pass_effects;
-use doc_board::laws::{alone, boards, winners};
+use doc_board::laws::{alone, boards, few_ancestors, winners};
 use doc_board::{Board, Candidate, MOST_BODY_BYTES, NoRoom, Outcome, Snapshot};
 use json_doc::Doc;
 use repl_messages::{Field, Revision};
@@ -415,6 +415,7 @@ fn extension_of(
     ensures stopped { (program : Program) → IfErr result (λ outcome. IsOutcome program strict
         (option_copied by.entry) revision.now (board_of board.old) outcome × IsTurnedDown outcome) }
 {
+    few_ancestors();
     match snapshot_of(board, revision, strict, by) {
         Ok(snapshot) => extension_in(snapshot),
         Err(_) => Err(Outcome::Memory507),

@@ -13,7 +13,7 @@ use Rattle.write_path.proofs.propose.extension_of.Goals as goal
 pub returns-in-Ok-clause-extends : goal.returns-in-Ok-clause-extends
 returns-in-Ok-clause-extends c =
     IfOk-weaker c.extension_in.result (IsExtension c.in-Ok.snapshot) (IsExtensionAt c.args.board.now (option_copied c.args.by) c.args.revision.now)
-    (extends_at c.args.board.now c.args.strict (option_copied c.args.by) c.args.revision.now c.in-Ok.snapshot c.in-Ok.ensures.snapshot) c.extension_in.ensures.extends
+    (extends_at c.args.board.now c.args.strict (option_copied c.args.by) c.args.revision.now c.in-Ok.snapshot c.in-Ok.ensures.snapshot c.few_ancestors.ensures) c.extension_in.ensures.extends
 
 pub returns-in-Ok-clause-judged : goal.returns-in-Ok-clause-judged
 returns-in-Ok-clause-judged c =
