@@ -11,17 +11,15 @@ use Rattle.sg_history.specs.World.{put_waiting, release}
 use Rattle.pending_front.specs.Storing.{MayStore}
 use Rattle.repl_messages.specs.declared.revision.Revision.{Revision}
 use Rattle.sync_syntax.specs.declared.tree.Program.{Program}
-use Rattle.doc_board.specs.declared.outcome.Outcome.{Outcome}
 use Rattle.doc_board.specs.declared.room.Room.{Room}
-use Rattle.doc_board.specs.Boards.{board_of}
-use Rattle.doc_board.specs.Outcomes.{IsOutcome, bytes_of}
+use Rattle.doc_board.specs.Outcomes.{bytes_of}
 use Rattle.doc_board.specs.Rooms.{without}
 use Rattle.doc_board.specs.State.{State}
 use Rattle.write_path.specs.declared.retry.Ready.{Ready}
 use Rattle.write_path.specs.declared.retry.Retried.{Retried}
 use Rattle.write_path.specs.declared.retry.Retried.TheVariants as retried
 use Rattle.write_path.specs.Proposals.{IsAsBefore}
-use Rattle.write_path.specs.Retry.{FitsReady, IsHeldReady, IsHeldStored, IsMade, IsReady, IsSpent, IsTriedAgain, IsTurnedDown}
+use Rattle.write_path.specs.Retry.{FitsReady, IsHeldReady, IsHeldStored, IsMade, IsReady, IsSpent, IsTriedAgain}
 use Rattle.write_path.proofs.Grown.{extends_still, last_still}
 
 -- ---- a number at which an entry may be stored stands past the log
@@ -85,8 +83,3 @@ stored_again s m t program strict by r room number c (retried.Overtaken given he
     same = record { log = after.log ∙ same.log; pending = after.pending ∙ same.pending; rooms = after.rooms ∙ same.rooms };
   },
 )
-
-pub turned_down : (s m t : State) (program : Program) (strict : Bool) (by : Option (List ℕ)) (r : Revision) (room : Room) (number : Number) (answer : Outcome)
-    → IsAsBefore s m → IsOutcome program strict by r (board_of s) answer × IsTurnedDown answer → IsSpent m t room number kinds.Unused → IsTriedAgain s t program strict by r room number (retried.Answered answer)
-turned_down s m t program strict by r room number answer same (judged, down) spent =
-    inr (record { judged = judged; down = down; spent = spent_still s m t room number kinds.Unused same spent })

@@ -15,10 +15,6 @@ use Rattle.write_path.specs.Shape.{IsStoredBut, without_room}
 
 -- ---- a room
 
-pub stored_in : (o : Option NoRoom) (room : Room) (sequence : ℕ) → IsRefusedBy o (Ok room) → IsStoredBut o (Ok sequence)
-stored_in None room sequence h = tt
-stored_in (Some why) room sequence h = absurd cc
-
 abbrev reason_of : Result Room NoRoom → NoRoom
 reason_of (Ok room) = Memory
 reason_of (Err why) = why

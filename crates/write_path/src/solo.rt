@@ -1,15 +1,19 @@
 //! A ground that owns its shelf.
 
-ghost use Rattle.std.specs.Prelude.{◌≡◌, ◌||◌, [], Some, length};
+ghost use Rattle.std.specs.Prelude.{◌≡◌, ◌≤◌, ◌||◌, [], ◌∷◌, Some, length, IfOk};
 ghost use Rattle.std.specs.Option.{option_copied};
+ghost use Rattle.sg_history.specs.Board.{BoardState};
 ghost use Rattle.sg_history.specs.Journal.{IsEntry};
 ghost use Rattle.principals.specs.Script.{entry_of};
 ghost use Rattle.doc_board.specs.Boards.{board_of};
 ghost use Rattle.doc_board.specs.Outcomes.{IsByLimits, IsOutcome, bytes_of};
+ghost use Rattle.write_path.specs.Asks.{AskedAt};
+ghost use Rattle.write_path.specs.Bodies.{BodiesAt};
 ghost use Rattle.write_path.specs.Commands.{Commands, IsBoardCommanded};
+ghost use Rattle.write_path.specs.Feed.{FeedAt};
 ghost use Rattle.write_path.specs.Own.{EndsWith, own_after};
-ghost use Rattle.write_path.specs.Proposals.{Stores, IsBoardAfter, recorded_after};
-ghost use Rattle.write_path.specs.Reads.{IsAfterAll, IsLaterThanAll};
+ghost use Rattle.write_path.specs.Proposals.{Stores, IsAsBefore, IsBoardAfter, recorded_after};
+ghost use Rattle.write_path.specs.Reads.{HasLength, IsAfterAll, IsLaterThanAll, Reads, WasRead};
 
 use crate::ask::asked_at;
 use crate::bodies::bodies_at;
@@ -58,19 +62,22 @@ impl Model for SoloGround {
 }
 
 impl SoloGround {
-    /// A ground over a shelf at whose board nothing waits, which it has not read. Allocates nothing.
+    /// A ground over a shelf at whose board nothing waits, which counts as read. Allocates nothing.
     pub fn new(shelf: Shelf) -> SoloGround
         requires pending { shelf.board.pending ≡ [] }
         requires rooms { shelf.board.rooms ≡ [] }
         ensures board { result.board ≡ shelf.board }
-        ensures read { result.read ≡ [] }
+        ensures read { result.read ≡ board_of shelf.board ∷ [] }
         ensures own { result.own ≡ [] }
     {
+        sg_history::laws::boards();
         let grants = GrantHistory::new(shelf.board.allocator());
+        let mut read = Trail::new();
+        read.add(&shelf.board);
         SoloGround {
             shelf,
             grants,
-            read: Trail::new(),
+            read,
             own: OwnEntries::new(),
         }
     }
@@ -118,7 +125,16 @@ impl Ground for SoloGround {
 
     ghost own = { λ g. g.own };
 
-    fn front(&mut self) -> u64 {
+    fn front(&mut self) -> u64
+        ensures read { self.new.read ≡ self.old.read }
+        ensures rises { length self.old.board.log ≤ result }
+        ensures lowest_front { length self.new.board.log ≡ result }
+        ensures recorded { Some (length self.new.board.log)
+            ≡ Some (length self.old.board.log) }
+        ensures own { self.new.own ≡ self.old.own }
+        ensures length { result ≡ length self.old.board.log }
+        ensures same { IsAsBefore self.old.board self.new.board }
+    {
         self.shelf.board.front()
     }
 
@@ -128,7 +144,17 @@ impl Ground for SoloGround {
         user: &Name,
         since: &Key,
         options: &Options,
-    ) -> Result<Fed, Memory> {
+    ) -> Result<Fed, Memory>
+        ensures reads { Reads self.old.read self.new.read (length self.old.board.log)
+            (length self.new.board.log) }
+        ensures recorded { Some (length self.new.board.log)
+            ≡ Some (length self.old.board.log) }
+        ensures own { self.new.own ≡ self.old.own }
+        ensures answer { IfOk result (λ fed. (b : BoardState)
+            × WasRead self.old.read self.new.read b × HasLength (Some (length self.old.board.log)) b
+            × FeedAt b.log user.now since.now options.now fed) }
+        ensures same { IsAsBefore self.old.board self.new.board }
+    {
         sg_history::laws::boards();
         self.read.add(&self.shelf.board);
         feed_at(alloc, self.shelf.board.log(), user, since, options)
@@ -141,14 +167,34 @@ impl Ground for SoloGround {
         options: &Options,
         rows: &[Row],
         most: u64,
-    ) -> Result<Bodies, Memory> {
+    ) -> Result<Bodies, Memory>
+        ensures reads { Reads self.old.read self.new.read (length self.old.board.log)
+            (length self.new.board.log) }
+        ensures recorded { Some (length self.new.board.log)
+            ≡ Some (length self.old.board.log) }
+        ensures own { self.new.own ≡ self.old.own }
+        ensures answer { IfOk result (λ bodies. (b : BoardState)
+            × WasRead self.old.read self.new.read b × HasLength (Some (length self.old.board.log)) b
+            × BodiesAt b user.now options.now rows.now most bodies) }
+        ensures same { IsAsBefore self.old.board self.new.board }
+    {
         sg_history::laws::boards();
         self.read.add(&self.shelf.board);
         let board = &self.shelf.board;
         bodies_at(alloc, &mut self.grants, board, user, options, rows, most)
     }
 
-    fn ask(&mut self, alloc: Global, offers: &[Offer]) -> Result<Asked, Memory> {
+    fn ask(&mut self, alloc: Global, offers: &[Offer]) -> Result<Asked, Memory>
+        ensures reads { Reads self.old.read self.new.read (length self.old.board.log)
+            (length self.new.board.log) }
+        ensures recorded { Some (length self.new.board.log)
+            ≡ Some (length self.old.board.log) }
+        ensures own { self.new.own ≡ self.old.own }
+        ensures answer { IfOk result (λ asked. (b : BoardState)
+            × WasRead self.old.read self.new.read b × HasLength (Some (length self.old.board.log)) b
+            × AskedAt b offers.now asked) }
+        ensures same { IsAsBefore self.old.board self.new.board }
+    {
         sg_history::laws::boards();
         self.read.add(&self.shelf.board);
         asked_at(alloc, &self.shelf.board, offers)
