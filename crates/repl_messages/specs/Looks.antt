@@ -1,5 +1,5 @@
 -- What looks at a history answer: the rows of a feed, or the bodies of rows.
-use Rattle.std.specs.Prelude.{◌≡◌, ◌<◌, ◌≤◌, ℕ, Bool, ◌&&◌, ◌||◌, nat_eq, is_none, List, length, map, Option, Some, None, if◌then◌else◌}
+use Rattle.std.specs.Prelude.{◌≡◌, ◌<◌, ◌≤◌, ℕ, Bool, ◌&&◌, ◌||◌, nat_eq, nat_lt, is_none, List, length, map, Option, Some, None, if◌then◌else◌}
 use Rattle.sg_names.specs.declared.key.Key.{Key}
 use Rattle.sg_history.specs.declared.entries.Entry.{Entry}
 use Rattle.sg_history.specs.declared.entries.Write.{Write}
@@ -54,10 +54,10 @@ is_still_shown es user filter row = same_view (view es user filter row.doc) (Som
 abbrev pub left_by_write : ℕ → Bool
 left_by_write bits = nat_eq bits 4 || nat_eq bits 5
 
--- whether the row's document left by a write of its own, is not shown, and did not change since
+-- whether the row's document left by a write of its own, is not shown, and did not change since the place of its key, which is no 0
 abbrev pub is_still_gone : List Entry → List ℕ → Option (List (List ℕ)) → Row → Bool
 is_still_gone es user filter row =
-    left_by_write row.bits && is_none (view es user filter row.doc) && nat_eq (length (changed es user filter row.doc)) row.key.by
+    left_by_write row.bits && is_none (view es user filter row.doc) && nat_eq (length (changed es user filter row.doc)) row.key.by && nat_lt 0 row.key.by
 
 -- the body of a write with its revision's ancestors in a tree, the nearest first and at most so many
 abbrev pub body_with : List Node → ℕ → Option Write → Body

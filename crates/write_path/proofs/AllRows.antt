@@ -1,6 +1,6 @@
 -- The answers by look-up are those of the definition.
 use Rattle.std.proofs.Common.{◌≡◌, ◌<◌, ℕ, zero, suc, arith, get_or, refl, sym, ◌∙◌, ap, Bool, true, false, ◌&&◌, nat_eq, if◌then◌else◌, List, [], ◌∷◌, length, map, reverse, Option, Some, None}
-use Rattle.std.specs.Prelude.{is_none, option_map, ◌||◌}
+use Rattle.std.specs.Prelude.{is_none, nat_lt, option_map, ◌||◌}
 use Rattle.std.proofs.Math.Path.{fun_ext}
 use Rattle.std.proofs.Math.Seq.{take-length}
 use Rattle.std.specs.List.{list_any}
@@ -37,28 +37,32 @@ module _ (es : List Entry) (user : List ℕ) (filter : Option (List (List ℕ)))
   winner_same doc None = refl
   winner_same doc (Some last) = refl
 
-  still_gone : (left none at : Bool) → ((left && at) && none) ≡ (left && none && at)
-  still_gone false none at = refl
-  still_gone true true true = refl
-  still_gone true true false = refl
-  still_gone true false true = refl
-  still_gone true false false = refl
+  still_gone : (left none at positive : Bool) → ((left && positive && at) && none) ≡ (left && none && at && positive)
+  still_gone false none at positive = refl
+  still_gone true true true true = refl
+  still_gone true true true false = refl
+  still_gone true true false true = refl
+  still_gone true true false false = refl
+  still_gone true false true true = refl
+  still_gone true false true false = refl
+  still_gone true false false true = refl
+  still_gone true false false false = refl
 
   pub answered : (trees : List ℕ → List Node) (has : List ℕ → Bool) → ((c : List ℕ) → has c ≡ has_channel es user c) → (row : Row)
-      → answer (view_by has filter (current es row.doc)) (trees row.doc) (write_alone (winning es row.doc)) (left_by_write row.bits && nat_eq (place_by (row_of es user filter row.doc)) row.key.by) most row ≡ body_of es trees user filter most row
+      → answer (view_by has filter (current es row.doc)) (trees row.doc) (write_alone (winning es row.doc)) (left_by_write row.bits && nat_lt 0 row.key.by && nat_eq (place_by (row_of es user filter row.doc)) row.key.by) most row ≡ body_of es trees user filter most row
   answered trees has same row =
-      ap (λ (s : Option Shown). answer s (trees row.doc) (write_alone (winning es row.doc)) (left_by_write row.bits && nat_eq (place_by (row_of es user filter row.doc)) row.key.by) most row) (view_same has same (current es row.doc))
-      ∙ ap (λ (w : Option Write). answer (view es user filter row.doc) (trees row.doc) w (left_by_write row.bits && nat_eq (place_by (row_of es user filter row.doc)) row.key.by) most row) (winner_same row.doc (last_write es row.doc))
-      ∙ ap (λ (n : ℕ). answer (view es user filter row.doc) (trees row.doc) (winning_write es row.doc) (left_by_write row.bits && nat_eq n row.key.by) most row) (place_now es user filter row.doc)
+      ap (λ (s : Option Shown). answer s (trees row.doc) (write_alone (winning es row.doc)) (left_by_write row.bits && nat_lt 0 row.key.by && nat_eq (place_by (row_of es user filter row.doc)) row.key.by) most row) (view_same has same (current es row.doc))
+      ∙ ap (λ (w : Option Write). answer (view es user filter row.doc) (trees row.doc) w (left_by_write row.bits && nat_lt 0 row.key.by && nat_eq (place_by (row_of es user filter row.doc)) row.key.by) most row) (winner_same row.doc (last_write es row.doc))
+      ∙ ap (λ (n : ℕ). answer (view es user filter row.doc) (trees row.doc) (winning_write es row.doc) (left_by_write row.bits && nat_lt 0 row.key.by && nat_eq n row.key.by) most row) (place_now es user filter row.doc)
       ∙ ap (λ (gone : Bool). if same_view (view es user filter row.doc) (Some (said_by row)) then body_with (trees row.doc) most (winning_write es row.doc) else (if gone then body.Removed else body.NoRev))
-      (still_gone (left_by_write row.bits) (is_none (view es user filter row.doc)) (nat_eq (length (changed es user filter row.doc)) row.key.by))
+      (still_gone (left_by_write row.bits) (is_none (view es user filter row.doc)) (nat_eq (length (changed es user filter row.doc)) row.key.by) (nat_lt 0 row.key.by))
 
 -- the answers for all rows
 module _ (index : LogIndex) (board : State) (user : List ℕ) (filter : Option (List (List ℕ))) (periods : List Period) (look : Look) (most : ℕ) (in_it : LooksIn index board user filter periods look) where
   abbrev by : List Entry → State → Option (List (List ℕ)) → List ℕ → Option (List (List ℕ)) → Row → Body
   by entries b f u through row =
       answer (view_by (channels_have look.channels) f (current (reverse entries) row.doc)) (tree_on b row.doc) (write_alone (winning (reverse entries) row.doc))
-      (left_by_write row.bits && nat_eq (place_by (row_of (reverse entries) u through row.doc)) row.key.by) most row
+      (left_by_write row.bits && nat_lt 0 row.key.by && nat_eq (place_by (row_of (reverse entries) u through row.doc)) row.key.by) most row
 
   one : (row : Row) → looked look most row ≡ body_of (reverse board.log) (tree_on board) user filter most row
   one row =

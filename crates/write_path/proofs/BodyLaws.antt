@@ -1,7 +1,7 @@
 -- Which answers are given for a row.
-use Rattle.std.proofs.Common.{◌≡◌, ℕ, refl, sym, ◌∙◌, ap, Bool, true, false, ◌&&◌, nat_eq, if◌then◌else◌, List, length, Option, Some, None, IsTrue}
-use Rattle.std.specs.Prelude.{is_none}
-use Rattle.std.proofs.lemmas.Bool.{false≢true, and_parts, and_from, eqb-true}
+use Rattle.std.proofs.Common.{arith, ◌≡◌, ℕ, refl, sym, ◌∙◌, ap, Bool, true, false, ◌&&◌, nat_eq, if◌then◌else◌, List, length, Option, Some, None, IsTrue}
+use Rattle.std.specs.Prelude.{is_none, nat_lt, ◌≤◌}
+use Rattle.std.proofs.lemmas.Bool.{false≢true, and_parts, and_from, eqb-true, lt-ltb, ltb-true}
 use Rattle.std.proofs.lemmas.Option.{none-some, same_Some}
 use Rattle.sg_names.specs.declared.rev_id.RevId.{RevId}
 use Rattle.sg_history.specs.declared.entries.Entry.{Entry}
@@ -75,18 +75,27 @@ module _ (es : List Entry) (trees : List ℕ → List Node) (user : List ℕ) (f
   none_is None h = refl
   none_is (Some s) h = absurd (false≢true h)
 
+  removed_parts : Answers body.Removed → IsTrue (left_by_write row.bits && is_none (view es user filter row.doc) && nat_eq (length (changed es user filter row.doc)) row.key.by) × IsTrue (nat_lt 0 row.key.by)
+  removed_parts h =
+      and_parts (left_by_write row.bits && is_none (view es user filter row.doc) && nat_eq (length (changed es user filter row.doc)) row.key.by) (nat_lt 0 row.key.by)
+      (removed_chosen (is_still_shown es user filter row) (is_still_gone es user filter row) (trees row.doc) most (winning_write es row.doc) h).1
+
   pub removed_gone : Answers body.Removed → IsTrue (left_by_write row.bits) × (view es user filter row.doc ≡ None) × (length (changed es user filter row.doc) ≡ row.key.by)
   removed_gone h =
-      let gone = (removed_chosen (is_still_shown es user filter row) (is_still_gone es user filter row) (trees row.doc) most (winning_write es row.doc) h).1 in
-      let parts = and_parts (left_by_write row.bits && is_none (view es user filter row.doc)) (nat_eq (length (changed es user filter row.doc)) row.key.by) gone in
+      let parts = and_parts (left_by_write row.bits && is_none (view es user filter row.doc)) (nat_eq (length (changed es user filter row.doc)) row.key.by) (removed_parts h).0 in
       let first = and_parts (left_by_write row.bits) (is_none (view es user filter row.doc)) parts.0 in
       (first.0, none_is (view es user filter row.doc) first.1, eqb-true (length (changed es user filter row.doc)) row.key.by parts.1)
 
-  pub gone_removed : IsTrue (left_by_write row.bits) → view es user filter row.doc ≡ None → length (changed es user filter row.doc) ≡ row.key.by → Answers body.Removed
-  gone_removed left none same =
+  pub removed_by : Answers body.Removed → 1 ≤ row.key.by
+  removed_by h = omega (arith, ltb-true 0 row.key.by (removed_parts h).1)
+
+  pub gone_removed : IsTrue (left_by_write row.bits) → view es user filter row.doc ≡ None → length (changed es user filter row.doc) ≡ row.key.by → 1 ≤ row.key.by → Answers body.Removed
+  gone_removed left none same positive =
       let hidden : is_none (view es user filter row.doc) ≡ true = rw none refl in
       let by : nat_eq (length (changed es user filter row.doc)) row.key.by ≡ true = rw same (number_itself row.key.by) in
-      let gone : is_still_gone es user filter row ≡ true = and_from (left_by_write row.bits && is_none (view es user filter row.doc)) _ (and_from (left_by_write row.bits) _ left hidden) by in
+      let gone : is_still_gone es user filter row ≡ true =
+      and_from (left_by_write row.bits && is_none (view es user filter row.doc) && nat_eq (length (changed es user filter row.doc)) row.key.by) _
+      (and_from (left_by_write row.bits && is_none (view es user filter row.doc)) _ (and_from (left_by_write row.bits) _ left hidden) by) (lt-ltb 0 row.key.by (omega (arith, positive))) in
       let other : is_still_shown es user filter row ≡ false = rw none refl in
       go (is_still_shown es user filter row) (is_still_gone es user filter row) other gone
     where

@@ -1,5 +1,5 @@
 -- What is answered for a row, by what is looked up of its document. Only proofs need this.
-use Rattle.std.specs.Prelude.{◌≡◌, ℕ, Bool, ◌&&◌, nat_eq, is_none, List, length, reverse, Option, Some, if◌then◌else◌}
+use Rattle.std.specs.Prelude.{◌≡◌, ℕ, Bool, ◌&&◌, nat_eq, nat_lt, is_none, List, length, reverse, Option, Some, if◌then◌else◌}
 use Rattle.sg_history.specs.declared.entries.Write.{Write}
 use Rattle.sg_history.specs.declared.row.Row.{Row}
 use Rattle.sg_history.specs.Current.{current, write_alone}
@@ -28,10 +28,10 @@ answer shown tree winner gone most row =
     then body_with tree most winner
     else (if gone && is_none shown then body.Removed else body.NoRev)
 
--- whether the row says that its document left by a write, and that is its last change
+-- whether the row says that its document left by a write, and that is its last change, which is not at 0
 abbrev pub is_gone : Look → Row → Bool
 is_gone look row =
-    left_by_write row.bits
+    left_by_write row.bits && nat_lt 0 row.key.by
     && nat_eq (place_in (reverse look.entries.now) look.viewer row.doc) row.key.by
 
 -- the answer by look-up

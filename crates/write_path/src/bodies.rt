@@ -146,6 +146,7 @@ fn is_gone(look: &Look<'_>, row: &Row) -> bool
     ensures { result ≡ by_look.is_gone look.now row.now }
 {
     left_by_write(row.bits)
+        && row.key.by > 0
         && changed_last_at(&look.viewer, look.index, look.entries, &row.doc, row.key.by)
 }
 

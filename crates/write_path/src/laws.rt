@@ -124,16 +124,20 @@ pub fn no_foreign_body()
 {}
 
 /// A removal is answered exactly for a row that says that its document left by a write of its own, where nothing is
-/// shown of the document and its last change is the row's.
+/// shown of the document and its last change is the row's, which is not at 0.
 pub fn removals()
     ensures gone { (es : List Entry) (trees : List ℕ → List Node) (user : List ℕ)
         (filter : Option (List (List ℕ))) (most : ℕ) (row : Row)
         → body_of es trees user filter most row ≡ answer.Removed
         → IsTrue (left_by_write row.bits) × (view es user filter row.doc ≡ None)
         × (length (changed es user filter row.doc) ≡ row.key.by) }
+    ensures change { (es : List Entry) (trees : List ℕ → List Node) (user : List ℕ)
+        (filter : Option (List (List ℕ))) (most : ℕ) (row : Row)
+        → body_of es trees user filter most row ≡ answer.Removed → 1 ≤ row.key.by }
     ensures all { (es : List Entry) (trees : List ℕ → List Node) (user : List ℕ)
         (filter : Option (List (List ℕ))) (most : ℕ) (row : Row)
         → IsTrue (left_by_write row.bits) → view es user filter row.doc ≡ None
         → length (changed es user filter row.doc) ≡ row.key.by
+        → 1 ≤ row.key.by
         → body_of es trees user filter most row ≡ answer.Removed }
 {}
