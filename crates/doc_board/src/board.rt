@@ -29,10 +29,10 @@ ghost use Rattle.doc_board.specs.Storage.{MayGiveUp, book_with_unused, kept_at};
 use crate::base::base_of;
 use crate::candidate::{Candidate, Commit, NoRoom};
 use crate::document;
-use crate::granted::{channels_at_end, context_at_end};
+use crate::granted::{channels_at_end, context_at_end, exists_at_end};
 use crate::open::{OpenFault, bytes_of, documents_of};
 use crate::room::{OutstandingRooms, Room};
-use crate::snapshot::{Proposer, Snapshot, proposer_exists, snapshot_of};
+use crate::snapshot::{Proposer, Snapshot, snapshot_of};
 use crate::storage::Storage;
 use grant_history::GrantHistory;
 use pending_front::Pending;
@@ -272,7 +272,7 @@ impl Board {
         let document = document::document_of(&self.storage.documents, &revision.doc);
         let last = document::last_of(document);
         let base = self.base_of(last, &revision.doc, revision.ancestors.as_slice())?;
-        let exists = proposer_exists(self.grants.index(), self.storage.log.entries.as_slice(), by);
+        let exists = exists_at_end(&self.grants, by);
         let context = context_at_end(self.alloc, &self.grants, by)?;
         let proposer = Proposer { exists, context };
         snapshot_of(

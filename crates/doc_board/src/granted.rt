@@ -2,6 +2,7 @@
 
 ghost use Rattle.std.specs.Prelude.{◌≡◌, ℕ, List, is_some, length, reverse, IfOk, IfSome};
 ghost use Rattle.std.specs.Option.{option_copied};
+ghost use Rattle.doc_board.specs.Answers.{proposer_exists};
 ghost use Rattle.doc_board.specs.Contexts.{IsContext, IsUserWith};
 ghost use Rattle.sg_history.specs.declared.entries.Entry.{Entry};
 ghost use Rattle.sg_history.specs.History.{among};
@@ -34,6 +35,19 @@ pub(crate) fn channels_at_end(
         return Ok(None);
     }
     Ok(Some(grants.channels_at(user, end)?))
+}
+
+/// Whether the one who proposes a revision exists at the end of a log that is applied to its end: the user, or the administrator, who
+/// does.
+pub(crate) fn exists_at_end(grants: &GrantHistory, by: Option<&Name>) -> bool
+    ensures { (entries : List Entry) → StandsFor grants.now entries
+        → grants.now.applied ≡ length entries
+        → result ≡ proposer_exists (reverse entries) (option_copied by.entry) }
+{
+    match by {
+        None => true,
+        Some(user) => grants.exists_at(user, grants.applied()),
+    }
 }
 
 /// A user with the roles and channels that it has at the end of a log that is applied to its end.

@@ -1,19 +1,15 @@
 //! What a board says of a revision that is proposed.
 
-ghost use Rattle.std.specs.Prelude.{◌≡◌, reverse, option_map, IfOk};
+ghost use Rattle.std.specs.Prelude.{◌≡◌, option_map, IfOk};
 ghost use Rattle.std.specs.Option.{option_copied};
-ghost use Rattle.doc_board.specs.Answers as answers;
 ghost use Rattle.doc_board.specs.Answers.{IsStep};
 ghost use Rattle.doc_board.specs.Kept as kept;
-ghost use Rattle.log_index.specs.Index.{Indexes};
 ghost use Rattle.rev_tree.specs.Documents.{deletes};
 
 use crate::document::{self, Document};
-use log_index::LogIndex;
-use log_views::user_exists;
 use repl_messages::Revision;
 use rev_tree::{Extended, Tree};
-use sg_history::{Entry, Name, Write};
+use sg_history::Write;
 use sg_outside::{Bytes, Memory};
 use std::alloc::{AllocError, Global};
 use sync_meaning::Context;
@@ -110,17 +106,6 @@ fn outcome_of(
             drop(step);
             Err(error)
         }
-    }
-}
-
-/// Whether the one who proposes a revision exists at the end of the log: the user, or the administrator, who does.
-pub(crate) fn proposer_exists(index: &LogIndex, entries: &[Entry], by: Option<&Name>) -> bool
-    requires { Indexes index.now (reverse entries.now) }
-    ensures { result ≡ answers.proposer_exists (reverse entries.now) (option_copied by.entry) }
-{
-    match by {
-        None => true,
-        Some(user) => user_exists(index, entries, user),
     }
 }
 

@@ -6,7 +6,7 @@ use Rattle.sg_history.specs.Book.{book_with, writes_up_to}
 use Rattle.rev_tree.specs.declared.tree.Node.{Node}
 use Rattle.sync_meaning.specs.declared.state.Context.{Context}
 use Rattle.doc_board.specs.declared.document.Document.{Document}
-use Rattle.doc_board.specs.Answers.{IsStep}
+use Rattle.doc_board.specs.Answers.{IsStep, proposer_exists}
 use Rattle.doc_board.specs.Contexts.{IsContext}
 use Rattle.doc_board.specs.Kept.{kept_last, kept_nodes}
 use Rattle.doc_board.specs.State.{State, top_of, last_on, tree_on}
@@ -47,6 +47,14 @@ returns-clause-step c =
 
 pub returns-clause-old_document : goal.returns-clause-old_document
 returns-clause-old_document c = old_document c.snapshot_of.result c.in_ok-base.base c.in_ok-base.ensures.document c.snapshot_of.ensures.old
+
+pub returns-clause-user : goal.returns-clause-user
+returns-clause-user c =
+    let log = c.self.inside.storage.log.entries.list in
+    let same : log ≡ c.args.self.now.log = ap (λ (s : State). s.log) c.self.view_is in
+    let end : c.self.inside.grants.applied ≡ length log = ap (λ (s : State). s.known) c.self.view_is ∙ c.requires.known ∙ sym (ap (λ (es : List Entry). length es) same) in
+    let here : c.exists_at_end-exists.result ≡ proposer_exists (reverse c.args.self.now.log) (option_copied c.args.by) = c.exists_at_end-exists.ensures log c.self.invariant.1 end ∙ ap (λ (es : List Entry). proposer_exists (reverse es) (option_copied c.args.by)) same in
+    IfOk-weaker c.snapshot_of.result _ _ (λ s it. it ∙ here) c.snapshot_of.ensures.user
 
 pub returns-clause-context : goal.returns-clause-context
 returns-clause-context c =
