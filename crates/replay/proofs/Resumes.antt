@@ -10,19 +10,16 @@ use Rattle.sg_history.specs.Board.{BoardState}
 use Rattle.sg_history.specs.Feed.{feed}
 use Rattle.feed_rows.specs.Laws.{HasRow, IsAhead, all_of}
 use Rattle.record_file.specs.declared.record.Recorded.{Recorded}
-use Rattle.repl_messages.specs.declared.looks.Fed.TheVariants as fed
 use Rattle.repl_messages.specs.declared.request.Version.{Version}
 use Rattle.sync_syntax.specs.declared.tree.Program.{Program}
 use Rattle.session_core.specs.declared.act.Want.{Want}
 use Rattle.session_core.specs.declared.act.Want.TheVariants as want
 use Rattle.session_core.specs.declared.event.Event.{Event}
 use Rattle.session_core.specs.declared.event.Event.TheVariants as event
-use Rattle.session_core.specs.declared.machine.Pending.TheVariants as pending
-use Rattle.session_core.specs.declared.machine.Subscription.{Subscription}
-use Rattle.session_core.specs.Feeds.{AreOffered, LeadsFeed}
+use Rattle.session_core.specs.Feeds.{AreOffered, RunsFeed, feed_looks, not_offered, rows_at}
 use Rattle.session_core.specs.Right.{AreRight}
 use Rattle.session_core.specs.State.{Machine, new_machine}
-use Rattle.session_core.specs.Steps.{Leads, Step, Steps, put_by, wanted_after}
+use Rattle.session_core.specs.Steps.{Leads, Step, put_by, wanted_after}
 use Rattle.write_path.specs.Reads.{IsLaterThanAll, Reads}
 use Rattle.session_run.specs.declared.ended.Ended.{Ended}
 use Rattle.session_run.specs.declared.serve.Setup.{Setup}
@@ -140,28 +137,28 @@ answered_by_then start now user program strict (s ∷ later_steps) steps h (betw
 -- ---- resuming
 
 abbrev pub ResumeLaw : Type 0
-ResumeLaw = (start now : Moment) (h : List Entry) (user : List ℕ) (version : Version) (program : Program) (strict : Bool) (asked : Subscription) (front : ℕ) (rows : List Row) (earlier more : List Step) (before first after : Machine) (s : Step)
-    → Leads (new_machine user version strict) earlier before → before.pending ≡ pending.Feed asked → s.event ≡ event.Fed (fed.Rows front rows) → Steps before s first
-    → LeadsFeed first more after → AreAnswered start user program strict (more ++ s ∷ earlier) now → IsLaterThanAll now.read h
-    → (offered : List Row) × AreOffered version (put_by (more ++ s ∷ [])) offered
-    × ((sent row : Row) → HasRow offered sent → HasRow (feed (all_of h) user asked.since asked.options) row
-    → HasRow offered row ⊎ IsAhead (feed (all_of h) user sent.key asked.options) sent.key row)
+ResumeLaw = (start now : Moment) (h : List Entry) (user : List ℕ) (version : Version) (program : Program) (strict : Bool) (earlier : List Step) (begin : Step) (more : List Step) (after : Machine)
+    → (runs : RunsFeed user version strict earlier begin more after) → AreAnswered start user program strict (more ++ begin ∷ earlier) now → IsLaterThanAll now.read h
+    → (offered : List Row) × AreOffered version (put_by (more ++ begin ∷ [])) offered
+    × (offered ++ not_offered after.feed ≡ rows_at h user runs.asked.since runs.asked.options (feed_looks (more ++ begin ∷ [])))
+    × ((sent row : Row) → HasRow offered sent → HasRow (feed (all_of h) user runs.asked.since runs.asked.options) row
+    → HasRow offered row ⊎ IsAhead (feed (all_of h) user sent.key runs.asked.options) sent.key row)
 
-pub resume_in : ResumeLaw → (history : List Entry) (program : Program) (strict : Bool) (start final : Moment) (recorded : Recorded) (run : Run) (asked : Subscription) (front : ℕ) (rows : List Row) (earlier more later : List Step) (before first after : Machine) (s : Step)
-    → (is : IsRun history program strict start recorded run final) → steps_of is.served.session.turns ≡ later ++ (more ++ s ∷ earlier)
-    → Leads (new_machine recorded.user recorded.version strict) earlier before → before.pending ≡ pending.Feed asked → s.event ≡ event.Fed (fed.Rows front rows) → Steps before s first
-    → LeadsFeed first more after
-    → (offered : List Row) × AreOffered recorded.version (put_by (more ++ s ∷ [])) offered
-    × ((sent row : Row) → HasRow offered sent → HasRow (feed (all_of history) recorded.user asked.since asked.options) row
-    → HasRow offered row ⊎ IsAhead (feed (all_of history) recorded.user sent.key asked.options) sent.key row)
-resume_in law history program strict start final recorded run asked front rows earlier more later before first after s is split leads awaited came made runs =
+pub resume_in : ResumeLaw → (history : List Entry) (program : Program) (strict : Bool) (start final : Moment) (recorded : Recorded) (run : Run) (earlier : List Step) (begin : Step) (more later : List Step) (after : Machine)
+    → (is : IsRun history program strict start recorded run final) → steps_of is.served.session.turns ≡ later ++ (more ++ begin ∷ earlier)
+    → (runs : RunsFeed recorded.user recorded.version strict earlier begin more after)
+    → (offered : List Row) × AreOffered recorded.version (put_by (more ++ begin ∷ [])) offered
+    × (offered ++ not_offered after.feed ≡ rows_at history recorded.user runs.asked.since runs.asked.options (feed_looks (more ++ begin ∷ [])))
+    × ((sent row : Row) → HasRow offered sent → HasRow (feed (all_of history) recorded.user runs.asked.since runs.asked.options) row
+    → HasRow offered row ⊎ IsAhead (feed (all_of history) recorded.user sent.key runs.asked.options) sent.key row)
+resume_in law history program strict start final recorded run earlier begin more later after is split runs =
     let session = is.served.session in
     let whole : (then : Moment) × AreAnswered start is.setup.user (arc_value is.setup.program) is.setup.strict (steps_of session.turns) then × IsLaterThanAll then.read history =
     answered_by_then start session.now is.setup.user (arc_value is.setup.program) is.setup.strict (undone session.halted) (steps_of session.turns) history session.answered
     (later_before session.now.read final.read session.now.lowest final.lowest history session.reads.reads is.later) in
-    let answered : AreAnswered start recorded.user program strict (later ++ (more ++ s ∷ earlier)) whole.0 =
+    let answered : AreAnswered start recorded.user program strict (later ++ (more ++ begin ∷ earlier)) whole.0 =
     subst (λ steps. AreAnswered start recorded.user program strict steps whole.0) split
     (of_recorded (λ u v b p. AreAnswered start u p b (steps_of session.turns) whole.0) history program strict start final recorded run is whole.1) in
-    let by_then : (then : Moment) × AreAnswered start recorded.user program strict (more ++ s ∷ earlier) then × IsLaterThanAll then.read history =
-    answered_by_then start whole.0 recorded.user program strict later (more ++ s ∷ earlier) history answered whole.2 in
-    law start by_then.0 history recorded.user recorded.version program strict asked front rows earlier more before first after s leads awaited came made runs by_then.1 by_then.2
+    let by_then : (then : Moment) × AreAnswered start recorded.user program strict (more ++ begin ∷ earlier) then × IsLaterThanAll then.read history =
+    answered_by_then start whole.0 recorded.user program strict later (more ++ begin ∷ earlier) history answered whole.2 in
+    law start by_then.0 history recorded.user recorded.version program strict earlier begin more after runs by_then.1 by_then.2
