@@ -19,7 +19,7 @@ use Rattle.session_core.specs.Acts.{messages_from, request_message, reply_messag
 use Rattle.session_core.specs.Conduct.{AreAnswers, are_requests, requests_among}
 use Rattle.session_mux.specs.declared.mux.Mux.{Mux}
 use Rattle.session_mux.specs.Sent.{expecting_by}
-use Rattle.session_run.specs.Putting.{MayPut, MayPutAll, MayReply, put_one, put_all, put_as}
+use Rattle.session_run.specs.Putting.{MayPutAll, MayReply, put_one, put_all, put_as}
 
 requests_put : (acts : List Act) (m : Mux) → are_requests acts ≡ true → put_all acts m ≡ put_as m (messages_from (m.outbox.requests + 1) acts)
 requests_put [] m e = refl
@@ -61,30 +61,11 @@ acts_counted due (act.Want want ∷ acts) m a = absurd a
 
 -- ---- may they be put?
 
-requests_may : (waiting : List Waiting) (acts : List Act) → are_requests acts ≡ true → MayPutAll waiting acts
-requests_may waiting [] e = tt
-requests_may waiting (act.Reply to kind urgent payload ∷ acts) e = absurd (false≢true e)
-requests_may waiting (act.Request payload no_reply ∷ acts) e = (tt, e)
-requests_may waiting (act.Want want ∷ acts) e = absurd (false≢true e)
-
 none_waits : (m : Mux) (due : Option ℕ) (to : ℕ) → MayReply m due → due ≡ Some to → list_any (is_reply_to to) m.outbox.waiting ≡ false
 none_waits m due to may is = (subst (MayReply m) is may).0
 
 come : (m : Mux) (due : Option ℕ) (to : ℕ) → MayReply m due → due ≡ Some to → HasCome m.inbox to
 come m due to may is = (subst (MayReply m) is may).1
-
-pub answers_may : (due : Option ℕ) (m : Mux) (acts : List Act) → MayReply m due → AreAnswers due acts → MayPutAll m.outbox.waiting acts
-answers_may due m [] may a = tt
-answers_may due m (act.Reply to kind urgent payload ∷ acts) may (is, reply, requests) = ((reply, none_waits m due to may is), requests)
-answers_may due m (act.Request payload no_reply ∷ acts) may a = (tt, a)
-answers_may due m (act.Want want ∷ acts) may a = absurd a
-
--- the first may be put, and then the others
-pub first_may : (waiting : List Waiting) (a : Act) (acts : List Act) → MayPutAll waiting (a ∷ acts) → MayPut waiting a
-first_may waiting a acts may = may.0
-
-pub others_may : (waiting after : List Waiting) (a : Act) (acts : List Act) → MayPutAll waiting (a ∷ acts) → MayPutAll after acts
-others_may waiting after a acts may = requests_may after acts may.1
 
 -- ---- replies are to requests that have come
 

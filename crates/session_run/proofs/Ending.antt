@@ -31,7 +31,7 @@ use Rattle.session_run.specs.declared.serve.Setup.{Setup}
 use Rattle.session_run.specs.declared.session.Session.{Session}
 use Rattle.session_run.specs.Answered.{Moment, HasRead, AreAnswered}
 use Rattle.session_run.specs.Held.{IsAtRest, Holds, Turned, Leaves, Takes, Runs, RunsOn}
-use Rattle.session_run.specs.Served.{bytes_of, IsBadAfter, EndsBy, IsSentAt, IsClosedAt, IsSession, IsServed}
+use Rattle.session_run.specs.Served.{bytes_of, IsBadAfter, EndsBy, IsSentAt, IsClosedAt, IsStillAt, IsSession, IsServed}
 use Rattle.session_run.specs.Turns.{SessionTurn, undone, steps_of, frames_of, events_of}
 use Rattle.session_run.proofs.Holding.{Came, Expects, Joins, Received, received_on, front_ok, front_err, written_more, looks_after, stored_after, turn_answered, holds_on}
 use Rattle.session_run.proofs.Taking.{Kept, Wants}
@@ -69,6 +69,13 @@ closed (end.BadFrame index w) m rest = (rest, refl)
 closed end.TurnsFull m rest = (rest, refl)
 closed end.Memory m rest = tt
 
+still : (e : End) (now : Moment) → IsStillAt e now now
+still end.Closed now = refl
+still end.WireFault now = refl
+still (end.BadFrame index w) now = refl
+still end.TurnsFull now = refl
+still end.Memory now = tt
+
 abbrev pub ended_as : End → Session → Ended
 ended_as e s = record { end = e; looks = s.listing.looks; stored = s.listing.stored }
 
@@ -95,6 +102,7 @@ session_after setup start now s turns frames results last sent e failed held rea
   closed = closed e s.core held.rest.pending;
   answered = held.answered;
   reads = read;
+  still = still e now;
   looks = held.looks;
   stored = held.stored;
   put = held.put;
@@ -135,9 +143,9 @@ turn_session : Came → Joins → (setup : Setup) (start now final : Moment) (ol
     (result : Got) (traffic traffic_after : Option Traffic) (t : SessionTurn) (halted : Option Event) (left : Sending) (failed : List Gave)
     → Holds setup start now old turns frames results sent → (did : Turned (arc_value setup.program) old new result now final traffic traffic_after t halted left failed)
     → length (results ++ result ∷ []) ≤ 1099511627776
-    → IsClosedAt e new.core halted → IsSentAt e left → EndsBy (t ∷ turns) left e (results ++ result ∷ []) [] failed
+    → IsClosedAt e new.core halted → IsSentAt e left → IsStillAt e did.now final → EndsBy (t ∷ turns) left e (results ++ result ∷ []) [] failed
     → IsSession setup start final (ended_as e new) (results ++ result ∷ []) (sent ++ did.sent) failed
-turn_session came_law joins setup start now final old new turns frames results sent e result traffic traffic_after t halted left failed held did count is_closed whole by =
+turn_session came_law joins setup start now final old new turns frames results sent e result traffic traffic_after t halted left failed held did count is_closed whole is_still by =
     let got : Received old new turns results result t.frame t.given = received_on came_law joins setup start now old new turns frames results sent result t.frame t.given held did.read in
     record {
       turns = t ∷ turns;
@@ -159,6 +167,7 @@ turn_session came_law joins setup start now final old new turns frames results s
       answered = subst (λ steps. AreAnswered start setup.user (arc_value setup.program) setup.strict steps did.now) (append_assoc (undone halted) t.steps (steps_of turns))
           (turn_answered setup start now did.now old turns (undone halted ++ t.steps) frames results sent held did.answered);
       reads = did.reads;
+      still = is_still;
       looks = did.looks ∙ ap (λ l. l ++ looks_of (undone halted ++ t.steps)) held.looks ∙ sym (looks_after (undone halted ++ t.steps) (steps_of turns)) ∙ ap looks_of (append_assoc (undone halted) t.steps (steps_of turns));
       stored = did.stored ∙ ap (λ l. l ++ stored_of (undone halted ++ t.steps)) held.stored ∙ sym (stored_after (undone halted ++ t.steps) (steps_of turns)) ∙ ap stored_of (append_assoc (undone halted) t.steps (steps_of turns));
       put = (frames, did.frames, old.mux.outbox, refl, held.put, held.rest.idle, did.no_bad_ack, did.go);
@@ -206,15 +215,15 @@ turn_runs law came_law expects joins kept wants setup start now final traffic tr
 turn_ends : RecordsOn → Came → Joins → (setup : Setup) (start now final : Moment) (traffic traffic_now traffic_between traffic_after : Option Traffic) (old new : Session) (count : ℕ) (result : Got) (e : End) (t : SessionTurn) (halted : Option Event) (left : Sending) (failed : List Gave)
     → count < 1099511627776
     → Records traffic_now (result ∷ []) [] [] traffic_between
-    → Turned (arc_value setup.program) old new result now final traffic_between traffic_after t halted left failed
-    → IsClosedAt e new.core halted → IsSentAt e left → ((turns : List SessionTurn) (results : List Got) → EndsBy turns left e results [] failed)
+    → (did : Turned (arc_value setup.program) old new result now final traffic_between traffic_after t halted left failed)
+    → IsClosedAt e new.core halted → IsSentAt e left → IsStillAt e did.now final → ((turns : List SessionTurn) (results : List Got) → EndsBy turns left e results [] failed)
     → Runs setup start now traffic old traffic_now count → IsServed setup start final traffic (ended_as e new) traffic_after
-turn_ends law came_law joins setup start now final traffic traffic_now traffic_between traffic_after old new count result e t halted left failed below records did is_closed whole by runs = record {
+turn_ends law came_law joins setup start now final traffic traffic_now traffic_between traffic_after old new count result e t halted left failed below records did is_closed whole is_still by runs = record {
   results = runs.results ++ result ∷ [];
   sent = runs.sent ++ did.sent;
   failed = failed;
   session = turn_session came_law joins setup start now final old new runs.turns runs.frames runs.results runs.sent e result traffic_between traffic_after t halted left failed runs.holds did
-      (omega (arith, below, counted_on runs.results result count runs.counted)) is_closed whole (by (t ∷ runs.turns) (runs.results ++ result ∷ []));
+      (omega (arith, below, counted_on runs.results result count runs.counted)) is_closed whole is_still (by (t ∷ runs.turns) (runs.results ++ result ∷ []));
   records = law traffic traffic_now traffic_after runs.results (result ∷ []) runs.sent did.sent failed runs.records (law traffic_now traffic_between traffic_after (result ∷ []) [] [] did.sent failed records did.records);
 }
 
@@ -235,7 +244,7 @@ memory_ends : RecordsOn → Came → Joins → (setup : Setup) (start now final 
     → Takes (arc_value setup.program) old new result now final traffic_between traffic_after (Some end.Memory)
     → Runs setup start now traffic old traffic_now count → IsServed setup start final traffic (ended_as end.Memory new) traffic_after
 memory_ends law came_law joins setup start now final traffic traffic_now traffic_between traffic_after old new count result below read records (inl (t, halted, left, did)) runs =
-    turn_ends law came_law joins setup start now final traffic traffic_now traffic_between traffic_after old new count result end.Memory t halted left [] below records did tt tt (λ turns results. (inr refl, refl)) runs
+    turn_ends law came_law joins setup start now final traffic traffic_now traffic_between traffic_after old new count result end.Memory t halted left [] below records did tt tt tt (λ turns results. (inr refl, refl)) runs
 memory_ends law came_law joins setup start now final traffic traffic_now traffic_between traffic_after old new count result below read records (inr (bytes, is, leaves)) runs =
     leaves_ends law setup start now final traffic traffic_now traffic_between traffic_after old new count bytes end.Memory below read
     (subst (λ r. Records traffic_now (r ∷ []) [] [] traffic_between) is records)
@@ -249,8 +258,8 @@ taken_by : RecordsOn → Came → Expects → Joins → Kept → Wants → (setu
 taken_by law came_law expects joins kept wants setup start now final traffic traffic_now traffic_between traffic_after old new count result None below read records takes runs =
     turn_runs law came_law expects joins kept wants setup start now final traffic traffic_now traffic_between traffic_after old new count result records takes runs
 taken_by law came_law expects joins kept wants setup start now final traffic traffic_now traffic_between traffic_after old new count result (Some end.Closed) below read records takes runs = absurd takes
-taken_by law came_law expects joins kept wants setup start now final traffic traffic_now traffic_between traffic_after old new count result (Some end.WireFault) below read records (t, left, did, rest) runs =
-    turn_ends law came_law joins setup start now final traffic traffic_now traffic_between traffic_after old new count result end.WireFault t None left (gave.Failed ∷ []) below records did (rest, refl) tt (λ turns results. inr (refl, refl)) runs
+taken_by law came_law expects joins kept wants setup start now final traffic traffic_now traffic_between traffic_after old new count result (Some end.WireFault) below read records (t, left, did, rest, now_is) runs =
+    turn_ends law came_law joins setup start now final traffic traffic_now traffic_between traffic_after old new count result end.WireFault t None left (gave.Failed ∷ []) below records did (rest, refl) tt (sym now_is) (λ turns results. inr (refl, refl)) runs
 taken_by law came_law expects joins kept wants setup start now final traffic traffic_now traffic_between traffic_after old new count result (Some (end.BadFrame index w)) below read records (bytes, is, at, bad, leaves) runs =
     leaves_ends law setup start now final traffic traffic_now traffic_between traffic_after old new count bytes (end.BadFrame index w) below read
     (subst (λ r. Records traffic_now (r ∷ []) [] [] traffic_between) is records)

@@ -13,21 +13,15 @@ use Rattle.session_mux.specs.declared.mux.Mux.{Mux}
 use Rattle.blip_mux.specs.Apart.{AreApart}
 use Rattle.session_run.specs.declared.session.Session.{Session}
 use Rattle.session_run.specs.Held.{IsReady, Makes, Halts}
-use Rattle.session_run.specs.Putting.{MayPutAll, MayReply, put_all, put_as}
-use Rattle.session_run.proofs.ActsPut.{PutsApart, acts_put, acts_counted, answers_may, answers_apart}
+use Rattle.session_run.specs.Putting.{MayReply, put_all, put_as}
+use Rattle.session_run.proofs.ActsPut.{PutsApart, acts_put, acts_counted, answers_apart}
 
 -- what the laws of a session say
 abbrev pub Puts : Type 0
 Puts = (m : Machine) (event : Event) (done : Done) → Awaits m event → Does m event done → AreAnswers (due_at m.pending event) done.acts
 
-abbrev pub Due : Type 0
-Due = (m : Machine) (event : Event) (done : Done) → Awaits m event → Does m event done → IsStillDue (due_at m.pending event) done
-
 abbrev pub Wants : Type 0
 Wants = (m : Machine) (event : Event) (done : Done) → Awaits m event → Does m event done → WantsFor done.after.feed done.after.pending done.want
-
-abbrev pub Fewer : Type 0
-Fewer = (m : Machine) (event : Event) (done : Done) → Awaits m event → Does m event done → is_answer event ≡ true → most_answers done.after.pending < most_answers m.pending
 
 abbrev pub Kept : Type 0
 Kept = (m : Machine) (event : Event) (done : Done) → Awaits m event → Does m event done → IsKept m event done
@@ -42,14 +36,6 @@ answers_of law old new event acts awaits (done, does, (after, puts, want)) = sub
 pub counted_of : Kept → (old new : Machine) (event : Event) (acts : Acts) → Awaits old event → Stepped old event new acts → new.requests ≡ old.requests + requests_among acts.puts.items
 counted_of law old new event acts awaits (done, does, (after, puts, want)) =
     ap (λ (m : Machine). m.requests) (sym after) ∙ (law old event done awaits does).requests ∙ ap (λ acts. old.requests + requests_among acts) puts
-
-pub wants_of : Wants → (old new : Machine) (event : Event) (acts : Acts) → Awaits old event → Stepped old event new acts → WantsFor new.feed new.pending acts.want
-wants_of law old new event acts awaits (done, does, (after, puts, want)) =
-    subst (λ (m : Machine). WantsFor m.feed m.pending acts.want) after (subst (WantsFor done.after.feed done.after.pending) want (law old event done awaits does))
-
-pub fewer_of : Fewer → (old new : Machine) (event : Event) (acts : Acts) → Awaits old event → Stepped old event new acts → is_answer event ≡ true → most_answers new.pending < most_answers old.pending
-fewer_of law old new event acts awaits (done, does, (after, puts, want)) is =
-    subst (λ (m : Machine). most_answers m.pending < most_answers old.pending) after (law old event done awaits does is)
 
 -- the step
 abbrev StepOf : Machine → Event → Machine → Acts → Type 0
@@ -111,24 +97,6 @@ ready_after law kept apart_law old new event acts awaits stepped ready may mux =
           ∙ omega (arith, ready.requests, counted_of kept old.core new.core event acts awaits stepped);
       apart = subst (λ (m : Mux). AreApart m.inbox m.outbox) (sym mux) (answers_apart apart_law (due_at old.core.pending event) acts.puts.items old.mux answers may ready.apart);
     }
-
-still_may : (old new : Session) (due : Option ℕ) (acts : Acts) (done : Done) → IsStillDue due done → done.after ≡ new.core → done.acts ≡ acts.puts.items → MayReply old.mux due
-    → new.mux ≡ put_all acts.puts.items old.mux → MayReply new.mux (due_with new.core.pending)
-still_may old new due acts done (inl none) after puts may mux =
-    subst (λ (m : Machine). MayReply new.mux (due_with m.pending)) after (subst (MayReply new.mux) (sym none) tt)
-still_may old new due acts done (inr (same, nothing)) after puts may mux =
-    subst (λ (m : Machine). MayReply new.mux (due_with m.pending)) after
-    (subst (MayReply new.mux) (sym same) (subst (λ (m : Mux). MayReply m due) (sym (mux ∙ ap (λ acts. put_all acts old.mux) (sym puts ∙ nothing))) may))
-
-pub may_after : Due → (old new : Session) (event : Event) (acts : Acts) → Awaits old.core event → Stepped old.core event new.core acts → MayReply old.mux (due_at old.core.pending event)
-    → new.mux ≡ put_all acts.puts.items old.mux → MayReply new.mux (due_with new.core.pending)
-may_after law old new event acts awaits (done, does, (after, puts, want)) may mux =
-    still_may old new (due_at old.core.pending event) acts done (law old.core event done awaits does) after puts may mux
-
--- may it be put, and is there room?
-pub may_put : Puts → (old : Session) (new : Machine) (event : Event) (acts : Acts) → Awaits old.core event → Stepped old.core event new acts → MayReply old.mux (due_at old.core.pending event)
-    → MayPutAll old.mux.outbox.waiting acts.puts.items
-may_put law old new event acts awaits stepped may = answers_may (due_at old.core.pending event) old.mux acts.puts.items may (answers_of law old.core new event acts awaits stepped)
 
 pub room_for : Kept → (old : Session) (new : Machine) (event : Event) (acts : Acts) → Awaits old.core event → Stepped old.core event new acts → IsReady old
     → old.core.requests ≤ 9223372036854775808 → new.requests ≤ old.core.requests + 10001 → old.mux.outbox.requests + requests_among acts.puts.items < 18446744073709551615

@@ -131,6 +131,7 @@ goes_by program law old middle new first before final traffic traffic_after step
       left,
       puts_went program old middle new first before final traffic traffic_after steps (gave.Failed ∷ []) put read core listing sent frames texts left value go written records,
       ap (λ (m : Machine). m.pending) core ∙ put.rest,
+      refl,
     )
 goes_by program law old middle new first before final traffic traffic_after steps gave.Memory result put read core listing sent inbox (frames, texts, left, value, go, written, records, is_left) e =
     subst (GoesOn program old new first before final traffic traffic_after) (sym e)
@@ -204,10 +205,6 @@ TakesApart = (s : InboxState) (out : Sending) (f : FrameParts) (taken : Taken) �
 abbrev pub AcksApart : Type 0
 AcksApart = (s : InboxState) (out : Sending) (kind : Kind) (number bytes : ℕ) → AreApart s out → AreApart s (record out { waiting = acked_in kind number bytes out.waiting })
 
-abbrev pub WholeApart : Type 0
-WholeApart = (s : InboxState) (out : Sending) (f : FrameParts) (message : Message) → answer_at s f ≡ Ok (takens.Whole message) → is_request message.kind ≡ true → AreApart s out
-    → (list_any (is_reply_to message.number) out.waiting ≡ false) × HasCome (taken_after s f) message.number
-
 acknowledged_apart : AcksApart → (s : InboxState) (out : Sending) (given : Taken) → AreApart s out → AreApart s (after_outbox_steps out (acknowledged_by given))
 acknowledged_apart law s out takens.Nothing apart = apart
 acknowledged_apart law s out (takens.Ack kind number bytes) apart = law s out kind number bytes apart
@@ -237,16 +234,6 @@ may_by : (m : Mux) (message : Message) (p : Pending) (b : Bool) → is_request m
     → MayReply m (due_at p (event.Whole message))
 may_by m message p true is may = rw is (may is)
 may_by m message p false is may = rw is tt
-
-pub whole_may : WholeApart → (old : Session) (bytes : List ℕ) (message : Message) (after : Mux) (p : Pending) → Gives old.mux bytes (takens.Whole message) after → IsReady old → MayReply after (due_at p (event.Whole message))
-whole_may law old bytes message after p gives ready =
-    may_by after message p (is_request message.kind) refl
-    (λ is.
-    let may : (list_any (is_reply_to message.number) old.mux.outbox.waiting ≡ false) × HasCome (taken_after old.mux.inbox gives.frame) message.number =
-    law old.mux.inbox old.mux.outbox gives.frame message gives.answer is ready.apart in (
-      ap (λ (s : Sending). list_any (is_reply_to message.number) s.waiting) gives.outbox ∙ may.0,
-      subst (λ s. HasCome s message.number) (sym gives.inbox) may.1,
-    ))
 
 -- ---- the turn of a frame
 
@@ -294,11 +281,12 @@ frame_goes program old middle new bytes given first before final traffic traffic
   subst (λ (m : Machine). new.core.requests ≤ m.requests + 30003) core few,
 )
 frame_goes program old middle new bytes given first before final traffic traffic_after (Some end.Closed) gives calls core listing sent received count goes = absurd goes
-frame_goes program old middle new bytes given first before final traffic traffic_after (Some end.WireFault) gives calls core listing sent received count (steps, left, went, rest) = (
+frame_goes program old middle new bytes given first before final traffic traffic_after (Some end.WireFault) gives calls core listing sent received count (steps, left, went, rest, now) = (
   record { frame = Some gives.frame; given = given; steps = steps },
   left,
   turn_of program old middle new bytes given first before final traffic traffic_after steps None left (gave.Failed ∷ []) gives calls core listing sent received count went,
   rest,
+  now,
 )
 frame_goes program old middle new bytes given first before final traffic traffic_after (Some (end.BadFrame index w)) gives calls core listing sent received count goes = absurd goes
 frame_goes program old middle new bytes given first before final traffic traffic_after (Some end.TurnsFull) gives calls core listing sent received count goes = absurd goes
@@ -375,11 +363,12 @@ idle_takes program old new front before final traffic traffic_after None waiting
   few,
 )
 idle_takes program old new front before final traffic traffic_after (Some end.Closed) waiting received count goes = absurd goes
-idle_takes program old new front before final traffic traffic_after (Some end.WireFault) waiting received count (steps, left, went, rest) = (
+idle_takes program old new front before final traffic traffic_after (Some end.WireFault) waiting received count (steps, left, went, rest, now) = (
   record { frame = None; given = takens.Nothing; steps = steps },
   left,
   idle_turn program old new front before final traffic traffic_after steps None left (gave.Failed ∷ []) waiting received count went,
   rest,
+  now,
 )
 idle_takes program old new front before final traffic traffic_after (Some (end.BadFrame index w)) waiting received count goes = absurd goes
 idle_takes program old new front before final traffic traffic_after (Some end.TurnsFull) waiting received count goes = absurd goes

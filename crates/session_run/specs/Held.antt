@@ -114,7 +114,8 @@ GoesOn program old new first before final traffic traffic_after None =
     × (went.now ≡ final) × (new.mux.inbox ≡ expecting_all (put_by steps) old.mux.inbox) × (feed_front new.core.feed ≤ final.lowest)
     × (new.core.requests ≤ old.core.requests + 30003)
 GoesOn program old new first before final traffic traffic_after (Some end.WireFault) =
-    (steps : List Step) × (left : Sending) × Went program old new first before final traffic traffic_after steps None left (gave.Failed ∷ []) × (new.core.pending ≡ pending.Nothing)
+    (steps : List Step) × (left : Sending) × (went : Went program old new first before final traffic traffic_after steps None left (gave.Failed ∷ [])) × (new.core.pending ≡ pending.Nothing)
+    × (went.now ≡ final)
 GoesOn program old new first before final traffic traffic_after (Some end.Memory) =
     (steps : List Step) × (halted : Option Event) × (left : Sending) × Went program old new first before final traffic traffic_after steps halted left []
 GoesOn program old new first before final traffic traffic_after (Some other) = ⊥
@@ -169,7 +170,8 @@ Takes program old new result before final traffic traffic_after None =
     × (did.now ≡ final) × (new.mux.inbox ≡ expecting_all (put_by t.steps) (inbox_after old.mux.inbox t.frame)) × (feed_front new.core.feed ≤ final.lowest)
     × (new.core.requests ≤ old.core.requests + 30003)
 Takes program old new result before final traffic traffic_after (Some end.WireFault) =
-    (t : SessionTurn) × (left : Sending) × Turned program old new result before final traffic traffic_after t None left (gave.Failed ∷ []) × (new.core.pending ≡ pending.Nothing)
+    (t : SessionTurn) × (left : Sending) × (did : Turned program old new result before final traffic traffic_after t None left (gave.Failed ∷ [])) × (new.core.pending ≡ pending.Nothing)
+    × (did.now ≡ final)
 Takes program old new result before final traffic traffic_after (Some (end.BadFrame index w)) =
     (bytes : List ℕ) × (result ≡ got.Frame bytes) × (index ≡ old.frames + 1)
     × IsBadFrame (frame_at old.mux.received.value bytes) (answer_at old.mux.inbox) old.mux.outbox w × Leaves old new before final traffic traffic_after

@@ -91,12 +91,17 @@ abbrev pub IsClosedAt : End → Machine → Option Event → Type 0
 IsClosedAt end.Memory m halted = Unit {0}
 IsClosedAt other m halted = (m.pending ≡ pending.Nothing) × (halted ≡ None)
 
+-- the ground is as it was at the last step, unless memory ran out
+abbrev pub IsStillAt : End → Moment → Moment → Type 0
+IsStillAt end.Memory now final = Unit {0}
+IsStillAt other now final = final ≡ now
+
 -- ---- the whole
 
 -- A session: of the results that were received those before the last are the frames and idle moments of turns; each message that
 -- they gave, and each idle moment, was dealt with as a session of this setup does, by answers of boards that were read one after another
 -- and each for its step; what was sent are the frames of what was put, after each turn as many as may be sent; the looks and the stored
--- sequences are those of the steps. Where memory ran out, the last event may be one for which nothing was done: its look is listed, and
+-- sequences are those of the steps. Behind its last step it read no more. Where memory ran out it may have, and the last event may be one for which nothing was done: its look is listed, and
 -- what it stored, but nothing is put or wanted for it.
 pub record IsSession (setup : Setup) (start final : Moment) (ended : Ended) (results : List Got) (sent : List (List ℕ)) (failed : List Gave) : Type 0 where
   pub turns : List SessionTurn
@@ -117,6 +122,7 @@ pub record IsSession (setup : Setup) (start final : Moment) (ended : Ended) (res
   pub closed : IsClosedAt ended.end machine halted
   pub answered : AreAnswered start setup.user (arc_value setup.program) setup.strict (undone halted ++ steps_of turns) now
   pub reads : HasRead now final
+  pub still : IsStillAt ended.end now final
   pub looks : ended.looks ≡ looks_of (undone halted ++ steps_of turns)
   pub stored : ended.stored ≡ stored_of (undone halted ++ steps_of turns)
   pub put : AreSent turns frames left
