@@ -9,7 +9,7 @@ use Rattle.sg_history.specs.declared.entries.Write.{Write}
 use Rattle.sg_history.specs.declared.row.Row.{Row}
 use Rattle.sg_history.specs.Current.{Current, Sequenced, current, last_write, winning_of, write_alone}
 use Rattle.sg_history.specs.Feed.{changed, row_of}
-use Rattle.sg_history.specs.History.{past}
+use Rattle.sg_history.specs.History.{among, past}
 use Rattle.sg_history.specs.Principals.{has_channel}
 use Rattle.sg_history.specs.View.{Shown, every, passes, same_view, view, view_of}
 use Rattle.rev_tree.specs.declared.tree.Node.{Node}
@@ -17,8 +17,6 @@ use Rattle.doc_board.specs.State.{State, tree_on}
 use Rattle.repl_messages.specs.declared.looks.Body.{Body}
 use Rattle.repl_messages.specs.declared.looks.Body.TheVariants as body
 use Rattle.repl_messages.specs.Looks.{winner_after, winning_write, said_by, left_by_write, body_with, body_of}
-use Rattle.log_index.specs.declared.index.LogIndex.{LogIndex}
-use Rattle.log_views.specs.Has.{channels_have}
 use Rattle.log_views.specs.States.{winning, view_by}
 use Rattle.grant_history.specs.declared.periods.Period.{Period}
 use Rattle.feed_rows.specs.LastChange.{place_by}
@@ -58,10 +56,10 @@ module _ (es : List Entry) (user : List ℕ) (filter : Option (List (List ℕ)))
       (still_gone (left_by_write row.bits) (is_none (view es user filter row.doc)) (nat_eq (length (changed es user filter row.doc)) row.key.by) (nat_lt 0 row.key.by))
 
 -- the answers for all rows
-module _ (index : LogIndex) (board : State) (user : List ℕ) (filter : Option (List (List ℕ))) (periods : List Period) (look : Look) (most : ℕ) (in_it : LooksIn index board user filter periods look) where
+module _ (board : State) (user : List ℕ) (filter : Option (List (List ℕ))) (periods : List Period) (look : Look) (most : ℕ) (in_it : LooksIn board user filter periods look) where
   abbrev by : List Entry → State → Option (List (List ℕ)) → List ℕ → Option (List (List ℕ)) → Row → Body
   by entries b f u through row =
-      answer (view_by (channels_have look.channels) f (current (reverse entries) row.doc)) (tree_on b row.doc) (write_alone (winning (reverse entries) row.doc))
+      answer (view_by (λ c. among look.channels c) f (current (reverse entries) row.doc)) (tree_on b row.doc) (write_alone (winning (reverse entries) row.doc))
       (left_by_write row.bits && nat_lt 0 row.key.by && nat_eq (place_by (row_of (reverse entries) u through row.doc)) row.key.by) most row
 
   one : (row : Row) → looked look most row ≡ body_of (reverse board.log) (tree_on board) user filter most row
@@ -71,7 +69,7 @@ module _ (index : LogIndex) (board : State) (user : List ℕ) (filter : Option (
       ∙ ap (λ (f : Option (List (List ℕ))). by board.log board f look.viewer.user.now look.viewer.filter.now row) in_it.filter_is
       ∙ ap (λ (u : List ℕ). by board.log board filter u look.viewer.filter.now row) in_it.of_user
       ∙ ap (λ (f : Option (List (List ℕ))). by board.log board filter user f row) in_it.by_filter
-      ∙ answered (reverse board.log) user filter most (tree_on board) (channels_have look.channels) in_it.channels row
+      ∙ answered (reverse board.log) user filter most (tree_on board) (λ c. among look.channels c) in_it.channels row
 
   pub bodies_are : (rows : List Row) → map (looked look most) rows ≡ map (body_of (reverse board.log) (tree_on board) user filter most) rows
   bodies_are [] = refl

@@ -12,6 +12,7 @@ ghost use Rattle.sg_history.specs.Feed as feed;
 ghost use Rattle.log_index.specs.Index.{Indexes};
 ghost use Rattle.log_views.specs.States.{shown_in};
 ghost use Rattle.grant_history.specs.Periods.{AreInOrder, ArePeriods};
+ghost use Rattle.grant_history.specs.Sorted.{AreSorted};
 ghost use Rattle.grant_history.specs.Stands.{StandsFor};
 ghost use Rattle.feed_rows.specs.PassAt.{IsViewer};
 ghost use Rattle.doc_board.specs.Offers.{nodes_or_none};
@@ -24,7 +25,7 @@ use doc_board::Board;
 use feed_rows::{Viewer, changed_last_at, viewer_of};
 use grant_history::{GrantHistory, Period, Periods};
 use log_index::LogIndex;
-use log_views::{DocState, UserChannels, channels, shown, state};
+use log_views::{DocState, Filter, shown, state};
 use repl_messages::{Bodies, Body, BodyList};
 use rev_tree::Tree;
 use sg_history::{Channels, Entry, LogReads, Name, Options, Row, Write};
@@ -124,8 +125,8 @@ struct Look<'a> {
     board: &'a Board,
     index: &'a LogIndex,
     entries: &'a [Entry],
-    channels: UserChannels<'a>,
-    filter: &'a Option<Channels>,
+    channels: Channels,
+    filter: &'a Filter<'a>,
     viewer: Viewer<'a>,
 }
 
@@ -152,6 +153,7 @@ fn is_gone(look: &Look<'_>, row: &Row) -> bool
 
 fn body_of(alloc: Global, look: &Look<'_>, most: u64, row: &Row) -> Result<Body, Memory>
     requires index { Indexes look.now.index.now (reverse look.now.entries.now) }
+    requires sorted { AreSorted look.now.channels }
     requires viewer { bodies.left_by_write row.now.bits ≡ true
         → IsViewer look.now.viewer (reverse look.now.entries.now) }
     ensures { IfOk result (λ body. body ≡ by_look.looked look.now most row.now) }
@@ -173,6 +175,7 @@ fn put_body(
     list: &mut BodyList,
 ) -> Result<(), Memory>
     requires index { Indexes look.now.index.now (reverse look.now.entries.now) }
+    requires sorted { AreSorted look.now.channels }
     requires viewer { bodies.left_by_write row.now.bits ≡ true
         → IsViewer look.now.viewer (reverse look.now.entries.now) }
     ensures { OnOk result (list.new ≡ list.old ++ by_look.looked look.now most row.now ∷ []) }
@@ -184,6 +187,7 @@ fn put_body(
 
 fn answers_of(alloc: Global, look: &Look<'_>, most: u64, rows: &[Row]) -> Result<BodyList, Memory>
     requires index { Indexes look.now.index.now (reverse look.now.entries.now) }
+    requires sorted { AreSorted look.now.channels }
     requires viewer { list_any (λ row. bodies.left_by_write row.bits) rows.now ≡ true
         → IsViewer look.now.viewer (reverse look.now.entries.now) }
     ensures { IfOk result (λ list. list ≡ map (by_look.looked look.now most) rows.now) }
@@ -221,35 +225,62 @@ fn periods_if_left(
     Ok(Periods::new(alloc))
 }
 
-/// What bodies are looked up in, by the index of a board's log and the periods of the user's channels.
+/// What bodies are looked up in, by the history of grants of a board's log, which is applied to its end, and the periods of the
+/// user's channels.
 fn look_of<'a>(
-    alloc: Global,
-    index: &'a LogIndex,
+    grants: &'a GrantHistory,
     board: &'a Board,
     user: &'a Name,
-    options: &'a Options,
+    filter: &'a Filter<'a>,
     periods: &'a [Period],
 ) -> Result<Look<'a>, Memory>
-    requires { Indexes index.now (reverse board.now.log) }
-    ensures { IfOk result (by_look.LooksIn index.now board.now user.now options.now.filter
-        periods.now) }
+    requires stands { StandsFor grants.now board.now.log }
+    requires applied { grants.now.applied ≡ length board.now.log }
+    ensures { IfOk result (by_look.LooksIn board.now user.now filter.now periods.now) }
 {
-    let entries = board.log().entries.as_slice();
-    let viewer = viewer_of(user, &options.filter, periods);
-    let channels = channels(alloc, index, entries, user)?;
+    let channels = grants.channels_at(user, grants.applied())?;
     Ok(Look {
         board,
-        index,
-        entries,
+        index: grants.index(),
+        entries: board.log().entries.as_slice(),
         channels,
-        filter: &options.filter,
-        viewer,
+        filter,
+        viewer: viewer_of(user, filter, periods),
     })
 }
 
-/// What a board answers for the rows that a device wants, by the history of grants of its log, which has
+/// What a board answers for the rows that a device wants through a filter, by the history of grants of its log, which has
 /// an index of that, too. Where a row says that its document left, the document is followed back from
 /// its last write to that row's key.
+fn bodies_through(
+    alloc: Global,
+    grants: &GrantHistory,
+    board: &Board,
+    user: &Name,
+    filter: &Filter<'_>,
+    rows: &[Row],
+    most: u64,
+) -> Result<Bodies, Memory>
+    requires stands { StandsFor grants.now board.now.log }
+    requires applied { grants.now.applied ≡ length board.now.log }
+    ensures front { IfOk result (λ answer. answer.front ≡ length board.now.log) }
+    ensures answers { IfOk result (λ answer. answer.answers
+        ≡ map (bodies.body_of (reverse board.now.log) (tree_on board.now) user.now
+        filter.now most) rows.now) }
+{
+    let periods = periods_if_left(alloc, grants, user, rows)?;
+    let look = look_of(grants, board, user, filter, periods.as_slice())?;
+    let front = look.entries.len() as u64;
+    let answers = answers_of(alloc, &look, most, rows);
+    drop(look);
+    drop(periods);
+    Ok(Bodies {
+        front,
+        answers: answers?,
+    })
+}
+
+/// The same through the filter of a feed's options.
 fn bodies_by(
     alloc: Global,
     grants: &GrantHistory,
@@ -266,17 +297,10 @@ fn bodies_by(
         ≡ map (bodies.body_of (reverse board.now.log) (tree_on board.now) user.now
         options.now.filter most) rows.now) }
 {
-    let periods = periods_if_left(alloc, grants, user, rows)?;
-    let index = grants.index();
-    let look = look_of(alloc, index, board, user, options, periods.as_slice())?;
-    let front = look.entries.len() as u64;
-    let answers = answers_of(alloc, &look, most, rows);
-    drop(look);
-    drop(periods);
-    Ok(Bodies {
-        front,
-        answers: answers?,
-    })
+    let filter = Filter::new(alloc, &options.filter)?;
+    let answer = bodies_through(alloc, grants, board, user, &filter, rows, most);
+    drop(filter);
+    answer
 }
 
 /// What a board answers for the rows that a device wants: each row is looked up in the history of grants of its
