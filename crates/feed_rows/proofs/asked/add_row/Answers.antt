@@ -1,4 +1,4 @@
-use Rattle.std.proofs.Common.{◌≡◌, ◌∙◌, false, sym, ap, refl, map, Option, Some}
+use Rattle.std.proofs.Common.{◌≡◌, ◌∙◌, false, sym, ap, refl, map, Option}
 use Rattle.sg_history.specs.declared.row.Row.{Row}
 use Rattle.sg_history.specs.Feed.{bits_of, keeps}
 use Rattle.feed_rows.specs.declared.document.Change.{Change}

@@ -1,4 +1,4 @@
-use Rattle.std.proofs.Common.{◌≡◌, ◌∙◌, ℕ, Bool, false, sym, ap, subst, Option, Some, None, length}
+use Rattle.std.proofs.Common.{◌∙◌, Bool, false, sym, ap, subst, Option, Some, None, length}
 use Rattle.sg_history.specs.Feed.{row_with}
 use Rattle.grant_history.specs.Periods.{periods_have}
 use Rattle.feed_rows.specs.Known.{view_when}

@@ -1,9 +1,9 @@
-use Rattle.std.proofs.Common.{◌≡◌, ◌∙◌, ◌∷◌, ℕ, Bool, true, false, List, sym, ap, subst, arith}
+use Rattle.std.proofs.Common.{◌∷◌, ℕ, List, subst, arith}
 use Rattle.std.specs.List.{list_any}
-use Rattle.sg_history.specs.View.{every, passes}
+use Rattle.sg_history.specs.View.{every}
 use Rattle.grant_history.specs.Periods.{periods_have}
 use Rattle.feed_rows.specs.Lasting.{Lasts}
-use Rattle.feed_rows.proofs.Lastings.{shown_through, shown_never, shown_unless}
+use Rattle.feed_rows.proofs.Lastings.{shown_unless}
 use Rattle.feed_rows.proofs.shown.lasting_shown.Goals as goal
 
 pub returns-then-not-had : goal.returns-then-not-had
