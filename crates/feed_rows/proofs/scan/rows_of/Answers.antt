@@ -8,8 +8,8 @@ use Rattle.feed_rows.specs.PassAt.{IsViewer}
 use Rattle.feed_rows.proofs.Places.{take_all}
 use Rattle.feed_rows.proofs.scan.rows_of.Goals as goal
 
-pub rows_of_pass-requires-clause-viewer : goal.rows_of_pass-requires-clause-viewer
-rows_of_pass-requires-clause-viewer c =
+pub rows_of_pass-rows-requires-clause-viewer : goal.rows_of_pass-rows-requires-clause-viewer
+rows_of_pass-rows-requires-clause-viewer c =
     let entries = c.args.entries.now in
     let periods = subst (λ (ps : List Period). ArePeriods ps (λ x k. has_channel (past entries k) c.args.user.now x) (length entries))
     (sym c.as_slice.ensures) c.in_ok-periods.ensures.periods in
