@@ -9,9 +9,10 @@ use Rattle.std.proofs.lemmas.Bool.{and_parts, and_from, or_left, or_right, eqb-t
 use Rattle.std.proofs.lemmas.List.Folds.{list_any-append}
 use Rattle.doc_board.specs.declared.document.Document.{Document}
 use Rattle.sg_history.specs.declared.room.RoomFor.{RoomFor}
+use Rattle.sg_history.specs.Rooms.{same_doc, same_room, without_room}
 use Rattle.doc_board.specs.Boards.{bytes_asked}
 use Rattle.doc_board.specs.Kept.{has_place, or_blank, placed}
-use Rattle.doc_board.specs.Rooms.{AreSmall, same_doc, same_room, is_outstanding, without}
+use Rattle.doc_board.specs.Rooms.{AreSmall, is_outstanding}
 use Rattle.std.proofs.lemmas.Slice.Eq.{bytes_eq-Decides}
 use Rattle.doc_board.proofs.Documents.{Documents, same_names}
 
@@ -25,20 +26,20 @@ kept_one true p r rooms others first all rest = all
 kept_one false p r rooms others first all rest = and_from (p r) (list_all p others) first rest
 
 -- of these rooms all have what all had
-pub all_without : (p : RoomFor → Bool) (room : RoomFor) (rooms : List RoomFor) → list_all p rooms ≡ true → list_all p (without room rooms) ≡ true
+pub all_without : (p : RoomFor → Bool) (room : RoomFor) (rooms : List RoomFor) → list_all p rooms ≡ true → list_all p (without_room room rooms) ≡ true
 all_without p room [] h = refl
 all_without p room (r ∷ rooms) h =
     let parts = and_parts (p r) (list_all p rooms) h in
-    kept_one (same_room r room) p r rooms (without room rooms) parts.0 parts.1 (all_without p room rooms parts.1)
+    kept_one (same_room r room) p r rooms (without_room room rooms) parts.0 parts.1 (all_without p room rooms parts.1)
 
 less_one : (b : Bool) (out : Bool) (r : RoomFor) (rooms others : List RoomFor) → (b || out) ≡ true → (out ≡ true → length others + 1 ≡ length rooms) → length (if b then rooms else r ∷ others) + 1 ≡ length (r ∷ rooms)
 less_one true out r rooms others h rest = omega arith
 less_one false out r rooms others h rest = omega (arith, rest h)
 
 -- there is one less
-pub one_less : (room : RoomFor) (rooms : List RoomFor) → is_outstanding rooms room ≡ true → length (without room rooms) + 1 ≡ length rooms
+pub one_less : (room : RoomFor) (rooms : List RoomFor) → is_outstanding rooms room ≡ true → length (without_room room rooms) + 1 ≡ length rooms
 one_less room [] h = absurd (false≢true h)
-one_less room (r ∷ rooms) h = less_one (same_room r room) (is_outstanding rooms room) r rooms (without room rooms) h (one_less room rooms)
+one_less room (r ∷ rooms) h = less_one (same_room r room) (is_outstanding rooms room) r rooms (without_room room rooms) h (one_less room rooms)
 
 bytes_less : (b : Bool) (out : Bool) (r room : RoomFor) (rooms others : List RoomFor) → (b ≡ true → r.bytes ≡ room.bytes) → (b || out) ≡ true → (out ≡ true → bytes_asked others + room.bytes ≡ bytes_asked rooms)
     → bytes_asked (if b then rooms else r ∷ others) + room.bytes ≡ bytes_asked (r ∷ rooms)
@@ -46,10 +47,10 @@ bytes_less true out r room rooms others same h rest = omega (arith, same refl)
 bytes_less false out r room rooms others same h rest = omega (arith, rest h)
 
 -- there are as many bytes less as the room was made for
-pub asked_less : (room : RoomFor) (rooms : List RoomFor) → is_outstanding rooms room ≡ true → bytes_asked (without room rooms) + room.bytes ≡ bytes_asked rooms
+pub asked_less : (room : RoomFor) (rooms : List RoomFor) → is_outstanding rooms room ≡ true → bytes_asked (without_room room rooms) + room.bytes ≡ bytes_asked rooms
 asked_less room [] h = absurd (false≢true h)
 asked_less room (r ∷ rooms) h =
-    bytes_less (same_room r room) (is_outstanding rooms room) r room rooms (without room rooms) (λ e. eqb-true r.bytes room.bytes (and_parts (same_doc r.doc room.doc) (nat_eq r.bytes room.bytes) e).1) h (asked_less room rooms)
+    bytes_less (same_room r room) (is_outstanding rooms room) r room rooms (without_room room rooms) (λ e. eqb-true r.bytes room.bytes (and_parts (same_doc r.doc room.doc) (nat_eq r.bytes room.bytes) e).1) h (asked_less room rooms)
 
 pub asked_more : (room : RoomFor) (rooms : List RoomFor) → bytes_asked (rooms ++ room ∷ []) ≡ bytes_asked rooms + room.bytes
 asked_more room [] = omega arith
@@ -65,11 +66,11 @@ pub small_more : (room : RoomFor) (rooms : List RoomFor) → room.bytes ≤ 2097
 small_more room [] here small = (here, tt)
 small_more room (r ∷ rooms) here small = (small.0, small_more room rooms here small.1)
 
-pub small_without : (room : RoomFor) (rooms : List RoomFor) → AreSmall rooms → AreSmall (without room rooms)
+pub small_without : (room : RoomFor) (rooms : List RoomFor) → AreSmall rooms → AreSmall (without_room room rooms)
 small_without room [] small = tt
 small_without room (r ∷ rooms) small = go (same_room r room) (small_without room rooms small.1)
   where
-    go : (b : Bool) → AreSmall (without room rooms) → AreSmall (if b then rooms else r ∷ without room rooms)
+    go : (b : Bool) → AreSmall (without_room room rooms) → AreSmall (if b then rooms else r ∷ without_room room rooms)
     go true rest = small.1
     go false rest = (small.0, rest)
 

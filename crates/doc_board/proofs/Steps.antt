@@ -18,6 +18,7 @@ use Rattle.sg_history.specs.History.{as_write}
 use Rattle.sg_history.specs.Journal.{IsEntry}
 use Rattle.sg_history.specs.Line.{is_write}
 use Rattle.sg_history.specs.World.{Released, release, put_waiting}
+use Rattle.sg_history.specs.Rooms.{without_room}
 use Rattle.pending_front.specs.Pending.{Reserved, AreBeyond}
 use Rattle.pending_front.specs.Storing.{MayStore}
 use Rattle.rev_tree.specs.declared.tree.Node.{Node}
@@ -27,7 +28,7 @@ use Rattle.doc_board.specs.Candidates.{ExtendsTree}
 use Rattle.doc_board.specs.Kept.{AreBases, HasNoneAbove, IsBoard, IsKept, IsStanding, below, capped, has_place, placed}
 use Rattle.doc_board.specs.Recorded.{HasDocument}
 use Rattle.doc_board.specs.State.{top_of}
-use Rattle.doc_board.specs.Rooms.{is_outstanding, without}
+use Rattle.doc_board.specs.Rooms.{is_outstanding}
 use Rattle.doc_board.proofs.Documents.{Documents}
 use Rattle.doc_board.proofs.Lawful.{SameRevisions, SameLeaves}
 use Rattle.doc_board.proofs.OutstandingRooms.{all_without, one_less, places_stay, all_placed, all_with}
@@ -104,7 +105,7 @@ waits_in_book log ws m x beyond least is = go (cases_lt (length log) m)
 -- ---- a room ends
 
 pub ended : (log : entries.EntryList) (p : Reserved) (places : Documents) (bases : Bases) (spare : ℕ) (rooms : List RoomFor) (stored more : ℕ) (room : RoomFor)
-    → is_outstanding rooms room ≡ true → IsStanding log p places bases spare rooms stored more → IsStanding log p places bases spare (without room rooms) stored (more + 2)
+    → is_outstanding rooms room ≡ true → IsStanding log p places bases spare rooms stored more → IsStanding log p places bases spare (without_room room rooms) stored (more + 2)
 ended log p places bases spare rooms stored more room out it =
     let less = one_less room rooms out in
     record {

@@ -17,11 +17,12 @@ ghost use Rattle.doc_board.specs.Boards.{board_of};
 ghost use Rattle.doc_board.specs.Candidates.{MayBeStored, ExtendsTree, Fits, IfStored, IfStale, is_stale, entry_of, made_at, last_of};
 ghost use Rattle.sg_history.specs.Journal.{IsEntry};
 ghost use Rattle.sg_history.specs.Line.{is_write};
+ghost use Rattle.sg_history.specs.Rooms.{without_room};
 ghost use Rattle.doc_board.specs.Lawful.{AreLawful, AreEntries};
 ghost use Rattle.doc_board.specs.Limits as limits;
 ghost use Rattle.doc_board.specs.Limits.{IsRefusedBy};
 ghost use Rattle.doc_board.specs.Recorded.{HasDocument, AreFollowing, IsFirstBad};
-ghost use Rattle.doc_board.specs.Rooms.{is_outstanding, room_for, without};
+ghost use Rattle.doc_board.specs.Rooms.{is_outstanding, room_for};
 ghost use Rattle.doc_board.specs.State.{newest_first, book_on, writes_on, tree_on, last_on, base_on};
 ghost use Rattle.doc_board.specs.Steps.{history_on, stored_at, swapped_to, with_entry};
 ghost use Rattle.doc_board.specs.Storage.{MayGiveUp, book_with_unused, kept_at};
@@ -389,7 +390,7 @@ impl Board {
         ensures stored { history_on self.new ≡ kept_at self.old spent number entry }
         ensures book { book_on self.new
             ≡ with_entry number entry (book_with_unused spent (book_on self.old)) }
-        ensures rooms { self.new.rooms ≡ without room.made_for self.old.rooms }
+        ensures rooms { self.new.rooms ≡ without_room room.made_for self.old.rooms }
         ensures known { self.new.known ≡ self.old.known }
         ensures reads { self.new.reads ≡ self.old.reads }
     {
@@ -424,7 +425,7 @@ impl Board {
             ≡ kept_at self.old spent number (kinds.Write entry) }
         ensures book { book_on self.new ≡ with_entry number (kinds.Write entry)
             (book_with_unused spent (book_on self.old)) }
-        ensures rooms { self.new.rooms ≡ without room.made_for self.old.rooms }
+        ensures rooms { self.new.rooms ≡ without_room room.made_for self.old.rooms }
         ensures known { self.new.known ≡ self.old.known }
         ensures reads { self.new.reads ≡ self.old.reads }
     {
@@ -449,7 +450,7 @@ impl Board {
             ≡ kept_at self.old spent number (entry_of candidate) }
         ensures book { book_on self.new ≡ with_entry number (entry_of candidate)
             (book_with_unused spent (book_on self.old)) }
-        ensures rooms { self.new.rooms ≡ without room.made_for self.old.rooms }
+        ensures rooms { self.new.rooms ≡ without_room room.made_for self.old.rooms }
         ensures known { self.new.known ≡ self.old.known }
         ensures reads { self.new.reads ≡ self.old.reads }
     {
@@ -501,7 +502,7 @@ impl Board {
         ensures book { IfStored result (λ sequence at. book_on self.new
             ≡ with_entry number.value (entry_of candidate) (book_on self.old)) }
         ensures rooms { IfStored result
-            (λ sequence at. self.new.rooms ≡ without room.made_for self.old.rooms) }
+            (λ sequence at. self.new.rooms ≡ without_room room.made_for self.old.rooms) }
         ensures known { self.new.known ≡ self.old.known }
         ensures reads { self.new.reads ≡ self.old.reads }
     {
@@ -542,7 +543,7 @@ impl Board {
             ≡ swapped_to self.old spent.value fresh.value (entry_of candidate) }
         ensures book { book_on self.new ≡ with_entry fresh.value (entry_of candidate)
             (with_entry spent.value kinds.Unused (book_on self.old)) }
-        ensures rooms { self.new.rooms ≡ without room.made_for self.old.rooms }
+        ensures rooms { self.new.rooms ≡ without_room room.made_for self.old.rooms }
         ensures known { self.new.known ≡ self.old.known }
         ensures reads { self.new.reads ≡ self.old.reads }
     {
@@ -559,7 +560,7 @@ impl Board {
         ensures stored { history_on self.new ≡ stored_at self.old number.value kinds.Unused }
         ensures book { book_on self.new
             ≡ with_entry number.value kinds.Unused (book_on self.old) }
-        ensures rooms { self.new.rooms ≡ without room.made_for self.old.rooms }
+        ensures rooms { self.new.rooms ≡ without_room room.made_for self.old.rooms }
         ensures known { self.new.known ≡ self.old.known }
         ensures reads { self.new.reads ≡ self.old.reads }
     {

@@ -3,6 +3,7 @@
 ghost use Rattle.std.specs.Prelude.{◌≡◌, ◌≤◌, ◌<◌, ◌++◌, ◌∷◌, [], length, IfOk, IsTrue};
 ghost use Rattle.std.specs.Option.{option_copied};
 ghost use Rattle.doc_board.specs.Boards.{bytes_asked};
+ghost use Rattle.sg_history.specs.Rooms.{without_room};
 ghost use Rattle.doc_board.specs.Rooms as rooms;
 
 use sg_history::{DocId, RoomFor};
@@ -65,7 +66,7 @@ impl RoomList {
     }
 
     fn end(&mut self, made_for: &RoomFor)
-        ensures { self.new ≡ rooms.without made_for.now self.old }
+        ensures { self.new ≡ without_room made_for.now self.old }
     {
         self.links = Links::Ended(Snapshot::of(&self.links), Snapshot::of(made_for));
     }
@@ -133,7 +134,7 @@ impl OutstandingRooms {
     /// A room ends. Allocates nothing.
     pub(crate) fn end(&mut self, room: Room)
         requires { IsTrue (rooms.is_outstanding self.old room.made_for) }
-        ensures { self.new ≡ rooms.without room.made_for self.old }
+        ensures { self.new ≡ without_room room.made_for self.old }
     {
         let Room { made_for } = room;
         self.list.end(&made_for);

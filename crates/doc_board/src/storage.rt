@@ -8,11 +8,12 @@ ghost use Rattle.sg_history.specs.History.{Extends, entries_of};
 ghost use Rattle.sg_history.specs.Journal.{IsEntry};
 ghost use Rattle.sg_history.specs.Line.{is_write};
 ghost use Rattle.sg_history.specs.World.{put_waiting, release as released};
+ghost use Rattle.sg_history.specs.Rooms.{without_room};
 ghost use Rattle.pending_front.specs.Storing.{MayStore};
 ghost use Rattle.rev_tree.specs.Documents.{last_in, tree_in};
 ghost use Rattle.doc_board.specs.Candidates.{ExtendsTree};
 ghost use Rattle.doc_board.specs.Recorded.{HasDocument};
-ghost use Rattle.doc_board.specs.Rooms.{is_outstanding, room_for, without};
+ghost use Rattle.doc_board.specs.Rooms.{is_outstanding, room_for};
 ghost use Rattle.doc_board.specs.Steps.{with_entry};
 ghost use Rattle.doc_board.specs.Storage.{HasPlacesOf, IsOfBoard, StandsWith, book_in, book_with_unused, top_in, waiting_with_unused, writes_in};
 
@@ -89,7 +90,7 @@ impl Storage {
         ensures log { entries_of self.new.log ≡ entries_of self.old.log }
         ensures waiting { self.new.pending.waiting ≡ self.old.pending.waiting }
         ensures documents { self.new.documents ≡ self.old.documents }
-        ensures rooms { self.new.rooms ≡ without room.made_for self.old.rooms }
+        ensures rooms { self.new.rooms ≡ without_room room.made_for self.old.rooms }
     {
         self.rooms.end(room);
     }

@@ -5,11 +5,11 @@ use Rattle.std.proofs.lemmas.Bool.{and_parts, ltb-true, ne_eqb, eq-eqb}
 use Rattle.std.proofs.lemmas.Option.{none-some}
 use Rattle.sg_history.specs.declared.book.Waiting.{Waiting}
 use Rattle.sg_history.specs.declared.entries.Entry.{Entry}
-use Rattle.sg_history.specs.Board.{BoardState, board_book, After}
+use Rattle.sg_history.specs.Board.{BoardState, board_book, After, IsAfterAll}
 use Rattle.sg_history.specs.Book.{Book, book_of, entry_or, waiting_at}
 use Rattle.sg_history.specs.History.{Extends}
 use Rattle.sg_history.specs.World.{once_among, rises_from}
-use Rattle.seq_gate.specs.Boards.{IsAfterAll, HasAll}
+use Rattle.seq_gate.specs.Boards.{HasAll}
 use Rattle.seq_gate.specs.Counts.{once, times, numbers, is_unused, stands, used}
 use Rattle.seq_gate.specs.Passes.{before_if_none, still_held, before_if_used, stored_at, IsAboveBook, IsAboveAll}
 use Rattle.seq_gate.proofs.Counting.{tick_else, once_most}

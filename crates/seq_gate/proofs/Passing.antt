@@ -15,7 +15,8 @@ use Rattle.sg_history.specs.Board.{BoardState, board_book, After}
 use Rattle.sg_history.specs.Book.{entry_or, waiting_at}
 use Rattle.sg_history.specs.History.{Extends}
 use Rattle.sg_history.specs.World.{once_among, rises_from}
-use Rattle.seq_gate.specs.Counts.{times, numbers, stands, used, room_times, total}
+use Rattle.sg_history.specs.Rooms.{room_times}
+use Rattle.seq_gate.specs.Counts.{times, numbers, stands, used, total}
 use Rattle.seq_gate.specs.Passes.{share, longer, owed, Closes}
 use Rattle.seq_gate.specs.Rule.{is_ticket, one_if_some, idle, spent, first_view, Fits, IsSound}
 use Rattle.seq_gate.specs.Turns.{view_split_from, view_split_off, view_joined}

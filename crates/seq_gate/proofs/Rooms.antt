@@ -3,7 +3,8 @@ use Rattle.std.proofs.Common.{◌≡◌, ◌≤◌, ◌<◌, ◌+◌, ℕ, refl,
 use Rattle.std.proofs.lemmas.Bool.{and_parts, and_from, eqb-true, eq-eqb}
 use Rattle.std.proofs.lemmas.Slice.Eq.{bytes_eq-Decides}
 use Rattle.sg_history.specs.declared.room.RoomFor.{RoomFor}
-use Rattle.seq_gate.specs.Counts.{once, same_doc, same_room, room_times, without_room, without_rooms}
+use Rattle.sg_history.specs.Rooms.{same_doc, same_room, room_times, without_room}
+use Rattle.seq_gate.specs.Counts.{once, without_rooms}
 
 same_text : (a b : Option (List ℕ)) → same_doc a b ≡ true → a ≡ b
 same_text None None e = refl

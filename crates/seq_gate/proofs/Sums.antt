@@ -10,7 +10,8 @@ use Rattle.sg_history.specs.declared.room.RoomFor.{RoomFor}
 use Rattle.sg_history.specs.Board.{BoardState, board_book}
 use Rattle.sg_history.specs.History.{Extends}
 use Rattle.sg_history.specs.World.{once_among, rises_from}
-use Rattle.seq_gate.specs.Counts.{times, numbers, stands, used, below, room_times, total}
+use Rattle.sg_history.specs.Rooms.{room_times}
+use Rattle.seq_gate.specs.Counts.{times, numbers, stands, used, below, total}
 use Rattle.seq_gate.specs.Passes.{HasEachOnce, share, owed, stored_at, IsAboveBook, MayLeave}
 use Rattle.seq_gate.specs.Rule.{is_ticket, one_if_some, Sums}
 use Rattle.seq_gate.specs.Turns.{leaving}

@@ -1,10 +1,10 @@
--- How often a number or a room stands somewhere. That each number is exactly one of several things is said by sums of these.
-use Rattle.std.specs.Prelude.{ℕ, ◌+◌, Bool, true, false, ◌&&◌, nat_eq, nat_lt, List, [], ◌∷◌, Option, Some, None, if◌then◌else◌}
-use Rattle.std.specs.Str.{bytes_eq}
+-- How often a number stands somewhere. That each number is exactly one of several things is said by sums of these.
+use Rattle.std.specs.Prelude.{ℕ, ◌+◌, Bool, true, false, nat_eq, nat_lt, List, [], ◌∷◌, Option, Some, None, if◌then◌else◌}
 use Rattle.sg_history.specs.declared.book.Waiting.{Waiting}
 use Rattle.sg_history.specs.declared.entries.Entry.{Entry}
 use Rattle.sg_history.specs.declared.entries.Entry.TheVariants.{Unused}
 use Rattle.sg_history.specs.declared.room.RoomFor.{RoomFor}
+use Rattle.sg_history.specs.Rooms.{without_room}
 
 -- once where it is so, else not at all
 abbrev pub once : Bool → ℕ
@@ -19,27 +19,6 @@ times k (n ∷ ns) = once (nat_eq n k) + times k ns
 abbrev pub numbers : List Waiting → List ℕ
 numbers [] = []
 numbers (first ∷ others) = first.number ∷ numbers others
-
--- whether both are one document, or none
-abbrev pub same_doc : Option (List ℕ) → Option (List ℕ) → Bool
-same_doc None None = true
-same_doc None (Some b) = false
-same_doc (Some a) None = false
-same_doc (Some a) (Some b) = bytes_eq a b
-
--- whether two rooms are for the same document, or both for none, and for as many bytes
-abbrev pub same_room : RoomFor → RoomFor → Bool
-same_room a b = same_doc a.doc b.doc && nat_eq a.bytes b.bytes
-
--- how often a room stands in a list
-abbrev pub room_times : RoomFor → List RoomFor → ℕ
-room_times room [] = 0
-room_times room (first ∷ others) = once (same_room first room) + room_times room others
-
--- the rooms without one that is so, where there is one
-abbrev pub without_room : RoomFor → List RoomFor → List RoomFor
-without_room room [] = []
-without_room room (first ∷ others) = if same_room first room then others else first ∷ without_room room others
 
 -- the rooms without each of these, once for each time that it stands there
 abbrev pub without_rooms : List RoomFor → List RoomFor → List RoomFor

@@ -3,12 +3,13 @@ use Rattle.std.specs.Prelude.{◌≡◌, ◌<◌, ◌≤◌, ◌+◌, ◌-◌, �
 use Rattle.sg_history.specs.declared.book.Waiting.{Waiting}
 use Rattle.sg_history.specs.declared.entries.Entry.{Entry}
 use Rattle.sg_history.specs.declared.room.RoomFor.{RoomFor}
-use Rattle.sg_history.specs.Board.{BoardState, board_book, After}
+use Rattle.sg_history.specs.Board.{BoardState, board_book, After, IsAfterAll}
 use Rattle.sg_history.specs.Book.{Book}
 use Rattle.sg_history.specs.History.{Extends}
 use Rattle.sg_history.specs.World.{rises_from}
-use Rattle.seq_gate.specs.Boards.{IsAfterAll, HasAll}
-use Rattle.seq_gate.specs.Counts.{is_unused, times, numbers, used, room_times, without_rooms}
+use Rattle.sg_history.specs.Rooms.{room_times}
+use Rattle.seq_gate.specs.Boards.{HasAll}
+use Rattle.seq_gate.specs.Counts.{is_unused, times, numbers, used, without_rooms}
 use Rattle.seq_gate.specs.declared.known.Known.{Known}
 
 -- the draws that a pass has, made ones included

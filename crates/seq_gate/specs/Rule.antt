@@ -5,11 +5,12 @@ use lib.ListN.{get_elem?}
 use mathlib.Core.Option.{some}
 use Rattle.atomic_table.specs.Table.{State}
 use Rattle.sg_history.specs.declared.room.RoomFor.{RoomFor}
-use Rattle.sg_history.specs.Board.{BoardState, board_book}
+use Rattle.sg_history.specs.Board.{BoardState, board_book, IsAfterAll}
 use Rattle.sg_history.specs.History.{Extends}
 use Rattle.sg_history.specs.World.{once_among, rises_from}
-use Rattle.seq_gate.specs.Boards.{IsAfterAll, HasAll}
-use Rattle.seq_gate.specs.Counts.{once, times, numbers, stands, below, room_times, total}
+use Rattle.sg_history.specs.Rooms.{room_times}
+use Rattle.seq_gate.specs.Boards.{HasAll}
+use Rattle.seq_gate.specs.Counts.{once, times, numbers, stands, below, total}
 use Rattle.seq_gate.specs.Passes.{first_known, share, owed}
 use Rattle.seq_gate.specs.declared.known.Known.{Known}
 use Rattle.seq_gate.specs.declared.known.View.{View}

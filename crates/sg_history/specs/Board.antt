@@ -60,3 +60,8 @@ pub record After (earlier later : BoardState) : Type 0 where
   pub bytes : later.bytes ≤ earlier.bytes + 20971520 * (board_count later - board_count earlier)
   pub side : SideFollows earlier.side later.side
   pub faults : earlier.faults ≤ later.faults
+
+-- the board comes after each of these
+abbrev pub IsAfterAll : List BoardState → BoardState → Type 0
+IsAfterAll [] board = Unit {0}
+IsAfterAll (earlier ∷ others) board = After earlier board × IsAfterAll others board

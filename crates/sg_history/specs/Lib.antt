@@ -11,6 +11,7 @@ pub mod Feed
 pub mod Device
 pub mod Book
 pub mod Board
+pub mod Rooms
 pub mod World
 pub mod Journal
 pub mod Line

@@ -6,7 +6,7 @@ use Rattle.sg_history.specs.declared.entries.Entry.{Entry}
 use Rattle.sg_history.specs.declared.room.RoomFor.{RoomFor}
 use Rattle.sg_history.specs.Book.{Book}
 use Rattle.pending_front.specs.Storing.{MayStore}
-use Rattle.doc_board.specs.Rooms.{same_doc, same_room, without}
+use Rattle.sg_history.specs.Rooms.{same_doc, same_room, without_room}
 use Rattle.doc_board.specs.State.{State, book_on}
 use Rattle.doc_board.specs.Steps.{with_entry}
 use Rattle.tests_of_boards.specs.Frees.{AreAlike, Stays, StaysBelow}
@@ -58,26 +58,26 @@ turned room (first ∷ others) all =
     ap (λ (rs : List RoomFor). first ∷ rs) (turned room others all.1) ∙ ap (λ (r : RoomFor). r ∷ room ∷ others) all.0
     ∙ ap (λ (r : RoomFor). room ∷ r ∷ others) (sym all.0)
 
-one_gone : (b : Bool) (room first last : RoomFor) (others : List RoomFor) → same_room first last ≡ b → room.doc ≡ None → last.doc ≡ None → AreAlike room (first ∷ others) → without last (others ++ last ∷ []) ≡ others
-    → without last (first ∷ (others ++ last ∷ [])) ≡ first ∷ others
+one_gone : (b : Bool) (room first last : RoomFor) (others : List RoomFor) → same_room first last ≡ b → room.doc ≡ None → last.doc ≡ None → AreAlike room (first ∷ others) → without_room last (others ++ last ∷ []) ≡ others
+    → without_room last (first ∷ (others ++ last ∷ [])) ≡ first ∷ others
 one_gone true room first last others is none also all rest =
     let one : first ≡ last = one_room first last (ap (λ (r : RoomFor). r.doc) all.0 ∙ none) also is in
     let alike : AreAlike last others = subst (λ (r : RoomFor). AreAlike r others) (sym all.0 ∙ one) all.1 in
-    ap (λ (b : Bool). if b then others ++ last ∷ [] else first ∷ without last (others ++ last ∷ [])) is
+    ap (λ (b : Bool). if b then others ++ last ∷ [] else first ∷ without_room last (others ++ last ∷ [])) is
     ∙ turned last others alike ∙ ap (λ (r : RoomFor). r ∷ others) (sym one)
 one_gone false room first last others is none also all rest =
-    ap (λ (b : Bool). if b then others ++ last ∷ [] else first ∷ without last (others ++ last ∷ [])) is
+    ap (λ (b : Bool). if b then others ++ last ∷ [] else first ∷ without_room last (others ++ last ∷ [])) is
     ∙ ap (λ (rs : List RoomFor). first ∷ rs) rest
 
 -- a room that is made and then ends leaves rooms that are alike as they were
-gone_again : (room last : RoomFor) (rooms : List RoomFor) → room.doc ≡ None → last.doc ≡ None → AreAlike room rooms → without last (rooms ++ last ∷ []) ≡ rooms
+gone_again : (room last : RoomFor) (rooms : List RoomFor) → room.doc ≡ None → last.doc ≡ None → AreAlike room rooms → without_room last (rooms ++ last ∷ []) ≡ rooms
 gone_again room last [] none also all = ap (λ (b : Bool). if b then [] else last ∷ []) (room_itself last also)
 gone_again room last (first ∷ others) none also all =
     one_gone (same_room first last) room first last others refl none also all (gone_again room last others none also all.1)
 
-pub left_again : (room made last : RoomFor) (before between after : List RoomFor) → room.doc ≡ None → last.doc ≡ None → made ≡ last → between ≡ before ++ last ∷ [] → after ≡ without made between → AreAlike room before → after ≡ before
+pub left_again : (room made last : RoomFor) (before between after : List RoomFor) → room.doc ≡ None → last.doc ≡ None → made ≡ last → between ≡ before ++ last ∷ [] → after ≡ without_room made between → AreAlike room before → after ≡ before
 left_again room made last before between after none also same is_between is_after all =
-    is_after ∙ ap (λ (rs : List RoomFor). without made rs) is_between ∙ ap (λ (r : RoomFor). without r (before ++ last ∷ [])) same ∙ gone_again room last before none also all
+    is_after ∙ ap (λ (rs : List RoomFor). without_room made rs) is_between ∙ ap (λ (r : RoomFor). without_room r (before ++ last ∷ [])) same ∙ gone_again room last before none also all
 
 pub one_more_alike : (room : RoomFor) (rooms : List RoomFor) → AreAlike room rooms → AreAlike room (rooms ++ room ∷ [])
 one_more_alike room [] all = (refl, tt)

@@ -13,7 +13,7 @@ use Rattle.repl_messages.specs.declared.revision.Revision.{Revision}
 use Rattle.sync_syntax.specs.declared.tree.Program.{Program}
 use Rattle.doc_board.specs.declared.room.Room.{Room}
 use Rattle.doc_board.specs.Outcomes.{bytes_of}
-use Rattle.doc_board.specs.Rooms.{without}
+use Rattle.sg_history.specs.Rooms.{without_room}
 use Rattle.doc_board.specs.State.{State}
 use Rattle.write_path.specs.declared.retry.Ready.{Ready}
 use Rattle.write_path.specs.declared.retry.Retried.{Retried}
@@ -67,7 +67,7 @@ spent_still s m t room number e same spent = record {
   stored = spent.stored
       ∙ ap (λ (es : List Entry). release es (put_waiting (record { number = number.value; entry = e }) m.pending)) same.log
       ∙ ap (λ (ws : List Waiting). release s.log (put_waiting (record { number = number.value; entry = e }) ws)) same.pending;
-  rooms = spent.rooms ∙ ap (λ (rooms : List RoomFor). without room.made_for rooms) same.rooms;
+  rooms = spent.rooms ∙ ap (λ (rooms : List RoomFor). without_room room.made_for rooms) same.rooms;
 }
 
 pub stored_again : (s m t : State) (program : Program) (strict : Bool) (by : Option (List ℕ)) (r : Revision) (room : Room) (number : Number) (c : Ready) (result : Retried)

@@ -3,7 +3,8 @@ use Rattle.std.proofs.Common.{◌≡◌, ℕ, Bool, true, false, not, List, [], 
 use Rattle.std.proofs.lemmas.Bool.{and_from, or_left, eq-eqb}
 use Rattle.std.proofs.lemmas.Slice.Eq.{bytes_eq-Decides}
 use Rattle.sg_history.specs.declared.room.RoomFor.{RoomFor}
-use Rattle.doc_board.specs.Rooms.{same_doc, same_room, is_outstanding, without}
+use Rattle.sg_history.specs.Rooms.{same_doc, same_room, without_room}
+use Rattle.doc_board.specs.Rooms.{is_outstanding}
 
 doc_itself : (doc : Option (List ℕ)) → same_doc doc doc ≡ true
 doc_itself None = refl
@@ -15,7 +16,7 @@ room_itself room = and_from (same_doc room.doc room.doc) (nat_eq room.bytes room
 pub alone_outstanding : (room : RoomFor) → is_outstanding (room ∷ []) room ≡ true
 alone_outstanding room = or_left (same_room room room) false (room_itself room)
 
-pub alone_gone : (room : RoomFor) → without room (room ∷ []) ≡ []
+pub alone_gone : (room : RoomFor) → without_room room (room ∷ []) ≡ []
 alone_gone room = ap (λ (b : Bool). if b then [] else room ∷ []) (room_itself room)
 
 -- a candidate that is based on the last write is not stale

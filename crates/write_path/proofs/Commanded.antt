@@ -3,7 +3,7 @@ use Rattle.std.proofs.Common.{◌≡◌, ◌≤◌, ℕ, List, [], ◌∷◌, le
 use Rattle.std.proofs.lemmas.List.{length-append}
 use Rattle.sg_history.specs.declared.book.Waiting.{Waiting}
 use Rattle.sg_history.specs.declared.entries.Entry.{Entry}
-use Rattle.sg_history.specs.Board.{BoardState, After}
+use Rattle.sg_history.specs.Board.{BoardState, After, IsAfterAll}
 use Rattle.sg_history.specs.Book.{Book, book_of}
 use Rattle.sg_history.specs.History.{as_write}
 use Rattle.principals.specs.declared.command.Command.{Command}
@@ -16,7 +16,6 @@ use Rattle.doc_board.specs.Outcomes.{IsByLimits}
 use Rattle.doc_board.specs.State.{State}
 use Rattle.write_path.specs.Commands.{Commands, IsBoardCommanded, IsCommanded}
 use Rattle.write_path.specs.Proposals.{recorded_after}
-use Rattle.write_path.specs.Reads.{IsAfterAll}
 use Rattle.write_path.specs.Own.{own_before, own_after}
 use Rattle.write_path.proofs.Grown.{Extended, after_entry}
 use Rattle.write_path.proofs.OneRead.{same_book}

@@ -3,11 +3,11 @@ use Rattle.std.proofs.Common.{◌≡◌, List, [], ◌∷◌, length, refl, inl,
 use Rattle.std.proofs.Math.Path.{fun_ext}
 use Rattle.sg_history.specs.declared.book.Waiting.{Waiting}
 use Rattle.sg_history.specs.declared.entries.Entry.{Entry}
-use Rattle.sg_history.specs.Board.{BoardState, board_book}
+use Rattle.sg_history.specs.Board.{BoardState, board_book, IsAfterAll}
 use Rattle.sg_history.specs.Book.{Book, Later, book_of, book_with, entry_or}
 use Rattle.doc_board.specs.Boards.{board_of}
 use Rattle.doc_board.specs.State.{State}
-use Rattle.write_path.specs.Reads.{Reads, WasRead, IsAfterAll, IsLaterThanAll}
+use Rattle.write_path.specs.Reads.{Reads, WasRead, IsLaterThanAll}
 
 -- one board more was read, which comes after all before
 pub one_read : (before after : List BoardState) (b : BoardState) → after ≡ b ∷ before → IsAfterAll before b → Reads before after (length b.log) (length b.log)

@@ -4,7 +4,7 @@ use Rattle.std.proofs.lemmas.List.{length-append}
 use Rattle.sg_history.specs.declared.book.Waiting.{Waiting}
 use Rattle.sg_history.specs.declared.entries.Entry.{Entry}
 use Rattle.sg_history.specs.declared.entries.Entry.TheVariants as entry
-use Rattle.sg_history.specs.Board.{BoardState, After}
+use Rattle.sg_history.specs.Board.{BoardState, After, IsAfterAll}
 use Rattle.sg_history.specs.Book.{Book, book_of}
 use Rattle.sg_history.specs.declared.room.RoomFor.{RoomFor}
 use Rattle.repl_messages.specs.declared.revision.Revision.{Revision}
@@ -15,7 +15,7 @@ use Rattle.doc_board.specs.Boards.{board_of}
 use Rattle.doc_board.specs.Outcomes.{IsOutcome, IsByLimits, bytes_of}
 use Rattle.doc_board.specs.State.{State}
 use Rattle.write_path.specs.Proposals.{IsAnswered, IsRoomed, IsProposed, IsAsBefore, IsBoardAfter, Stores, recorded_after}
-use Rattle.write_path.specs.Reads.{IsAfterAll, Reads, WasRead}
+use Rattle.write_path.specs.Reads.{Reads, WasRead}
 use Rattle.write_path.specs.Own.{own_before, own_after}
 use Rattle.write_path.proofs.Grown.{Extended, after_entry, small_body, at_end}
 use Rattle.write_path.proofs.OneRead.{same_book}

@@ -2,10 +2,10 @@
 use Rattle.std.proofs.Common.{◌≡◌, ◌≤◌, le_refl, le_trans, ℕ, List, [], ◌∷◌, ◌++◌, length, refl, sym, ◌∙◌, ap, subst, inl, inr, append_assoc}
 use Rattle.std.proofs.lemmas.List.{append_cancel_right, append-nil}
 use Rattle.sg_history.specs.declared.entries.Entry.{Entry}
-use Rattle.sg_history.specs.Board.{BoardState, board_book}
+use Rattle.sg_history.specs.Board.{BoardState, board_book, IsAfterAll}
 use Rattle.sg_history.specs.Book.{Later, book_of}
 use Rattle.sg_history.specs.History.{Extends}
-use Rattle.write_path.specs.Reads.{IsLaterThanAll, IsAfterAll, IsOneOf, AreAfter, AreBetween, Reads, WasRead}
+use Rattle.write_path.specs.Reads.{IsLaterThanAll, IsOneOf, AreAfter, AreBetween, Reads, WasRead}
 
 pub later_itself : (h : List Entry) → Extends h h
 later_itself h = ([], sym (append-nil h))

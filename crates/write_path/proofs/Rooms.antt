@@ -11,7 +11,7 @@ use Rattle.doc_board.specs.Outcomes.{IsByLimits}
 use Rattle.doc_board.specs.State.{State}
 use Rattle.write_path.specs.Commands.{IsBoardCommanded}
 use Rattle.write_path.specs.Proposals.{IsAsBefore}
-use Rattle.write_path.specs.Shape.{IsStoredBut, without_room}
+use Rattle.write_path.specs.Shape.{IsStoredBut, no_room_outcome}
 
 -- ---- a room
 
@@ -45,20 +45,20 @@ log_full_for : (o : Option NoRoom) (entries bytes : ℕ) → IsStoredBut o (Err 
 log_full_for None entries bytes h = absurd cc
 log_full_for (Some why) entries bytes h = ap (λ (w : NoRoom). Some w) (sym (ap reason_for h))
 
-limits_for : (bytes : ℕ) (board : BoardState) (at : ℕ) (why : NoRoom) → IsStoredBut (refusal board bytes) (Err why) → IsByLimits bytes board (without_room at why)
+limits_for : (bytes : ℕ) (board : BoardState) (at : ℕ) (why : NoRoom) → IsStoredBut (refusal board bytes) (Err why) → IsByLimits bytes board (no_room_outcome at why)
 limits_for bytes board at (Full503 places) h = full_for (refusal board bytes) places h
 limits_for bytes board at (LogFull509 entries sum) h = log_full_for (refusal board bytes) entries sum h
 limits_for bytes board at Memory h = tt
 
-pub limits_without : (bytes : ℕ) (board : BoardState) (at : ℕ) (why : NoRoom) (answer : Outcome) → answer ≡ without_room at why → IsStoredBut (refusal board bytes) (Err why) → IsByLimits bytes board answer
+pub limits_without : (bytes : ℕ) (board : BoardState) (at : ℕ) (why : NoRoom) (answer : Outcome) → answer ≡ no_room_outcome at why → IsStoredBut (refusal board bytes) (Err why) → IsByLimits bytes board answer
 limits_without bytes board at why answer is h = subst (λ (o : Outcome). IsByLimits bytes board o) (sym is) (limits_for bytes board at why h)
 
 -- ---- an answer without a room
 
-not_commanded : (s t : State) (e : Entry) (at : ℕ) (why : NoRoom) → IsAsBefore s t → at ≡ length s.log → IsBoardCommanded s t e (without_room at why)
+not_commanded : (s t : State) (e : Entry) (at : ℕ) (why : NoRoom) → IsAsBefore s t → at ≡ length s.log → IsBoardCommanded s t e (no_room_outcome at why)
 not_commanded s t e at (Full503 places) same front = (same, front)
 not_commanded s t e at (LogFull509 entries bytes) same front = (same, front)
 not_commanded s t e at Memory same front = same
 
-pub commanded_without : (s t : State) (e : Entry) (at : ℕ) (why : NoRoom) (answer : Outcome) → answer ≡ without_room at why → IsAsBefore s t → at ≡ length s.log → IsBoardCommanded s t e answer
+pub commanded_without : (s t : State) (e : Entry) (at : ℕ) (why : NoRoom) (answer : Outcome) → answer ≡ no_room_outcome at why → IsAsBefore s t → at ≡ length s.log → IsBoardCommanded s t e answer
 commanded_without s t e at why answer is same front = subst (λ (o : Outcome). IsBoardCommanded s t e o) (sym is) (not_commanded s t e at why same front)

@@ -1,18 +1,13 @@
 -- Boards that are read, one after another.
 use Rattle.std.specs.Prelude.{◌≡◌, ◌⊎◌, ◌≤◌, ℕ, List, [], ◌∷◌, ◌++◌, length, Option, Some, None}
 use Rattle.sg_history.specs.declared.entries.Entry.{Entry}
-use Rattle.sg_history.specs.Board.{BoardState, board_book, After}
+use Rattle.sg_history.specs.Board.{BoardState, board_book, IsAfterAll}
 use Rattle.sg_history.specs.Book.{book_of, Later}
 
 -- the history's book is later than that of each of these boards
 abbrev pub IsLaterThanAll : List BoardState → List Entry → Type 0
 IsLaterThanAll [] h = Unit {0}
 IsLaterThanAll (b ∷ others) h = Later (board_book b) (book_of h) × IsLaterThanAll others h
-
--- the board comes after each of these
-abbrev pub IsAfterAll : List BoardState → BoardState → Type 0
-IsAfterAll [] b = Unit {0}
-IsAfterAll (earlier ∷ others) b = After earlier b × IsAfterAll others b
 
 -- the board is one of these
 abbrev pub IsOneOf : List BoardState → BoardState → Type 0

@@ -15,7 +15,7 @@ use Rattle.doc_board.specs.Boards.{board_of}
 use Rattle.doc_board.specs.Candidates.{ExtendsTree}
 use Rattle.doc_board.specs.Outcomes.{IsAccepted, IsJudged, IsOutcome, IsWriteOf}
 use Rattle.doc_board.specs.Recorded.{HasDocument}
-use Rattle.doc_board.specs.Rooms.{without}
+use Rattle.sg_history.specs.Rooms.{without_room}
 use Rattle.doc_board.specs.State.{State, tree_on, last_on}
 use Rattle.doc_board.specs.Steps.{history_on, stored_at}
 use Rattle.write_path.specs.declared.retry.Ready.{Ready}
@@ -57,7 +57,7 @@ IsTurnedDown other = Unit {0}
 -- what a number that was held has then, and the rooms without the one that ended
 pub record IsSpent (before after : State) (room : Room) (number : Number) (e : Entry) : Type 0 where
   pub stored : history_on after ≡ stored_at before number.value e
-  pub rooms : after.rooms ≡ without room.made_for before.rooms
+  pub rooms : after.rooms ≡ without_room room.made_for before.rooms
 
 -- the write is stored at its number, or handed back with all where its document was written above that
 abbrev pub IsHeldStored : State → State → Room → Number → Ready → Retried → Type 0

@@ -41,10 +41,10 @@ IsStoredBut (Some why) stored = stored ≡ Err why
 IsStoredBut None stored = IfErr stored (λ why. why ≡ no_room.Memory)
 
 -- the outcome of a revision or a command that there is no room for
-abbrev pub without_room : ℕ → NoRoom → Outcome
-without_room at (no_room.Full503 places) = outcome.Full503 at places
-without_room at (no_room.LogFull509 entries bytes) = outcome.LogFull509 at entries bytes
-without_room at no_room.Memory = outcome.Memory507
+abbrev pub no_room_outcome : ℕ → NoRoom → Outcome
+no_room_outcome at (no_room.Full503 places) = outcome.Full503 at places
+no_room_outcome at (no_room.LogFull509 entries bytes) = outcome.LogFull509 at entries bytes
+no_room_outcome at no_room.Memory = outcome.Memory507
 
 -- the outcome of a revision by a board, and what that leaves of the board
 pub record IsAnsweredBy (before after : State) (program : Program) (strict : Bool) (by : Option (List ℕ)) (r : Revision) (answer : Outcome) : Type 0 where

@@ -8,7 +8,7 @@ ghost use Rattle.doc_board.specs.Outcomes.{IsByLimits};
 ghost use Rattle.write_path.specs.Commands.{IsBoardCommanded};
 
 use crate::fresh::put_next;
-use crate::refused::without_room;
+use crate::refused::no_room_outcome;
 use doc_board::{Board, Candidate, Outcome};
 use principals::Command;
 
@@ -29,7 +29,7 @@ pub fn command_to(board: &mut Board, command: Command) -> Outcome
         }
         Err(why) => {
             drop(command);
-            without_room(at, why)
+            no_room_outcome(at, why)
         }
     }
 }

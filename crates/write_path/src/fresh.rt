@@ -3,8 +3,9 @@
 ghost use Rattle.std.specs.Prelude.{◌≡◌, ◌+◌, ◌++◌, ◌∷◌, [], false, length, IsTrue};
 ghost use Rattle.pending_front.specs.Storing.{MayStore};
 ghost use Rattle.doc_board.specs.Candidates.{Fits, MayBeStored, entry_of, is_stale};
-ghost use Rattle.doc_board.specs.Rooms.{is_outstanding, without};
+ghost use Rattle.doc_board.specs.Rooms.{is_outstanding};
 ghost use Rattle.doc_board.specs.Steps.{history_on, stored_at};
+ghost use Rattle.sg_history.specs.Rooms.{without_room};
 
 use doc_board::laws::alone;
 use doc_board::{Board, Candidate, Commit, Room};
@@ -24,7 +25,7 @@ pub(crate) fn commit_fresh(
     requires fresh { is_stale board.old candidate ≡ false }
     ensures sequence { result ≡ number.value }
     ensures stored { history_on board.new ≡ stored_at board.old number.value (entry_of candidate) }
-    ensures rooms { board.new.rooms ≡ without room.made_for board.old.rooms }
+    ensures rooms { board.new.rooms ≡ without_room room.made_for board.old.rooms }
 {
     match board.commit(room, number, candidate) {
         Commit::Stored { sequence, at: _at } => sequence,

@@ -27,9 +27,9 @@ ghost use Rattle.write_path.specs.Proposals.{IsBoardAfter};
 ghost use Rattle.write_path.specs.Feed.{FeedAt};
 ghost use Rattle.write_path.specs.Bodies.{BodiesAt};
 ghost use Rattle.sg_history.specs.History.{Extends};
-ghost use Rattle.sg_history.specs.Board.{BoardState, board_book};
+ghost use Rattle.sg_history.specs.Board.{BoardState, board_book, IsAfterAll};
 ghost use Rattle.sg_history.specs.Book.{Later, book_of};
-ghost use Rattle.write_path.specs.Reads.{IsAfterAll, IsLaterThanAll, Reads, WasRead};
+ghost use Rattle.write_path.specs.Reads.{IsLaterThanAll, Reads, WasRead};
 
 /// A history extends itself, and all that one extends which it extends; what a feed was answered of a history is said of
 /// each that extends it, and what bodies were answered by a board of each history that is later.

@@ -28,7 +28,7 @@ ghost use Rattle.write_path.specs.Verdicts.{IsDenied, IsDeniedOn, IsExtension, I
 
 use crate::fresh::put_next;
 use crate::judging::{Basis, document_in, said_of};
-use crate::refused::without_room;
+use crate::refused::no_room_outcome;
 use crate::retry::Ready;
 use crate::texts::pass_effects;
 use doc_board::laws::{alone, boards, few_ancestors, winners};
@@ -491,7 +491,7 @@ fn store_ready(board: &mut Board, ready: Ready) -> Outcome
     let at = ready.entry.at;
     match store(board, ready) {
         Ok(sequence) => Outcome::Stored { sequence, at },
-        Err(why) => without_room(at, why),
+        Err(why) => no_room_outcome(at, why),
     }
 }
 

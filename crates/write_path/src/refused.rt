@@ -1,13 +1,13 @@
 //! The outcome of what there is no room for.
 
 ghost use Rattle.std.specs.Prelude.{◌≡◌};
-ghost use Rattle.write_path.specs.Shape.{without_room};
+ghost use Rattle.write_path.specs.Shape.{no_room_outcome};
 
 use doc_board::{NoRoom, Outcome};
 
 /// The outcome of a revision or a command that there is no room for, at this front.
-pub(crate) fn without_room(at: u64, why: NoRoom) -> Outcome
-    ensures { result ≡ without_room at why }
+pub(crate) fn no_room_outcome(at: u64, why: NoRoom) -> Outcome
+    ensures { result ≡ no_room_outcome at why }
 {
     match why {
         NoRoom::Full503 { places } => Outcome::Full503 { at, places },

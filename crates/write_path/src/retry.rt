@@ -8,9 +8,10 @@ ghost use Rattle.json_doc.specs.View.{node_tree};
 ghost use Rattle.pending_front.specs.Storing.{MayStore};
 ghost use Rattle.doc_board.specs.declared.outcome.Outcome.TheVariants as outcomes;
 ghost use Rattle.doc_board.specs.Outcomes.{IsWellFormed, bytes_of};
-ghost use Rattle.doc_board.specs.Rooms.{is_outstanding, without};
+ghost use Rattle.doc_board.specs.Rooms.{is_outstanding};
 ghost use Rattle.doc_board.specs.Steps.{history_on, swapped_to};
 ghost use Rattle.write_path.specs.Retry.{FitsReady, IsHeldReady, IsHeldStored, IsTriedAgain};
+ghost use Rattle.sg_history.specs.Rooms.{without_room};
 
 use crate::fresh::commit_fresh;
 use crate::propose::judge;
@@ -113,7 +114,7 @@ pub fn store_at_fresh(
     ensures answer { result ≡ outcomes.Stored fresh.value ready.entry.at }
     ensures stored { history_on board.new ≡ swapped_to board.old number.value fresh.value
         (kinds.Write ready.entry) }
-    ensures rooms { board.new.rooms ≡ without room.made_for board.old.rooms }
+    ensures rooms { board.new.rooms ≡ without_room room.made_for board.old.rooms }
 {
     let Ready { entry, tree, base } = ready;
     match board.swap_commit(room, number, fresh, Candidate::Write { entry, tree, base }) {

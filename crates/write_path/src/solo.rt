@@ -2,7 +2,7 @@
 
 ghost use Rattle.std.specs.Prelude.{◌≡◌, ◌≤◌, ◌||◌, [], ◌∷◌, Some, length, IfOk};
 ghost use Rattle.std.specs.Option.{option_copied};
-ghost use Rattle.sg_history.specs.Board.{BoardState};
+ghost use Rattle.sg_history.specs.Board.{BoardState, IsAfterAll};
 ghost use Rattle.sg_history.specs.Journal.{IsEntry};
 ghost use Rattle.principals.specs.Script.{entry_of};
 ghost use Rattle.doc_board.specs.Boards.{board_of};
@@ -13,7 +13,7 @@ ghost use Rattle.write_path.specs.Commands.{Commands, IsBoardCommanded};
 ghost use Rattle.write_path.specs.Feed.{FeedAt};
 ghost use Rattle.write_path.specs.Own.{EndsWith, own_after};
 ghost use Rattle.write_path.specs.Proposals.{Stores, IsAsBefore, IsBoardAfter, recorded_after};
-ghost use Rattle.write_path.specs.Reads.{HasLength, IsAfterAll, IsLaterThanAll, Reads, WasRead};
+ghost use Rattle.write_path.specs.Reads.{HasLength, IsLaterThanAll, Reads, WasRead};
 
 use crate::ask::asked_at;
 use crate::bodies::bodies_at;
@@ -49,7 +49,7 @@ impl Model for SoloGround {
     ghost use Rattle.grant_history.specs.Stands.{StandsFor};
     ghost use Rattle.doc_board.specs.Boards.{board_of};
     ghost use Rattle.write_path.specs.Own.{EndsWith};
-    ghost use Rattle.write_path.specs.Reads.{IsAfterAll};
+    ghost use Rattle.sg_history.specs.Board.{IsAfterAll};
     ghost use Rattle.write_path.specs.Solo.{Solo};
 
     ghost Value = { Solo };

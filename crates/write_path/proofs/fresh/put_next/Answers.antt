@@ -1,7 +1,8 @@
 use Rattle.std.proofs.Common.{◌≡◌, ◌∙◌, ap, sym, subst, true, List, length, ◌+◌, ℕ}
 use Rattle.sg_history.specs.declared.room.RoomFor.{RoomFor}
 use Rattle.sg_history.specs.World.{Released}
-use Rattle.doc_board.specs.Rooms.{is_outstanding, without}
+use Rattle.sg_history.specs.Rooms.{without_room}
+use Rattle.doc_board.specs.Rooms.{is_outstanding}
 use Rattle.doc_board.specs.State.{State}
 use Rattle.write_path.proofs.Alone.{alone_outstanding, alone_gone}
 use Rattle.write_path.proofs.fresh.put_next.Goals as goal
@@ -24,4 +25,4 @@ returns-clause-pending c =
 
 pub returns-clause-rooms : goal.returns-clause-rooms
 returns-clause-rooms c =
-    c.commit_fresh.ensures.rooms ∙ ap (λ (rs : List RoomFor). without c.args.room.made_for rs) c.requires.rooms ∙ alone_gone c.args.room.made_for
+    c.commit_fresh.ensures.rooms ∙ ap (λ (rs : List RoomFor). without_room c.args.room.made_for rs) c.requires.rooms ∙ alone_gone c.args.room.made_for

@@ -1,10 +1,9 @@
 use Rattle.std.proofs.Common.{◌≡◌, ◌∙◌, [], ◌∷◌, List, ap, sym, subst}
 use Rattle.std.proofs.lemmas.List.{append-nil}
 use Rattle.sg_history.specs.declared.book.Waiting.{Waiting}
-use Rattle.sg_history.specs.Board.{BoardState}
+use Rattle.sg_history.specs.Board.{BoardState, IsAfterAll}
 use Rattle.doc_board.specs.Boards.{board_of}
 use Rattle.write_path.specs.Own.{EndsWith}
-use Rattle.write_path.specs.Reads.{IsAfterAll}
 use Rattle.write_path.proofs.solo.SoloGround.new.Goals as goal
 
 pub invariant_of-result : goal.invariant_of-result
