@@ -57,14 +57,14 @@ none_above_top board number e h = go (book_of board.log number) refl h
     go None is g = let low : number ≤ highest board.pending = none_waits board.pending number e g in omega arith
     go (Some x) is g = let low : number ≤ length board.log = within board.log number x is in omega arith
 
-no_write_above : (board : BoardState) (doc : List ℕ) (number : ℕ) (w : Write) → write_at (board_book board) doc number ≡ Some w → number ≤ board_top board
+pub no_write_above : (board : BoardState) (doc : List ℕ) (number : ℕ) (w : Write) → write_at (board_book board) doc number ≡ Some w → number ≤ board_top board
 no_write_above board doc number w h = go (board_book board number) refl h
   where
     go : (o : Option Entry) → board_book board number ≡ o → written_in o doc ≡ Some w → number ≤ board_top board
     go None is g = absurd (none-some w g)
     go (Some e) is g = none_above_top board number e is
 
-last_is : (board : BoardState) (doc : List ℕ) (last : Sequenced) → first_write (writes_up_to (board_book board) (board_top board) doc) ≡ Some last → IsLastWrite (board_book board) doc last
+pub last_is : (board : BoardState) (doc : List ℕ) (last : Sequenced) → first_write (writes_up_to (board_book board) (board_top board) doc) ≡ Some last → IsLastWrite (board_book board) doc last
 last_is board doc last h =
     let first = first_is (board_book board) (board_top board) doc last h in
     record {
@@ -108,7 +108,7 @@ later_base same board later doc ancestors on = go (first_write (writes_up_to (bo
 -- ---- the last write of the log
 
 -- a write that stands up to a number is among those up to it
-none_of_some : (book : Book) (number : ℕ) (doc : List ℕ) (other : ℕ) (w : Write) → 1 ≤ other → other ≤ number → write_at book doc other ≡ Some w → first_write (writes_up_to book number doc) ≡ None → ⊥
+pub none_of_some : (book : Book) (number : ℕ) (doc : List ℕ) (other : ℕ) (w : Write) → 1 ≤ other → other ≤ number → write_at book doc other ≡ Some w → first_write (writes_up_to book number doc) ≡ None → ⊥
 none_of_some book zero doc other w first low at none = omega (arith, first, low)
 none_of_some book (suc number) doc other w first low at none = go (λ lower none. none_of_some book number doc other w first lower at none) (write_at book doc (suc number)) refl none
   where

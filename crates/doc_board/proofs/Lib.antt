@@ -22,3 +22,5 @@ pub mod Walks
 pub mod OnBoards
 pub mod OnStorage
 pub mod OneVerdict
+pub mod JudgedWrites
+pub mod LaterSteps

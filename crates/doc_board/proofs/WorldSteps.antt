@@ -26,7 +26,7 @@ fresh_base true base last is h = eqb-true base last is
 fresh_base false base last is h = absurd (true≢false h)
 
 -- the number of a candidate that is not stale is above the writes of its document
-above_writes : (s : State) (count number : ℕ) (held : List ℕ) (c : Candidate) → MayBeStored s number c → is_stale s c ≡ false → IsAboveWrites (world_on s count held) number (entry_of c)
+pub above_writes : (s : State) (count number : ℕ) (held : List ℕ) (c : Candidate) → MayBeStored s number c → is_stale s c ≡ false → IsAboveWrites (world_on s count held) number (entry_of c)
 above_writes s count number held (candidate.Write w tree base) may fresh =
     above_last (book_on s) (top_on s) number w (none_above_top s.log s.pending)
     (subst (λ (n : ℕ). n < number) (fresh_base (nat_eq base (last_on s w.doc)) base (last_on s w.doc) refl fresh) may.3)

@@ -1,6 +1,7 @@
 -- What a program says of a revision that is proposed, by a board: the document, the one before it, and who proposes it.
 use Rattle.std.specs.Prelude.{◌≡◌, ℕ, Bool, List, [], ◌∷◌, reverse, Option, Some, None}
 use Rattle.sg_names.specs.declared.rev_id.RevId.{RevId}
+use Rattle.sg_history.specs.declared.entries.Entry.{Entry}
 use Rattle.sg_history.specs.declared.entries.Write.{Write}
 use Rattle.sg_history.specs.Board.{BoardState, board_book}
 use Rattle.json_doc.specs.Tree.{Tree}
@@ -34,12 +35,17 @@ IsOldTree (Some w) id old = (tree : Tree) × IsTreeOf w.body id w.deleted tree �
 abbrev pub board_base : BoardState → List ℕ → List RevId → Option Write
 board_base board doc ancestors = base_in (board_book board) (board_last board doc) doc ancestors
 
--- what the program says of the revision's document and the one on which it is based, for the one who proposes it with the roles and channels at the board's front
-pub record IsSaid (program : Program) (by : Option (List ℕ)) (r : Revision) (board : BoardState) (said : Found Effects) : Type 0 where
+-- what the program says of a document with this body, for the one who proposes it with the roles and channels after these entries, where the document on which it is based is that of this write
+pub record IsSaidOf (program : Program) (es : List Entry) (base : Option Write) (by : Option (List ℕ)) (doc : List ℕ) (deleted : Bool) (body : List ℕ) (said : Found Effects) : Type 0 where
   pub document : Tree
   pub old : Option Tree
   pub context : Context
-  pub is_document : IsTreeOf (body_or_empty r.body) r.doc r.deleted document
-  pub is_old : IsOldTree (board_base board r.doc r.ancestors) r.doc old
-  pub is_context : IsContext (reverse board.log) by context
+  pub is_document : IsTreeOf body doc deleted document
+  pub is_old : IsOldTree base doc old
+  pub is_context : IsContext es by context
   pub is_meant : meaning program document old context ≡ said
+
+-- what the program says of the revision by the board, at its front
+abbrev pub IsSaid : Program → Option (List ℕ) → Revision → BoardState → Found Effects → Type 0
+IsSaid program by r board said =
+    IsSaidOf program (reverse board.log) (board_base board r.doc r.ancestors) by r.doc r.deleted (body_or_empty r.body) said

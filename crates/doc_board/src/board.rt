@@ -6,6 +6,7 @@ ghost use Rattle.sg_history.specs.Book.{waiting_at};
 ghost use Rattle.sg_history.specs.History.{entries_of, among};
 ghost use Rattle.sg_history.specs.Principals as principals;
 ghost use Rattle.grant_history.specs.Sorted.{AreSorted};
+ghost use Rattle.grant_history.specs.Stands.{StandsFor};
 ghost use Rattle.pending_front.specs.Storing.{MayStore};
 ghost use Rattle.rev_tree.specs.Writes.{AreAccepted};
 ghost use Rattle.rev_tree.specs.Documents.{tree_when, deletes};
@@ -194,7 +195,7 @@ impl Board {
     }
 
     /// Brings the grants up to the end of the log. Out of memory they are up to some place before it.
-    fn apply_grants(&mut self) -> Result<(), Memory>
+    pub fn apply_grants(&mut self) -> Result<(), Memory>
         ensures log { self.new.log ≡ self.old.log }
         ensures pending { self.new.pending ≡ self.old.pending }
         ensures rooms { self.new.rooms ≡ self.old.rooms }
@@ -210,6 +211,14 @@ impl Board {
         let applied = self.grants.apply(&mut log, front);
         self.reads = self.reads.saturating_add(log.reads());
         applied
+    }
+
+    /// The history of the log's grants, which has an index of the log, up to the place to which it was brought. Allocates nothing.
+    pub fn grants(&self) -> &GrantHistory
+        ensures stands { StandsFor result.now self.now.log }
+        ensures known { result.now.applied ≡ self.now.known }
+    {
+        &self.grants
     }
 
     /// The channels of a user at the end of the log, by rising bytes; none where the user does not exist.

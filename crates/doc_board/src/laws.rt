@@ -1,15 +1,18 @@
 //! Laws of boards' logs. Each is the contract of a function that does nothing.
 
-ghost use Rattle.std.specs.Prelude.{◌≡◌, ◌≢◌, ◌≤◌, ◌<◌, ◌+◌, ◌++◌, ◌∷◌, [], ℕ, Bool, false, length, reverse, List, Option, IsTrue};
+ghost use Rattle.std.specs.Prelude.{◌≡◌, ◌≢◌, ◌≤◌, ◌<◌, ◌+◌, ◌++◌, ◌∷◌, [], ℕ, Bool, false, length, reverse, List, Option, Some, None, IsTrue};
 ghost use Rattle.sg_history.specs.declared.entries.Entry.{Entry};
-ghost use Rattle.sg_history.specs.Board.{BoardState, board_book};
-ghost use Rattle.sg_history.specs.Book.{Book, Later, book_of};
+ghost use Rattle.sg_history.specs.Board.{BoardState, After, board_book};
+ghost use Rattle.sg_history.specs.Book.{Book, Later, book_of, write_at};
+ghost use Rattle.sg_history.specs.Rooms.{without_room};
+ghost use Rattle.sg_history.specs.declared.room.RoomFor.{RoomFor};
 ghost use Rattle.pending_front.specs.Storing.{MayStore};
 ghost use Rattle.sg_history.specs.World as step;
 ghost use Rattle.sg_history.specs.World.{IsHeld, IsSound, MayStep, world_after, without_number};
 ghost use Rattle.sg_history.specs.declared.entries.Entry.TheVariants as kinds;
 ghost use Rattle.doc_board.specs.declared.candidate.Candidate.{Candidate};
-ghost use Rattle.doc_board.specs.Steps.{history_on, stored_at, swapped_to, world_on};
+ghost use Rattle.doc_board.specs.Rooms.{is_outstanding};
+ghost use Rattle.doc_board.specs.Steps.{history_on, stored_at, swapped_to, with_entry, world_on};
 ghost use Rattle.sg_history.specs.Journal.{IsRecord};
 ghost use Rattle.sg_history.specs.declared.entries.Write.{Write};
 ghost use Rattle.sg_names.specs.RevId.{is_rev};
@@ -22,11 +25,13 @@ ghost use Rattle.repl_messages.specs.declared.revision.Revision.{Revision};
 ghost use Rattle.sync_syntax.specs.declared.tree.Program.{Program};
 ghost use Rattle.sync_meaning.specs.declared.effects.Effects.{Effects};
 ghost use Rattle.sync_meaning.specs.Acts.{Found};
-ghost use Rattle.doc_board.specs.Candidates.{ExtendsTree, MayBeStored, entry_of, is_stale};
+ghost use Rattle.doc_board.specs.Candidates.{ExtendsTree, Fits, MayBeStored, entry_of, is_stale};
 ghost use Rattle.doc_board.specs.Lawful.{AreLawful, AreEntries};
 ghost use Rattle.doc_board.specs.Boards.{board_of, board_last, board_tree};
+ghost use Rattle.doc_board.specs.JudgedWrites.{IsJudgedWrite, IsNextWrite};
 ghost use Rattle.doc_board.specs.Judging.{IsSaid, board_base};
 ghost use Rattle.doc_board.specs.Offers.{nodes_or_none};
+ghost use Rattle.doc_board.specs.Outcomes.{IsWriteOf};
 ghost use Rattle.doc_board.specs.State.{State, book_on, writes_on, tree_on, last_on, base_on};
 
 use rev_tree::laws::{later_books, trees_of_writes};
@@ -77,6 +82,54 @@ pub fn later_boards()
 {
     later_books();
     sg_history::laws::books();
+}
+
+/// No write of a document stands in a board's book above the number of the document's last one.
+pub fn last_writes()
+    ensures { (board : BoardState) (doc : List ℕ) (number : ℕ) → board_last board doc < number
+        → write_at (board_book board) doc number ≡ None }
+{}
+
+/// The write of a revision that was judged by a board is a judged write of the book in which it stands next among those of its
+/// document; and a judged write of a book is one of each later book.
+pub fn judged_writes()
+    ensures next { (program : Program) (by : Option (List ℕ)) (r : Revision) (judged : BoardState)
+        (book : Book) (sequence : ℕ) (w : Write) → IsWriteOf program by r judged w
+        → IsNextWrite judged book sequence w → IsJudgedWrite program book sequence w }
+    ensures later { (program : Program) (earlier later : Book) (sequence : ℕ) (w : Write)
+        → Later earlier later → earlier sequence ≡ Some (kinds.Write w)
+        → IsJudgedWrite program earlier sequence w → IsJudgedWrite program later sequence w }
+{}
+
+/// What the calls of a board leave comes after what they found, with any entries that wait and any rooms that are outstanding: a look,
+/// a room, a commit, a swap, and a number that is given up.
+pub fn after()
+    ensures looked { (s t : State) → t.log ≡ s.log → t.pending ≡ s.pending → t.rooms ≡ s.rooms
+        → board_of t ≡ board_of s }
+    ensures room { (s t : State) (room : RoomFor) → t.log ≡ s.log → t.pending ≡ s.pending
+        → t.rooms ≡ s.rooms ++ room ∷ [] → room.bytes ≤ 20971520
+        → After (board_of s) (board_of t) }
+    ensures commit { (s t : State) (room : RoomFor) (number : ℕ) (c : Candidate)
+        → MayStore s.log s.pending number → IsTrue (is_outstanding s.rooms room) → Fits room c
+        → MayBeStored s number c → is_stale s c ≡ false
+        → history_on t ≡ stored_at s number (entry_of c)
+        → book_on t ≡ with_entry number (entry_of c) (book_on s)
+        → t.rooms ≡ without_room room s.rooms → After (board_of s) (board_of t) }
+    ensures swap { (s t : State) (room : RoomFor) (spent number : ℕ) (c : Candidate)
+        → MayStore s.log s.pending spent → MayStore s.log s.pending number → spent ≢ number
+        → IsTrue (is_outstanding s.rooms room) → Fits room c
+        → MayBeStored s number c → is_stale s c ≡ false
+        → history_on t ≡ swapped_to s spent number (entry_of c)
+        → book_on t ≡ with_entry number (entry_of c)
+        (with_entry spent kinds.Unused (book_on s))
+        → t.rooms ≡ without_room room s.rooms → After (board_of s) (board_of t) }
+    ensures void { (s t : State) (room : RoomFor) (number : ℕ)
+        → MayStore s.log s.pending number → IsTrue (is_outstanding s.rooms room)
+        → history_on t ≡ stored_at s number kinds.Unused
+        → book_on t ≡ with_entry number kinds.Unused (book_on s)
+        → t.rooms ≡ without_room room s.rooms → After (board_of s) (board_of t) }
+{
+    sg_history::laws::later();
 }
 
 /// What a program says of a revision by a board is one verdict: the document, the one before it, and who proposes it with

@@ -1,15 +1,15 @@
 -- an entry that is put where it may be stored
 use Rattle.std.proofs.Common.{◌≡◌, ◌≢◌, ◌⊎◌, inl, inr, ℕ, zero, suc, ◌<◌, ◌≤◌, Bool, List, [], ◌∷◌, length, Option, Some, None, refl, sym, ap, ◌∙◌, arith}
-use Rattle.std.specs.Prelude.{nat_eq, slice_get, if◌then◌else◌}
+use Rattle.std.specs.Prelude.{IsTrue, nat_eq, slice_get, if◌then◌else◌}
 use Rattle.std.proofs.lemmas.Bool.{cases_eq, eq-eqb, ne_eqb}
 use Rattle.std.proofs.lemmas.Option.{none-some}
 use Rattle.sg_history.specs.declared.book.Waiting.{Waiting}
 use Rattle.sg_history.specs.declared.entries.Entry.{Entry}
 use Rattle.sg_history.specs.Book.{book_of, book_with, entry_or, waiting_at, Later}
-use Rattle.sg_history.specs.World.{put_waiting}
+use Rattle.sg_history.specs.World.{put_waiting, rises_from}
 use Rattle.pending_front.specs.Pending.{AreBeyond}
 use Rattle.pending_front.specs.Storing.{MayStore, IsAbove}
-use Rattle.pending_front.proofs.Putting.{put_other, put_here}
+use Rattle.pending_front.proofs.Putting.{put_other, put_here, put_rises}
 use Rattle.pending_front.proofs.Worlds.{IsFree, put_later}
 
 get_none : {X : Type 0} (xs : List X) (k : ℕ) → slice_get xs k ≡ None → length xs ≤ k
@@ -58,3 +58,6 @@ module _ (log : List Entry) (waiting : List Waiting) (number : ℕ) (may : MaySt
 
   pub stored_later : (e : Entry) → IsAbove (book_with log waiting) number e → Later (book_with log waiting) (book_with log (put_waiting (record { number = number; entry = e }) waiting))
   stored_later e above = put_later log waiting number e free above
+
+  pub stored_rises : (e : Entry) → IsTrue (rises_from (length log) waiting) → IsTrue (rises_from (length log) (put_waiting (record { number = number; entry = e }) waiting))
+  stored_rises e up = put_rises (length log) (record { number = number; entry = e }) waiting free.past_end parts.1 up

@@ -1,11 +1,11 @@
 //! What holds of a world of sequences, and of an entry that is stored in it. The calls do nothing.
 
-ghost use Rattle.std.specs.Prelude.{◌≡◌, ◌+◌, ℕ, List, length, Some, None, nat_eq, if◌then◌else◌};
+ghost use Rattle.std.specs.Prelude.{◌≡◌, ◌+◌, ℕ, List, length, Some, None, IsTrue, nat_eq, if◌then◌else◌};
 ghost use Rattle.sg_history.specs.declared.entries.Entry.{Entry};
 ghost use Rattle.sg_history.specs.declared.book.Waiting.{Waiting};
 ghost use Rattle.sg_history.specs.Book.{Later, book_with, waiting_at};
 ghost use Rattle.sg_history.specs.History.{Extends};
-ghost use Rattle.sg_history.specs.World.{World, Step, IsSound, IsHeld, MayStep, put_waiting, world_book, world_after};
+ghost use Rattle.sg_history.specs.World.{World, Step, IsSound, IsHeld, MayStep, put_waiting, release, rises_from, world_book, world_after};
 ghost use Rattle.pending_front.specs.Pending.{AreBeyond};
 ghost use Rattle.pending_front.specs.Runs.{world_of, world_after_all, MayRun};
 ghost use Rattle.pending_front.specs.Storing.{MayStore, IsAbove};
@@ -34,7 +34,8 @@ pub fn world()
 }
 
 /// An entry that is put where it may be stored: none waited there, no waiting entry then stands at a place of the log, the
-/// book has this entry besides, and it is later where the number is above the writes of the entry's document.
+/// book has this entry besides, and it is later where the number is above the writes of the entry's document. The numbers of
+/// waiting entries rise then as before, and, once those that come next are moved to the log, above the place next to its end.
 pub fn storing()
     ensures free { (log : List Entry) (waiting : List Waiting) (number : ℕ)
         → MayStore log waiting number → waiting_at waiting number ≡ None }
@@ -49,4 +50,12 @@ pub fn storing()
         → MayStore log waiting number → IsAbove (book_with log waiting) number e
         → Later (book_with log waiting)
         (book_with log (put_waiting (record { number = number; entry = e }) waiting)) }
+    ensures rises { (log : List Entry) (waiting : List Waiting) (number : ℕ) (e : Entry)
+        → MayStore log waiting number → IsTrue (rises_from (length log) waiting)
+        → IsTrue (rises_from (length log)
+        (put_waiting (record { number = number; entry = e }) waiting)) }
+    ensures released { (log : List Entry) (waiting : List Waiting)
+        → IsTrue (rises_from (length log) waiting)
+        → IsTrue (rises_from (length (release log waiting).log + 1)
+        (release log waiting).pending) }
 {}
