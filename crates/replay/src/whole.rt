@@ -85,7 +85,7 @@ fn serve_all(
 {
     let ground = run_sessions(alloc, ground, program, strict, sessions, out)?;
     let shelf = ground.into_inner();
-    let written = write_history(alloc, shelf.board.log(), out);
+    let written = write_history(alloc, shelf.board().log(), out);
     drop(shelf);
     written
 }

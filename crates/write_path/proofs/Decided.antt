@@ -1,20 +1,20 @@
 -- the outcome of a revision by a board, from the steps that judge it
-use Rattle.std.proofs.Common.{◌≡◌, ◌≤◌, ◌∙◌, arith, ℕ, Bool, List, length, reverse, take, Option, Ok, Err, Some, sym, ap, subst, option_map}
+use Rattle.std.proofs.Common.{◌≡◌, ◌≤◌, ◌∙◌, arith, ℕ, Bool, List, length, take, Option, Ok, Err, Some, sym, ap, subst, option_map, IsTrue}
 use Rattle.sg_names.specs.declared.rev_id.RevId.{RevId}
-use Rattle.sg_history.specs.declared.entries.Entry.{Entry}
+use Rattle.sg_names.specs.RevId.{is_rev}
 use Rattle.sg_history.specs.declared.entries.Entry.TheVariants as kinds
 use Rattle.sg_history.specs.declared.entries.Write.{Write}
-use Rattle.sg_history.specs.Board.{BoardState}
 use Rattle.sg_history.specs.Journal.{IsEntry}
 use Rattle.repl_messages.specs.declared.revision.Revision.{Revision}
 use Rattle.rev_tree.specs.declared.extend.Extended.{Extended}
 use Rattle.rev_tree.specs.declared.extend.Extended.TheVariants as extended
 use Rattle.rev_tree.specs.declared.tree.Node.{Node}
-use Rattle.rev_tree.specs.Documents.{deletes}
 use Rattle.rev_tree.specs.Extension.{extends_tree, verdict_of}
 use Rattle.rev_tree.specs.Tree.{winner_of}
+use Rattle.rev_tree.specs.Writes.{AreAccepted}
 use Rattle.sync_syntax.specs.declared.tree.Program.{Program}
 use Rattle.sync_meaning.specs.declared.effects.Effects.{Effects}
+use Rattle.sync_meaning.specs.Laws.{AreEffects}
 use Rattle.sync_meaning.specs.declared.fault.Stop.TheVariants as stop
 use Rattle.doc_board.specs.declared.outcome.Outcome.{Outcome}
 use Rattle.doc_board.specs.declared.outcome.Outcome.TheVariants as outcome
@@ -22,23 +22,21 @@ use Rattle.doc_board.specs.declared.snapshot.Snapshot.{Snapshot}
 use Rattle.doc_board.specs.Answers.{IsNewTree, IsStep}
 use Rattle.doc_board.specs.Boards.{board_of, board_tree}
 use Rattle.doc_board.specs.Candidates.{ExtendsTree}
-use Rattle.doc_board.specs.Contexts.{IsContext}
-use Rattle.doc_board.specs.Judging.{IsSaid, board_base}
-use Rattle.doc_board.specs.Outcomes.{IsJudged, IsOutcome, IsWellFormed, IsWriteOf, effects_in}
+use Rattle.doc_board.specs.Judging.{IsSaid}
+use Rattle.doc_board.specs.Lawful.{AreEntries}
+use Rattle.doc_board.specs.Outcomes.{IsJudged, IsOutcome, IsWellFormed, effects_in}
 use Rattle.doc_board.specs.Recorded.{HasDocument}
-use Rattle.doc_board.specs.State.{State, tree_on, last_on}
+use Rattle.doc_board.specs.State.{State, book_on, tree_on, last_on, writes_on}
 use Rattle.write_path.specs.declared.judging.Basis.{Basis}
-use Rattle.write_path.specs.declared.propose.Judged.{Judged}
+use Rattle.write_path.specs.declared.accepted.Accepted.{Accepted}
+use Rattle.write_path.specs.declared.accepted.Judged.{Judged}
 use Rattle.write_path.specs.declared.retry.Ready.{Ready}
-use Rattle.write_path.specs.Proposals.{IsAsBefore}
-use Rattle.write_path.specs.Retry.{IsMade, IsReady, IsTurnedDown}
+use Rattle.write_path.specs.Accepted.{ArePartsOf, IsAcceptedBy, IsAcceptedOn}
+use Rattle.write_path.specs.Retry.{IsReady, IsTurnedDown}
 use Rattle.write_path.specs.Shape.{IsWritten}
-use Rattle.write_path.specs.Verdicts.{IsBasis, IsDenied, IsDeniedOn, IsExtension, IsExtensionAt, IsSnapshot, IsStoppedBy}
-use Rattle.write_path.proofs.Again.{held_still}
+use Rattle.write_path.specs.Verdicts.{IsBasis, IsDenied, IsDeniedOn, IsExtension, IsExtensionAt, IsSaidOn, IsSnapshot, IsStoppedBy}
 use Rattle.write_path.proofs.Entries.{extends_new, extends_on}
-use Rattle.write_path.proofs.Grown.{last_still}
 use Rattle.write_path.proofs.Judged.{said_on}
-use Rattle.write_path.proofs.Proposed.{same_board}
 
 -- what the law of ancestors says
 abbrev pub FewExtend : Type 0
@@ -98,93 +96,91 @@ denied_by s program by r basis front (outcome.Full503 at places) is h = absurd h
 denied_by s program by r basis front (outcome.LogFull509 at entries bytes) is h = absurd h
 denied_by s program by r basis front outcome.Memory507 is h = tt
 
-pub memory_denied : (program : Program) (by : Option (List ℕ)) (r : Revision) (board : BoardState) (front : ℕ) (answer : Outcome) → answer ≡ outcome.Memory507 → IsDenied program by r board front answer
-memory_denied program by r board front answer is = subst (λ (o : Outcome). IsDenied program by r board front o) (sym is) tt
+pub memory_denied : (program : Program) (r : Revision) (basis : Basis) (front : ℕ) (answer : Outcome) → answer ≡ outcome.Memory507 → IsDeniedOn program r basis front answer
+memory_denied program r basis front answer is = subst (λ (o : Outcome). IsDeniedOn program r basis front o) (sym is) tt
 
--- the write that was made of an accepted revision
-pub made_of : (s : State) (program : Program) (by : Option (List ℕ)) (r : Revision) (judged : Judged) (effects : Effects) (w : Write)
-    → board_tree (board_of s) r.doc ≡ tree_on s r.doc → IsExtensionAt s by r judged → IsWritten by r judged.at judged.tree judged.kept effects w → IsEntry (kinds.Write w) → HasDocument w.body
-    → IsSaid program by r (board_of s) (Ok effects) → IsMade s program by r (record { entry = w; tree = judged.tree; base = judged.base })
-made_of s program by r judged effects w same new is entry document said =
-    let extends : ExtendsTree (board_tree (board_of s) r.doc) w judged.tree = extends_new (board_tree (board_of s) r.doc) by r judged.at judged.tree judged.kept effects w new.tree new.few is in
-    let on : ExtendsTree (tree_on s w.doc) w judged.tree = extends_on s by r judged.at judged.tree judged.kept effects w same new.tree new.few is in
-    record {
-      is_write = record {
-        doc = is.doc;
-        rev = is.rev;
-        ancestors = is.ancestors ∙ ap (λ (k : ℕ). take k r.ancestors) new.tree.ancestors;
-        deleted = is.deleted;
-        body = is.body;
-        by = is.by;
-        at = is.at ∙ new.at;
-        winner = subst (λ (t : List Node). option_map (λ l. l.rev) (winner_of t) ≡ Some w.winner) extends.tree is.winner;
-        accepted = subst (λ (e : Effects). IsSaid program by r (board_of s) (Ok e)) (sym is.has_effects) said;
-      };
-      held = record {
-        is_entry = entry;
-        document = document;
-        at = is.at ∙ new.at;
-        base = new.base ∙ ap (λ (doc : List ℕ). last_on s doc) (sym is.doc);
-        extends = on;
-      };
-    }
+-- ---- a revision that the program accepts
 
--- ---- at boards with the same log, the same that waits and the same rooms
+-- what the law of winners says
+abbrev pub WinnersNamed : Type 0
+WinnersNamed = (s : State) (w : Write) (after : List Node) → AreEntries (book_on s) → AreAccepted (writes_on s w.doc) → ExtendsTree (tree_on s w.doc) w after → IsTrue (is_rev w.rev) → IsTrue (is_rev w.winner)
 
-module _ (s m : State) (same : IsAsBefore s m) where
-  abbrev back : IsAsBefore m s
-  back = record { log = sym same.log; pending = sym same.pending; rooms = sym same.rooms }
+pub accepted_by : (s : State) (program : Program) (strict : Bool) (by : Option (List ℕ)) (r : Revision) (judged : Judged) (a : Accepted)
+    → IsExtensionAt s by r judged → IsJudged strict by r (board_of s) extends_tree judged.at → AreEntries (book_on s) → AreAccepted (writes_on s r.doc)
+    → IsAcceptedOn judged a → ArePartsOf by r.body judged.tree a.parts → AreEffects a.effects → IsSaidOn program r judged.basis (Ok a.effects) → IsAcceptedBy s program strict by r a
+accepted_by s program strict by r judged a is by_board entries writes on parts effects said = record {
+  at = on.at ∙ is.at;
+  base = on.base ∙ is.base;
+  tree = subst (λ (k : ℕ). IsNewTree (board_tree (board_of s) r.doc) r a.tree k) (sym on.kept)
+      (subst (λ (t : List Node). IsNewTree (board_tree (board_of s) r.doc) r t judged.kept) (sym on.tree) is.tree);
+  few = omega (arith, on.kept, is.few);
+  judged = subst (λ (n : ℕ). IsJudged strict by r (board_of s) extends_tree n) (sym on.at) by_board;
+  said = said_on s program by r judged.basis (Ok a.effects) is.basis said;
+  effects = effects;
+  parts = subst (λ (t : List Node). ArePartsOf by r.body t a.parts) (sym on.tree) parts;
+  entries = entries;
+  writes = writes;
+}
 
-  boards_same : board_of m ≡ board_of s
-  boards_same = same_board s m same
+-- the write that was made of it may be stored there
+pub ready_by : WinnersNamed → ((t : State) (doc : List ℕ) → board_tree (board_of t) doc ≡ tree_on t doc)
+    → (s : State) (program : Program) (strict : Bool) (by : Option (List ℕ)) (r : Revision) (a : Accepted) (c : Ready) → IsAcceptedBy s program strict by r a
+    → c.tree ≡ a.tree → c.base ≡ a.base
+    → (option_map (λ l. l.rev) (winner_of a.tree) ≡ Some a.parts.winner → IsWritten a.parts.by r a.at a.tree a.kept a.effects c.entry)
+    → (IsTrue (is_rev c.entry.winner) → IsEntry (kinds.Write c.entry)) → HasDocument c.entry.body → IsReady s program strict by r c
+ready_by winners trees s program strict by r a c acc same_tree same_base written entry document = record {
+  judged = subst (λ (n : ℕ). IsJudged strict by r (board_of s) extends_tree n) (sym is.at) acc.judged;
+  accepted = (effects_in w, said);
+  made = record {
+    is_write = record {
+      doc = is.doc;
+      rev = is.rev;
+      ancestors = is.ancestors ∙ ap (λ (k : ℕ). take k r.ancestors) acc.tree.ancestors;
+      deleted = is.deleted;
+      body = is.body;
+      by = is.by;
+      at = is.at ∙ acc.at;
+      winner = subst (λ (t : List Node). option_map (λ l. l.rev) (winner_of t) ≡ Some w.winner) extends.tree is.winner;
+      accepted = said;
+    };
+    held = record {
+      is_entry = entry (winners s w a.tree acc.entries (subst (λ (doc : List ℕ). AreAccepted (writes_on s doc)) (sym is.doc) acc.writes) on
+          (subst (λ (rev : RevId). IsTrue (is_rev rev)) (sym is.rev) acc.judged.formed.named.rev));
+      document = document;
+      at = is.at ∙ acc.at;
+      base = same_base ∙ acc.base ∙ ap (λ (doc : List ℕ). last_on s doc) (sym is.doc);
+      extends = subst (λ (t : List Node). ExtendsTree (tree_on s w.doc) w t) (sym same_tree) on;
+    };
+  };
+}
+  where
+    w : Write
+    w = c.entry
 
-  basis_still : (by : Option (List ℕ)) (r : Revision) (basis : Basis) → IsBasis s by r basis → IsBasis m by r basis
-  basis_still by r basis is = record {
-    old = is.old ∙ ap (λ (b : BoardState). option_map (λ (w : Write). w.body) (board_base b r.doc r.ancestors)) (sym boards_same);
-    old_deleted = is.old_deleted ∙ ap (λ (b : BoardState). deletes (board_base b r.doc r.ancestors)) (sym boards_same);
-    documents = is.documents;
-    context = subst (λ (es : List Entry). IsContext (reverse es) by basis.context) (sym same.log) is.context;
-  }
+    is : IsWritten by r a.at a.tree a.kept a.effects w
+    is = subst (λ (author : Option (List ℕ)). IsWritten author r a.at a.tree a.kept a.effects w) acc.parts.by_is (written acc.parts.winner)
 
-  pub extends_still_at : (by : Option (List ℕ)) (r : Revision) (judged : Judged) → IsExtensionAt s by r judged → IsExtensionAt m by r judged
-  extends_still_at by r judged is = record {
-    at = is.at ∙ sym (ap (λ (es : List Entry). length es) same.log);
-    base = is.base ∙ last_still s m r.doc same.log same.pending;
-    tree = subst (λ (b : BoardState). IsNewTree (board_tree b r.doc) r judged.tree judged.kept) (sym boards_same) is.tree;
-    few = is.few;
-    basis = basis_still by r judged.basis is.basis;
-  }
+    extends : ExtendsTree (board_tree (board_of s) r.doc) w a.tree
+    extends = extends_new (board_tree (board_of s) r.doc) by r a.at a.tree a.kept a.effects w acc.tree acc.few is
 
-  made_before : (program : Program) (by : Option (List ℕ)) (r : Revision) (c : Ready) → IsMade m program by r c → IsMade s program by r c
-  made_before program by r c made = record {
-    is_write = subst (λ (b : BoardState). IsWriteOf program by r b c.entry) boards_same made.is_write;
-    held = held_still m s c back made.held;
-  }
+    on : ExtendsTree (tree_on s w.doc) w a.tree
+    on = extends_on s by r a.at a.tree a.kept a.effects w (trees s r.doc) acc.tree acc.few is
 
-  pub ready_at : (program : Program) (strict : Bool) (by : Option (List ℕ)) (r : Revision) (at : ℕ) (c : Ready) → IsJudged strict by r (board_of s) extends_tree at → IsMade m program by r c → IsReady s program strict by r c
-  ready_at program strict by r at c judged made =
-      let before : IsMade s program by r c = made_before program by r c made in
-      record {
-        judged = record { formed = judged.formed; proposer = judged.proposer; verdict = judged.verdict; front = before.held.at };
-        accepted = (effects_in c.entry, before.is_write.accepted);
-        made = before;
-      }
+    said : IsSaid program by r (board_of s) (Ok (effects_in w))
+    said = subst (λ (e : Effects). IsSaid program by r (board_of s) (Ok e)) (sym is.has_effects) acc.said
 
-  pub denied_at : (program : Program) (strict : Bool) (by : Option (List ℕ)) (r : Revision) (front : ℕ) → IsJudged strict by r (board_of s) extends_tree front → (answer : Outcome) → IsDenied program by r (board_of m) front answer → IsOutcome program strict by r (board_of s) answer × IsTurnedDown answer
-  denied_at program strict by r front judged (outcome.Bad400 field) h = absurd h
-  denied_at program strict by r front judged (outcome.TooLarge413 bytes) h = absurd h
-  denied_at program strict by r front judged (outcome.UserGone401 at) h = absurd h
-  denied_at program strict by r front judged (outcome.Known at) h = absurd h
-  denied_at program strict by r front judged (outcome.BadHistory400 at) h = absurd h
-  denied_at program strict by r front judged (outcome.Conflict409 at leaf) h = absurd h
-  denied_at program strict by r front judged (outcome.Denied403 at rule) h = (
-    (
-      subst (λ (n : ℕ). IsJudged strict by r (board_of s) extends_tree n) (sym h.1) judged,
-      subst (λ (b : BoardState). IsSaid program by r b (Err (stop.Deny rule))) boards_same h.0,
-    ),
-    tt,
-  )
-  denied_at program strict by r front judged (outcome.Stored sequence at) h = absurd h
-  denied_at program strict by r front judged (outcome.Full503 at places) h = absurd h
-  denied_at program strict by r front judged (outcome.LogFull509 at entries bytes) h = absurd h
-  denied_at program strict by r front judged outcome.Memory507 h = (tt, tt)
+-- ---- a revision that it denies
+
+pub denied_at : (s : State) (program : Program) (strict : Bool) (by : Option (List ℕ)) (r : Revision) (front : ℕ) → IsJudged strict by r (board_of s) extends_tree front → (answer : Outcome) → IsDenied program by r (board_of s) front answer → IsOutcome program strict by r (board_of s) answer × IsTurnedDown answer
+denied_at s program strict by r front judged (outcome.Bad400 field) h = absurd h
+denied_at s program strict by r front judged (outcome.TooLarge413 bytes) h = absurd h
+denied_at s program strict by r front judged (outcome.UserGone401 at) h = absurd h
+denied_at s program strict by r front judged (outcome.Known at) h = absurd h
+denied_at s program strict by r front judged (outcome.BadHistory400 at) h = absurd h
+denied_at s program strict by r front judged (outcome.Conflict409 at leaf) h = absurd h
+denied_at s program strict by r front judged (outcome.Denied403 at rule) h =
+    ((subst (λ (n : ℕ). IsJudged strict by r (board_of s) extends_tree n) (sym h.1) judged, h.0), tt)
+denied_at s program strict by r front judged (outcome.Stored sequence at) h = absurd h
+denied_at s program strict by r front judged (outcome.Full503 at places) h = absurd h
+denied_at s program strict by r front judged (outcome.LogFull509 at entries bytes) h = absurd h
+denied_at s program strict by r front judged outcome.Memory507 h = (tt, tt)

@@ -157,3 +157,11 @@ positive (suc n) h = omega arith
 pub some_bytes : (bytes : List ℕ) (none : Bool) → ((i : ℕ) → Fits w8 (slice_index_or bytes i 0)) → none ≡ nat_eq (length bytes) 0 → not none ≡ true → is_body bytes ≡ true
 some_bytes bytes none h is some =
     and_from (nat_lt 0 (length bytes)) (are_bytes bytes) (lt-ltb 0 (length bytes) (positive (length bytes) (sym is ∙ not-true none some))) (bytes_are bytes h)
+
+-- a body that has bytes is stored as it is, and `{}` in place of one that has none
+pub body_stays : (body : List ℕ) → IsTrue (is_body body) → body ≡ body_or_empty body
+body_stays [] h = cc h
+body_stays (b ∷ bytes) h = refl
+
+pub braces_stand_in : (body stand_in : List ℕ) → body ≡ [] → stand_in ≡ 123 ∷ 125 ∷ [] → stand_in ≡ body_or_empty body
+braces_stand_in body stand_in none is = is ∙ ap body_or_empty (sym none)

@@ -1,5 +1,5 @@
 -- a board with one write more comes after the board before it
-use Rattle.std.proofs.Common.{◌≡◌, ◌≤◌, ◌+◌, ◌-◌, ◌*◌, ℕ, suc, List, [], ◌∷◌, ◌++◌, length, Some, refl, sym, ap, ◌∙◌, subst, arith}
+use Rattle.std.proofs.Common.{◌≡◌, ◌≤◌, ◌+◌, ◌-◌, ◌*◌, ℕ, zero, suc, List, [], ◌∷◌, ◌++◌, length, Some, refl, sym, ap, ◌∙◌, subst, arith}
 use Rattle.std.proofs.lemmas.List.{length-append}
 use Rattle.std.proofs.lemmas.Option.{none-some}
 use Rattle.sg_history.specs.declared.book.Waiting.{Waiting}
@@ -67,6 +67,13 @@ at_place (x ∷ es) e = at_place es e
 
 pub at_end : (es : List Entry) (e : Entry) → book_of (es ++ e ∷ []) (length es + 1) ≡ Some e
 at_end es e = ap (λ (n : ℕ). book_of (es ++ e ∷ []) n) (suc_of (length es)) ∙ at_place es e
+
+-- before it stands what stood there
+pub at_before : (es : List Entry) (e : Entry) (number : ℕ) → number ≤ length es → book_of (es ++ e ∷ []) number ≡ book_of es number
+at_before es e zero low = refl
+at_before [] e (suc number) low = absurd (omega (arith, low))
+at_before (x ∷ es) e (suc zero) low = refl
+at_before (x ∷ es) e (suc (suc number)) low = at_before es e (suc number) (omega (arith, low))
 
 -- ---- boards with the same log
 

@@ -1,13 +1,16 @@
+pub mod Accepted
 pub mod Asks
 pub mod Bodies
 pub mod ByLook
 pub mod Commands
 pub mod Feed
+pub mod Origins
 pub mod Own
 pub mod Proposals
 pub mod Reads
 pub mod Retry
 pub mod Shape
+pub mod Shelf
 pub mod Solo
 pub mod Trail
 pub mod Verdicts

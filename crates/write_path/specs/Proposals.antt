@@ -9,6 +9,7 @@ use Rattle.sync_syntax.specs.declared.tree.Program.{Program}
 use Rattle.doc_board.specs.declared.outcome.Outcome.{Outcome}
 use Rattle.doc_board.specs.declared.outcome.Outcome.TheVariants as outcome
 use Rattle.doc_board.specs.Boards.{board_of}
+use Rattle.doc_board.specs.JudgedWrites.{IsJudgedWrite}
 use Rattle.doc_board.specs.Outcomes.{IsOutcome, IsBadField, IsTooLarge, IsWriteOf, IsByLimits, bytes_of}
 use Rattle.doc_board.specs.State.{State}
 use Rattle.write_path.specs.Reads.{Reads, WasRead, HasLength}
@@ -29,7 +30,7 @@ pub record IsRoomed (before after : List BoardState) (recorded : Option ℕ) (by
   pub has_length : HasLength recorded board
   pub limits : IsByLimits bytes board answer
 
--- the write of the revision, judged by one board that was read in between, is the one entry that is own since; it stands at its sequence in the book of another board that was read in between; and one more had room for it
+-- the write of the revision, judged by one board that was read in between, is the one entry that is own since; it stands at its sequence in the book of another board that was read in between, and is a judged write there; and one more had room for it
 pub record IsStored (before after : List BoardState) (own_before own_after : List Waiting) (recorded : Option ℕ) (program : Program) (strict : Bool) (by : Option (List ℕ)) (r : Revision) (sequence at : ℕ) : Type 0 where
   pub judged : BoardState
   pub was_judged : WasRead before after judged
@@ -42,12 +43,16 @@ pub record IsStored (before after : List BoardState) (own_before own_after : Lis
   pub holding : BoardState
   pub was_read : WasRead before after holding
   pub there : board_book holding sequence ≡ Some (entry.Write write)
+  pub judged_write : IsJudgedWrite program (board_book holding) sequence write
 
--- the revision was judged by a board that was read in between, and refused a room by the sums of one; nothing is own that was not
+-- the revision was judged by a board that was read in between, and refused a room by the sums of one that was read after that; nothing is own that was not
 pub record IsRefused (before after : List BoardState) (own_before own_after : List Waiting) (recorded : Option ℕ) (program : Program) (strict : Bool) (by : Option (List ℕ)) (r : Revision) (answer : Outcome) : Type 0 where
   pub own : own_after ≡ own_before
   pub judged : IsAnswered before after recorded program strict by r answer
   pub room : IsRoomed before after recorded (bytes_of r) answer
+  pub middle : List BoardState
+  pub judged_first : WasRead before middle judged.board
+  pub room_after : WasRead middle after room.board
 
 -- what is answered: without a board where the revision itself is refused, else by a board that was read in between; and what is own since: the stored write, at every other answer nothing more
 abbrev pub IsProposed : List BoardState → List BoardState → List Waiting → List Waiting → Option ℕ → Program → Bool → Option (List ℕ) → Revision → Outcome → Type 0

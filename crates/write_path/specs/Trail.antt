@@ -1,8 +1,8 @@
--- What snapshots of boards and of entries stand for.
+-- What snapshots of shelves and of entries stand for.
 use Rattle.std.specs.Prelude.{List, [], ◌∷◌}
 use Rattle.sg_history.specs.declared.book.Waiting.{Waiting}
 use Rattle.sg_history.specs.Board.{BoardState}
-use Rattle.doc_board.specs.Boards.{board_of}
+use Rattle.write_path.specs.Shelf.{shelf_state}
 use Rattle.write_path.specs.declared.trail.Links.{Links, fold-Links}
 use Rattle.write_path.specs.declared.trail.Links.TheOpen.{Links-F}
 use Rattle.write_path.specs.declared.trail.Stored.{Stored, fold-Stored}
@@ -11,7 +11,7 @@ use Rattle.write_path.specs.declared.trail.Stored.TheOpen.{Stored-F}
 -- the board of the newest, before those of the others
 abbrev pub boards_step : Links-F (List BoardState) → List BoardState
 boards_step Links-F.Nothing = []
-boards_step (Links-F.Then before board) = board_of board.value ∷ before.value
+boards_step (Links-F.Then before shelf) = shelf_state shelf.value ∷ before.value
 
 -- the boards, the newest first
 abbrev pub boards_in : Links → List BoardState

@@ -23,7 +23,7 @@ use Rattle.doc_board.specs.Judging.{IsTreeOf, IsSaid, board_base, body_or_empty}
 use Rattle.doc_board.specs.Recorded.{HasDocument}
 use Rattle.doc_board.specs.State.{State, last_on}
 use Rattle.write_path.specs.declared.judging.Basis.{Basis}
-use Rattle.write_path.specs.declared.propose.Judged.{Judged}
+use Rattle.write_path.specs.declared.accepted.Judged.{Judged}
 
 -- the fact holds of what a verdict says, where memory was not short
 abbrev pub IsVerdict : (Found Effects → Type 0) → Verdict → Type 0

@@ -20,6 +20,7 @@ ghost use Rattle.doc_board.specs.State.{tree_on};
 ghost use Rattle.repl_messages.specs.Looks as bodies;
 ghost use Rattle.write_path.specs.Bodies.{BodiesAt};
 ghost use Rattle.write_path.specs.ByLook as by_look;
+ghost use Rattle.write_path.specs.Proposals.{IsAsBefore};
 
 use doc_board::Board;
 use feed_rows::{Viewer, changed_last_at, viewer_of};
@@ -28,7 +29,7 @@ use log_index::LogIndex;
 use log_views::{DocState, Filter, shown, state};
 use repl_messages::{Bodies, Body, BodyList};
 use rev_tree::Tree;
-use sg_history::{Channels, Entry, LogReads, Name, Options, Row, Write};
+use sg_history::{Channels, Entry, Name, Options, Row, Write};
 use sg_outside::Memory;
 use std::alloc::Global;
 
@@ -303,25 +304,22 @@ fn bodies_by(
     answer
 }
 
-/// What a board answers for the rows that a device wants: each row is looked up in the history of grants of its
-/// log, which is applied to the log's end first.
+/// What a board answers for the rows that a device wants: each row is looked up in the board's own history of grants, which
+/// is brought to the log's end first.
 pub fn bodies_at(
     alloc: Global,
-    grants: &mut GrantHistory,
-    board: &Board,
+    board: &mut Board,
     user: &Name,
     options: &Options,
     rows: &[Row],
     most: u64,
 ) -> Result<Bodies, Memory>
-    requires { StandsFor grants.old board.now.log }
     ensures answer { IfOk result
-        (BodiesAt (board_of board.now) user.now options.now rows.now most) }
-    ensures stands { StandsFor grants.new board.now.log }
+        (BodiesAt (board_of board.old) user.now options.now rows.now most) }
+    ensures same { IsAsBefore board.old board.new }
 {
     doc_board::laws::boards();
-    let mut reads = LogReads::new(board.log());
-    let end = reads.length();
-    grants.apply(&mut reads, end)?;
-    bodies_by(alloc, grants, board, user, options, rows, most)
+    doc_board::laws::after();
+    board.apply_grants()?;
+    bodies_by(alloc, board.grants(), board, user, options, rows, most)
 }

@@ -10,6 +10,7 @@ ghost use Rattle.write_path.specs.Reads.{Reads, WasRead, HasLength};
 ghost use Rattle.write_path.specs.Feed.{FeedAt};
 ghost use Rattle.write_path.specs.Bodies.{BodiesAt};
 ghost use Rattle.write_path.specs.Asks.{AskedAt};
+ghost use Rattle.write_path.specs.Origins.{Origin, Spends, Stays};
 ghost use Rattle.write_path.specs.Commands.{Commands};
 ghost use Rattle.write_path.specs.Proposals.{Stores, recorded_after};
 
@@ -36,6 +37,16 @@ pub trait Ground: Drop {
     /// The entries that it has stored, with their numbers, the newest first.
     ghost own: { Self → List Waiting };
 
+    /// How many draws of sequences are left.
+    ghost left: { Self → ℕ };
+
+    /// Where its draws come from, and how many they are in all. No call changes it.
+    ghost origin: { Self → Origin };
+
+    /// How many draws of sequences are left.
+    fn left(&self) -> u64
+        ensures { result ≡ left self.now };
+
     /// The length of the log, without a read: no front that it answered before is above it.
     fn front(&mut self) -> u64
         ensures read { read self.new ≡ read self.old }
@@ -43,6 +54,7 @@ pub trait Ground: Drop {
         ensures lowest_front { lowest_front self.new ≡ result }
         ensures recorded { recorded self.new ≡ recorded self.old }
         ensures own { own self.new ≡ own self.old }
+        ensures stays { Stays (origin self.old) (origin self.new) (left self.old) (left self.new) }
         ensures length { IfSome (recorded self.old) (λ n. result ≡ n) };
 
     /// Reads the history for a user's feed after a since key. Out of memory it may have read, or not.
@@ -57,6 +69,7 @@ pub trait Ground: Drop {
             (lowest_front self.new) }
         ensures recorded { recorded self.new ≡ recorded self.old }
         ensures own { own self.new ≡ own self.old }
+        ensures stays { Stays (origin self.old) (origin self.new) (left self.old) (left self.new) }
         ensures answer { IfOk result (λ fed. (b : BoardState)
             × WasRead (read self.old) (read self.new) b × HasLength (recorded self.old) b
             × FeedAt b.log user.now since.now options.now fed) };
@@ -75,6 +88,7 @@ pub trait Ground: Drop {
             (lowest_front self.new) }
         ensures recorded { recorded self.new ≡ recorded self.old }
         ensures own { own self.new ≡ own self.old }
+        ensures stays { Stays (origin self.old) (origin self.new) (left self.old) (left self.new) }
         ensures answer { IfOk result (λ bodies. (b : BoardState)
             × WasRead (read self.old) (read self.new) b × HasLength (recorded self.old) b
             × BodiesAt b user.now options.now rows.now most bodies) };
@@ -85,6 +99,7 @@ pub trait Ground: Drop {
             (lowest_front self.new) }
         ensures recorded { recorded self.new ≡ recorded self.old }
         ensures own { own self.new ≡ own self.old }
+        ensures stays { Stays (origin self.old) (origin self.new) (left self.old) (left self.new) }
         ensures answer { IfOk result (λ asked. (b : BoardState)
             × WasRead (read self.old) (read self.new) b × HasLength (recorded self.old) b
             × AskedAt b offers.now asked) };
@@ -103,7 +118,8 @@ pub trait Ground: Drop {
             (lowest_front self.new)
             (own self.old) (own self.new) (recorded self.old)
             program.now (strict || revision.noconflicts) (option_copied by.entry) revision result }
-        ensures recorded { recorded self.new ≡ recorded_after (recorded self.old) result };
+        ensures recorded { recorded self.new ≡ recorded_after (recorded self.old) result }
+        ensures spends { Spends (origin self.old) (origin self.new) (left self.old) (left self.new) };
 
     /// Puts or drops a user or a role: stores the command's entry, which is in its grammar, or answers that there is no room for it,
     /// or that memory is short.
@@ -112,5 +128,6 @@ pub trait Ground: Drop {
         ensures commands { Commands (read self.old) (read self.new) (lowest_front self.old)
             (lowest_front self.new)
             (own self.old) (own self.new) (recorded self.old) (entry_of command) result }
-        ensures recorded { recorded self.new ≡ recorded_after (recorded self.old) result };
+        ensures recorded { recorded self.new ≡ recorded_after (recorded self.old) result }
+        ensures spends { Spends (origin self.old) (origin self.new) (left self.old) (left self.new) };
 }

@@ -1,6 +1,7 @@
 //! Grounds: where a session looks at the history.
 #![tactic(auto)]
 
+mod accepted;
 mod ask;
 mod bodies;
 mod command;

@@ -2,44 +2,39 @@
 
 ghost use Rattle.std.specs.Prelude.{◌≡◌, ◌≢◌, ◌≤◌, ◌+◌, ◌++◌, ◌∷◌, ◌||◌, [], true, false, length, take, option_map, Some, Ok, IfOk, IfErr, IfSome, OnErr, IsTrue, IsUtf8};
 ghost use Rattle.std.specs.Option.{option_copied};
-ghost use Rattle.sg_names.specs.Grammar.{is_name};
 ghost use Rattle.sg_names.specs.RevId as names;
 ghost use Rattle.sg_names.specs.Revs as lists;
 ghost use Rattle.sg_history.specs.declared.entries.Entry.TheVariants as kinds;
-ghost use Rattle.sg_history.specs.Journal.{IsEntry, is_body};
 ghost use Rattle.json_doc.specs.Reading.{IsDocument};
 ghost use Rattle.json_doc.specs.View.{node_tree};
 ghost use Rattle.rev_tree.specs.declared.extend.Extended.TheVariants as extended;
 ghost use Rattle.rev_tree.specs.Extension.{extends_tree};
-ghost use Rattle.rev_tree.specs.Tree as trees;
-ghost use Rattle.sync_meaning.specs.Laws.{AreEffects};
+ghost use Rattle.rev_tree.specs.Writes.{AreAccepted};
 ghost use Rattle.sync_syntax.specs.declared.tree.Program.{Program};
-ghost use Rattle.doc_board.specs.declared.outcome.Outcome.TheVariants as outcomes;
 ghost use Rattle.doc_board.specs.Boards.{board_of};
-ghost use Rattle.doc_board.specs.Judging.{IsSaid, body_or_empty};
+ghost use Rattle.doc_board.specs.Lawful.{AreEntries};
 ghost use Rattle.doc_board.specs.Limits.{refusal};
 ghost use Rattle.doc_board.specs.Outcomes.{IsByLimits, IsJudged, IsOutcome, IsWellFormed, bytes_of};
-ghost use Rattle.doc_board.specs.Recorded.{HasDocument};
+ghost use Rattle.doc_board.specs.State.{book_on, writes_on};
 ghost use Rattle.write_path.specs.Commands.{IsBoardCommanded};
 ghost use Rattle.write_path.specs.Proposals.{IsAsBefore, IsBoardAfter};
-ghost use Rattle.write_path.specs.Retry.{IsHeldReady, IsMade, IsReady, IsTurnedDown};
-ghost use Rattle.write_path.specs.Shape.{IsAnsweredBy, IsRefusal, IsStoredBut, IsWritten};
-ghost use Rattle.write_path.specs.Verdicts.{IsDenied, IsDeniedOn, IsExtension, IsExtensionAt, IsSaidOn, IsSnapshot, IsStoppedBy};
+ghost use Rattle.write_path.specs.Retry.{IsHeldReady, IsReady, IsTurnedDown};
+ghost use Rattle.write_path.specs.Shape.{IsAnsweredBy, IsRefusal, IsStoredBut};
+ghost use Rattle.write_path.specs.Verdicts.{IsExtension, IsExtensionAt, IsSnapshot, IsStoppedBy};
 
+use crate::accepted::{Judged, accepted_of, ready_with};
 use crate::fresh::put_next;
-use crate::judging::{Basis, document_in, said_of};
+use crate::judging::{Basis, document_in};
 use crate::refused::no_room_outcome;
 use crate::retry::Ready;
-use crate::texts::pass_effects;
 use doc_board::laws::{alone, boards, few_ancestors, winners};
 use doc_board::{Board, Candidate, MOST_BODY_BYTES, NoRoom, Outcome, Snapshot};
 use json_doc::Doc;
 use repl_messages::{Field, Revision};
 use rev_tree::{Extended, Tree};
-use sg_history::{Name, RevId, Revs, Write};
-use sg_outside::{Bytes, Memory};
-use std::alloc::{AllocError, Global};
-use sync_eval::{Effects, Verdict};
+use sg_history::{Name, RevId};
+use sg_outside::Memory;
+use std::alloc::Global;
 use sync_resolve::Resolved;
 
 fn is_rev(rev: &RevId) -> bool
@@ -78,253 +73,6 @@ fn document_of(alloc: Global, revision: &Revision) -> Result<Doc, Outcome>
         Ok(Some(doc)) => Ok(doc),
         Ok(None) => Err(Outcome::Bad400 { field: Field::Body }),
         Err(_) => Err(Outcome::Memory507),
-    }
-}
-
-/// Whether there are bytes, as in each body that is stored.
-fn has_bytes(body: &[u8]) -> bool
-    ensures yes { result ≡ true → IsTrue (is_body body.now) }
-    ensures no { result ≡ false → body.now ≡ [] }
-{
-    !body.is_empty()
-}
-
-/// A body, or `{}` where there are no bytes.
-fn body_of(alloc: Global, body: Bytes) -> Result<Bytes, AllocError>
-    ensures value { IfOk result (λ made. made ≡ body_or_empty body) }
-    ensures bytes { IfOk result (λ made. IsTrue (is_body made)) }
-{
-    if !has_bytes(body.as_slice()) {
-        return Bytes::from_slice(alloc, b"{}");
-    }
-    Ok(body)
-}
-
-/// The first so many of some ancestors.
-fn kept_of(ancestors: Revs, kept: u64) -> Revs
-    ensures { result ≡ take kept ancestors }
-{
-    let mut items = ancestors.into_vec();
-    items.truncate(kept as usize);
-    Revs::from_vec(items)
-}
-
-fn copy_of(alloc: Global, name: Option<&Name>) -> Result<Option<Name>, AllocError>
-    ensures value { IfOk result (λ copy. copy ≡ option_copied name.entry) }
-    ensures name { IfOk result (λ copy. IfSome copy (λ text. IsTrue (is_name text) × IsUtf8 text)) }
-{
-    match name {
-        None => Ok(None),
-        Some(name) => {
-            let _ = name.as_str();
-            Ok(Some(name.copy(alloc)?))
-        }
-    }
-}
-
-/// A copy of the winner's revision of a tree that has one.
-fn winner_of(alloc: Global, tree: &Tree) -> Result<RevId, AllocError>
-    requires { tree.now ≢ [] }
-    ensures { IfOk result (λ rev. option_map (λ l. l.rev) (trees.winner_of tree.now) ≡ Some rev) }
-{
-    match tree.winner() {
-        None => unreachable!(),
-        Some(winner) => winner.rev.copy(alloc),
-    }
-}
-
-/// What a write has besides its revision and its effects: the winner that it names, the body that is stored, and who wrote it.
-#[derive(Drop)]
-pub(crate) struct Parts {
-    pub winner: RevId,
-    pub body: Bytes,
-    pub by: Option<Name>,
-}
-
-fn parts_of(alloc: Global, by: Option<&Name>, body: Bytes, tree: &Tree) -> Result<Parts, AllocError>
-    requires { tree.now ≢ [] }
-    ensures winner { IfOk result
-        (λ p. option_map (λ l. l.rev) (trees.winner_of tree.now) ≡ Some p.winner) }
-    ensures body { IfOk result (λ p. p.body ≡ body_or_empty body) }
-    ensures bytes { IfOk result (λ p. IsTrue (is_body p.body)) }
-    ensures by { IfOk result (λ p. p.by ≡ option_copied by.entry) }
-    ensures name { IfOk result (λ p. IfSome p.by (λ text. IsTrue (is_name text) × IsUtf8 text)) }
-{
-    let winner = match winner_of(alloc, tree) {
-        Ok(winner) => winner,
-        Err(fault) => {
-            drop(body);
-            return Err(fault);
-        }
-    };
-    let body = match body_of(alloc, body) {
-        Ok(body) => body,
-        Err(fault) => {
-            drop(winner);
-            return Err(fault);
-        }
-    };
-    match copy_of(alloc, by) {
-        Ok(by) => Ok(Parts { winner, body, by }),
-        Err(fault) => {
-            drop(winner);
-            drop(body);
-            Err(fault)
-        }
-    }
-}
-
-/// The write of a revision that was judged at a front, with so many of its ancestors, the tree after it, and the effects with
-/// which it is accepted.
-fn write_of(
-    alloc: Global,
-    by: Option<&Name>,
-    revision: Revision,
-    at: u64,
-    tree: &Tree,
-    kept: u64,
-    effects: Effects,
-) -> Result<Write, AllocError>
-    requires tree { tree.now ≢ [] }
-    requires formed { IsWellFormed revision }
-    requires effects { AreEffects effects }
-    ensures write { IfOk result
-        (λ w. IsWritten (option_copied by.entry) revision at tree.now kept effects w) }
-    ensures entry { IfOk result (λ w. IsTrue (names.is_rev w.winner) → IsEntry (kinds.Write w)) }
-    ensures body { IfOk result (λ w. HasDocument w.body) }
-    ensures size { IfOk result (λ w. length w.body ≤ 20971520) }
-{
-    let _ = revision.doc.as_str();
-    pass_effects(&effects);
-    let Revision {
-        doc,
-        rev,
-        ancestors,
-        deleted,
-        noconflicts: _noconflicts,
-        body,
-    } = revision;
-    match parts_of(alloc, by, body, tree) {
-        Ok(parts) => Ok(Write {
-            winner: parts.winner,
-            doc,
-            rev,
-            ancestors: kept_of(ancestors, kept),
-            deleted,
-            body: parts.body,
-            by: parts.by,
-            at,
-            channels: effects.channels,
-            grants: effects.grants,
-            roles: effects.roles,
-        }),
-        Err(fault) => {
-            drop(doc);
-            drop(rev);
-            drop(ancestors);
-            drop(effects);
-            Err(fault)
-        }
-    }
-}
-
-/// What the board says of a revision that extends its document's tree: at which front, after which last write of its document,
-/// with which tree and so many of its ancestors, and what the program is to judge it on.
-#[derive(Drop)]
-pub(crate) struct Judged {
-    pub at: u64,
-    pub base: u64,
-    pub tree: Tree,
-    pub kept: u64,
-    pub basis: Basis,
-}
-
-/// What the program says of a revision that extends its document's tree: the effects with which it accepts it, or why it is
-/// turned down at this front.
-fn effects_of(
-    alloc: Global,
-    program: &Resolved,
-    revision: &Revision,
-    doc: Doc,
-    basis: &Basis,
-    at: u64,
-) -> Result<Effects, Outcome>
-    requires document { IsDocument revision.now.body (node_tree doc) }
-    requires old { IfSome basis.now.old (λ body. HasDocument body) }
-    ensures accepted { IfOk result
-        (λ effects. IsSaidOn program.now revision.now basis.now (Ok effects)) }
-    ensures denied { IfErr result (IsDeniedOn program.now revision.now basis.now at) }
-{
-    match said_of(alloc, program, revision, doc, basis) {
-        Verdict::Accept(effects) => Ok(effects),
-        Verdict::Deny(rule) => Err(Outcome::Denied403 { at, rule }),
-        Verdict::Memory => Err(Outcome::Memory507),
-    }
-}
-
-/// Makes the write of a revision that the board judged in this turn, with the effects with which it is accepted.
-fn ready_of(
-    alloc: Global,
-    board: &Board,
-    by: Option<&Name>,
-    revision: Revision,
-    judged: Judged,
-    effects: Effects,
-) -> Result<Ready, Outcome>
-    requires formed { IsWellFormed revision }
-    requires extends { IsExtensionAt board.now (option_copied by) revision judged }
-    requires effects { AreEffects effects }
-    ensures made { (program : Program)
-        → IsSaid program (option_copied by.entry) revision (board_of board.now) (Ok effects)
-        → IfOk result (IsMade board.now program (option_copied by.entry) revision) }
-    ensures memory { IfErr result (λ outcome. outcome ≡ outcomes.Memory507) }
-{
-    let _ = board.log();
-    boards();
-    winners();
-    let Judged {
-        at,
-        base,
-        tree,
-        kept,
-        basis,
-    } = judged;
-    drop(basis);
-    match write_of(alloc, by, revision, at, &tree, kept, effects) {
-        Ok(entry) => Ok(Ready { entry, tree, base }),
-        Err(_) => {
-            drop(tree);
-            Err(Outcome::Memory507)
-        }
-    }
-}
-
-/// Makes the write of a revision that extends its document's tree where the program accepts it, or turns it down.
-fn ready_where_accepted(
-    alloc: Global,
-    board: &Board,
-    program: &Resolved,
-    by: Option<&Name>,
-    revision: Revision,
-    doc: Doc,
-    judged: Judged,
-) -> Result<Ready, Outcome>
-    requires formed { IsWellFormed revision }
-    requires document { IsDocument revision.body (node_tree doc) }
-    requires extends { IsExtensionAt board.now (option_copied by) revision judged }
-    ensures made { IfOk result
-        (λ c. IsMade board.now program.now (option_copied by.entry) revision c) }
-    ensures denied { IfErr result (IsDenied program.now (option_copied by.entry) revision
-        (board_of board.now) judged.at) }
-{
-    sync_meaning::laws::effects();
-    match effects_of(alloc, program, &revision, doc, &judged.basis, judged.at) {
-        Ok(effects) => ready_of(alloc, board, by, revision, judged, effects),
-        Err(outcome) => {
-            drop(revision);
-            drop(judged);
-            Err(outcome)
-        }
     }
 }
 
@@ -400,7 +148,7 @@ fn extension_in(snapshot: Snapshot) -> Result<Judged, Outcome>
 }
 
 /// Has the board judge a revision that is well formed: what it is judged on where it extends its document's tree.
-fn extension_of(
+pub(crate) fn extension_of(
     board: &mut Board,
     revision: &Revision,
     strict: bool,
@@ -414,8 +162,11 @@ fn extension_of(
         revision.now (board_of board.old) extends_tree judged.at) }
     ensures stopped { (program : Program) → IfErr result (λ outcome. IsOutcome program strict
         (option_copied by.entry) revision.now (board_of board.old) outcome × IsTurnedDown outcome) }
+    ensures entries { AreEntries (book_on board.old) }
+    ensures writes { AreAccepted (writes_on board.old revision.now.doc) }
 {
     few_ancestors();
+    let _ = board.log();
     match snapshot_of(board, revision, strict, by) {
         Ok(snapshot) => extension_in(snapshot),
         Err(_) => Err(Outcome::Memory507),
@@ -441,11 +192,20 @@ pub(crate) fn judge(
     ensures refused { IfErr result (λ outcome. IsOutcome program.now strict
         (option_copied by.entry) revision (board_of board.old) outcome × IsTurnedDown outcome) }
 {
-    match extension_of(board, &revision, strict, by) {
-        Ok(judged) => ready_where_accepted(alloc, board, program, by, revision, doc, judged),
+    boards();
+    winners();
+    let judged = match extension_of(board, &revision, strict, by) {
+        Ok(judged) => judged,
         Err(outcome) => {
             drop(revision);
             drop(doc);
+            return Err(outcome);
+        }
+    };
+    match accepted_of(alloc, program, by, &revision, doc, judged) {
+        Ok(accepted) => Ok(ready_with(revision, accepted)),
+        Err(outcome) => {
+            drop(revision);
             Err(outcome)
         }
     }

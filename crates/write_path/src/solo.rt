@@ -1,6 +1,6 @@
 //! A ground that owns its shelf.
 
-ghost use Rattle.std.specs.Prelude.{◌≡◌, ◌≤◌, ◌||◌, [], ◌∷◌, Some, length, IfOk};
+ghost use Rattle.std.specs.Prelude.{◌≡◌, ◌≤◌, ◌^◌, ◌||◌, [], ◌∷◌, Some, length, IfOk};
 ghost use Rattle.std.specs.Option.{option_copied};
 ghost use Rattle.sg_history.specs.Board.{BoardState, IsAfterAll};
 ghost use Rattle.sg_history.specs.Journal.{IsEntry};
@@ -13,18 +13,17 @@ ghost use Rattle.write_path.specs.Commands.{Commands, IsBoardCommanded};
 ghost use Rattle.write_path.specs.Feed.{FeedAt};
 ghost use Rattle.write_path.specs.Own.{EndsWith, own_after};
 ghost use Rattle.write_path.specs.Proposals.{Stores, IsAsBefore, IsBoardAfter, recorded_after};
+ghost use Rattle.write_path.specs.Origins.{Spends, Stays};
 ghost use Rattle.write_path.specs.Reads.{HasLength, IsLaterThanAll, Reads, WasRead};
+ghost use Rattle.write_path.specs.Shelf.{shelf_state};
+ghost use Rattle.write_path.specs.Solo.{solo_origin};
 
 use crate::ask::asked_at;
-use crate::bodies::bodies_at;
-use crate::command::command_to;
 use crate::feed::feed_at;
 use crate::ground::Ground;
-use crate::propose::propose_to;
 use crate::shelf::Shelf;
 use crate::trail::{OwnEntries, Trail};
 use doc_board::{Board, Outcome};
-use grant_history::GrantHistory;
 use principals::Command;
 use repl_messages::{Asked, Bodies, Fed, Offer, Revision};
 use sg_history::{Key, Name, Options, Row, entry_at};
@@ -34,30 +33,28 @@ use std::marker::Model;
 use sync_resolve::Resolved;
 
 /// A ground that owns its shelf and waits for nobody. Nothing waits at its board, and no room is outstanding between its calls.
-/// Each look for bodies applies the log to a history of grants, which has an index of the log, too. Its log ends with the
-/// entries that it has stored.
+/// Its log ends with the entries that it has stored. It draws from no gate: it has as many draws as a gate has at first, and
+/// spends none.
 #[derive(Drop)]
 pub struct SoloGround {
     shelf: Shelf,
-    grants: GrantHistory,
     read: Trail,
     own: OwnEntries,
 }
 
 impl Model for SoloGround {
     ghost use Rattle.std.specs.Prelude.{◌≡◌, []};
-    ghost use Rattle.grant_history.specs.Stands.{StandsFor};
-    ghost use Rattle.doc_board.specs.Boards.{board_of};
-    ghost use Rattle.write_path.specs.Own.{EndsWith};
     ghost use Rattle.sg_history.specs.Board.{IsAfterAll};
+    ghost use Rattle.write_path.specs.Own.{EndsWith};
+    ghost use Rattle.write_path.specs.Shelf.{shelf_state};
     ghost use Rattle.write_path.specs.Solo.{Solo};
 
     ghost Value = { Solo };
 
     ghost view = { λ g. record { board = g.shelf.board; read = g.read; own = g.own } };
 
-    ghost invariant = { λ g. IsAfterAll g.read (board_of g.shelf.board)
-        × (g.shelf.board.rooms ≡ []) × StandsFor g.grants g.shelf.board.log
+    ghost invariant = { λ g. IsAfterAll g.read (shelf_state g.shelf)
+        × (g.shelf.board.rooms ≡ [])
         × EndsWith g.shelf.board.log g.own × (g.shelf.board.pending ≡ []) };
 }
 
@@ -67,16 +64,14 @@ impl SoloGround {
         requires pending { shelf.board.pending ≡ [] }
         requires rooms { shelf.board.rooms ≡ [] }
         ensures board { result.board ≡ shelf.board }
-        ensures read { result.read ≡ board_of shelf.board ∷ [] }
+        ensures read { result.read ≡ shelf_state shelf ∷ [] }
         ensures own { result.own ≡ [] }
     {
         sg_history::laws::boards();
-        let grants = GrantHistory::new(shelf.board.allocator());
         let mut read = Trail::new();
-        read.add(&shelf.board);
+        read.add(&shelf);
         SoloGround {
             shelf,
-            grants,
             read,
             own: OwnEntries::new(),
         }
@@ -88,17 +83,15 @@ impl SoloGround {
         ensures board { result.board ≡ self.board }
         ensures pending { result.board.pending ≡ [] }
         ensures rooms { result.board.rooms ≡ [] }
-        ensures after { IsAfterAll self.read (board_of result.board) }
+        ensures after { IsAfterAll self.read (shelf_state result) }
         ensures later { IsLaterThanAll self.read result.board.log }
         ensures ends { EndsWith result.board.log self.own }
     {
         let SoloGround {
             shelf,
-            grants,
             read: _read,
             own: _own,
         } = self;
-        drop(grants);
         shelf
     }
 }
@@ -115,7 +108,8 @@ fn record_own(own: &mut OwnEntries, board: &Board, outcome: &Outcome)
 }
 
 impl Ground for SoloGround {
-    ghost use Rattle.std.specs.Prelude.{Some, length};
+    ghost use Rattle.std.specs.Prelude.{Some, length, ◌^◌};
+    ghost use Rattle.write_path.specs.Solo.{solo_origin};
 
     ghost read = { λ g. g.read };
 
@@ -125,6 +119,16 @@ impl Ground for SoloGround {
 
     ghost own = { λ g. g.own };
 
+    ghost left = { λ g. 2 ^ 62 };
+
+    ghost origin = { λ g. solo_origin };
+
+    fn left(&self) -> u64
+        ensures { result ≡ 2 ^ 62 }
+    {
+        1 << 62
+    }
+
     fn front(&mut self) -> u64
         ensures read { self.new.read ≡ self.old.read }
         ensures rises { length self.old.board.log ≤ result }
@@ -132,10 +136,11 @@ impl Ground for SoloGround {
         ensures recorded { Some (length self.new.board.log)
             ≡ Some (length self.old.board.log) }
         ensures own { self.new.own ≡ self.old.own }
+        ensures stays { Stays solo_origin solo_origin (2 ^ 62) (2 ^ 62) }
         ensures length { result ≡ length self.old.board.log }
         ensures same { IsAsBefore self.old.board self.new.board }
     {
-        self.shelf.board.front()
+        self.shelf.board().front()
     }
 
     fn feed(
@@ -150,14 +155,15 @@ impl Ground for SoloGround {
         ensures recorded { Some (length self.new.board.log)
             ≡ Some (length self.old.board.log) }
         ensures own { self.new.own ≡ self.old.own }
+        ensures stays { Stays solo_origin solo_origin (2 ^ 62) (2 ^ 62) }
         ensures answer { IfOk result (λ fed. (b : BoardState)
             × WasRead self.old.read self.new.read b × HasLength (Some (length self.old.board.log)) b
             × FeedAt b.log user.now since.now options.now fed) }
         ensures same { IsAsBefore self.old.board self.new.board }
     {
         sg_history::laws::boards();
-        self.read.add(&self.shelf.board);
-        feed_at(alloc, self.shelf.board.log(), user, since, options)
+        self.read.add(&self.shelf);
+        feed_at(alloc, self.shelf.board().log(), user, since, options)
     }
 
     fn bodies(
@@ -173,15 +179,15 @@ impl Ground for SoloGround {
         ensures recorded { Some (length self.new.board.log)
             ≡ Some (length self.old.board.log) }
         ensures own { self.new.own ≡ self.old.own }
+        ensures stays { Stays solo_origin solo_origin (2 ^ 62) (2 ^ 62) }
         ensures answer { IfOk result (λ bodies. (b : BoardState)
             × WasRead self.old.read self.new.read b × HasLength (Some (length self.old.board.log)) b
             × BodiesAt b user.now options.now rows.now most bodies) }
         ensures same { IsAsBefore self.old.board self.new.board }
     {
         sg_history::laws::boards();
-        self.read.add(&self.shelf.board);
-        let board = &self.shelf.board;
-        bodies_at(alloc, &mut self.grants, board, user, options, rows, most)
+        self.read.add(&self.shelf);
+        self.shelf.bodies(alloc, user, options, rows, most)
     }
 
     fn ask(&mut self, alloc: Global, offers: &[Offer]) -> Result<Asked, Memory>
@@ -190,14 +196,15 @@ impl Ground for SoloGround {
         ensures recorded { Some (length self.new.board.log)
             ≡ Some (length self.old.board.log) }
         ensures own { self.new.own ≡ self.old.own }
+        ensures stays { Stays solo_origin solo_origin (2 ^ 62) (2 ^ 62) }
         ensures answer { IfOk result (λ asked. (b : BoardState)
             × WasRead self.old.read self.new.read b × HasLength (Some (length self.old.board.log)) b
             × AskedAt b offers.now asked) }
         ensures same { IsAsBefore self.old.board self.new.board }
     {
         sg_history::laws::boards();
-        self.read.add(&self.shelf.board);
-        asked_at(alloc, &self.shelf.board, offers)
+        self.read.add(&self.shelf);
+        asked_at(alloc, self.shelf.board(), offers)
     }
 
     fn propose(
@@ -214,6 +221,7 @@ impl Ground for SoloGround {
             (option_copied by.entry) revision result }
         ensures recorded { Some (length self.new.board.log)
             ≡ recorded_after (Some (length self.old.board.log)) result }
+        ensures spends { Spends solo_origin solo_origin (2 ^ 62) (2 ^ 62) }
         ensures outcome { IsOutcome program.now (strict || revision.noconflicts)
             (option_copied by.entry) revision (board_of self.old.board) result }
         ensures own { self.new.own ≡ own_after self.old.own self.new.board.log result }
@@ -224,11 +232,14 @@ impl Ground for SoloGround {
     {
         sg_history::laws::boards();
         sg_history::laws::later();
-        grant_history::laws::extended(&self.grants);
-        self.read.add(&self.shelf.board);
-        let outcome = propose_to(alloc, &mut self.shelf.board, program, by, strict, revision);
-        self.read.add(&self.shelf.board);
-        record_own(&mut self.own, &self.shelf.board, &outcome);
+        doc_board::laws::boards();
+        doc_board::laws::alone();
+        doc_board::laws::last_writes();
+        doc_board::laws::judged_writes();
+        self.read.add(&self.shelf);
+        let outcome = self.shelf.propose(alloc, program, by, strict, revision);
+        self.read.add(&self.shelf);
+        record_own(&mut self.own, self.shelf.board(), &outcome);
         outcome
     }
 
@@ -239,6 +250,7 @@ impl Ground for SoloGround {
             (Some (length self.old.board.log)) (entry_of command) result }
         ensures recorded { Some (length self.new.board.log)
             ≡ recorded_after (Some (length self.old.board.log)) result }
+        ensures spends { Spends solo_origin solo_origin (2 ^ 62) (2 ^ 62) }
         ensures own { self.new.own ≡ own_after self.old.own self.new.board.log result }
         ensures limits { IsByLimits 0 (board_of self.old.board) result }
         // The log, what waits and the rooms are as before at every answer other than Stored.
@@ -246,11 +258,10 @@ impl Ground for SoloGround {
     {
         sg_history::laws::boards();
         sg_history::laws::later();
-        grant_history::laws::extended(&self.grants);
-        self.read.add(&self.shelf.board);
-        let outcome = command_to(&mut self.shelf.board, command);
-        self.read.add(&self.shelf.board);
-        record_own(&mut self.own, &self.shelf.board, &outcome);
+        self.read.add(&self.shelf);
+        let outcome = self.shelf.command(command);
+        self.read.add(&self.shelf);
+        record_own(&mut self.own, self.shelf.board(), &outcome);
         outcome
     }
 }

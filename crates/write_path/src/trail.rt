@@ -1,18 +1,18 @@
 //! The boards that were read and the entries that were stored, which only clauses see.
 
 ghost use Rattle.std.specs.Prelude.{◌≡◌, [], ◌∷◌};
-ghost use Rattle.doc_board.specs.Boards.{board_of};
+ghost use Rattle.write_path.specs.Shelf.{shelf_state};
 
-use doc_board::Board;
+use crate::shelf::Shelf;
 use sg_history::Entry;
 use std::marker::Model;
 use std::snapshot::Snapshot;
 
-/// Snapshots of boards, the newest first. It has no bytes of them.
+/// Snapshots of shelves, the newest first. It has no bytes of them.
 #[derive(Drop)]
 enum Links {
     Nothing,
-    Then(Snapshot<Links>, Snapshot<Board>),
+    Then(Snapshot<Links>, Snapshot<Shelf>),
 }
 
 /// The boards that were read, the newest first. It keeps nothing of them: only clauses see them.
@@ -41,11 +41,11 @@ impl Trail {
         }
     }
 
-    /// Puts a board in front. Allocates nothing.
-    pub fn add(&mut self, board: &Board)
-        ensures { self.new ≡ board_of board.now ∷ self.old }
+    /// Puts a shelf's board in front. Allocates nothing.
+    pub fn add(&mut self, shelf: &Shelf)
+        ensures { self.new ≡ shelf_state shelf.now ∷ self.old }
     {
-        self.links = Links::Then(Snapshot::of(&self.links), Snapshot::of(board));
+        self.links = Links::Then(Snapshot::of(&self.links), Snapshot::of(shelf));
     }
 }
 

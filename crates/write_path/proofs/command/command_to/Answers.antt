@@ -13,9 +13,9 @@ put_next-sequence-requires-clause-rooms c =
 
 pub returns-in-Err-clause-board : goal.returns-in-Err-clause-board
 returns-in-Err-clause-board c =
-    commanded_without c.args.board.now c.room.new.self (entry_of c.args.command) c.front-at.result c.in-Err.why c.without_room.result c.without_room.ensures (record { log = c.in-Err.ensures.log; pending = c.in-Err.ensures.pending; rooms = c.in-Err.ensures.err })
+    commanded_without c.args.board.now c.room.new.self (entry_of c.args.command) c.front-at.result c.in-Err.why c.no_room_outcome.result c.no_room_outcome.ensures (record { log = c.in-Err.ensures.log; pending = c.in-Err.ensures.pending; rooms = c.in-Err.ensures.err })
     c.front-at.ensures.front
 
 pub returns-in-Err-clause-limits : goal.returns-in-Err-clause-limits
 returns-in-Err-clause-limits c =
-    limits_without 0 (board_of c.args.board.now) c.front-at.result c.in-Err.why c.without_room.result c.without_room.ensures (refused_in (refusal (board_of c.args.board.now) 0) c.in-Err.why c.in-Err.ensures.refused)
+    limits_without 0 (board_of c.args.board.now) c.front-at.result c.in-Err.why c.no_room_outcome.result c.no_room_outcome.ensures (refused_in (refusal (board_of c.args.board.now) 0) c.in-Err.why c.in-Err.ensures.refused)

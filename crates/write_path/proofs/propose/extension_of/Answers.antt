@@ -4,7 +4,7 @@ use Rattle.rev_tree.specs.Extension.{extends_tree}
 use Rattle.doc_board.specs.declared.outcome.Outcome.{Outcome}
 use Rattle.doc_board.specs.Boards.{board_of}
 use Rattle.doc_board.specs.Outcomes.{IsJudged, IsOutcome}
-use Rattle.write_path.specs.declared.propose.Judged.{Judged}
+use Rattle.write_path.specs.declared.accepted.Judged.{Judged}
 use Rattle.write_path.specs.Retry.{IsTurnedDown}
 use Rattle.write_path.specs.Verdicts.{IsExtension, IsExtensionAt, IsStoppedBy}
 use Rattle.write_path.proofs.Decided.{extends_at, judged_at, stopped}

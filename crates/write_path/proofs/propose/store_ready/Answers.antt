@@ -19,9 +19,9 @@ returns-in-Ok-clause-limits c = stored_none (refusal (board_of c.args.board.now)
 
 pub returns-in-Err-clause-board : goal.returns-in-Err-clause-board
 returns-in-Err-clause-board c =
-    commanded_without c.args.board.now c.store.new.board (kinds.Write c.args.ready.entry) c.args.ready.entry.at c.in-Err.why c.without_room.result c.without_room.ensures
+    commanded_without c.args.board.now c.store.new.board (kinds.Write c.args.ready.entry) c.args.ready.entry.at c.in-Err.why c.no_room_outcome.result c.no_room_outcome.ensures
     (record { log = c.in-Err.ensures.none; pending = c.store.ensures.pending ∙ sym c.requires.pending; rooms = c.store.ensures.rooms ∙ sym c.requires.rooms }) c.requires.ready.at
 
 pub returns-in-Err-clause-limits : goal.returns-in-Err-clause-limits
 returns-in-Err-clause-limits c =
-    limits_without (length c.args.ready.entry.body) (board_of c.args.board.now) c.args.ready.entry.at c.in-Err.why c.without_room.result c.without_room.ensures c.in-Err.ensures.refused
+    limits_without (length c.args.ready.entry.body) (board_of c.args.board.now) c.args.ready.entry.at c.in-Err.why c.no_room_outcome.result c.no_room_outcome.ensures c.in-Err.ensures.refused

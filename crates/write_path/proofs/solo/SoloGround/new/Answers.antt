@@ -13,7 +13,6 @@ invariant_of-result c =
     let read : c.add.new.self ≡ b ∷ [] = c.add.ensures ∙ ap (λ (earlier : List BoardState). b ∷ earlier) c.new-read.ensures in (
       subst (λ (boards : List BoardState). IsAfterAll boards b) (sym read) (c.boards.ensures.itself b, tt),
       c.requires.rooms,
-      c.new-grants.ensures.stands s.log,
       subst (λ (own : List Waiting). EndsWith s.log own) (sym c.new.ensures) (s.log, sym (append-nil s.log)),
       c.requires.pending,
     )
