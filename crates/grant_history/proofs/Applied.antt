@@ -2,7 +2,7 @@
 use Rattle.std.proofs.Common.{◌≡◌, ◌⊎◌, inl, inr, ◌<◌, ◌≤◌, ◌+◌, ◌-◌, ℕ, zero, suc, refl, sym, ◌∙◌, ap, subst, arith, nat_lt, List, [], ◌∷◌, ◌++◌, length, take, reverse, Option, Some, None}
 use Rattle.std.specs.Prelude.{slice_get}
 use Rattle.std.proofs.lemmas.Bool.{cases_lt}
-use Rattle.std.proofs.lemmas.List.{length-append, reverse-reverse, reverse-append, length-reverse, length-take-le}
+use Rattle.std.proofs.lemmas.List.{length-append, reverse-reverse, reverse-append, length-reverse, length-take-le, take-take}
 use Rattle.std.proofs.lemmas.Option.{none-some, same_Some}
 use Rattle.sg_history.specs.declared.entries.Entry.{Entry}
 use Rattle.sg_history.specs.declared.entries.Entry.TheVariants as entry
@@ -23,7 +23,8 @@ use Rattle.grant_history.specs.Facts.{document_facts}
 use Rattle.grant_history.specs.Holdings.{has_at}
 use Rattle.grant_history.specs.Sources.{is_held}
 use Rattle.grant_history.specs.Ledger.{facts_of_write, write_facts, IsLedger, Took}
-use Rattle.grant_history.specs.Stands.{IsIndexed, LedgerAt, StandsFor, IsNextApplied}
+use Rattle.grant_history.specs.LedgerAt.{LedgerAt, IsNextApplied}
+use Rattle.grant_history.specs.Stands.{IsIndexed, StandsFor}
 use Rattle.grant_history.proofs.Keeping.{settled, later_store}
 
 take_next : (entries : List Entry) (n : ℕ) (e : Entry) → slice_get entries n ≡ Some e → take (suc n) entries ≡ take n entries ++ e ∷ []
@@ -85,20 +86,20 @@ module _ (old kept : Ledger) (entries : List Entry) (e : Entry) (n at : ℕ) (pl
     ];
   }
 
-module _ (history : GrantHistory) (entries : List Entry) (e : Entry) (at : ℕ) (next : IsNextApplied history entries e at) where
-  pub next_place : at ≡ length (past entries history.applied) + 1
+module _ (index : LogIndex) (ledger : Ledger) (entries : List Entry) (e : Entry) (at : ℕ) (next : IsNextApplied index ledger entries e at) where
+  pub next_place : at ≡ length (past entries (at - 1)) + 1
   next_place =
-      let low : history.applied ≤ length entries = omega (arith, next.place, next.high) in
-      omega (arith, next.place, past_count entries history.applied low)
+      let low : at - 1 ≤ length entries = omega (arith, next.high) in
+      omega (arith, next.low, past_count entries (at - 1) low)
 
-  module _ (kept : Ledger) (before : (f : Fact) (k : ℕ) → k < at → has_at kept.store f k ≡ has_at history.ledger.store f k) where
-    pub taken : Took kept at e (past entries history.applied) → LedgerAt kept entries at
-    taken took = advanced history.ledger kept entries e history.applied at next.place next.newest next.kept before took
+  module _ (kept : Ledger) (before : (f : Fact) (k : ℕ) → k < at → has_at kept.store f k ≡ has_at ledger.store f k) where
+    pub taken : Took kept at e (past entries (at - 1)) → LedgerAt kept entries at
+    taken took = advanced ledger kept entries e (at - 1) at (omega (arith, next.low)) next.newest next.kept before took
 
-    pub left : IsLedger kept (past entries history.applied) → LedgerAt kept entries history.applied
+    pub left : IsLedger kept (past entries (at - 1)) → LedgerAt kept entries (at - 1)
     left is = record {
       is_kept = is;
-      held = λ k f le. before f k (omega (arith, le, next.place)) ∙ next.kept.held k f le;
+      held = λ k f le. before f k (omega (arith, le, next.low)) ∙ next.kept.held k f le;
     }
 
 -- what is held at the last place is held from there on
@@ -145,8 +146,42 @@ pub stands_longer : (history : GrantHistory) (earlier later : List Entry) → St
 stands_longer history earlier later stands extends = record {
   within = omega (arith, stands.within, longer earlier later extends);
   index = indexed_longer history.index earlier later history.applied stands.within extends stands.index;
-  kept = record {
-    is_kept = subst (λ (es : List Entry). IsLedger history.ledger es) (sym (same_past earlier later history.applied extends stands.within)) stands.kept.is_kept;
-    held = λ k f le. stands.kept.held k f le ∙ ap (λ (es : List Entry). is_held es f) (sym (same_past earlier later k extends (omega (arith, le, stands.within))));
-  };
 }
+
+-- what is kept by one log is by another that has the same entries up to there
+kept_same : (kept : Ledger) (xs ys : List Entry) (n : ℕ) → ((k : ℕ) → k ≤ n → past xs k ≡ past ys k) → LedgerAt kept xs n → LedgerAt kept ys n
+kept_same kept xs ys n same at = record {
+  is_kept = subst (λ (es : List Entry). IsLedger kept es) (same n (omega arith)) at.is_kept;
+  held = λ k f le. at.held k f le ∙ ap (λ (es : List Entry). is_held es f) (same k le);
+}
+
+-- the entries that the index has are the first ones of the log
+begins : (index : LogIndex) (entries : List Entry) (m k : ℕ) → k ≤ m → Indexes index (past entries m) → past (reverse index) k ≡ past entries k
+begins index entries m k le is =
+    ap (λ (es : List Entry). past (reverse es) k) is
+    ∙ ap (λ (es : List Entry). past es k) (reverse-reverse (take m entries))
+    ∙ ap (λ (es : List Entry). reverse es) (take-take k m entries le)
+
+same_first : (index : LogIndex) (entries : List Entry) (n k : ℕ) → k ≤ n → IsIndexed index entries n → past (reverse index) k ≡ past entries k
+same_first index entries n k le (inl h) = begins index entries n k le h
+same_first index entries n k le (inr h) = begins index entries (n + 1) k (omega (arith, le)) h.1
+
+pub kept_by_log : (kept : Ledger) (history : GrantHistory) (entries : List Entry) → StandsFor history entries → LedgerAt kept (reverse history.index) history.applied → LedgerAt kept entries history.applied
+kept_by_log kept history entries stands at =
+    kept_same kept (reverse history.index) entries history.applied (λ k le. same_first history.index entries history.applied k le stands.index) at
+
+pub kept_by_index : (kept : Ledger) (index : LogIndex) (entries : List Entry) (n : ℕ) → IsIndexed index entries n → LedgerAt kept entries n → LedgerAt kept (reverse index) n
+kept_by_index kept index entries n is at =
+    kept_same kept entries (reverse index) n (λ k le. sym (same_first index entries n k le is)) at
+
+-- the next entry, which the index has, is to be applied
+pub next_one : (index : LogIndex) (ledger : Ledger) (entries : List Entry) (n : ℕ) (e : Entry) → slice_get entries n ≡ Some e → n < length entries → index ≡ e ∷ past entries n → LedgerAt ledger entries n → IsNextApplied index ledger entries e (n + 1)
+next_one index ledger entries n e is more has at =
+    let minus : n ≡ n + 1 - 1 = omega arith in
+    record {
+      low = omega arith;
+      high = omega (arith, more);
+      newest = past_next entries n e is ∙ ap (λ (m : ℕ). e ∷ past entries m) minus;
+      index = has ∙ sym (past_next entries n e is);
+      kept = subst (λ (m : ℕ). LedgerAt ledger entries m) minus at;
+    }

@@ -13,6 +13,8 @@ pub mod Blocks
 pub mod Near
 pub mod Passing
 pub mod Ledger
+pub mod LedgerAt
+pub mod AppliedLog
 pub mod Stands
 pub mod Winners
 pub mod Reads

@@ -1,16 +1,16 @@
 //! The history of grants.
 
-ghost use Rattle.std.specs.Prelude.{◌≡◌, ◌⊎◌, ◌<◌, ◌≤◌, ◌+◌, ◌-◌, ◌*◌, ℕ, List, ◌∷◌, length, max, reverse, OnOk, OnErr, IfOk};
+ghost use Rattle.std.specs.Prelude.{◌≡◌, ◌⊎◌, ◌<◌, ◌≤◌, ◌+◌, ◌-◌, ◌*◌, ℕ, List, ◌∷◌, length, max, min, reverse, OnOk, OnErr, IfOk};
 ghost use Rattle.log_index.specs.Index.{Indexes};
 ghost use Rattle.sg_history.specs.declared.entries.Entry as entry;
 ghost use Rattle.sg_history.specs.History.{among, past};
 ghost use Rattle.sg_history.specs.Principals.{exists, user_at, has_channel, has_role};
 ghost use Rattle.sg_history.specs.Current.{current};
 ghost use Rattle.grant_history.specs.Facts as facts;
-ghost use Rattle.grant_history.specs.Ledger.{Took};
 ghost use Rattle.grant_history.specs.Periods.{AreInOrder, ArePeriods};
 ghost use Rattle.grant_history.specs.Sorted.{AreSorted};
-ghost use Rattle.grant_history.specs.Stands.{LedgerAt, StandsFor, IsNextApplied};
+ghost use Rattle.grant_history.specs.LedgerAt.{IsNextApplied, LedgerAt};
+ghost use Rattle.grant_history.specs.Stands.{StandsFor};
 
 use crate::facts::Fact;
 use crate::given::of_entry;
@@ -20,17 +20,31 @@ use log_index::LogIndex;
 use sg_history::{Channels, DocId, Entry, LogReads, Name, Names};
 use sg_outside::Memory;
 use std::alloc::Global;
+use std::marker::Model;
 
 /// A list of periods.
 pub type Periods = sg_names::List<Period>;
 
 /// Which channels and roles users had at the places of a log, up to the one that was applied last.
+/// Contracts see how many entries are applied, and the entries that its index of the log has.
 #[derive(Drop)]
 pub struct GrantHistory {
     alloc: Global,
     applied: u64,
     index: LogIndex,
     ledger: Ledger,
+}
+
+impl Model for GrantHistory {
+    ghost use Rattle.std.specs.Prelude.{reverse};
+    ghost use Rattle.grant_history.specs.AppliedLog.{AppliedLog};
+    ghost use Rattle.grant_history.specs.LedgerAt.{LedgerAt};
+
+    ghost Value = { AppliedLog };
+
+    ghost view = { λ h. record { applied = h.applied; index = h.index } };
+
+    ghost invariant = { λ h. LedgerAt h.ledger (reverse h.index) h.applied };
 }
 
 /// Puts the entry at a place into an index, unless it has it.
@@ -46,6 +60,53 @@ fn index_entry(index: &mut LogIndex, entry: &Entry, at: u64) -> Result<(), Memor
         index.push(entry)?;
     }
     Ok(())
+}
+
+/// What a document gives as it is after the entries that an index has.
+fn document_facts(
+    alloc: Global,
+    index: &LogIndex,
+    log: &mut LogReads<'_>,
+    doc: &DocId,
+) -> Result<Vec<Fact>, Memory>
+    requires { (n : ℕ) × (n ≤ length log.old.entries)
+        × Indexes index.now (past log.old.entries n) }
+    ensures facts { IfOk result (λ list. (n : ℕ) → n ≤ length log.old.entries
+        → Indexes index.now (past log.old.entries n)
+        → list.items ≡ facts.document_facts (current (past log.old.entries n) doc.now)) }
+    ensures log { log.new.entries ≡ log.old.entries }
+    ensures reads { log.new.reads ≤ log.old.reads + 1 }
+    ensures counted { min log.old.reads 18446744073709551615 ≤ log.new.reads }
+{
+    match index.document(doc) {
+        None => Ok(Vec::new(alloc)),
+        Some(document) => of_entry(alloc, log.entry(document.winning)),
+    }
+}
+
+/// Applies the entry at the next place to what is kept, by an index that has it.
+fn take_entry(
+    alloc: Global,
+    index: &LogIndex,
+    ledger: &mut Ledger,
+    log: &mut LogReads<'_>,
+    entry: &Entry,
+    at: u64,
+) -> Result<(), Memory>
+    requires { IsNextApplied index.now ledger.old log.old.entries entry.now at }
+    ensures ok { OnOk result (LedgerAt ledger.new log.old.entries at) }
+    ensures err { OnErr result (LedgerAt ledger.new log.old.entries (at - 1)) }
+    ensures log { log.new.entries ≡ log.old.entries }
+    ensures reads { log.new.reads ≤ log.old.reads + 1 }
+    ensures counted { min log.old.reads 18446744073709551615 ≤ log.new.reads }
+{
+    match entry {
+        Entry::Write(write) => {
+            let facts = document_facts(alloc, index, log, &write.doc)?;
+            ledger.take(alloc, Source::Document(&write.doc), facts, at)
+        }
+        _ => ledger.take_put(alloc, entry, at),
+    }
 }
 
 impl GrantHistory {
@@ -77,42 +138,6 @@ impl GrantHistory {
         &self.index
     }
 
-    /// What a document gives as it is after the entries that the index has.
-    fn document_facts(&self, log: &mut LogReads<'_>, doc: &DocId) -> Result<Vec<Fact>, Memory>
-        requires { (n : ℕ) × (n ≤ length log.old.entries)
-            × Indexes self.now.index (past log.old.entries n) }
-        ensures facts { IfOk result (λ list. (n : ℕ) → n ≤ length log.old.entries
-            → Indexes self.now.index (past log.old.entries n)
-            → list.items ≡ facts.document_facts (current (past log.old.entries n) doc.now)) }
-        ensures log { log.new.entries ≡ log.old.entries }
-        ensures reads { log.new.reads ≤ log.old.reads + 1 }
-    {
-        match self.index.document(doc) {
-            None => Ok(Vec::new(self.alloc)),
-            Some(document) => of_entry(self.alloc, log.entry(document.winning)),
-        }
-    }
-
-    /// Applies the entry at the next place to what is kept.
-    fn take_entry(&mut self, log: &mut LogReads<'_>, entry: &Entry, at: u64) -> Result<(), Memory>
-        requires { IsNextApplied self.old log.old.entries entry.now at }
-        ensures ok { OnOk result (LedgerAt self.new.ledger log.old.entries at) }
-        ensures err { OnErr result (LedgerAt self.new.ledger log.old.entries self.old.applied) }
-        ensures applied { self.new.applied ≡ self.old.applied }
-        ensures index { self.new.index ≡ self.old.index }
-        ensures log { log.new.entries ≡ log.old.entries }
-        ensures reads { log.new.reads ≤ log.old.reads + 1 }
-    {
-        match entry {
-            Entry::Write(write) => {
-                let facts = self.document_facts(log, &write.doc)?;
-                let source = Source::Document(&write.doc);
-                self.ledger.take(self.alloc, source, facts, at)
-            }
-            _ => self.ledger.take_put(self.alloc, entry, at),
-        }
-    }
-
     /// Applies the entry at the next place, which is one up to `to`.
     fn step(&mut self, log: &mut LogReads<'_>, to: u64) -> Result<(), Memory>
         requires stands { StandsFor self.old log.old.entries }
@@ -123,11 +148,12 @@ impl GrantHistory {
         ensures err { OnErr result (self.new.applied ≡ self.old.applied) }
         ensures log { log.new.entries ≡ log.old.entries }
         ensures reads { log.new.reads ≤ log.old.reads + 2 }
+        ensures counted { min (log.old.reads + 1) 18446744073709551615 ≤ log.new.reads }
     {
         let at = self.applied + 1;
         let entry = log.entry(at);
         index_entry(&mut self.index, entry, at)?;
-        self.take_entry(log, entry, at)?;
+        take_entry(self.alloc, &self.index, &mut self.ledger, log, entry, at)?;
         self.applied = at;
         Ok(())
     }
@@ -143,6 +169,8 @@ impl GrantHistory {
         ensures up_to { self.new.applied ≤ max self.old.applied to }
         ensures log { log.new.entries ≡ log.old.entries }
         ensures reads { log.new.reads ≤ log.old.reads + 2 * (to - self.old.applied) }
+        ensures counted { min (log.old.reads + (self.new.applied - self.old.applied)) 18446744073709551615
+            ≤ log.new.reads }
     {
         while self.applied < to {
             self.step(log, to)?;

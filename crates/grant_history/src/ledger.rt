@@ -7,7 +7,7 @@ ghost use Rattle.grant_history.specs.Dated.{Dated};
 ghost use Rattle.grant_history.specs.Facts.{times};
 ghost use Rattle.grant_history.specs.Holdings.{count_at, has_at, IsStore};
 ghost use Rattle.grant_history.specs.Ledger.{facts_in, source_in, holder, IsLedger, IsStep, Took};
-ghost use Rattle.grant_history.specs.Stands.{IsBefore};
+ghost use Rattle.grant_history.specs.LedgerAt.{IsBefore};
 ghost use Rattle.sg_history.specs.History.{as_write};
 ghost use Rattle.sg_history.specs.Puts as puts;
 

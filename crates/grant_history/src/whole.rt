@@ -8,7 +8,7 @@ ghost use Rattle.sg_history.specs.Current.{current};
 ghost use Rattle.log_index.specs.Places.{document_at};
 ghost use Rattle.grant_history.specs.Facts as facts;
 ghost use Rattle.grant_history.specs.Periods.{AreInOrder, ArePeriods};
-ghost use Rattle.grant_history.specs.Stands.{LedgerAt, StoreAt};
+ghost use Rattle.grant_history.specs.LedgerAt.{LedgerAt, StoreAt};
 ghost use Rattle.grant_history.specs.Winners.{AreWinners, winning_at, winning_in};
 
 use crate::facts::Fact;

@@ -23,12 +23,10 @@ fn winning(document: Option<Document>) -> u64
 
 /// Puts the next entry into an index, and the winner after it behind the others.
 fn add_winner(index: &mut LogIndex, winners: &mut Vec<u64>, entry: &Entry) -> Result<(), Memory>
-    requires { index.old.count < 18446744073709551615 }
-    ensures index { OnOk result ((es : List Entry) → Indexes index.old es
-        → Indexes index.new (entry.now ∷ es)) }
-    ensures winners { OnOk result ((es : List Entry) → Indexes index.old es
-        → winners.new.items
-        ≡ winners.old.items ++ winning_by (entry.now ∷ es) (as_write entry.now) ∷ []) }
+    requires { length index.old < 18446744073709551615 }
+    ensures index { OnOk result (index.new ≡ entry.now ∷ index.old) }
+    ensures winners { OnOk result (winners.new.items
+        ≡ winners.old.items ++ winning_by (entry.now ∷ index.old) (as_write entry.now) ∷ []) }
 {
     let document = index.push(entry)?;
     winners.push(winning(document))?;
@@ -41,7 +39,7 @@ fn add_winners(
     winners: &mut Vec<u64>,
     entries: &[Entry],
 ) -> Result<(), Memory>
-    requires index { Indexes index.old [] }
+    requires index { index.old ≡ [] }
     requires winners { winners.old.items ≡ [] }
     ensures { OnOk result (AreWinners entries.now winners.new.items (length entries.now)) }
 {

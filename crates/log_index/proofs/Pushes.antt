@@ -1,4 +1,4 @@
--- an index that took the next entry
+-- tables that took the next entry
 use Rattle.std.proofs.Common.{◌≡◌, ◌≢◌, ◌<◌, ◌≤◌, ◌+◌, ℕ, zero, suc, refl, sym, ◌∙◌, ap, arith, Bool, true, false, true≢false, ◌&&◌, if◌then◌else◌, List, ◌∷◌, length, Option, Some, None, nat_eq, unwrap_or}
 use Rattle.std.specs.BTreeMap.{get_by_text}
 use Rattle.std.specs.Str.{bytes_eq}
@@ -11,10 +11,9 @@ use Rattle.sg_history.specs.declared.entries.Write.{Write}
 use Rattle.sg_history.specs.History.{write_to}
 use Rattle.sg_history.specs.Current.{Sequenced, sequenced_or, with_rev_or, write_or, last_write, write_of_rev}
 use Rattle.log_index.specs.declared.documents.Document.{Document}
-use Rattle.log_index.specs.declared.index.LogIndex.{LogIndex}
+use Rattle.log_index.specs.declared.tables.Tables.{Tables}
 use Rattle.log_index.specs.Places.{earlier_or, first_seq, first_or, seq_alone, revision_seq, document_by, document_at}
-use Rattle.log_index.specs.Index.{HasPlaces}
-use Rattle.log_index.specs.Representation.{seq_in, winning_seq}
+use Rattle.log_index.specs.Representation.{HasPlaces, seq_in, winning_seq}
 use Rattle.log_index.proofs.Firsts.{within, nowhere, somewhere, first_of, first_at, no_revision, one_first, earlier_within}
 
 -- where a document stands, by its first write, its revisions and its last write
@@ -46,12 +45,12 @@ first_after es doc w (Some document) is =
     kept (suc n) pos = refl
 
 -- what is kept of a document's revisions under its first write, or where that is to be
-of_revision : (index : LogIndex) (es : List Entry) (doc : List ℕ) (rev : RevId) (document : Option Document) → document_at es doc ≡ document → HasPlaces index es → seq_in index.revisions (first_or document (length es + 1)) rev ≡ revision_seq es doc rev
-of_revision index es doc rev None at is =
+of_revision : (tables : Tables) (es : List Entry) (doc : List ℕ) (rev : RevId) (document : Option Document) → document_at es doc ≡ document → HasPlaces tables es → seq_in tables.revisions (first_or document (length es + 1)) rev ≡ revision_seq es doc rev
+of_revision tables es doc rev None at is =
     is.unused (length es + 1) rev (omega arith) ∙ sym (ap (λ (w : Option Sequenced). seq_alone w) (no_revision es doc rev (nowhere es doc at)))
-of_revision index es doc rev (Some document) at is =
+of_revision tables es doc rev (Some document) at is =
     let first : document.first ≡ first_seq es doc = sym (ap first_of at) ∙ first_at es doc in
-    ap (λ (n : ℕ). seq_in index.revisions n rev) first ∙ is.revisions doc rev (somewhere es doc document at)
+    ap (λ (n : ℕ). seq_in tables.revisions n rev) first ∙ is.revisions doc rev (somewhere es doc document at)
 
 chosen : (own : Bool) (found : Option Sequenced) (last : Sequenced) → (if own then last.seq else unwrap_or (seq_alone found) last.seq) ≡ (write_or (if own then Some last else found) last).seq
 chosen true found last = refl
@@ -59,7 +58,7 @@ chosen false None last = refl
 chosen false (Some found) last = refl
 
 -- what is kept of a document and of revisions once a write was taken
-pub record Took (old new : LogIndex) (w : Write) (seq : ℕ) : Type 0 where
+pub record Took (old new : Tables) (w : Write) (seq : ℕ) : Type 0 where
   pub count : new.count ≡ seq
   pub documents : (name : List ℕ) → get_by_text new.documents name
       ≡ (if bytes_eq w.doc name
@@ -69,7 +68,7 @@ pub record Took (old new : LogIndex) (w : Write) (seq : ℕ) : Type 0 where
       ≡ (if nat_eq (first_or (get_by_text old.documents w.doc) seq) other && same_rev w.rev rev then Some seq else seq_in old.revisions other rev)
 
 -- that from what the calls answered
-pub took_write : (old new : LogIndex) (w : Write) (seq first winning : ℕ) (before : Option Document)
+pub took_write : (old new : Tables) (w : Write) (seq first winning : ℕ) (before : Option Document)
     → before ≡ get_by_text old.documents w.doc → first ≡ first_or before seq → winning ≡ winning_seq old w first seq
     → ((name : List ℕ) → get_by_text new.documents name ≡ (if bytes_eq w.doc name then Some (record { first = first; last = seq; winning = winning }) else get_by_text old.documents name))
     → ((other : ℕ) (rev : RevId) → seq_in new.revisions other rev ≡ (if nat_eq first other && same_rev w.rev rev then Some seq else seq_in old.revisions other rev))
@@ -86,7 +85,7 @@ took_write old new w seq first winning before looked first_is winning_is documen
           revisions other rev ∙ ap (λ (k : ℕ). if nat_eq k other && same_rev w.rev rev then Some seq else seq_in old.revisions other rev) at;
     }
 
-module _ (old new : LogIndex) (es : List Entry) (e : Entry) (w : Write) (is : HasPlaces old es) (writes : e ≡ entry.Write w) (took : Took old new w (length es + 1)) where
+module _ (old new : Tables) (es : List Entry) (e : Entry) (w : Write) (is : HasPlaces old es) (writes : e ≡ entry.Write w) (took : Took old new w (length es + 1)) where
   abbrev n : ℕ
   n = length es + 1
 

@@ -1,3 +1,4 @@
 pub mod Places
 pub mod Representation
+pub mod Taken
 pub mod Index

@@ -1,75 +1,76 @@
 //! The index.
 
-ghost use Rattle.std.specs.Prelude.{◌≡◌, ◌<◌, ◌+◌, List, [], ◌∷◌, length, Some, OnOk, OnErr, IfOk};
-ghost use Rattle.std.specs.Option.{option_copied};
-ghost use Rattle.sg_history.specs.declared.entries.Entry.{Entry};
-ghost use Rattle.sg_history.specs.declared.entries.Entry.TheVariants as kinds;
+ghost use Rattle.std.specs.Prelude.{◌≡◌, ◌<◌, [], ◌∷◌, length, OnOk, OnErr, IfOk};
 ghost use Rattle.sg_history.specs.History.{as_write};
-ghost use Rattle.log_index.specs.Index.{HasPlaces, Indexes};
 ghost use Rattle.log_index.specs.Places.{document_at, revision_seq, document_before, before_at};
-ghost use Rattle.std.specs.BTreeMap.{get_by_text};
-ghost use Rattle.log_index.specs.Representation.{kept_of, winning_seq};
 
-use crate::by_name::put;
-use crate::documents::{Document, Documents, document_in, document_of, first_or, put_back};
-use crate::revisions::{Revisions, put_revision, seq_of};
-use sg_history::{DocId, Entry, RevId, Write};
+use crate::documents::{Document, document_in};
+use crate::tables::Tables;
+use crate::taken::Taken;
+use sg_history::{DocId, Entry, RevId};
 use std::alloc::{AllocError, Global};
-use std::collections::BTreeMap;
+use std::marker::Model;
 
-/// An index of a history. For each entry it keeps at most a name, a digest and some numbers.
+/// An index of a history, which contracts see as its entries, the newest first. For each entry it
+/// keeps at most a name, a digest and some numbers.
 #[derive(Drop)]
 pub struct LogIndex {
-    alloc: Global,
-    count: u64,
-    documents: Documents,
-    revisions: Revisions,
+    tables: Tables,
     before: Vec<Option<Document>>,
+    taken: Taken,
+}
+
+impl Model for LogIndex {
+    ghost use Rattle.std.specs.Prelude.{List, ◌≡◌, reverse};
+    ghost use Rattle.sg_history.specs.declared.entries.Entry.{Entry};
+    ghost use Rattle.log_index.specs.Places.{documents_before};
+    ghost use Rattle.log_index.specs.Representation.{HasPlaces};
+
+    ghost Value = { List Entry };
+
+    ghost view = { λ i. i.taken };
+
+    ghost invariant = { λ i. HasPlaces i.tables i.taken
+        × (i.before.items ≡ reverse (documents_before i.taken)) };
 }
 
 impl LogIndex {
     /// The index of no entries. Allocates nothing.
     pub fn new(alloc: Global) -> LogIndex
-        ensures empty { Indexes result [] }
+        ensures { result ≡ [] }
     {
         LogIndex {
-            alloc,
-            count: 0,
-            documents: BTreeMap::new(alloc),
-            revisions: BTreeMap::new(alloc),
+            tables: Tables::new(alloc),
             before: Vec::new(alloc),
+            taken: Taken::new(),
         }
     }
 
     /// How many entries it has.
     pub fn count(&self) -> u64
-        ensures { result ≡ self.now.count }
+        ensures { result ≡ length self.now }
     {
-        self.count
+        self.tables.count
     }
 
     /// Where a document stands, if it was written. Allocates nothing.
     pub fn document(&self, doc: &DocId) -> Option<Document>
-        ensures { (es : List Entry) → Indexes self.now es → result ≡ document_at es doc.now }
+        ensures { result ≡ document_at self.now doc.now }
     {
-        document_of(&self.documents, doc)
+        self.tables.document(doc)
     }
 
     /// The sequence of the write of a document's revision, if it was written.
     pub fn revision(&self, doc: &DocId, rev: &RevId) -> Result<Option<u64>, AllocError>
-        ensures { IfOk result (λ found. (es : List Entry) → Indexes self.now es
-            → found ≡ revision_seq es doc.now rev.now) }
+        ensures { IfOk result (λ found. found ≡ revision_seq self.now doc.now rev.now) }
     {
-        match document_of(&self.documents, doc) {
-            None => Ok(None),
-            Some(document) => seq_of(self.alloc, &self.revisions, document.first, rev),
-        }
+        self.tables.revision(doc, rev)
     }
 
     /// Where the document that the entry of a sequence writes stood before that entry: none where it
     /// was never written before, and where the entry is no write. Allocates nothing.
     pub fn before(&self, seq: u64) -> Option<Document>
-        ensures { (es : List Entry) → Indexes self.now es → result ≡ before_at es seq }
+        ensures { result ≡ before_at self.now seq }
     {
         if seq == 0 {
             return None;
@@ -77,107 +78,22 @@ impl LogIndex {
         document_in(self.before.as_slice(), (seq - 1) as usize)
     }
 
-    /// Where the document of a write stands, if there is a write and its document was written.
-    fn place_of_write(&self, write: Option<&Write>) -> Option<Document>
-        ensures kept { result ≡ kept_of self.now (option_copied write.entry) }
-        ensures before { (es : List Entry) → Indexes self.now es
-            → result ≡ document_before es (option_copied write.entry) }
-    {
-        match write {
-            None => None,
-            Some(write) => document_of(&self.documents, &write.doc),
-        }
-    }
-
     /// Takes the next entry, and answers where the document that it writes stands after it: none
-    /// where it is no write. Out of memory leaves what the index says as it was.
+    /// where it is no write. Out of memory leaves the index as it was.
     pub fn push(&mut self, entry: &Entry) -> Result<Option<Document>, AllocError>
-        requires { self.old.count < 18446744073709551615 }
-        ensures document { IfOk result (λ document. (es : List Entry) → Indexes self.old es
-            → document ≡ document_before (entry.now ∷ es) (as_write entry.now)) }
-        ensures ok { OnOk result ((es : List Entry) → Indexes self.old es
-            → Indexes self.new (entry.now ∷ es)) }
-        ensures err { OnErr result ((es : List Entry) → Indexes self.old es → Indexes self.new es) }
+        requires { length self.old < 18446744073709551615 }
+        ensures document { IfOk result (λ document. document
+            ≡ document_before (entry.now ∷ self.old) (as_write entry.now)) }
+        ensures ok { OnOk result (self.new ≡ entry.now ∷ self.old) }
+        ensures err { OnErr result (self.new ≡ self.old) }
     {
-        let seq = self.count + 1;
-        let before = self.place_of_write(entry.as_write());
+        let seq = self.tables.count + 1;
+        let before = self.tables.place_of_write(entry.as_write());
         self.before.reserve(1)?;
-        let document = self.keep(entry, before, seq)?;
-        self.count = seq;
+        let document = self.tables.keep(entry, before, seq)?;
+        self.tables.count = seq;
         self.before.push_reserved(before);
+        self.taken.add(entry);
         Ok(document)
-    }
-
-    /// Keeps what an entry of this sequence says, by where its document stood before it, and answers
-    /// where that stands now.
-    fn keep(
-        &mut self,
-        entry: &Entry,
-        before: Option<Document>,
-        seq: u64,
-    ) -> Result<Option<Document>, AllocError>
-        requires { before ≡ kept_of self.old (as_write entry.now) }
-        ensures kept { IfOk result (λ document. document
-            ≡ kept_of self.new (as_write entry.now)) }
-        ensures ok { OnOk result ((es : List Entry) → seq ≡ length es + 1 → HasPlaces self.old es
-            → HasPlaces (record self.new { count = seq }) (entry.now ∷ es)) }
-        ensures err { OnErr result ((es : List Entry) → HasPlaces self.old es
-            → HasPlaces self.new es) }
-        ensures count { self.new.count ≡ self.old.count }
-        ensures before { self.new.before ≡ self.old.before }
-    {
-        match entry.as_write() {
-            Some(write) => Ok(Some(self.keep_write(write, before, seq)?)),
-            None => Ok(None),
-        }
-    }
-
-    /// The sequence of the winner's write after a write of this sequence.
-    fn winning(&self, write: &Write, first: u64, seq: u64) -> Result<u64, AllocError>
-        ensures { IfOk result (λ winning. winning ≡ winning_seq self.now write.now first seq) }
-    {
-        if write.rev.equals(&write.winner) {
-            return Ok(seq);
-        }
-        let found = seq_of(self.alloc, &self.revisions, first, &write.winner)?;
-        Ok(found.unwrap_or(seq))
-    }
-
-    fn keep_write(
-        &mut self,
-        write: &Write,
-        before: Option<Document>,
-        seq: u64,
-    ) -> Result<Document, AllocError>
-        requires { before ≡ get_by_text self.old.documents write.now.doc }
-        ensures kept { IfOk result (λ document. get_by_text self.new.documents write.now.doc
-            ≡ Some document) }
-        ensures ok { OnOk result ((es : List Entry) (e : Entry) → e ≡ kinds.Write write.now
-            → seq ≡ length es + 1 → HasPlaces self.old es
-            → HasPlaces (record self.new { count = seq }) (e ∷ es)) }
-        ensures err { OnErr result ((es : List Entry) → HasPlaces self.old es
-            → HasPlaces self.new es) }
-        ensures count { self.new.count ≡ self.old.count }
-        ensures before { self.new.before ≡ self.old.before }
-    {
-        let first = first_or(before, seq);
-        let document = Document {
-            first,
-            last: seq,
-            winning: self.winning(write, first, seq)?,
-        };
-        put(
-            self.alloc,
-            &mut self.documents,
-            write.doc.as_str(),
-            document,
-        )?;
-        match put_revision(self.alloc, &mut self.revisions, first, &write.rev, seq) {
-            Ok(()) => Ok(document),
-            Err(fault) => {
-                put_back(&mut self.documents, &write.doc, before);
-                Err(fault)
-            }
-        }
     }
 }

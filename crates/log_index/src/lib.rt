@@ -5,6 +5,8 @@ mod by_name;
 mod documents;
 mod index;
 mod revisions;
+mod tables;
+mod taken;
 
 pub use documents::Document;
 pub use index::LogIndex;

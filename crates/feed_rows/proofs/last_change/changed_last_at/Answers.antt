@@ -12,7 +12,7 @@ loop-to-init c =
     record {
       stands = record {
         within = omega arith;
-        document = c.document-stood.ensures (reverse entries) c.requires.index ∙ ap (λ (es : List Entry). document_at es c.args.doc.now) (whole entries);
+        document = c.document-stood.ensures ∙ ap (λ (es : List Entry). document_at es c.args.doc.now) c.requires.index ∙ ap (λ (es : List Entry). document_at es c.args.doc.now) (whole entries);
         is_viewer = c.requires.viewer;
         indexes = c.requires.index;
       };

@@ -1,4 +1,4 @@
-use Rattle.grant_history.specs.Stands.{LedgerAt}
+use Rattle.grant_history.specs.LedgerAt.{LedgerAt}
 use Rattle.grant_history.proofs.whole.ledger_of.Given as goal
 
 -- the entries up to here are applied

@@ -1,10 +1,9 @@
-use Rattle.std.proofs.Common.{◌≡◌, ◌∙◌, ◌+◌, ◌<◌, ℕ, List, length, sym, ap, subst, arith, Some}
+use Rattle.std.proofs.Common.{◌≡◌, ◌∙◌, ◌+◌, ◌<◌, ◌++◌, ◌∷◌, [], ℕ, List, length, sym, ap, subst, arith, Some}
 use Rattle.std.specs.Prelude.{slice_get}
 use Rattle.std.proofs.lemmas.Option.{slice_get-get_or}
 use Rattle.sg_history.specs.declared.entries.Entry.{Entry}
-use Rattle.sg_history.specs.History.{past}
-use Rattle.log_index.specs.Index.{Indexes}
-use Rattle.grant_history.specs.Winners.{AreWinners}
+use Rattle.sg_history.specs.History.{as_write, past}
+use Rattle.grant_history.specs.Winners.{AreWinners, winning_by}
 use Rattle.grant_history.proofs.Applied.{past_next}
 use Rattle.grant_history.proofs.Winning.{more_winners}
 use Rattle.grant_history.proofs.winners.add_winners.Goals as goal
@@ -16,9 +15,11 @@ loop-entry-preserved c =
     let e = c.entry-item.result in
     let low : i < length entries = omega arith in
     let is : slice_get entries i ≡ Some e = slice_get-get_or entries i e low ∙ ap (λ (x : Entry). Some x) (sym c.entry-item.is) in
+    let indexes : c.loop-entry.index ≡ past entries i = c.loop-entry.invariant.indexes in
+    let winners = c.in_ok-add_winner.ensures.winners ∙ ap (λ (es : List Entry). c.loop-entry.winners.items ++ winning_by (e ∷ es) (as_write e) ∷ []) indexes in
     record {
-      indexes = subst (λ (es : List Entry). Indexes c.add_winner.new.index es) (sym (past_next entries i e is)) (c.in_ok-add_winner.ensures.index (past entries i) c.loop-entry.invariant.indexes);
-      winners = subst (λ (ws : List ℕ). AreWinners entries ws (i + 1)) (sym (c.in_ok-add_winner.ensures.winners (past entries i) c.loop-entry.invariant.indexes)) (more_winners entries i e is c.loop-entry.winners.items c.loop-entry.invariant.winners);
+      indexes = c.in_ok-add_winner.ensures.index ∙ ap (λ (es : List Entry). e ∷ es) indexes ∙ sym (past_next entries i e is);
+      winners = subst (λ (ws : List ℕ). AreWinners entries ws (i + 1)) (sym winners) (more_winners entries i e is c.loop-entry.winners.items c.loop-entry.invariant.winners);
     }
 
 pub returns : goal.returns

@@ -1,4 +1,4 @@
-use Rattle.std.proofs.Common.{◌≡◌, ◌≤◌, ◌+◌, ◌*◌, ◌-◌, max}
+use Rattle.std.proofs.Common.{◌≡◌, ◌≤◌, ◌+◌, ◌*◌, ◌-◌, max, min}
 use Rattle.grant_history.specs.Stands.{StandsFor}
 use Rattle.grant_history.proofs.history.GrantHistory.apply.Given as goal
 
@@ -9,6 +9,7 @@ invariant-loop-self l = record {
   log : l.log.entries ≡ l.initial.log.entries;
   from : l.initial.self.applied ≤ l.self.applied;
   up_to : l.self.applied ≤ max l.initial.self.applied l.to;
+  counted : min (l.initial.log.reads + (l.self.applied - l.initial.self.applied)) 18446744073709551615 ≤ l.log.reads;
   reads : l.log.reads ≤ l.initial.log.reads + 2 * (l.self.applied - l.initial.self.applied);
 }
 

@@ -1,18 +1,17 @@
 use Rattle.std.proofs.Common.{◌≡◌, refl, ℕ, List, Some, if◌then◌else◌, subst}
 use Rattle.std.specs.BTreeMap.{get_by_text}
 use Rattle.std.specs.Str.{bytes_eq}
-use Rattle.log_index.specs.declared.index.LogIndex.{LogIndex}
+use Rattle.log_index.specs.declared.tables.Tables.{Tables}
 use Rattle.log_index.proofs.Pushes.{Took, took_write, write_taken}
-use Rattle.log_index.proofs.index.LogIndex.keep_write.Goals as goal
+use Rattle.log_index.proofs.tables.Tables.keep_write.Goals as goal
 
 pub returns-in-Ok-clause-ok : goal.returns-in-Ok-clause-ok
 returns-in-Ok-clause-ok c = λ es e writes seq is.
-    let new : LogIndex = record {
+    let new : Tables = record {
       alloc = c.args.self.now.alloc;
       count = c.args.seq;
       documents = c.put.new.map;
       revisions = c.put_revision.new.revisions;
-      before = c.args.self.now.before;
     } in
     let took : Took c.args.self.now new c.args.write.now c.args.seq =
     took_write c.args.self.now new c.args.write.now c.args.seq c.first_or-first.result c.in_ok-winning.field-0 c.args.before

@@ -1,5 +1,5 @@
 use Rattle.std.proofs.Common.{sym}
-use Rattle.log_index.proofs.index.LogIndex.keep.Goals as goal
+use Rattle.log_index.proofs.tables.Tables.keep.Goals as goal
 
 pub returns-in_ok-keep_write-in-Some-clause-ok : goal.returns-in_ok-keep_write-in-Some-clause-ok
 returns-in_ok-keep_write-in-Some-clause-ok c = λ es seq is.

@@ -1,0 +1,70 @@
+use Rattle.std.proofs.Common.{◌∙◌, ◌-◌, sym, ap, subst, List}
+use Rattle.sg_history.specs.declared.entries.Entry.{Entry}
+use Rattle.sg_history.specs.History.{past, as_write}
+use Rattle.sg_history.specs.Current.{current}
+use Rattle.sg_history.specs.Principals.{as_put}
+use Rattle.grant_history.specs.declared.facts.Fact.{Fact}
+use Rattle.grant_history.specs.Facts.{document_facts}
+use Rattle.grant_history.specs.Ledger.{document, IsStep}
+use Rattle.grant_history.proofs.Tracked.{on_ok, on_err}
+use Rattle.grant_history.proofs.Keeping.{write_is_step}
+use Rattle.grant_history.proofs.Applied.{no_write, next_place, taken, left}
+use Rattle.grant_history.proofs.history.take_entry.Goals as goal
+
+pub take-requires : goal.take-requires
+take-requires c =
+    let e = c.args.entry.now in
+    let entries = c.args.log.now.entries in
+    let index = c.args.index.now in
+    let ledger = c.args.ledger.now in
+    let es = past entries (c.args.at - 1) in
+    let w = c.in-Write.write in
+    let step = write_is_step ledger e es c.args.at (next_place index ledger entries e c.args.at c.requires) c.requires.kept.is_kept w (ap as_write c.in-Write.is) (ap as_put c.in-Write.is) in
+    let now = c.in_ok-facts-in-Write.ensures.facts c.args.at c.requires.high c.requires.index ∙ ap (λ (l : List Entry). document_facts (current l w.doc)) c.requires.newest in
+    (e, es, subst (λ (fs : List Fact). IsStep ledger c.args.at (document w.doc) fs e es) (sym now) step)
+
+pub returns-in_ok-facts-in-Write-clause-ok : goal.returns-in_ok-facts-in-Write-clause-ok
+returns-in_ok-facts-in-Write-clause-ok c =
+    let e = c.args.entry.now in
+    let entries = c.args.log.now.entries in
+    let index = c.args.index.now in
+    let ledger = c.args.ledger.now in
+    let es = past entries (c.args.at - 1) in
+    let w = c.in-Write.write in
+    let step = write_is_step ledger e es c.args.at (next_place index ledger entries e c.args.at c.requires) c.requires.kept.is_kept w (ap as_write c.in-Write.is) (ap as_put c.in-Write.is) in
+    let now = c.in_ok-facts-in-Write.ensures.facts c.args.at c.requires.high c.requires.index ∙ ap (λ (l : List Entry). document_facts (current l w.doc)) c.requires.newest in
+    on_ok c.take.result _ _ (λ takes. taken index ledger entries e c.args.at c.requires c.take.new.self c.take.ensures.before (takes e es (subst (λ (fs : List Fact). IsStep ledger c.args.at (document w.doc) fs e es) (sym now) step))) c.take.ensures.ok
+
+pub returns-in_ok-facts-in-Write-clause-err : goal.returns-in_ok-facts-in-Write-clause-err
+returns-in_ok-facts-in-Write-clause-err c =
+    let e = c.args.entry.now in
+    let entries = c.args.log.now.entries in
+    let index = c.args.index.now in
+    let ledger = c.args.ledger.now in
+    on_err c.take.result _ _ (λ kept. left index ledger entries e c.args.at c.requires c.take.new.self c.take.ensures.before (kept (past entries (c.args.at - 1)) (next_place index ledger entries e c.args.at c.requires) c.requires.kept.is_kept)) c.take.ensures.err
+
+pub returns-in_default-clause-ok : goal.returns-in_default-clause-ok
+returns-in_default-clause-ok c =
+    let e = c.args.entry.now in
+    let entries = c.args.log.now.entries in
+    let index = c.args.index.now in
+    let ledger = c.args.ledger.now in
+    on_ok c.take_put.result _ _ (λ takes. taken index ledger entries e c.args.at c.requires c.take_put.new.self c.take_put.ensures.before (takes (past entries (c.args.at - 1)) (next_place index ledger entries e c.args.at c.requires) c.requires.kept.is_kept)) c.take_put.ensures.ok
+
+pub returns-in_default-clause-err : goal.returns-in_default-clause-err
+returns-in_default-clause-err c =
+    let e = c.args.entry.now in
+    let entries = c.args.log.now.entries in
+    let index = c.args.index.now in
+    let ledger = c.args.ledger.now in
+    on_err c.take_put.result _ _ (λ kept. left index ledger entries e c.args.at c.requires c.take_put.new.self c.take_put.ensures.before (kept (past entries (c.args.at - 1)) (next_place index ledger entries e c.args.at c.requires) c.requires.kept.is_kept)) c.take_put.ensures.err
+
+pub take_put-requires : goal.take_put-requires
+take_put-requires c = record {
+  before = record {
+    es = past c.args.log.now.entries (c.args.at - 1);
+    place = next_place c.args.index.now c.args.ledger.now c.args.log.now.entries c.args.entry.now c.args.at c.requires;
+    is_kept = c.requires.kept.is_kept;
+  };
+  no_write = no_write c.args.entry.now c.in_default.not-Write;
+}
