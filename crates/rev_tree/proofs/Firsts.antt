@@ -1,30 +1,30 @@
 -- the winner among leaves, and leaves in order
-use Rattle.std.proofs.Common.{◌≡◌, ℕ, suc, true, false, ◌&&◌, not, Bool, List, [], ◌∷◌, insert, get_or, refl, sym, ap, ◌∙◌, subst, Some, arith, inl, inr}
-use Rattle.std.specs.List.{list_any, All}
+use Rattle.std.proofs.Common.{◌≡◌, ℕ, zero, suc, ◌-◌, ◌<◌, ◌≤◌, take, length-append, true, false, ◌&&◌, not, Bool, List, [], ◌∷◌, insert, get_or, refl, sym, ap, ◌∙◌, subst, map, filter, ◌++◌, append-nil, append_assoc, length, Option, Some, None, arith, inl, inr}
+use Rattle.std.specs.Prelude.{option_map, nat_lt, nat_eq, if◌then◌else◌}
+use Rattle.std.specs.List.{list_any, list_all, All}
 use Rattle.std.specs.List.Sorted.{IsPermutation}
-use Rattle.std.specs.Ordering.{nat_cmp, bool_cmp, ordering_then, ordering_reverse, is_lt, is_gt, is_eq}
 use Rattle.std.specs.Cmp.Lexicographic.{slice_cmp}
+use Rattle.std.specs.Ordering.{nat_cmp, bool_cmp, ordering_reverse, is_lt, is_gt}
 use Rattle.std.specs.Cmp.{IsTotalOrder, bool_cmp_total}
 use Rattle.std.specs.declared.cmp.Ordering.{Ordering}
 use Rattle.std.specs.declared.cmp.Ordering.TheVariants.{Less, Equal, Greater}
 use Rattle.std.proofs.lemmas.Bool.{and_parts, and_from, and_right, cases_Bool, not_from_false}
-use Rattle.std.proofs.lemmas.Cmp.{ranked, upto, tied_itself, nat_cmp_total, nat_list_cmp_total, on_total, then_total, back_total}
-use Rattle.std.proofs.lemmas.Slice.Eq.{bytes_eq-Decides}
-use Rattle.std.proofs.lemmas.Map.Text.{is_eq-slice_cmp}
-use Rattle.std.proofs.lemmas.List.Elements.{All-cons}
-use Rattle.std.proofs.lemmas.List.Sorted.{IsPermutation-refl, IsPermutation-insert, IsPermutation-cons, IsPermutation-trans}
+use Rattle.std.proofs.lemmas.Cmp.{upto, tied_itself, on_total, then_total, back_total}
+use Rattle.std.proofs.lemmas.List.Elements.{All-cons, filter-append}
+use Rattle.std.proofs.lemmas.List.Folds.{list_all-append}
+use Rattle.std.proofs.lemmas.List.Sorted.{IsPermutation-refl, IsPermutation-insert, IsPermutation-cons, IsPermutation-trans, Contains-permutation, All-permutation, length_permutation}
 use Rattle.sg_names.specs.declared.rev_id.RevId.{RevId}
 use Rattle.sg_names.specs.RevId.{same_rev}
 use Rattle.rev_tree.specs.declared.leaf.Leaf.{Leaf}
 use Rattle.rev_tree.specs.declared.tree.Node.{Node}
+use Rattle.rev_tree.specs.Order.{leaf_cmp, comes_before, sooner, first_leaf, insert_leaf, in_order, leaves_below, falls_by_rev, IsFirst}
 use Rattle.sg_names.specs.RevId.{rev_cmp}
-use Rattle.rev_tree.specs.Order.{leaf_cmp, comes_before, sooner, first_leaf, insert_leaf, in_order, falls_by_rev, IsFirst}
-use Rattle.rev_tree.specs.Tree.{knows}
+use Rattle.rev_tree.specs.Tree.{knows, leaf_at}
 use Rattle.rev_tree.proofs.Sames.{same_is_equal}
+use Rattle.rev_tree.specs.Rising.{is_below_all, rises, first_or, last_node, last_alive, last_where, falling, Limit, is_up_to, is_within}
+use Rattle.rev_tree.proofs.RevOrder.{rev_total, both_equal, tie_is_equal, within_closed, not_below_itself, not_both_less, within_strictly}
+use Rattle.rev_tree.proofs.Rises.{last_has, last_passes}
 use Rattle.rev_tree.proofs.Hanging.{leaves_by}
-
-rev_total : IsTotalOrder rev_cmp
-rev_total = then_total (on_total (λ (r : RevId). r.generation) nat_cmp_total) (on_total (λ (r : RevId). r.digest) nat_list_cmp_total)
 
 leaf_total : IsTotalOrder leaf_cmp
 leaf_total = then_total (on_total (λ (l : Leaf). l.deleted) bool_cmp_total) (back_total (on_total (λ (l : Leaf). l.rev) rev_total))
@@ -77,31 +77,17 @@ neither Less p q = cc
 neither Equal p q = refl
 neither Greater p q = cc
 
-both_equal : (o p : Ordering) → ordering_then o p ≡ Equal → (o ≡ Equal) × (p ≡ Equal)
-both_equal Less p h = cc
-both_equal Equal p h = (refl, h)
-both_equal Greater p h = cc
-
 same_bool : (x y : Bool) → bool_cmp x y ≡ Equal → x ≡ y
 same_bool true true h = refl
 same_bool true false h = cc
 same_bool false true h = cc
 same_bool false false h = refl
 
-same_number : (x y : ℕ) → nat_cmp x y ≡ Equal → x ≡ y
-same_number x y h = rw h at (ranked x y (nat_cmp x y) refl)
-
-same_bytes : (xs ys : List ℕ) → slice_cmp nat_cmp xs ys ≡ Equal → xs ≡ ys
-same_bytes xs ys h = (bytes_eq-Decides xs ys).0 (sym (is_eq-slice_cmp xs ys) ∙ ap is_eq h)
-
 same_leaf : (a b : Leaf) → leaf_cmp a b ≡ Equal → a ≡ b
 same_leaf a b h =
     let parts = both_equal (bool_cmp a.deleted b.deleted) (rev_cmp b.rev a.rev) h in
-    let revs = both_equal (nat_cmp b.rev.generation a.rev.generation) (slice_cmp nat_cmp b.rev.digest a.rev.digest) parts.1 in
     let deleted = same_bool a.deleted b.deleted parts.0 in
-    let generation = same_number b.rev.generation a.rev.generation revs.0 in
-    let digest = same_bytes b.rev.digest a.rev.digest revs.1 in
-    let rev : a.rev ≡ b.rev = ap (λ (g : ℕ). record a.rev { generation = g }) (sym generation) ∙ ap (λ (d : List ℕ). record a.rev { generation = b.rev.generation; digest = d }) (sym digest) in
+    let rev : a.rev ≡ b.rev = sym (tie_is_equal b.rev a.rev parts.1) in
     ap (λ (r : RevId). record a { rev = r }) rev ∙ ap (λ (d : Bool). record a { rev = b.rev; deleted = d }) deleted
 
 -- there is one leaf before which none comes
@@ -169,3 +155,208 @@ insert_falls l (m ∷ n ∷ more) h =
 pub order_falls : (ls : List Leaf) → falls_by_rev (in_order ls) ≡ true
 order_falls [] = refl
 order_falls (l ∷ ls) = insert_falls l (in_order ls) (order_falls ls)
+
+-- the first leaf of the same leaves in another order
+pub first_permuted : (xs ys : List Leaf) → IsPermutation xs ys → first_leaf xs ≡ first_leaf ys
+first_permuted [] [] h = refl
+first_permuted [] (y ∷ ys) h = absurd (omega (arith, length_permutation [] (y ∷ ys) h))
+first_permuted (x ∷ xs) [] h = absurd (omega (arith, length_permutation (x ∷ xs) [] h))
+first_permuted (x ∷ xs) (y ∷ ys) h =
+    let a : Leaf = sooner x (first_leaf xs) in
+    let b : Leaf = sooner y (first_leaf ys) in
+    let first = first_wins (x ∷ xs) a refl in
+    let moved : IsFirst (y ∷ ys) a = record { among = Contains-permutation (x ∷ xs) (y ∷ ys) a h first.among; none_before = All-permutation (λ (l : Leaf). comes_before l a ≡ false) (x ∷ xs) (y ∷ ys) h first.none_before } in
+    ap (λ (l : Leaf). Some l) (first_alone (y ∷ ys) a b moved (first_wins (y ∷ ys) b refl))
+
+-- the winner among the nodes of leaves that rise
+
+before_alive : (a x : Node) → a.deleted ≡ false → is_lt (rev_cmp x.rev a.rev) ≡ true → comes_before (leaf_at a) (leaf_at x) ≡ true
+before_alive a x alive less = elim (cases_Bool x.deleted) [ inl e ↦ rw (alive, e) refl | inr e ↦ rw (alive, e) less ]
+
+before_deleted : (a x : Node) → a.deleted ≡ true → x.deleted ≡ true → is_lt (rev_cmp x.rev a.rev) ≡ true → comes_before (leaf_at a) (leaf_at x) ≡ true
+before_deleted a x gone e less = rw (gone, e) less
+
+after_alive : (a x : Node) → a.deleted ≡ true → x.deleted ≡ false → comes_before (leaf_at a) (leaf_at x) ≡ false
+after_alive a x gone e = rw (gone, e) refl
+
+picked : (x b : Node) (gone before : Bool) → gone ≡ before → option_map (λ (n : Node). leaf_at n) (first_or (if not gone then Some x else None) (Some b)) ≡ Some (if before then leaf_at b else leaf_at x)
+picked x b true true h = refl
+picked x b true false h = cc
+picked x b false true h = cc
+picked x b false false h = refl
+
+picked_alone : (x : Node) (gone : Bool) → option_map (λ (n : Node). leaf_at n) (first_or (if not gone then Some x else None) (Some x)) ≡ Some (leaf_at x)
+picked_alone x true = refl
+picked_alone x false = refl
+
+best_step : (x : Node) (alive all : Option Node) → ((a : Node) → alive ≡ Some a → (a.deleted ≡ false) × (is_lt (rev_cmp x.rev a.rev) ≡ true)) → (alive ≡ None → (a : Node) → all ≡ Some a → (a.deleted ≡ true) × (is_lt (rev_cmp x.rev a.rev) ≡ true)) → option_map (λ (n : Node). leaf_at n) (first_or (first_or alive (if not x.deleted then Some x else None)) (first_or all (Some x))) ≡ Some (sooner (leaf_at x) (option_map (λ (n : Node). leaf_at n) (first_or alive all)))
+best_step x (Some a) all living dead = let is = living a refl in rw (before_alive a x is.0 is.1) refl
+best_step x None (Some b) living dead =
+    let is = dead refl b refl in
+    elim (cases_Bool x.deleted) [
+      | inl e ↦ picked x b x.deleted (comes_before (leaf_at b) (leaf_at x)) (e ∙ sym (before_deleted b x is.0 e is.1))
+      | inr e ↦ picked x b x.deleted (comes_before (leaf_at b) (leaf_at x)) (e ∙ sym (after_alive b x is.0 e))
+    ]
+best_step x None None living dead = picked_alone x x.deleted
+
+none_all : (q : Node → Bool) (x : Node) (o : Option Node) → first_or o (if q x then Some x else None) ≡ None → (o ≡ None) × (q x ≡ false)
+none_all q x (Some m) h = cc
+none_all q x None h = elim (cases_Bool (q x)) [ inl e ↦ let some : Some x ≡ None = rw e at h in cc | inr e ↦ (refl, e) ]
+
+none_passes : (q : Node → Bool) (xs : List Node) → last_node q xs ≡ None → list_all (λ (n : Node). not (q n)) xs ≡ true
+none_passes q [] h = refl
+none_passes q (x ∷ xs) h = let parts = none_all q x (last_node q xs) h in and_from _ _ (not_from_false (q x) parts.1) (none_passes q xs parts.0)
+
+was_alive : (deleted : Bool) → not (true && deleted) ≡ true → deleted ≡ false
+was_alive true h = cc
+was_alive false h = refl
+
+was_deleted : (deleted : Bool) → not (not (true && deleted)) ≡ true → deleted ≡ true
+was_deleted true h = refl
+was_deleted false h = cc
+
+pub best_wins : (xs : List Node) → rises xs ≡ true → option_map (λ (n : Node). leaf_at n) (first_or (last_alive true xs) (last_alive false xs)) ≡ first_leaf (map (λ (n : Node). leaf_at n) xs)
+best_wins [] h = refl
+best_wins (x ∷ xs) h =
+    let parts = and_parts (is_below_all x.rev xs) (rises xs) h in
+    let alive : Node → Bool = λ n. not (true && n.deleted) in
+    let any : Node → Bool = λ n. not (false && n.deleted) in
+    best_step x (last_alive true xs) (last_alive false xs)
+    (λ a e. (was_alive a.deleted (last_passes alive xs a e), last_has alive (λ (n : Node). is_lt (rev_cmp x.rev n.rev)) xs a e parts.0))
+    (λ none a e. (was_deleted a.deleted (last_has any (λ (n : Node). not (alive n)) xs a e (none_passes alive xs none)), last_has any (λ (n : Node). is_lt (rev_cmp x.rev n.rev)) xs a e parts.0))
+    ∙ ap (λ (o : Option Leaf). Some (sooner (leaf_at x) o)) (best_wins xs parts.1)
+
+-- leaves that fall are in order
+
+insert_last : (l : Leaf) (ls : List Leaf) → list_all (λ (m : Leaf). is_lt (rev_cmp l.rev m.rev)) ls ≡ true → insert_leaf l ls ≡ ls ++ l ∷ []
+insert_last l [] h = refl
+insert_last l (m ∷ ms) h =
+    let parts = and_parts (is_lt (rev_cmp l.rev m.rev)) (list_all (λ (k : Leaf). is_lt (rev_cmp l.rev k.rev)) ms) h in
+    rw parts.0 (ap (λ (ks : List Leaf). m ∷ ks) (insert_last l ms parts.1))
+
+below_falling : (rev : RevId) (xs : List Node) → is_below_all rev xs ≡ true → list_all (λ (m : Leaf). is_lt (rev_cmp rev m.rev)) (falling xs) ≡ true
+below_falling rev [] h = refl
+below_falling rev (x ∷ xs) h =
+    let parts = and_parts (is_lt (rev_cmp rev x.rev)) (is_below_all rev xs) h in
+    list_all-append (λ (m : Leaf). is_lt (rev_cmp rev m.rev)) (falling xs) (leaf_at x ∷ []) ∙ and_from _ _ (below_falling rev xs parts.1) (and_from _ _ parts.0 refl)
+
+pub falling_in_order : (xs : List Node) → rises xs ≡ true → falling xs ≡ in_order (map (λ (n : Node). leaf_at n) xs)
+falling_in_order [] h = refl
+falling_in_order (x ∷ xs) h =
+    let parts = and_parts (is_below_all x.rev xs) (rises xs) h in
+    sym (ap (insert_leaf (leaf_at x)) (sym (falling_in_order xs parts.1)) ∙ insert_last (leaf_at x) (falling xs) (below_falling x.rev xs parts.0))
+
+-- the leaves of lesser generations
+
+pub falling_below : (generation : ℕ) (xs : List Node) → leaves_below generation (falling xs) ≡ falling (filter (λ (n : Node). nat_lt n.rev.generation generation) xs)
+falling_below generation [] = refl
+falling_below generation (x ∷ xs) =
+    let lower : Leaf → Bool = λ l. nat_lt l.rev.generation generation in
+    let cut = filter-append lower (falling xs) (leaf_at x ∷ []) in
+    let rest = falling_below generation xs in
+    elim (cases_Bool (nat_lt x.rev.generation generation)) [
+      | inl e ↦ rw (cut, rest, e) refl
+      | inr e ↦ rw (cut, rest, e) (append-nil _)
+    ]
+
+-- those within a limit, from the last one down
+
+abbrev pub within : Limit → List Node → List Node
+within limit xs = filter (λ n. is_within limit n.rev) xs
+
+pub none_within : (limit : Limit) (xs : List Node) → last_where (is_within limit) xs ≡ None → within limit xs ≡ []
+none_within limit [] h = refl
+none_within limit (x ∷ xs) h =
+    let parts = none_all (λ (n : Node). is_within limit n.rev) x (last_where (is_within limit) xs) h in
+    rw parts.1 (none_within limit xs parts.0)
+
+none_less : (rev : RevId) (xs : List Node) → is_below_all rev xs ≡ true → within (record { rev = rev; or_equal = false }) xs ≡ []
+none_less rev [] h = refl
+none_less rev (x ∷ xs) h =
+    let parts = and_parts (is_lt (rev_cmp rev x.rev)) (is_below_all rev xs) h in
+    let past : is_within (record { rev = rev; or_equal = false }) x.rev ≡ false = within_strictly rev x.rev ∙ not_both_less rev x.rev parts.0 in
+    rw past (none_less rev xs parts.1)
+
+next_step : (limit : Limit) (x : Node) (xs : List Node) (n : Node) (o : Option Node) → last_where (is_within limit) xs ≡ o → rises (x ∷ xs) ≡ true → first_or o (if is_within limit x.rev then Some x else None) ≡ Some n → ((m : Node) → o ≡ Some m → falling (within limit xs) ≡ leaf_at m ∷ falling (within (record { rev = m.rev; or_equal = false }) xs)) → falling (within limit (x ∷ xs)) ≡ leaf_at n ∷ falling (within (record { rev = n.rev; or_equal = false }) (x ∷ xs))
+next_step limit x xs n (Some m) e h is rest =
+    let one : m ≡ n = cc in
+    let parts = and_parts (is_below_all x.rev xs) (rises xs) h in
+    let some : last_where (is_within limit) xs ≡ Some n = e ∙ ap (λ (k : Node). Some k) one in
+    let less : is_lt (rev_cmp x.rev n.rev) ≡ true = last_has (λ (k : Node). is_within limit k.rev) (λ (k : Node). is_lt (rev_cmp x.rev k.rev)) xs n some parts.0 in
+    let passes : is_within limit n.rev ≡ true = last_passes (λ (k : Node). is_within limit k.rev) xs n some in
+    let here : is_within limit x.rev ≡ true = within_closed limit x.rev n.rev less passes in
+    let below : is_within (record { rev = n.rev; or_equal = false }) x.rev ≡ true = within_strictly n.rev x.rev ∙ less in
+    let tail : falling (within limit xs) ≡ leaf_at n ∷ falling (within (record { rev = n.rev; or_equal = false }) xs) = rw one at (rest m refl) in
+    rw (here, below) (ap (λ (ls : List Leaf). ls ++ leaf_at x ∷ []) tail)
+next_step limit x xs n None e h is rest =
+    elim (cases_Bool (is_within limit x.rev)) [
+      | inl here ↦
+          let some : Some x ≡ Some n = rw here at is in
+          let one : x ≡ n = cc in
+          let parts = and_parts (is_below_all x.rev xs) (rises xs) h in
+          let none = none_within limit xs e in
+          let itself : is_within (record { rev = x.rev; or_equal = false }) x.rev ≡ false = within_strictly x.rev x.rev ∙ not_below_itself x.rev in
+          let own : falling (within limit (x ∷ xs)) ≡ leaf_at x ∷ falling (within (record { rev = x.rev; or_equal = false }) (x ∷ xs)) = rw (here, none) (rw (itself, none_less x.rev xs parts.0) refl) in
+          subst (λ (k : Node). falling (within limit (x ∷ xs)) ≡ leaf_at k ∷ falling (within (record { rev = k.rev; or_equal = false }) (x ∷ xs))) one own
+      | inr here ↦ let some : None ≡ Some n = rw here at is in cc
+    ]
+
+pub next_leaf : (limit : Limit) (xs : List Node) (n : Node) → rises xs ≡ true → last_where (is_within limit) xs ≡ Some n → falling (within limit xs) ≡ leaf_at n ∷ falling (within (record { rev = n.rev; or_equal = false }) xs)
+next_leaf limit [] n h is = cc
+next_leaf limit (x ∷ xs) n h is =
+    next_step limit x xs n (last_where (is_within limit) xs) refl h is (λ m e. next_leaf limit xs m (and_parts (is_below_all x.rev xs) (rises xs) h).1 e)
+
+past_none : (digest : List ℕ) → is_up_to false (slice_cmp nat_cmp digest []) ≡ false
+past_none [] = refl
+past_none (d ∷ ds) = refl
+
+-- below the least revision of a generation are those of lesser ones
+pub below_generation : (generation : ℕ) (rev : RevId) → is_within (record { rev = record { generation = generation; digest = [] }; or_equal = false }) rev ≡ nat_lt rev.generation generation
+below_generation generation rev =
+    elim (cases_Bool (nat_lt rev.generation generation)) [
+      | inl e ↦ rw e refl
+      | inr e ↦ elim (cases_Bool (nat_eq rev.generation generation)) [ inl s ↦ rw (e, s) (past_none rev.digest) | inr s ↦ rw (e, s) refl ]
+    ]
+
+pub within_generation : (generation : ℕ) (xs : List Node) → within (record { rev = record { generation = generation; digest = [] }; or_equal = false }) xs ≡ filter (λ (n : Node). nat_lt n.rev.generation generation) xs
+within_generation generation [] = refl
+within_generation generation (x ∷ xs) =
+    let here = below_generation generation x.rev in
+    elim (cases_Bool (nat_lt x.rev.generation generation)) [
+      | inl e ↦ let in_it = here ∙ e in rw (in_it, e) (ap (λ (ns : List Node). x ∷ ns) (within_generation generation xs))
+      | inr e ↦ let out = here ∙ e in rw (out, e) (within_generation generation xs)
+    ]
+
+-- one revision more of those within a limit
+revs_next : (n : Leaf) (rest : List Leaf) (revs all : List RevId) (left most : ℕ) → most - length revs ≡ suc left → most - length (revs ++ n.rev ∷ []) ≡ left → revs ++ map (λ (l : Leaf). l.rev) (take (most - length revs) (n ∷ rest)) ≡ all → (revs ++ n.rev ∷ []) ++ map (λ (l : Leaf). l.rev) (take (most - length (revs ++ n.rev ∷ [])) rest) ≡ all
+revs_next n rest revs all left most before after so_far =
+    let old : revs ++ map (λ (l : Leaf). l.rev) (take (suc left) (n ∷ rest)) ≡ all = rw before at so_far in
+    rw after (append_assoc revs (n.rev ∷ []) (map (λ (l : Leaf). l.rev) (take left rest)) ∙ old)
+
+pub revs_step : (limit : Limit) (xs : List Node) (n : Node) (revs all : List RevId) (most : ℕ) → rises xs ≡ true → last_where (is_within limit) xs ≡ Some n → length revs < most → revs ++ map (λ (l : Leaf). l.rev) (take (most - length revs) (falling (within limit xs))) ≡ all → (revs ++ n.rev ∷ []) ++ map (λ (l : Leaf). l.rev) (take (most - length (revs ++ n.rev ∷ [])) (falling (within (record { rev = n.rev; or_equal = false }) xs))) ≡ all
+revs_step limit xs n revs all most rising is room so_far =
+    let left : ℕ = most - length (revs ++ n.rev ∷ []) in
+    let more : most - length revs ≡ suc left = omega (arith, length-append revs (n.rev ∷ [])) in
+    revs_next (leaf_at n) (falling (within (record { rev = n.rev; or_equal = false }) xs)) revs all left most more refl (rw (next_leaf limit xs n rising is) at so_far)
+
+take_none : (k : ℕ) → map (λ (l : Leaf). l.rev) (take k []) ≡ []
+take_none zero = refl
+take_none (suc k) = refl
+
+-- where none is left they are all
+pub revs_end : (limit : Limit) (xs : List Node) (revs all : List RevId) (k : ℕ) → last_where (is_within limit) xs ≡ None → revs ++ map (λ (l : Leaf). l.rev) (take k (falling (within limit xs))) ≡ all → revs ≡ all
+revs_end limit xs revs all k is so_far =
+    let none : within limit xs ≡ [] = none_within limit xs is in
+    let old : revs ++ map (λ (l : Leaf). l.rev) (take k []) ≡ all = rw none at so_far in
+    sym (append-nil revs) ∙ ap (λ (rs : List RevId). revs ++ rs) (sym (take_none k)) ∙ old
+
+take_zero : (ls : List Leaf) → map (λ (l : Leaf). l.rev) (take 0 ls) ≡ []
+take_zero [] = refl
+take_zero (l ∷ ls) = refl
+
+-- so many are all
+pub revs_full : (limit : Limit) (xs : List Node) (revs all : List RevId) (most : ℕ) → most ≤ length revs → revs ++ map (λ (l : Leaf). l.rev) (take (most - length revs) (falling (within limit xs))) ≡ all → revs ≡ all
+revs_full limit xs revs all most full so_far =
+    let none : most - length revs ≡ 0 = omega arith in
+    let old : revs ++ map (λ (l : Leaf). l.rev) (take 0 (falling (within limit xs))) ≡ all = rw none at so_far in
+    sym (append-nil revs) ∙ ap (λ (rs : List RevId). revs ++ rs) (sym (take_zero (falling (within limit xs)))) ∙ old

@@ -1,21 +1,26 @@
 -- the tree of accepted writes has their revisions, their pairs and their leaves
 use Rattle.std.proofs.Common.{◌≡◌, true, false, ◌&&◌, ◌||◌, not, Bool, List, [], ◌∷◌, ◌++◌, map, filter, refl, sym, ap, ◌∙◌, subst, inl, inr}
-use Rattle.std.specs.Prelude.{nat_lt}
-use Rattle.std.specs.List.{list_any}
+use Rattle.std.specs.Prelude.{◌≢◌, nat_lt}
+use Rattle.std.specs.Ordering.{is_lt}
+use Rattle.std.specs.List.{list_any, list_all}
+use Rattle.std.specs.List.Sorted.{IsPermutation}
+use Rattle.std.proofs.lemmas.List.Sorted.{IsPermutation-sym}
 use Rattle.std.proofs.lemmas.Bool.{and_parts, or_left, or_right, or_cases, or_from, and_right, cases_Bool, false_from_ne_true, not-true, both_ways}
 use Rattle.std.proofs.lemmas.List.Folds.{list_any-append}
 use Rattle.std.proofs.lemmas.List.Elements.{filter-append}
 use Rattle.sg_names.specs.declared.rev_id.RevId.{RevId}
-use Rattle.sg_names.specs.RevId.{same_rev}
+use Rattle.sg_names.specs.RevId.{rev_cmp, same_rev}
 use Rattle.rev_tree.specs.declared.leaf.Leaf.{Leaf}
 use Rattle.rev_tree.specs.declared.tree.Node.{Node}
-use Rattle.rev_tree.specs.Order.{first_leaf}
-use Rattle.rev_tree.specs.Tree.{knows, is_this, has_pair, leaves_of, winner_of}
-use Rattle.rev_tree.specs.Extension.{Recorded, falls, added, first_of, first_known, with_write}
-use Rattle.rev_tree.specs.Shape.{is_grown}
+use Rattle.rev_tree.specs.Tree.{knows, is_this, has_pair, leaf_at, leaves_of, winner_of}
+use Rattle.rev_tree.specs.Extension.{Recorded, falls, added, first_of, first_known, node_on, with_nodes, with_write}
+use Rattle.rev_tree.specs.Rising.{rises, insert_node}
+use Rattle.rev_tree.specs.Shape.{stands_on, is_tree, tips, without_this}
 use Rattle.rev_tree.specs.Writes.{among, path_of, revisions, Pair, neighbours, pairs, has_pair_in, is_parent_in, is_deleted_in, leaves_in, winner_in, tree_of, only_last_known, is_accepted, AreAccepted}
 use Rattle.rev_tree.proofs.Sames.{same_is_equal, same_itself, known_differs}
-use Rattle.rev_tree.proofs.Hanging.{falls_past, other_generation, write_grown, write_leaves}
+use Rattle.rev_tree.proofs.Hanging.{falls_past, other_generation, any_with, knows_with, write_tree, write_tips}
+use Rattle.rev_tree.proofs.Firsts.{first_permuted}
+use Rattle.rev_tree.proofs.Shuffles.{Shuffled, still, behind, twice, shuffled_permutes, filter_shuffled, put_leaves}
 
 -- what an accepted write says
 pub record Accepted (tree : List Node) (w : Recorded) : Type 0 where
@@ -29,6 +34,10 @@ accepted tree w h =
     let first = and_parts (not (knows tree w.rev)) (falls (path_of w)) parts.0 in
     record { unknown = not-true (knows tree w.rev) first.0; history = first.1; last = parts.1 }
 
+or_assoc : (a b c : Bool) → (a || (b || c)) ≡ ((a || b) || c)
+or_assoc true b c = refl
+or_assoc false b c = refl
+
 -- past a first ancestor
 last_on : (tree : List Node) (a : RevId) (more : List RevId) → only_last_known tree (a ∷ more) ≡ true → only_last_known tree more ≡ true
 last_on tree a [] h = refl
@@ -41,12 +50,15 @@ last_known tree a (b ∷ more) h known =
     let unknown = not-true (knows tree a) (and_parts (not (knows tree a)) (only_last_known tree (b ∷ more)) h).0 in
     absurd (both_ways (knows tree a) unknown known)
 
--- trees of accepted writes are grown
-pub of_writes_grown : (writes : List Recorded) → AreAccepted writes → is_grown (tree_of writes) ≡ true
-of_writes_grown [] h = refl
-of_writes_grown (w ∷ older) h =
+-- accepted writes make a tree
+pub of_writes_tree : (writes : List Recorded) → AreAccepted writes → is_tree (tree_of writes) ≡ true
+of_writes_tree [] h = refl
+of_writes_tree (w ∷ older) h =
     let a = accepted (tree_of older) w h.0 in
-    write_grown (tree_of older) w a.history a.unknown (of_writes_grown older h.1)
+    write_tree (tree_of older) w a.history a.unknown (of_writes_tree older h.1)
+
+pub of_writes_rises : (writes : List Recorded) → AreAccepted writes → rises (tree_of writes) ≡ true
+of_writes_rises writes h = (and_parts (rises (tree_of writes)) (list_all (λ (n : Node). stands_on (tree_of writes) n.rev n.parent) (tree_of writes)) (of_writes_tree writes h)).0
 
 -- revisions
 
@@ -71,16 +83,26 @@ same_revisions [] rev h = refl
 same_revisions (w ∷ older) rev h =
     let a = accepted (tree_of older) w h.0 in
     let here = known_added (tree_of older) w.ancestors rev a.last in
+    let all : (same_rev w.rev rev || knows (added (tree_of older) w.ancestors ++ tree_of older) rev) ≡ among (revisions (w ∷ older)) rev =
     elim (cases_Bool (same_rev w.rev rev)) [
       | inl s ↦ rw s refl
       | inr s ↦ rw (s, here, among-append w.ancestors (revisions older) rev, same_revisions older rev h.1) refl
-    ]
+    ] in
+    knows_with (node_on w ∷ added (tree_of older) w.ancestors) (tree_of older) rev ∙ all
 
 -- after an accepted extension the tree knows what it knew, and the write's list
 pub known_with : (tree : List Node) (w : Recorded) (rev : RevId) → is_accepted tree w ≡ true → knows (with_write tree w) rev ≡ (among (path_of w) rev || knows tree rev)
 known_with tree w rev h =
     let a = accepted tree w h in
-    elim (cases_Bool (same_rev w.rev rev)) [ inl s ↦ rw s refl | inr s ↦ rw s (known_added tree w.ancestors rev a.last) ]
+    knows_with (node_on w ∷ added tree w.ancestors) tree rev ∙ ap (λ (b : Bool). same_rev w.rev rev || b) (known_added tree w.ancestors rev a.last) ∙ or_assoc (same_rev w.rev rev) (among w.ancestors rev) (knows tree rev)
+
+insert_some : (n : Node) (xs : List Node) → insert_node n xs ≢ []
+insert_some n [] = λ h. cc
+insert_some n (x ∷ xs) = λ h. elim (cases_Bool (is_lt (rev_cmp x.rev n.rev))) [ inl e ↦ let some : x ∷ insert_node n xs ≡ [] = rw e at h in cc | inr e ↦ let some : n ∷ x ∷ xs ≡ [] = rw e at h in cc ]
+
+-- a tree with a write is not empty
+pub written_some : (tree : List Node) (w : Recorded) → with_write tree w ≢ []
+written_some tree w = insert_some (node_on w) (with_nodes (added tree w.ancestors) tree)
 
 -- pairs
 
@@ -100,7 +122,7 @@ same_pairs [] rev parent h = refl
 same_pairs (w ∷ older) rev parent h =
     let a = accepted (tree_of older) w h.0 in
     let test : Pair → Bool = λ p. same_rev p.rev rev && same_rev p.parent parent in
-    pairs_added (tree_of older) w.rev w.deleted w.ancestors rev parent a.last ∙ ap (λ (b : Bool). list_any test (neighbours (path_of w)) || b) (same_pairs older rev parent h.1) ∙ sym (list_any-append test (neighbours (path_of w)) (pairs older))
+    any_with (λ (n : Node). same_rev n.rev rev && is_this n.parent parent) (node_on w ∷ added (tree_of older) w.ancestors) (tree_of older) ∙ pairs_added (tree_of older) w.rev w.deleted w.ancestors rev parent a.last ∙ ap (λ (b : Bool). list_any test (neighbours (path_of w)) || b) (same_pairs older rev parent h.1) ∙ sym (list_any-append test (neighbours (path_of w)) (pairs older))
 
 -- leaves
 
@@ -181,9 +203,14 @@ left new old gone now then' (r ∷ more) h =
           ]
     ]
 
-pub same_leaves : (writes : List Recorded) → AreAccepted writes → leaves_of (tree_of writes) ≡ leaves_in writes
-same_leaves [] h = refl
-same_leaves (w ∷ older) h =
+leaves_past : (gone : RevId → Bool) (xs : List Node) → map (λ (n : Node). leaf_at n) (filter (λ (n : Node). not (gone n.rev)) xs) ≡ filter (λ (l : Leaf). not (gone l.rev)) (map (λ (n : Node). leaf_at n) xs)
+leaves_past gone [] = refl
+leaves_past gone (x ∷ xs) =
+    elim (cases_Bool (gone x.rev)) [ inl e ↦ rw e (leaves_past gone xs) | inr e ↦ rw e (ap (λ (ls : List Leaf). leaf_at x ∷ ls) (leaves_past gone xs)) ]
+
+shuffled_leaves : (writes : List Recorded) → AreAccepted writes → Shuffled (leaves_in writes) (leaves_of (tree_of writes))
+shuffled_leaves [] h = still
+shuffled_leaves (w ∷ older) h =
     let tree : List Node = tree_of older in
     let a = accepted tree w h.0 in
     let parent : RevId → Bool = λ r. is_parent_in (w ∷ older) r in
@@ -195,10 +222,18 @@ same_leaves (w ∷ older) h =
     let mark : deleted w.rev ≡ w.deleted = rw (same_itself w.rev, unknown (λ r. is_deleted_in older r) (λ k. deleted_among older w.rev k)) (elim w.deleted as (λ b. (b || false) ≡ b) [ true ↦ refl | false ↦ refl ]) in
     let listed : filter (λ (r : RevId). not (parent r)) w.ancestors ≡ [] = none_left parent w.ancestors (λ rev k. parents_with w older rev ∙ or_left _ _ k) in
     let rest = left parent (λ r. is_parent_in older r) gone deleted (λ r. is_deleted_in older r) (revisions older) (λ rev k. (parents_with w older rev ∙ ap (λ (b : Bool). b || is_parent_in older rev) (listed_known tree w.ancestors rev a.last (known rev k)), rw (known_differs tree w.rev rev a.unknown (known rev k)) refl)) in
-    let olds = same_leaves older h.1 in
+    let olds = shuffled_leaves older h.1 in
     let all : leaves_in (w ∷ older) ≡ record { rev = w.rev; deleted = w.deleted } ∷ filter (λ (l : Leaf). not (gone l.rev)) (leaves_in older) =
     rw (first, mark, filter-append (λ (r : RevId). not (parent r)) w.ancestors (revisions older), listed) (ap (λ (ls : List Leaf). record { rev = w.rev; deleted = w.deleted } ∷ ls) rest) in
-    write_leaves tree w a.history a.unknown (of_writes_grown older h.1) ∙ rw olds (sym all)
+    let keeps : Leaf → Bool = λ l. not (gone l.rev) in
+    let rest : List Node = without_this (first_known tree w.ancestors) (tips tree) in
+    let past : map (λ (n : Node). leaf_at n) rest ≡ filter keeps (leaves_of tree) = leaves_past gone (tips tree) in
+    let one : Shuffled (leaf_at (node_on w) ∷ filter keeps (leaves_in older)) (leaf_at (node_on w) ∷ filter keeps (leaves_of tree)) = behind (filter_shuffled keeps olds) in
+    let two : Shuffled (leaf_at (node_on w) ∷ filter keeps (leaves_of tree)) (map (λ (n : Node). leaf_at n) (insert_node (node_on w) rest)) = rw (← past) (put_leaves (node_on w) rest) in
+    rw (all, write_tips tree w a.history a.unknown (of_writes_tree older h.1)) (twice one two)
+
+pub same_leaves : (writes : List Recorded) → AreAccepted writes → IsPermutation (leaves_of (tree_of writes)) (leaves_in writes)
+same_leaves writes h = IsPermutation-sym (leaves_in writes) (leaves_of (tree_of writes)) (shuffled_permutes (shuffled_leaves writes h))
 
 pub same_winner : (writes : List Recorded) → AreAccepted writes → winner_of (tree_of writes) ≡ winner_in writes
-same_winner writes h = ap first_leaf (same_leaves writes h)
+same_winner writes h = first_permuted (leaves_of (tree_of writes)) (leaves_in writes) (same_leaves writes h)

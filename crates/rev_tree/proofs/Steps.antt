@@ -1,18 +1,8 @@
 -- One item more of a list that is gone over.
-use Rattle.std.proofs.Common.{◌≡◌, ℕ, zero, suc, ◌+◌, ◌<◌, Bool, List, [], ◌∷◌, ◌++◌, length, get_or, take, drop, filter, refl, sym, ap, ◌∙◌, subst, arith}
+use Rattle.std.proofs.Common.{◌≡◌, ℕ, zero, suc, ◌+◌, ◌<◌, Bool, List, [], ◌∷◌, length, get_or, drop, refl, sym, ap, ◌∙◌, subst, arith}
 use Rattle.std.proofs.lemmas.Bool.{lt-ltb}
-use Rattle.std.proofs.lemmas.List.{take_more}
-use Rattle.std.proofs.lemmas.List.Elements.{filter-append}
 use Rattle.sg_names.specs.declared.rev_id.RevId.{RevId}
 use Rattle.rev_tree.specs.Extension.{falls}
-
--- behind a first item, those of the list so far that a test keeps
-pub kept_more : {X : Type 0} (p : X → Bool) (xs : List X) (i : ℕ) (x first : X) (old new : List X) → i < length xs → x ≡ get_or xs i x
-    → old ≡ first ∷ filter p (take i xs) → new ≡ old ++ filter p (x ∷ []) → new ≡ first ∷ filter p (take (i + 1) xs)
-kept_more p xs i x first old new low e so_far pushed =
-    pushed ∙ ap (λ os. os ++ filter p (x ∷ [])) so_far
-    ∙ ap (λ ys. first ∷ ys)
-    (ap (λ y. filter p (take i xs) ++ filter p (y ∷ [])) e ∙ sym (filter-append p (take i xs) (get_or xs i x ∷ [])) ∙ ap (filter p) (sym (take_more xs i x low)))
 
 falls_on : (last : RevId) (revs : List RevId) (i : ℕ) (rev : RevId) → i < length revs → rev ≡ get_or revs i rev → rev.generation < last.generation
     → falls (last ∷ drop i revs) ≡ falls (rev ∷ drop (suc i) revs)

@@ -1,9 +1,10 @@
 -- What a further revision does to a tree.
-use Rattle.std.specs.Prelude.{ℕ, ◌+◌, Bool, true, false, ◌&&◌, ◌||◌, not, nat_lt, List, [], ◌∷◌, ◌++◌, length, Option, Some, None, if◌then◌else◌}
+use Rattle.std.specs.Prelude.{ℕ, ◌+◌, Bool, true, false, ◌&&◌, ◌||◌, not, nat_lt, List, [], ◌∷◌, length, Option, Some, None, if◌then◌else◌}
 use Rattle.sg_names.specs.declared.rev_id.RevId.{RevId}
 use Rattle.sg_names.specs.RevId.{same_rev}
 use Rattle.rev_tree.specs.declared.leaf.Leaf.{Leaf}
 use Rattle.rev_tree.specs.declared.tree.Node.{Node}
+use Rattle.rev_tree.specs.Rising.{insert_node}
 use Rattle.rev_tree.specs.Tree.{knows, winner_of}
 
 -- a write of a document as it is recorded: its revision, the ancestors kept of its history from the nearest, and whether it deletes
@@ -43,10 +44,18 @@ added tree [] = []
 added tree (a ∷ more) =
     if knows tree a then [] else record { rev = a; parent = first_of more; deleted = false } ∷ added tree more
 
+-- the tree with nodes put into it, each before those of greater revisions
+abbrev pub with_nodes : List Node → List Node → List Node
+with_nodes [] tree = tree
+with_nodes (n ∷ ns) tree = insert_node n (with_nodes ns tree)
+
+-- a write's revision on its first ancestor
+abbrev pub node_on : Recorded → Node
+node_on w = record { rev = w.rev; parent = first_of w.ancestors; deleted = w.deleted }
+
 -- the tree with a write's revision on its first ancestor, and with the ancestors that it did not know
 abbrev pub with_write : List Node → Recorded → List Node
-with_write tree w =
-    record { rev = w.rev; parent = first_of w.ancestors; deleted = w.deleted } ∷ added tree w.ancestors ++ tree
+with_write tree w = with_nodes (node_on w ∷ added tree w.ancestors) tree
 
 -- without conflicts a revision goes on the winner, or beside a deleted winner, or into an empty tree: by the winner and the first known ancestor
 abbrev pub goes_on : Option Leaf → Option RevId → Bool

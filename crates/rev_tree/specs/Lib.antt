@@ -2,6 +2,8 @@ pub mod Answer
 pub mod Extension
 pub mod Order
 pub mod OwnRev
+pub mod Parts
+pub mod Rising
 pub mod Search
 pub mod Shape
 pub mod Tree

@@ -1,5 +1,5 @@
 -- the order of leaves
-use Rattle.std.specs.Prelude.{◌≡◌, Bool, true, false, ◌&&◌, not, List, [], ◌∷◌, Option, Some, None, if◌then◌else◌}
+use Rattle.std.specs.Prelude.{◌≡◌, ℕ, nat_lt, filter, Bool, true, false, ◌&&◌, not, List, [], ◌∷◌, Option, Some, None, if◌then◌else◌}
 use Rattle.std.specs.List.{All, Contains}
 use Rattle.std.specs.Ordering.{bool_cmp, ordering_then, is_lt}
 use Rattle.std.specs.declared.cmp.Ordering.{Ordering}
@@ -33,6 +33,10 @@ insert_leaf l (m ∷ ms) = if is_lt (rev_cmp l.rev m.rev) then m ∷ insert_leaf
 abbrev pub in_order : List Leaf → List Leaf
 in_order [] = []
 in_order (l ∷ ls) = insert_leaf l (in_order ls)
+
+-- the leaves of a lesser generation
+abbrev pub leaves_below : ℕ → List Leaf → List Leaf
+leaves_below generation leaves = filter (λ l. nat_lt l.rev.generation generation) leaves
 
 -- whether no leaf is of a lesser revision than the next one
 abbrev pub falls_by_rev : List Leaf → Bool

@@ -1,7 +1,6 @@
 -- how the first known ancestor is found, and what is added before it
 use Rattle.std.specs.Prelude.{ℕ, zero, suc, ◌+◌, false, List, [], ◌∷◌, if◌then◌else◌}
 use Rattle.sg_names.specs.declared.rev_id.RevId.{RevId}
-use Rattle.sg_names.specs.RevId.{same_rev}
 use Rattle.rev_tree.specs.declared.tree.Node.{Node}
 use Rattle.rev_tree.specs.Tree.{knows}
 use Rattle.rev_tree.specs.Extension.{first_of}
@@ -10,11 +9,6 @@ use Rattle.rev_tree.specs.Extension.{first_of}
 abbrev pub known_place : List Node → List RevId → ℕ
 known_place tree [] = 0
 known_place tree (a ∷ more) = if knows tree a then 0 else known_place tree more + 1
-
--- the place of a revision in a list, or the list's length where it is not there
-abbrev pub place_in : List RevId → RevId → ℕ
-place_in [] rev = 0
-place_in (a ∷ more) rev = if same_rev rev a then 0 else place_in more rev + 1
 
 -- the first so many ancestors, without bodies, each below the next one
 abbrev pub links : List RevId → ℕ → List Node

@@ -1,4 +1,4 @@
--- A document's tree: its revisions, the newest first, each with its parent where it has one.
+-- A document's tree: its revisions as a set, which is listed by rising revision, each with its parent where it has one.
 use Rattle.std.specs.Prelude.{ℕ, zero, suc, Bool, false, ◌&&◌, not, List, [], ◌∷◌, map, filter, Option, Some, None, if◌then◌else◌}
 use Rattle.std.specs.List.{list_any}
 use Rattle.sg_names.specs.declared.rev_id.RevId.{RevId}

@@ -1,6 +1,6 @@
 //! Laws of trees: what holds of them by the definitions alone.
 
-ghost use Rattle.std.specs.Prelude.{◌≡◌, ◌≤◌, ◌&&◌, ◌||◌, not, ℕ, List, Some, None, ◌↔◌, [], IsTrue};
+ghost use Rattle.std.specs.Prelude.{◌≡◌, ◌≢◌, ◌≤◌, ◌&&◌, ◌||◌, not, ℕ, List, Some, None, ◌↔◌, [], IsTrue};
 ghost use Rattle.std.specs.List.{list_any};
 ghost use Rattle.std.specs.List.Sorted.{IsPermutation};
 ghost use Rattle.sg_names.specs.declared.rev_id.RevId.{RevId};
@@ -28,8 +28,8 @@ pub fn trees_of_writes()
     ensures parents { (ws : List Recorded) (rev parent : RevId) → writes.AreAccepted ws →
         ((trees.parent_of (writes.tree_of ws) rev ≡ Some parent) ↔ IsTrue
         (writes.has_pair_in ws rev parent)) }
-    ensures leaves { (ws : List Recorded) → writes.AreAccepted ws → trees.leaves_of
-        (writes.tree_of ws) ≡ writes.leaves_in ws }
+    ensures leaves { (ws : List Recorded) → writes.AreAccepted ws → IsPermutation (trees.leaves_of
+        (writes.tree_of ws)) (writes.leaves_in ws) }
     ensures winner { (ws : List Recorded) → writes.AreAccepted ws → trees.winner_of
         (writes.tree_of ws) ≡ writes.winner_in ws }
 {}
@@ -51,11 +51,13 @@ pub fn leaves()
     ensures falling { (ls : List Leaf) → IsTrue (order.falls_by_rev (order.in_order ls)) }
 {}
 
-/// After an accepted extension the tree knows what it knew, the revision, and the ancestors kept.
+/// After an accepted extension the tree knows what it knew, the revision, and the ancestors kept; with a
+/// write it is not empty.
 pub fn extensions()
-    ensures { (tree : List Node) (w : Recorded) (rev : RevId) → IsTrue (writes.is_accepted tree w)
-        → trees.knows (with_write tree w) rev
+    ensures known { (tree : List Node) (w : Recorded) (rev : RevId)
+        → IsTrue (writes.is_accepted tree w) → trees.knows (with_write tree w) rev
         ≡ (writes.among (writes.path_of w) rev || trees.knows tree rev) }
+    ensures some { (tree : List Node) (w : Recorded) → with_write tree w ≢ [] }
 {}
 
 /// The tree of a document, up to the number of the last write that a book has of it, is the same in each later book, and so are that

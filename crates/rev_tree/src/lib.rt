@@ -2,12 +2,16 @@
 //! that the gateway makes itself.
 #![tactic(auto)]
 
-pub mod extend;
+mod bound;
+mod extend;
 mod history;
 pub mod laws;
-pub mod leaf;
+mod leaf;
 mod own;
-pub mod tree;
+mod part;
+mod rising;
+mod row;
+mod tree;
 
 pub use extend::Extended;
 pub use leaf::{Leaf, Leaves};

@@ -1,6 +1,7 @@
 //! Trees of revisions.
 
-ghost use Rattle.std.specs.Prelude.{◌≡◌, ◌≢◌, ◌++◌, ◌∷◌, ◌≤◌, ◌↔◌, ◌&&◌, [], false, not, take, length, option_map, IfOk, IfSome, IsTrue, None, Some};
+ghost use Rattle.std.specs.Prelude.{◌≡◌, ◌≢◌, ◌++◌, ◌∷◌, ◌≤◌, ◌↔◌, ◌&&◌, [], true, false, not, take, map, length, option_map, IfOk, IfSome, IsTrue, None, Some};
+ghost use Rattle.std.specs.Arc.{arc_value};
 ghost use Rattle.std.specs.Option.{option_copied};
 ghost use Rattle.rev_tree.specs.Tree as trees;
 ghost use Rattle.rev_tree.specs.Order as order;
@@ -9,15 +10,19 @@ ghost use Rattle.rev_tree.specs.Extension.{is_known, has_bad_history, makes_conf
 ghost use Rattle.rev_tree.specs.Answer.{IfNewTree, IfConflict};
 ghost use Rattle.rev_tree.specs.declared.extend.Extended.TheVariants.{Known, BadHistory400};
 ghost use Rattle.rev_tree.specs.Search.{known_place};
+ghost use Rattle.rev_tree.specs.Shape as shape;
+ghost use Rattle.rev_tree.specs.Rising.{rises, insert_node, first_or, last_alive};
 ghost use Rattle.rev_tree.specs.Writes.{is_accepted};
 
 use crate::extend::Extended;
+use crate::history;
 use crate::leaf::{Leaf, Leaves};
-use crate::{history, leaf};
+use crate::rising::RisingNodes;
 use sg_names::{RevId, Revs};
 use sg_outside::Memory;
 use std::alloc::{AllocError, Global};
 use std::marker::Model;
+use std::sync::Arc;
 
 /// A revision of a tree, with its parent where it has one. One that is known as an ancestor alone is not
 /// deleted.
@@ -28,11 +33,12 @@ pub struct Node {
     pub deleted: bool,
 }
 
-/// The revisions of a document, the newest first, each after its children.
+/// The revisions of a document. Trees that extend one share with it the nodes that they leave as they are.
 #[derive(Drop)]
 pub struct Tree {
-    nodes: Vec<Node>,
-    leaves: Vec<Leaf>,
+    nodes: RisingNodes,
+    tips: RisingNodes,
+    winner: Option<Leaf>,
 }
 
 impl Model for Tree {
@@ -41,13 +47,59 @@ impl Model for Tree {
 
     ghost Value = { List Node };
 
-    ghost use Rattle.rev_tree.specs.Tree.{leaves_of};
-    ghost use Rattle.rev_tree.specs.Shape.{is_grown};
+    ghost use Rattle.rev_tree.specs.Tree.{winner_of};
+    ghost use Rattle.rev_tree.specs.Shape as tree_shape;
 
-    ghost view = { λ t. t.nodes.items };
+    ghost view = { λ t. t.nodes };
 
-    ghost invariant = { λ t. IsTrue (is_grown t.nodes.items)
-        × (t.leaves.items ≡ leaves_of t.nodes.items) };
+    ghost invariant = { λ t. IsTrue (tree_shape.is_tree t.nodes) × ((t.tips ≡ tree_shape.tips t.nodes)
+        × (t.winner ≡ winner_of t.nodes)) };
+}
+
+/// The node of the leaf that wins, among those of leaves.
+fn best(tips: &RisingNodes) -> Option<&Node>
+    ensures { option_copied result ≡ first_or
+        (last_alive true tips.now) (last_alive false tips.now) }
+{
+    match tips.last_alive(true) {
+        None => tips.last_alive(false),
+        found => found,
+    }
+}
+
+/// The leaf that wins, among the nodes of leaves.
+fn winner_among(tips: &RisingNodes) -> Result<Option<Leaf>, AllocError>
+    requires { IsTrue (rises tips.now) }
+    ensures { IfOk result (λ winner. winner
+        ≡ order.first_leaf (map (λ n. trees.leaf_at n) tips.now)) }
+{
+    match best(tips) {
+        None => Ok(None),
+        Some(node) => Ok(Some(Leaf {
+            rev: node.rev.copy(tips.allocator())?,
+            deleted: node.deleted,
+        })),
+    }
+}
+
+/// The tree of its nodes and those of its leaves.
+fn tree_of(nodes: RisingNodes, tips: RisingNodes) -> Result<Tree, AllocError>
+    requires tree { IsTrue (shape.is_tree nodes) }
+    requires tips { tips ≡ shape.tips nodes }
+    ensures { IfOk result (λ tree. tree ≡ nodes) }
+{
+    match winner_among(&tips) {
+        Ok(winner) => Ok(Tree {
+            nodes,
+            tips,
+            winner,
+        }),
+        Err(error) => {
+            drop(nodes);
+            drop(tips);
+            Err(error)
+        }
+    }
 }
 
 impl Tree {
@@ -56,8 +108,9 @@ impl Tree {
         ensures { result ≡ [] }
     {
         Tree {
-            nodes: Vec::new(alloc),
-            leaves: Vec::new(alloc),
+            nodes: RisingNodes::new(alloc),
+            tips: RisingNodes::new(alloc),
+            winner: None,
         }
     }
 
@@ -65,7 +118,7 @@ impl Tree {
     pub fn knows(&self, rev: &RevId) -> bool
         ensures { result ≡ trees.knows self.now rev.now }
     {
-        self.nodes.as_slice().iter().any(|n| n.rev.equals(rev))
+        self.nodes.knows(rev)
     }
 
     /// The leaf that wins: one that is not deleted before one that is, then the greater generation, then
@@ -74,34 +127,62 @@ impl Tree {
         ensures value { option_copied result ≡ trees.winner_of self.now }
         ensures none { trees.winner_of self.now ≡ None ↔ self.now ≡ [] }
     {
-        leaf::first_leaf(self.leaves.as_slice())
+        self.winner.as_ref()
     }
 
     /// The leaves, by falling generation, then by falling digest.
     pub fn leaves(&self) -> Result<Leaves, Memory>
         ensures { IfOk result (λ l. l ≡ order.in_order (trees.leaves_of self.now)) }
     {
-        let alloc = *self.nodes.allocator();
-        Ok(Leaves::from_vec(leaf::in_order(alloc, self.leaves.as_slice())?))
+        let mut leaves = Vec::new(self.tips.allocator());
+        self.tips.push_leaves(&mut leaves)?;
+        Ok(Leaves::from_vec(leaves))
     }
 
+    /// The revisions of the leaves of lesser generations, by falling generation, then by falling digest,
+    /// at most so many.
+    pub fn leaves_below(&self, generation: u32, most: usize) -> Result<Revs, Memory>
+        ensures { IfOk result (λ revs. revs ≡ map (λ l. l.rev) (take most
+            (order.leaves_below generation (order.in_order (trees.leaves_of self.now))))) }
+    {
+        Ok(Revs::from_vec(self.tips.revs_below(generation, most)?))
+    }
+
+    /// The nodes with a further one on the ancestor at a place, which is the first one that the tree
+    /// knows, or on all of them.
     fn nodes_with(
         &self,
-        rev: &RevId,
-        deleted: bool,
+        node: &Arc<Node>,
         ancestors: &[RevId],
         place: usize,
-    ) -> Result<Vec<Node>, AllocError>
-        requires { place ≡ known_place self.now ancestors.now }
-        ensures { IfOk result (λ nodes. nodes.items ≡ extension.with_write self.now
-            (record { rev = rev.now; ancestors = ancestors.now; deleted = deleted })) }
+    ) -> Result<RisingNodes, AllocError>
+        requires unknown { trees.knows self.now (arc_value node.now).rev ≡ false }
+        requires history { IsTrue (extension.falls ((arc_value node.now).rev ∷ ancestors.now)) }
+        requires place { place ≡ known_place self.now ancestors.now }
+        ensures { IfOk result (λ nodes. nodes ≡ extension.with_nodes
+            (arc_value node.now ∷ extension.added self.now ancestors.now) self.now) }
     {
-        let alloc = *self.nodes.allocator();
-        let mut nodes = Vec::new(alloc);
-        nodes.push(history::node_on(alloc, rev, deleted, ancestors)?)?;
-        history::add_ancestors(alloc, ancestors, place, &mut nodes)?;
-        history::add_copies(alloc, self.nodes.as_slice(), &mut nodes)?;
-        Ok(nodes)
+        let below = history::with_ancestors(&self.nodes, ancestors, place)?;
+        let nodes = below.put(node);
+        drop(below);
+        nodes
+    }
+
+    /// The nodes of the leaves with a further one, without that of the ancestor that it is on.
+    fn tips_with(&self, node: &Arc<Node>, known: Option<&RevId>) -> Result<RisingNodes, AllocError>
+        requires { trees.knows self.now (arc_value node.now).rev ≡ false }
+        ensures { IfOk result (λ tips. tips ≡ insert_node (arc_value node.now)
+            (shape.without_this (option_copied known.entry) (shape.tips self.now))) }
+    {
+        match known {
+            None => self.tips.put(node),
+            Some(known) => {
+                let others = self.tips.take_out(known)?;
+                let tips = others.put(node);
+                drop(others);
+                tips
+            }
+        }
     }
 
     /// The tree with a revision that it lacks, on the ancestor at a place, which is the first one that it
@@ -119,11 +200,11 @@ impl Tree {
         ensures { IfOk result (λ tree. tree ≡ extension.with_write self.now
             (record { rev = rev.now; ancestors = ancestors.now; deleted = deleted })) }
     {
-        let alloc = *self.nodes.allocator();
-        let nodes = self.nodes_with(rev, deleted, ancestors, place)?;
-        let known = history::ancestor_at(ancestors, place);
-        let leaves = leaf::leaves_after(alloc, self.leaves.as_slice(), rev, deleted, known)?;
-        Ok(Tree { nodes, leaves })
+        let node = history::shared_node(self.nodes.allocator(), rev, deleted, ancestors)?;
+        let nodes = self.nodes_with(&node, ancestors, place)?;
+        let tips = self.tips_with(&node, history::ancestor_at(ancestors, place))?;
+        drop(node);
+        tree_of(nodes, tips)
     }
 
     /// Whether a revision may be added where conflicts are not allowed: the tree is empty, or the known
@@ -152,10 +233,9 @@ impl Tree {
     fn winning_rev(&self) -> Result<Option<RevId>, AllocError>
         ensures { IfOk result (λ rev. rev ≡ option_map (λ w. w.rev) (trees.winner_of self.now)) }
     {
-        let alloc = *self.nodes.allocator();
         match self.winner() {
             None => Ok(None),
-            Some(winner) => Ok(Some(winner.rev.copy(alloc)?)),
+            Some(winner) => Ok(Some(winner.rev.copy(self.nodes.allocator())?)),
         }
     }
 
@@ -239,7 +319,7 @@ impl Tree {
         if history::is_bad(rev, ancestors) {
             return Extended::BadHistory400;
         }
-        let place = history::known_place(self.nodes.as_slice(), ancestors);
+        let place = history::known_place(&self.nodes, ancestors);
         if self.makes_conflict(ancestors, place, strict) {
             return self.conflict();
         }
@@ -251,7 +331,16 @@ impl Tree {
     pub fn ancestors_of(&self, rev: &RevId, most: u64) -> Result<Revs, Memory>
         ensures { IfOk result (λ found. found ≡ trees.ancestors_of self.now rev.now most) }
     {
-        let alloc = *self.nodes.allocator();
-        Ok(Revs::from_vec(history::ancestors_in(alloc, self.nodes.as_slice(), rev, most)?))
+        Ok(Revs::from_vec(self.nodes.ancestors_of(rev, most)?))
     }
+}
+
+/// What may be sent to another thread and seen there.
+fn is_shared<T: Send + Sync>(_value: &T) -> bool {
+    true
+}
+
+/// Whether a tree may be: it is `Send` and `Sync`.
+pub(crate) fn tree_is_shared(tree: &Tree) -> bool {
+    is_shared(tree)
 }

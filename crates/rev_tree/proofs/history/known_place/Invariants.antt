@@ -1,9 +1,6 @@
-use Rattle.std.proofs.Common.{◌≡◌, ◌≤◌, length, take}
+use Rattle.std.proofs.Common.{◌≡◌, ◌+◌, drop}
 use Rattle.rev_tree.specs.Search.{known_place}
 use Rattle.rev_tree.proofs.history.known_place.Given as goal
 
-abbrev pub invariant-loop-node : goal.invariant-loop-node
-invariant-loop-node l = record {
-  within : l.place ≤ length l.ancestors;
-  place : l.place ≡ known_place (take l.node-index l.nodes) l.ancestors;
-}
+abbrev pub invariant-loop-i : goal.invariant-loop-i
+invariant-loop-i l = l.i + known_place l.nodes (drop l.i l.ancestors) ≡ known_place l.nodes l.ancestors
