@@ -19,9 +19,9 @@ use Rattle.doc_board.specs.Lawful.{AreLawful, AreEntries}
 use Rattle.rev_tree.specs.declared.leaf.Leaf.{Leaf}
 use Rattle.rev_tree.specs.declared.tree.Node.{Node}
 use Rattle.rev_tree.specs.Order.{first_leaf, sooner, comes_before}
-use Rattle.rev_tree.specs.Tree.{knows, leaves_of, winner_of}
+use Rattle.rev_tree.specs.Tree.{knows, winner_of}
 use Rattle.rev_tree.specs.Extension.{Recorded, falls}
-use Rattle.rev_tree.specs.Writes.{among, path_of, revisions, Pair, neighbours, pairs, is_parent_in, is_deleted_in, leaves_in, tree_of, only_last_known, AreAccepted}
+use Rattle.rev_tree.specs.Writes.{among, path_of, revisions, Pair, neighbours, pairs, is_parent_in, is_deleted_in, leaves_in, winner_in, tree_of, only_last_known, AreAccepted}
 use Rattle.rev_tree.proofs.Sames.{same_is_equal, same_itself}
 use Rattle.doc_board.specs.Candidates.{ExtendsTree}
 use Rattle.rev_tree.specs.Documents.{recorded, writes_in, tree_in}
@@ -37,8 +37,8 @@ same_some a b h = ap (held a) h
 abbrev pub SameRevisions : Type 0
 SameRevisions = (ws : List Recorded) (rev : RevId) → AreAccepted ws → knows (tree_of ws) rev ≡ among (revisions ws) rev
 
-abbrev pub SameLeaves : Type 0
-SameLeaves = (ws : List Recorded) → AreAccepted ws → leaves_of (tree_of ws) ≡ leaves_in ws
+abbrev pub SameWinner : Type 0
+SameWinner = (ws : List Recorded) → AreAccepted ws → winner_of (tree_of ws) ≡ winner_in ws
 
 -- ---- revisions that were written
 
@@ -116,10 +116,9 @@ first_listed : (ls : List Leaf) (won : Leaf) → first_leaf ls ≡ Some won → 
 first_listed [] won h = absurd (none-some _ h)
 first_listed (l ∷ ls) won h = sooner_listed l ls (first_leaf ls) won (first_listed ls) (same_some _ _ h)
 
-winner_is_written : SameLeaves → (ws : List Recorded) (won : Leaf) → AreAccepted ws → winner_of (tree_of ws) ≡ Some won → is_written ws won.rev ≡ true
+winner_is_written : SameWinner → (ws : List Recorded) (won : Leaf) → AreAccepted ws → winner_of (tree_of ws) ≡ Some won → is_written ws won.rev ≡ true
 winner_is_written same ws won accepted h =
-    let P : List Leaf → Type 0 = λ ls. list_any (λ (k : Leaf). same_rev k.rev won.rev) ls ≡ true in
-    let listed = leaf_listed (λ r. is_parent_in ws r) (λ r. is_deleted_in ws r) (revisions ws) won.rev (subst P (same ws accepted) (first_listed (leaves_of (tree_of ws)) won h)) in
+    let listed = leaf_listed (λ r. is_parent_in ws r) (λ r. is_deleted_in ws r) (revisions ws) won.rev (first_listed (leaves_in ws) won (sym (same ws accepted) ∙ h)) in
     no_parent_written ws won.rev listed.1 listed.0
 
 -- ---- the rules
@@ -133,7 +132,7 @@ falls_too a (b ∷ more) h =
 swapped : (a b : RevId) → same_rev a b ≡ true → same_rev b a ≡ true
 swapped a b h = ap (same_rev b) (same_is_equal a b h) ∙ same_itself b
 
-won_by : SameLeaves → (ws : List Recorded) (rev : RevId) (won : Option Leaf) → AreAccepted ws → winner_of (tree_of ws) ≡ won → option_map (λ (l : Leaf). l.rev) won ≡ Some rev → is_written ws rev ≡ true
+won_by : SameWinner → (ws : List Recorded) (rev : RevId) (won : Option Leaf) → AreAccepted ws → winner_of (tree_of ws) ≡ won → option_map (λ (l : Leaf). l.rev) won ≡ Some rev → is_written ws rev ≡ true
 won_by same ws rev None accepted h e = absurd (none-some _ e)
 won_by same ws rev (Some won) accepted h e =
     subst (λ (r : RevId). is_written ws r ≡ true) (same_some _ _ e) (winner_is_written same ws won accepted h)
@@ -148,8 +147,8 @@ written_by (x ∷ ws) rev = go (same_rev x.write.rev rev) refl (written_by ws re
     go true e rest = refl
     go false e rest = rest
 
-pub follows : SameRevisions → SameLeaves → (w : Write) (ws : List Sequenced) (n : ℕ) (after : List Node) → AreAccepted (map (λ written. recorded written.write) ws) → ExtendsTree (trees_by ws) w after → w.at < n → follows_writes ws n w ≡ true
-follows same_revisions same_leaves w written n after accepted extends judged =
+pub follows : SameRevisions → SameWinner → (w : Write) (ws : List Sequenced) (n : ℕ) (after : List Node) → AreAccepted (map (λ written. recorded written.write) ws) → ExtendsTree (trees_by ws) w after → w.at < n → follows_writes ws n w ≡ true
+follows same_revisions same_winner w written n after accepted extends judged =
     let ws : List Recorded = map (λ x. recorded x.write) written in
     let tree : List Node = tree_of ws in
     let parts = and_parts (not (knows tree w.rev) && falls (path_of (recorded w))) (only_last_known tree w.ancestors) extends.accepted in
@@ -158,7 +157,7 @@ follows same_revisions same_leaves w written n after accepted extends judged =
     let new : is_written_by written w.rev ≡ false =
     false_from_ne_true (is_written_by written w.rev) (λ h. both_ways _ unknown (same_revisions ws w.rev accepted ∙ written_among ws w.rev (written_by written w.rev ∙ h))) in
     let won : is_written (recorded w ∷ ws) w.winner ≡ true =
-    won_by same_leaves (recorded w ∷ ws) w.winner (winner_of (tree_of (recorded w ∷ ws))) (extends.accepted, accepted) refl (ap (λ (t : List Node). option_map (λ (l : Leaf). l.rev) (winner_of t)) (sym extends.tree) ∙ extends.winner) in
+    won_by same_winner (recorded w ∷ ws) w.winner (winner_of (tree_of (recorded w ∷ ws))) (extends.accepted, accepted) refl (ap (λ (t : List Node). option_map (λ (l : Leaf). l.rev) (winner_of t)) (sym extends.tree) ∙ extends.winner) in
     let named : (same_rev w.winner w.rev || is_written_by written w.winner) ≡ true =
     elim (or_cases (same_rev w.rev w.winner) (is_written ws w.winner) won) [
       | inl a ↦ or_left _ _ (swapped w.rev w.winner a)
@@ -204,7 +203,7 @@ written_in_book book (suc k) doc rev entries h =
               | inr s ↦ rest (rw s at h)
             ]
 
-pub winner_named : SameLeaves → (book : Book) (k : ℕ) (w : Write) (after : List Node) → AreEntries book → AreAccepted (writes_in book k w.doc) → ExtendsTree (tree_in book k w.doc) w after → IsTrue (is_rev w.rev) → IsTrue (is_rev w.winner)
+pub winner_named : SameWinner → (book : Book) (k : ℕ) (w : Write) (after : List Node) → AreEntries book → AreAccepted (writes_in book k w.doc) → ExtendsTree (tree_in book k w.doc) w after → IsTrue (is_rev w.rev) → IsTrue (is_rev w.winner)
 winner_named same book k w after entries accepted extends named =
     let written : List Sequenced = writes_up_to book k w.doc in
     let ws : List Recorded = writes_in book k w.doc in

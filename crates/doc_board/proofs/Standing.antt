@@ -25,7 +25,7 @@ use Rattle.doc_board.specs.Kept.{AreRight, AreBases, HasNoneAbove, IsKept, IsRig
 use Rattle.doc_board.specs.Recorded.{Follows, HasDocument}
 use Rattle.doc_board.proofs.Documents.{Documents, same_names}
 use Rattle.doc_board.proofs.Following.{extension_follows}
-use Rattle.doc_board.proofs.Lawful.{SameRevisions, SameLeaves, follows}
+use Rattle.doc_board.proofs.Lawful.{SameRevisions, SameWinner, follows}
 use Rattle.doc_board.proofs.Places.{more_by, same_by}
 use Rattle.doc_board.proofs.Puts as puts
 
@@ -235,10 +235,10 @@ module _ (old new : Book) (n : ℕ) (w : Write) (from : 1 ≤ n) (free : old n �
   below_it : below new n w.doc ≡ writes_up_to old whole w.doc
   below_it = puts.below_it old new n (entry.Write w) from free put above_write whole over_whole w.doc w (puts.own_write w)
 
-  pub kept_write : SameRevisions → SameLeaves → (before after : Documents) → IsEntry (entry.Write w) → HasDocument w.body → w.at < n
+  pub kept_write : SameRevisions → SameWinner → (before after : Documents) → IsEntry (entry.Write w) → HasDocument w.body → w.at < n
       → ((name : List ℕ) → get_by_text after name ≡ (if bytes_eq w.doc name then Some (record { last = n; tree = tree }) else get_by_text before name))
       → IsKept old before → IsKept new after
-  kept_write same_revisions same_leaves before after named body judged set kept = record {
+  kept_write same_revisions same_winner before after named body judged set kept = record {
     documents = λ top over.
         let under = none_before old new n (entry.Write w) from free put above_write top over in
         more_by (writes_up_to old top) (writes_up_to new top) before after w n tree (writes_more old new n (entry.Write w) from free put above_write top over) (extends_at top under).tree set (kept.documents top under);
@@ -253,7 +253,7 @@ module _ (old new : Book) (n : ℕ) (w : Write) (from : 1 ≤ n) (free : old n �
       (
         body,
         subst (λ (ws : List Sequenced). IsTrue (follows_writes ws n w)) (sym below_it)
-            (follows same_revisions same_leaves w (writes_up_to old whole w.doc) n tree (kept.accepted whole over_whole w.doc) extends judged),
+            (follows same_revisions same_winner w (writes_up_to old whole w.doc) n tree (kept.accepted whole over_whole w.doc) extends judged),
         subst (λ (ws : List Sequenced). Follows (trees_by ws) w) (sym below_it) (extension_follows (tree_in old whole w.doc) w tree extends),
       ),
     );

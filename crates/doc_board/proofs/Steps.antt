@@ -30,7 +30,7 @@ use Rattle.doc_board.specs.Recorded.{HasDocument}
 use Rattle.doc_board.specs.State.{top_of}
 use Rattle.doc_board.specs.Rooms.{is_outstanding}
 use Rattle.doc_board.proofs.Documents.{Documents}
-use Rattle.doc_board.proofs.Lawful.{SameRevisions, SameLeaves}
+use Rattle.doc_board.proofs.Lawful.{SameRevisions, SameWinner}
 use Rattle.doc_board.proofs.OutstandingRooms.{all_without, one_less, places_stay, all_placed, all_with}
 use Rattle.doc_board.proofs.Places.{place_by}
 use Rattle.doc_board.proofs.Standing.{put_length, put_bytes, released_bytes, no_size, bases_more, plain_above, plain_none, kept_plain, kept_write, base_is, above_last, none_before, same_writes}
@@ -165,14 +165,14 @@ module _ (stored_book : StoredBook) (stored_beyond : StoredBeyond) (stored_free 
       (plain_put places bases spare rooms stored more e new.spare named plain less it)
 
   module _ (w : Write) (whole : ℕ) (over_whole : HasNoneAbove (book_with log.list p.waiting) whole) (past : last_in (book_with log.list p.waiting) whole w.doc < n) (tree : List Node) (extends : ExtendsTree (tree_in (book_with log.list p.waiting) whole w.doc) w tree) where
-    write_put : SameRevisions → SameLeaves → (before after : Documents) (bases bases_after : Bases) (spare spare_after : ℕ) (rooms : List RoomFor) (stored more : ℕ) (left : ℕ) → IsEntry (entry.Write w) → HasDocument w.body → w.at < n
+    write_put : SameRevisions → SameWinner → (before after : Documents) (bases bases_after : Bases) (spare spare_after : ℕ) (rooms : List RoomFor) (stored more : ℕ) (left : ℕ) → IsEntry (entry.Write w) → HasDocument w.body → w.at < n
         → ((name : List ℕ) → get_by_text after name ≡ (if bytes_eq w.doc name then Some (record { last = n; tree = tree }) else get_by_text before name))
         → ((m : ℕ) → bases_after m ≡ (if nat_eq n m then Some (last_in (book_with log.list p.waiting) whole w.doc) else bases m)) → spare ≤ spare_after + 1
         → p.spare ≤ left + 1
         → IsStanding log p before bases spare rooms stored (more + 1)
         → IsStanding log (record { waiting = with_it (entry.Write w); spare = left }) after bases_after spare_after rooms (capped (stored + length w.body)) more
-    write_put same_revisions same_leaves before after bases bases_after spare spare_after rooms stored more left named body judged set kept_base less_bases less it = record {
-      kept = kept_write (book_with log.list p.waiting) (book_with log.list (with_it (entry.Write w))) n w may.0 may.1 (put_in (entry.Write w)) whole over_whole past tree extends same_revisions same_leaves before after named body judged set it.kept;
+    write_put same_revisions same_winner before after bases bases_after spare spare_after rooms stored more left named body judged set kept_base less_bases less it = record {
+      kept = kept_write (book_with log.list p.waiting) (book_with log.list (with_it (entry.Write w))) n w may.0 may.1 (put_in (entry.Write w)) whole over_whole past tree extends same_revisions same_winner before after named body judged set it.kept;
       beyond = stored_beyond log.list p.waiting n (entry.Write w) may it.beyond;
       based = bases_more (book_with log.list p.waiting) (book_with log.list (with_it (entry.Write w))) n (entry.Write w) may.0 may.1 (put_in (entry.Write w)) (above_last (book_with log.list p.waiting) whole n w over_whole past)
           p.waiting (with_it (entry.Write w)) bases bases_after (put_under (entry.Write w))
@@ -193,17 +193,17 @@ module _ (stored_book : StoredBook) (stored_beyond : StoredBeyond) (stored_free 
             ∙ base_is (book_with log.list p.waiting) (book_with log.list (with_it (entry.Write w))) n w may.0 may.1 (put_in (entry.Write w)) whole over_whole past tree extends)
 
     -- a write
-    pub waits_write : SameRevisions → SameLeaves → (new : Reserved) (before after : Documents) (bases bases_after : Bases) (spare spare_after : ℕ) (rooms : List RoomFor) (stored stored_after more : ℕ) → IsEntry (entry.Write w) → HasDocument w.body → w.at < n
+    pub waits_write : SameRevisions → SameWinner → (new : Reserved) (before after : Documents) (bases bases_after : Bases) (spare spare_after : ℕ) (rooms : List RoomFor) (stored stored_after more : ℕ) → IsEntry (entry.Write w) → HasDocument w.body → w.at < n
         → ((name : List ℕ) → get_by_text after name ≡ (if bytes_eq w.doc name then Some (record { last = n; tree = tree }) else get_by_text before name))
         → ((m : ℕ) → bases_after m ≡ (if nat_eq n m then Some (last_in (book_with log.list p.waiting) whole w.doc) else bases m)) → spare ≤ spare_after + 1
         → stored_after ≡ capped (stored + length w.body)
         → new.waiting ≡ with_it (entry.Write w) → p.spare ≤ new.spare + 1
         → IsStanding log p before bases spare rooms stored (more + 1)
         → IsStanding log new after bases_after spare_after rooms stored_after more
-    waits_write same_revisions same_leaves new before after bases bases_after spare spare_after rooms stored stored_after more named body judged set kept_base less_bases sum is less it =
+    waits_write same_revisions same_winner new before after bases bases_after spare spare_after rooms stored stored_after more named body judged set kept_base less_bases sum is less it =
         subst (λ (k : ℕ). IsStanding log new after bases_after spare_after rooms k more) (sym sum)
         (subst (λ (ws : List Waiting). IsStanding log (record { waiting = ws; spare = new.spare }) after bases_after spare_after rooms (capped (stored + length w.body)) more) (sym is)
-        (write_put same_revisions same_leaves before after bases bases_after spare spare_after rooms stored more new.spare named body judged set kept_base less_bases less it))
+        (write_put same_revisions same_winner before after bases bases_after spare spare_after rooms stored more new.spare named body judged set kept_base less_bases less it))
 
 -- ---- those that come next are moved
 

@@ -1,16 +1,12 @@
 -- What is answered for a revision that a device offers, by the tree of its document.
-use Rattle.std.specs.Prelude.{ℕ, Bool, false, nat_lt, is_some, List, [], map, filter, take, Option, Some, None, if◌then◌else◌}
+use Rattle.std.specs.Prelude.{Bool, false, is_some, List, [], map, take, Option, Some, None, if◌then◌else◌}
 use Rattle.sg_names.specs.declared.rev_id.RevId.{RevId}
 use Rattle.rev_tree.specs.declared.leaf.Leaf.{Leaf}
 use Rattle.rev_tree.specs.declared.tree.Node.{Node}
-use Rattle.rev_tree.specs.Order.{in_order}
+use Rattle.rev_tree.specs.Order.{in_order, leaves_below}
 use Rattle.rev_tree.specs.Tree.{knows, is_this, leaves_of, winner_of}
 use Rattle.repl_messages.specs.declared.offers.Offer.{Offer}
 use Rattle.repl_messages.specs.declared.offers.OfferAnswer.{OfferAnswer}
-
--- the leaves of a lesser generation
-abbrev pub leaves_below : ℕ → List Leaf → List Leaf
-leaves_below generation leaves = filter (λ l. nat_lt l.rev.generation generation) leaves
 
 -- the revisions from which a revision that the tree lacks may descend: of the leaves of a lesser generation, by falling generation and then by falling digest, the first 20
 abbrev pub may_descend_from : List Node → RevId → List RevId

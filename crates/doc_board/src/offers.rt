@@ -1,9 +1,7 @@
 //! What is answered for a revision that a device offers.
 
-ghost use Rattle.std.specs.Prelude.{◌≡◌, ◌++◌, ◌∷◌, [], map, take, option_map, IfOk, OnOk};
+ghost use Rattle.std.specs.Prelude.{◌≡◌, IfOk};
 ghost use Rattle.std.specs.Option.{option_copied};
-ghost use Rattle.rev_tree.specs.Order as order;
-ghost use Rattle.rev_tree.specs.Tree as trees;
 ghost use Rattle.doc_board.specs.Offers as offers;
 
 use repl_messages::{Offer, OfferAnswer};
@@ -15,41 +13,11 @@ use std::alloc::{AllocError, Global};
 /// The most leaves that are answered for an offer.
 const MOST_LEAVES: usize = 20;
 
-/// The leaves of a lesser generation, at most so many as are answered.
-fn first_below(mut leaves: Vec<Leaf>, generation: u32) -> Vec<Leaf>
-    ensures { result.items ≡ take 20 (offers.leaves_below generation leaves.items) }
-{
-    leaves.retain(|leaf| leaf.rev.generation < generation);
-    leaves.truncate(MOST_LEAVES);
-    leaves
-}
-
-/// Puts a copy of a revision at the end.
-fn push_copy(alloc: Global, revs: &mut Revs, rev: &RevId) -> Result<(), AllocError>
-    ensures { OnOk result (revs.new ≡ revs.old ++ rev.now ∷ []) }
-{
-    let copy = rev.copy(alloc)?;
-    revs.push(copy)
-}
-
-fn revs_of(alloc: Global, leaves: &[Leaf]) -> Result<Revs, AllocError>
-    ensures { IfOk result (λ revs. revs ≡ map (λ l. l.rev) leaves.now) }
-{
-    let mut revs = Revs::new(alloc);
-    for leaf in leaves {
-        push_copy(alloc, &mut revs, &leaf.rev)?;
-    }
-    Ok(revs)
-}
-
 /// The revisions from which one may descend.
-fn may_descend_from(alloc: Global, tree: &Tree, rev: &RevId) -> Result<Revs, AllocError>
+fn may_descend_from(tree: &Tree, rev: &RevId) -> Result<Revs, Memory>
     ensures { IfOk result (λ revs. revs ≡ offers.may_descend_from tree.now rev.now) }
 {
-    let leaves = first_below(tree.leaves()?.into_vec(), rev.generation);
-    let revs = revs_of(alloc, leaves.as_slice());
-    drop(leaves);
-    revs
+    tree.leaves_below(rev.generation, MOST_LEAVES)
 }
 
 fn copy_of(alloc: Global, leaf: Option<&Leaf>) -> Result<Option<Leaf>, AllocError>
@@ -78,7 +46,7 @@ fn answer_by(alloc: Global, tree: &Tree, offer: &Offer) -> Result<OfferAnswer, A
     let ancestors = if known {
         Revs::new(alloc)
     } else {
-        may_descend_from(alloc, tree, &offer.rev)?
+        may_descend_from(tree, &offer.rev)?
     };
     match copy_of(alloc, tree.winner()) {
         Ok(winner) => Ok(OfferAnswer {

@@ -4,4 +4,4 @@ use Rattle.doc_board.proofs.laws.winners.Goals as goal
 
 pub returns : goal.returns
 returns c = λ s w after entries accepted extends named.
-    winner_named c.trees_of_writes.ensures.leaves (book_on s) (top_on s) w after entries accepted extends named
+    winner_named c.trees_of_writes.ensures.winner (book_on s) (top_on s) w after entries accepted extends named

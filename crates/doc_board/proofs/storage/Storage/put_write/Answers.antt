@@ -22,7 +22,7 @@ returns-clause-stands c =
     let past = subst (λ (n : ℕ). n < c.args.number) c.requires.base c.requires.above in
     let kept_base = λ (m : ℕ). c.keep_base.ensures.bases m ∙ ap (λ (n : ℕ). if nat_eq c.args.number m then Some n else bases m) c.requires.base in
     waits_write c.storing.ensures.book c.storing.ensures.beyond c.storing.ensures.free s.log.entries s.pending c.args.number c.requires.number w (top_in s) (none_above_top log s.pending.waiting) past c.args.tree c.requires.extends
-    c.trees_of_writes.ensures.revisions c.trees_of_writes.ensures.leaves c.put-2.new.self s.documents c.put.new.documents bases (get nat_eq c.keep_base.new.bases) (spare s.bases) (spare c.keep_base.new.bases) s.rooms s.stored c.saturating_add-self.result 0
+    c.trees_of_writes.ensures.revisions c.trees_of_writes.ensures.winner c.put-2.new.self s.documents c.put.new.documents bases (get nat_eq c.keep_base.new.bases) (spare s.bases) (spare c.keep_base.new.bases) s.rooms s.stored c.saturating_add-self.result 0
     c.requires.entry c.requires.body c.requires.at c.put.ensures kept_base c.keep_base.ensures.spare (omega (arith, c.saturating_add-self.ensures, c.len.ensures)) c.put-2.ensures.waiting c.put-2.ensures.spare c.requires.place
 
 pub returns-clause-book : goal.returns-clause-book
