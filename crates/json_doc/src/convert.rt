@@ -70,7 +70,7 @@ fn node_of(alloc: Global, value: &Value) -> Result<Node, Memory>
 fn nodes_of(alloc: Global, items: &Vec<Value>) -> Result<Nodes, Memory>
     ensures { IfOk result (λ nodes. nodes_trees nodes ≡ trees_of (items_view items.now.items)) }
 {
-    let mut nodes = Nodes::new(alloc);
+    let mut nodes = Nodes::with_capacity(alloc, items.len())?;
     for item in items {
         nodes.push(node_of(alloc, item)?)?;
     }

@@ -115,6 +115,15 @@ impl Nodes {
         }
     }
 
+    /// No nodes, with room for this many.
+    pub fn with_capacity(alloc: Global, count: usize) -> Result<Nodes, Memory>
+        ensures { IfOk result (λ made. nodes_trees made ≡ no_trees) }
+    {
+        Ok(Nodes {
+            items: Vec::with_capacity(alloc, count)?,
+        })
+    }
+
     /// The nodes in order.
     pub fn as_slice(&self) -> &[Node]
         ensures { row_trees result.now ≡ nodes_trees self.now }
@@ -142,7 +151,7 @@ impl Nodes {
     pub fn copy(&self, alloc: Global) -> Result<Nodes, Memory>
         ensures { IfOk result (λ made. nodes_trees made ≡ nodes_trees self.now) }
     {
-        let mut made = Nodes::new(alloc);
+        let mut made = Nodes::with_capacity(alloc, self.items.len())?;
         for node in &self.items {
             made.push(node.copy(alloc)?)?;
         }
