@@ -5,6 +5,7 @@ pub mod Nests
 pub mod Statements
 pub mod Tails
 pub mod Grammar
+pub mod Texts
 pub mod Moved
 pub mod Depth
 pub mod Laws

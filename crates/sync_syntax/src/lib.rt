@@ -8,13 +8,14 @@ mod fault;
 mod fitted;
 pub mod laws;
 mod operator;
+mod parsed;
 mod program;
 mod simple;
 mod statement;
 pub mod tree;
 
 pub use fault::{ParseFault, SyntaxFault};
-pub use program::parse;
+pub use parsed::{Program, parse};
 pub use sync_tokens::{Place, SyntaxWhy};
 
 /// Memory ran out.

@@ -134,19 +134,14 @@ fn lawful(alloc: Global, all: &[Token]) -> Result<Program, ParseFault>
     whole(alloc, all)
 }
 
-/// Reads a program. The fault is the first in the order of the text, at its token. `Memory` may come
-/// in the place of any answer.
+/// The tree of the program that a text is.
 #[tactic(auto, unfolding(crate::specs::Statements::parsed))]
-pub fn parse(alloc: Global, text: &str) -> Result<Program, ParseFault>
-    // It is the program, or the first fault, that reading by the rules gives.
+pub(crate) fn tree_of(alloc: Global, text: &str) -> Result<Program, ParseFault>
     ensures exact { Gives (spec.parsed text.now) result }
-    // What is read is a program by the grammar.
+    ensures short { IfOk result (λ _. length text.now ≤ max_len) }
     ensures grammar { IfOk result (λ program. IsProgram (tokens_of text.now) program) }
-    // A program by the grammar is read, where the text is not too long and not too much is open.
     ensures complete { (p : Program) (d : IsProgram (tokens_of text.now) p)
         → length text.now ≤ max_len → depth d ≤ max_depth → Gives (Ok p) result }
-    // A fault of a text that is not too long stands at the first token at fault: some program begins
-    // with the tokens before it, and none with it, where it fits no rule.
     ensures fault { IfErr result (λ e. e ≢ Memory → length text.now ≤ max_len
         → IsFaultOf (tokens_of text.now) e) }
 {

@@ -1,6 +1,6 @@
 use Rattle.sync_syntax.proofs.CompleteStatements.{given_complete}
 use Rattle.sync_syntax.proofs.FaultTokens.{given_fault}
-use Rattle.sync_syntax.proofs.program.parse.Goals as goal
+use Rattle.sync_syntax.proofs.program.tree_of.Goals as goal
 
 pub returns-clause-complete : goal.returns-clause-complete
 returns-clause-complete c =
