@@ -1,6 +1,6 @@
 -- What a rule reads of other tokens that begin alike: the same where it reads something, and the same fault where no rule reads the
--- next token. The other rule may be any of a family, such as that with so much more room.
-use Rattle.std.proofs.Common.{◌≡◌, ℕ, suc, ◌≤◌, Bool, true, false, cond, [], ◌∷◌, ◌++◌, length, Ok, Err, refl, sym, subst, ap, ◌∙◌, append_assoc, arith}
+-- next token. The other rule may be any of a family, such as that with so much more room; where too much is open, it is the first.
+use Rattle.std.proofs.Common.{◌≡◌, ℕ, suc, ◌-◌, ◌≤◌, Bool, true, false, cond, [], ◌∷◌, ◌++◌, length, Ok, Err, refl, sym, subst, ap, ◌∙◌, append_assoc, arith}
 use Rattle.sync_tokens.specs.Spellable.{IsLast, AreTokens}
 use Rattle.sync_tokens.specs.declared.token.Kind.{Kind}
 use Rattle.sync_tokens.specs.declared.token.Kind.TheVariants as kinds
@@ -9,6 +9,7 @@ use Rattle.sync_tokens.specs.declared.token.Token.{Token}
 use Rattle.sync_tokens.specs.declared.token.Word.{Word}
 use Rattle.sync_syntax.specs.declared.fault.ParseFault.{ParseFault}
 use Rattle.sync_syntax.specs.Reading.{Tokens, Outcome, Rule, and_then, kind, next, place, sees, sees_word, after, after_word, expect, expect_word, name_by, name, refuse, refusal, too_deep}
+use Rattle.sync_syntax.specs.Faults.{is_written}
 use Rattle.sync_syntax.specs.Grammar.{Takes}
 use Rattle.sync_syntax.proofs.Holds.{sees-takes, sees_word-takes}
 
@@ -28,7 +29,8 @@ pub record Passes {A : Type 0} (k : Bool) (rule : ℕ → Rule A) (ts : Tokens) 
   pub alike : (m : ℕ) (other : Tokens) → AreTokens (before ++ token ∷ other) → rule m (before ++ token ∷ other) ≡ Ok (x, token ∷ other)
 
 pub data Stops {A : Type 0} (k : Bool) (rule : ℕ → Rule A) (ts : Tokens) (e : ParseFault) : Type 0 where
-  deep : (before : Tokens) (token : Token) (rest : Tokens) → ts ≡ before ++ token ∷ rest → e ≡ too_deep (token ∷ rest) → Stops k rule ts e
+  deep : (before : Tokens) (token : Token) (rest : Tokens) → ts ≡ before ++ token ∷ rest → Some k before → e ≡ too_deep (token ∷ rest)
+      → ((other : Tokens) → is_written token.kind (kind other) ≡ false → AreTokens (before ++ token ∷ other) → rule 0 (before ++ token ∷ other) ≡ Err e) → Stops k rule ts e
   unexpected : (before : Tokens) (token : Token) (rest : Tokens) → ts ≡ before ++ token ∷ rest → Some k before → e ≡ refusal (token ∷ rest)
       → ((m : ℕ) (other : Tokens) → AreTokens (before ++ token ∷ other) → rule m (before ++ token ∷ other) ≡ Err e) → Stops k rule ts e
 
@@ -91,14 +93,15 @@ module _ {A B : Type 0} (k : Bool) (rule : ℕ → Rule A) (more : ℕ → A →
     are = q.are;
     alike = λ m other a. run_both q.before q.token q.rest (Ok (y.0, q.token ∷ other)) m other q.split a (q.alike m other);
   }
-  second_alike (Err e) (deep before t r is fault) = deep (p.before ++ before) t r (split_both before t r is) fault
+  second_alike (Err e) (deep before t r is some fault h) =
+      deep (p.before ++ before) t r (split_both before t r is) (some_more k p.before before p.some) fault (λ other none a. run_both before t r (Err e) 0 other is a (h other none))
   second_alike (Err e) (unexpected before t r is some fault h) =
       unexpected (p.before ++ before) t r (split_both before t r is) (some_more k p.before before p.some) fault (λ m other a. run_both before t r (Err e) m other is a (h m other))
 
 pub bind_alike : {A B : Type 0} (k : Bool) (r : Outcome A) (rule : ℕ → Rule A) (f : A → Rule B) (more : ℕ → A → Rule B) (ts : Tokens) → Alike k r rule ts
     → ((x : A) (us : Tokens) → r ≡ Ok (x, us) → AreTokens us → Alike false (f x us) (λ m. more m x) us) → Alike k (and_then r f) (λ m vs. and_then (rule m vs) (more m)) ts
 bind_alike k (Ok p) rule f more ts q h = second_alike k rule more ts p.0 p.1 q (f p.0 p.1) (h p.0 p.1 refl (subst AreTokens (sym q.behind) q.are))
-bind_alike k (Err e) rule f more ts (deep before t r is fault) h = deep before t r is fault
+bind_alike k (Err e) rule f more ts (deep before t r is some fault g) h = deep before t r is some fault (λ other none a. ap (λ z. and_then z (more 0)) (g other none a))
 bind_alike k (Err e) rule f more ts (unexpected before t r is some fault g) h = unexpected before t r is some fault (λ m other a. ap (λ z. and_then z (more m)) (g m other a))
 
 -- ---- rules that agree
@@ -130,7 +133,7 @@ module _ {A : Type 0} (rule rule' : ℕ → Rule A) where
       are = q.are;
       alike = λ m other a. at_first q.before q.token q.rest q.split m other a ∙ q.alike m other a;
     }
-    first_alike k (Err e) (deep before u rest is fault) = deep before u rest is fault
+    first_alike k (Err e) (deep before u rest is some fault g) = deep before u rest is some fault (λ other none a. at_first before u rest is 0 other a ∙ g other none a)
     first_alike k (Err e) (unexpected before u rest is some fault g) = unexpected before u rest is some fault (λ m other a. at_first before u rest is m other a ∙ g m other a)
 
   -- at all tokens
@@ -171,7 +174,7 @@ module _ {A : Type 0} (rule rule' : ℕ → Rule A) (t u : Token) (r : Tokens) (
     are = q.are;
     alike = λ m other a. at_two q.before q.token q.rest q.some q.split m other ∙ q.alike m other a;
   }
-  two_alike (Err e) (deep before v rest is fault) = deep before v rest is fault
+  two_alike (Err e) (deep before v rest is some fault g) = deep before v rest is some fault (λ other none a. at_two before v rest some is 0 other ∙ g other none a)
   two_alike (Err e) (unexpected before v rest is some fault g) = unexpected before v rest is some fault (λ m other a. at_two before v rest some is m other ∙ g m other a)
 
 pub loosely : {A : Type 0} (q : Outcome A) (rule : ℕ → Rule A) (ts : Tokens) → Alike true q rule ts → Alike false q rule ts
@@ -185,7 +188,7 @@ loosely (Ok y) rule ts q = record {
   are = q.are;
   alike = q.alike;
 }
-loosely (Err e) rule ts (deep before v rest is fault) = deep before v rest is fault
+loosely (Err e) rule ts (deep before v rest is some fault g) = deep before v rest is tt fault g
 loosely (Err e) rule ts (unexpected before v rest is some fault g) = unexpected before v rest is tt fault g
 
 -- ---- single steps
@@ -205,9 +208,25 @@ unfolding refusal kind place
 refuse_alike [] a = absurd a
 refuse_alike (t ∷ r) a = unexpected [] t r refl tt refl (λ m other b. refl)
 
-pub deep_alike : {A : Type 0} (k : Bool) (rule : ℕ → Rule A) (ts : Tokens) → AreTokens ts → Alike k (Err (too_deep ts)) rule ts
-deep_alike k rule [] a = absurd a
-deep_alike k rule (t ∷ r) a = deep [] t r refl refl
+-- where nothing more may be open
+pub deep_alike : {A : Type 0} (rule : ℕ → Rule A) (ts : Tokens) → ((us : Tokens) → rule 0 us ≡ Err (too_deep us)) → AreTokens ts → Alike false (Err (too_deep ts)) rule ts
+unfolding too_deep kind place
+deep_alike rule [] h a = absurd a
+deep_alike rule (t ∷ r) h a = deep [] t r refl tt refl (λ other _ b. h (t ∷ other))
+
+-- the same where that is so but of a name that is written
+pub deep_unwritten : {A : Type 0} (rule : ℕ → Rule A) (t : Token) (r : Tokens) → ((other : Tokens) → is_written t.kind (kind other) ≡ false → rule 0 (t ∷ other) ≡ Err (too_deep (t ∷ other)))
+    → Alike false (Err (too_deep (t ∷ r))) rule (t ∷ r)
+unfolding too_deep kind place
+deep_unwritten rule t r h = deep [] t r refl tt refl (λ other none b. h other none)
+
+-- so much may be open at the family's first rule, and no less at another
+pub record More (room : ℕ) (more : ℕ → ℕ) : Type 0 where
+  pub first : more 0 ≡ room
+  pub low : (m : ℕ) → room ≤ more m
+
+pub one_less : (room : ℕ) (more : ℕ → ℕ) → More (suc room) more → More room (λ m. more m - 1)
+one_less room more h = record { first = omega (arith, h.first); low = λ m. omega (arith, h.low m) }
 
 next_past : (ts : Tokens) → (IsLast (kind ts) → ⊥) → AreTokens ts → AreTokens (next ts) × (suc (length (next ts)) ≤ length ts)
 unfolding kind next

@@ -1,5 +1,5 @@
 -- Expressions are read alike of tokens that begin alike, and where more may be open.
-use Rattle.std.proofs.Common.{◌≡◌, ℕ, zero, suc, ◌-◌, ◌≤◌, Bool, true, false, cond, if◌then◌else◌, List, [], ◌∷◌, Option, Some, None, Ok, Err, refl, sym, subst, ap, ◌∙◌, eqb-true, true≢false, arith}
+use Rattle.std.proofs.Common.{◌≡◌, ℕ, zero, suc, ◌-◌, ◌<◌, ◌≤◌, Bool, true, false, cond, if◌then◌else◌, List, [], ◌∷◌, Option, Some, None, Ok, Err, refl, sym, subst, ap, ◌∙◌, eqb-true, true≢false, arith}
 use Rattle.std.specs.Prelude.{◌==◌}
 use Rattle.sync_tokens.specs.Spellable.{IsLast, AreTokens}
 use Rattle.sync_tokens.specs.declared.place.Place.{Place}
@@ -16,7 +16,7 @@ use Rattle.sync_syntax.specs.declared.tree.Suffix.TheVariants as suffixes
 use Rattle.sync_syntax.specs.Reading.{Tokens, Rule, ◌>>=◌, pure, take, kind, next, place, eat, expect, name, too_deep}
 use Rattle.sync_syntax.specs.Operators.{prefix}
 use Rattle.sync_syntax.specs.Expressions.{key_by, key, word_by, followed, chained, list, member, members, bracketed, primary_by, primary, suffix, all_suffixes, postfix, prefixed, unary_by, unary, tails, chain, choice, opened, nested, separated_in, some_members}
-use Rattle.sync_syntax.proofs.Alike.{Alike, bind_alike, first_alike, all_alike, loosely, pure_alike, refuse_alike, deep_alike, taken_alike, kind_alike, eat_alike, expect_alike, name_alike}
+use Rattle.sync_syntax.proofs.Alike.{Alike, More, one_less, bind_alike, first_alike, all_alike, loosely, pure_alike, refuse_alike, deep_alike, taken_alike, kind_alike, eat_alike, expect_alike, name_alike}
 use Rattle.sync_syntax.proofs.Loops.{separated_alike, suffixes_alike, tails_alike}
 use Rattle.sync_syntax.proofs.Pasts.{nested_goes, member_goes, suffix_goes, chain_goes}
 use Rattle.sync_syntax.proofs.Turns.{deeper}
@@ -55,7 +55,7 @@ more_room : (r s : ℕ) → r ≤ s → (r == 0) ≡ false → (b : Bool) → (s
 more_room r s low some true is = let none : r ≡ 0 = (let zero_too : s ≡ 0 = eqb-true s 0 is in omega arith) in absurd (true≢false (sym (rw none refl) ∙ some))
 more_room r s low some false is = refl
 
-module _ (room : ℕ) (more : ℕ → ℕ) (low : (m : ℕ) → room ≤ more m)
+module _ (room : ℕ) (more : ℕ → ℕ) (low : More room more)
     (hn : (o : Bool) (ts : Tokens) → AreTokens ts → Alike false (nested room o ts) (λ m. nested (more m) o) ts) where
   abbrev n : Bool → Rule Expr
   n = nested room
@@ -116,11 +116,12 @@ module _ (room : ℕ) (more : ℕ → ℕ) (low : (m : ℕ) → room ≤ more m)
 
   prefixed_by : (b : Bool) (p : Place) (op : Prefix) (ts : Tokens) → (room == 0) ≡ b → prefix (kind ts) ≡ Some op → AreTokens ts
       → Alike false (cond b (λ us. Err (too_deep us)) (behind n p op) ts) (λ m. prefixed (more m) (other_n m) p op) ts
-  prefixed_by true p op ts none is a = deep_alike false (λ m. prefixed (more m) (other_n m) p op) ts a
+  prefixed_by true p op ts none is a =
+      deep_alike (λ m. prefixed (more m) (other_n m) p op) ts (λ us. ap (λ c. cond c (λ vs. Err (too_deep vs)) (behind (other_n 0) p op) us) (ap (λ k. k == 0) low.first ∙ none)) a
   prefixed_by false p op ts some is a =
       let other : IsLast (kind ts) → ⊥ = some_prefix (kind ts) op is in
       all_alike (λ m. prefixed (more m) (other_n m) p op) (λ m. behind (other_n m) p op)
-      (λ m us _. ap (λ c. cond c (λ vs. Err (too_deep vs)) (behind (other_n m) p op) us) (more_room room (more m) (low m) some (more m == 0) refl)) false (behind n p op ts) ts a
+      (λ m us _. ap (λ c. cond c (λ vs. Err (too_deep vs)) (behind (other_n m) p op) us) (more_room room (more m) (low.low m) some (more m == 0) refl)) false (behind n p op ts) ts a
       (loosely (((n true >>= λ x. pure (e.Prefix p op x))) (next ts)) (λ m us. (((other_n m) true >>= λ x. pure (e.Prefix p op x))) (next us)) ts (taken_alike ((n true >>= λ x. pure (e.Prefix p op x))) (λ m. ((other_n m) true >>= λ x. pure (e.Prefix p op x))) ts (other) a (λ a26 _. bind_alike false ((n true) (next ts)) (λ m. (other_n m) true) (λ x. pure (e.Prefix p op x)) (λ m x. pure (e.Prefix p op x)) (next ts) (hn true (next ts) a26) (λ x us27 _ a27. pure_alike (e.Prefix p op x) us27 a27))))
 
   prefixed_alike : (p : Place) (op : Prefix) (ts : Tokens) → prefix (kind ts) ≡ Some op → AreTokens ts → Alike false (prefixed room n p op ts) (λ m. prefixed (more m) (other_n m) p op) ts
@@ -171,21 +172,21 @@ module _ (room : ℕ) (more : ℕ → ℕ) (low : (m : ℕ) → room ≤ more m)
       (postfix_alike true (t ∷ r) a (name_primary x (t ∷ r) is a)))
 
 -- an expression, or the operand of a prefix operator, where so much may be open and where more may be
-pub nested_alike : (room : ℕ) (more : ℕ → ℕ) → ((m : ℕ) → room ≤ more m) → (o : Bool) (ts : Tokens) → AreTokens ts → Alike false (nested room o ts) (λ m. nested (more m) o) ts
+pub nested_alike : (room : ℕ) (more : ℕ → ℕ) → More room more → (o : Bool) (ts : Tokens) → AreTokens ts → Alike false (nested room o ts) (λ m. nested (more m) o) ts
 unfolding nested
-nested_alike zero more low o ts a = deep_alike false (λ m. nested (more m) o) ts a
+nested_alike zero more low o ts a = deep_alike (λ m. nested (more m) o) ts (λ us. subst (λ (k : ℕ). nested k o us ≡ Err (too_deep us)) (sym low.first) refl) a
 nested_alike (suc room) more low o ts a =
-    let less : (m : ℕ) → room ≤ more m - 1 = λ m. omega (arith, low m) in
-    all_alike (λ m. nested (more m) o) (λ m. opened (more m - 1) (nested (more m - 1)) o) (λ m us _. deeper (λ k. nested k o us) (more m) (omega (arith, low m))) false (opened room (nested room) o ts) ts a
+    let less : More room (λ m. more m - 1) = one_less room more low in
+    all_alike (λ m. nested (more m) o) (λ m. opened (more m - 1) (nested (more m - 1)) o) (λ m us _. deeper (λ k. nested k o us) (more m) (omega (arith, low.low m))) false (opened room (nested room) o ts) ts a
     (opened_alike room (λ m. more m - 1) less (nested_alike room (λ m. more m - 1) less) o ts a)
 
--- the same at a name, which is taken
-pub name_nested : (room : ℕ) (more : ℕ → ℕ) → ((m : ℕ) → room ≤ more m) → (x : List ℕ) (ts : Tokens) → kind ts ≡ kinds.Name x → AreTokens ts
+-- the same at a name, which is taken where something may be open
+pub name_nested : (room : ℕ) (more : ℕ → ℕ) → More room more → 0 < room → (x : List ℕ) (ts : Tokens) → kind ts ≡ kinds.Name x → AreTokens ts
     → Alike true (nested room false ts) (λ m. nested (more m) false) ts
 unfolding nested opened
-name_nested zero more low x ts is a = deep_alike true (λ m. nested (more m) false) ts a
-name_nested (suc room) more low x ts is a =
-    let less : (m : ℕ) → room ≤ more m - 1 = λ m. omega (arith, low m) in
-    all_alike (λ m. nested (more m) false) (λ m. choice (more m - 1) (nested (more m - 1))) (λ m us _. deeper (λ k. nested k false us) (more m) (omega (arith, low m))) true (choice room (nested room) ts) ts a
+name_nested zero more low some x ts is a = absurd (omega (arith, some))
+name_nested (suc room) more low some x ts is a =
+    let less : More room (λ m. more m - 1) = one_less room more low in
+    all_alike (λ m. nested (more m) false) (λ m. choice (more m - 1) (nested (more m - 1))) (λ m us _. deeper (λ k. nested k false us) (more m) (omega (arith, low.low m))) true (choice room (nested room) ts) ts a
     (choice_alike room (λ m. more m - 1) less (nested_alike room (λ m. more m - 1) less) true ts a
     (name_unary room (λ m. more m - 1) less (nested_alike room (λ m. more m - 1) less) x ts is a))

@@ -1,5 +1,5 @@
 -- Statements and programs are read alike of tokens that begin alike, and where more may be open.
-use Rattle.std.proofs.Common.{◌≡◌, ℕ, zero, suc, ◌-◌, ◌≤◌, Bool, true, false, cond, if◌then◌else◌, List, [], ◌∷◌, Option, Some, None, Ok, refl, sym, subst, ap, ◌∙◌, arith}
+use Rattle.std.proofs.Common.{◌≡◌, ℕ, zero, suc, ◌-◌, ◌<◌, ◌≤◌, nat_lt, is_some, Bool, true, false, cond, if◌then◌else◌, List, [], ◌∷◌, Option, Some, None, Ok, Err, refl, sym, subst, ap, ◌∙◌, arith, ltb-true, ltb-false}
 use Rattle.sync_tokens.specs.Spellable.{IsLast, AreTokens}
 use Rattle.sync_tokens.specs.declared.place.Place.{Place}
 use Rattle.sync_tokens.specs.declared.token.Kind.{Kind}
@@ -20,11 +20,13 @@ use Rattle.sync_syntax.specs.declared.tree.Start.TheVariants as starts
 use Rattle.sync_syntax.specs.declared.tree.Statement.{Statement}
 use Rattle.sync_syntax.specs.declared.tree.Statement.TheVariants as s
 use Rattle.sync_syntax.specs.declared.tree.Program.{Program}
-use Rattle.sync_syntax.specs.Reading.{Tokens, Outcome, Rule, ◌>>=◌, pure, take, kind, next, second, place, eat, eat_word, expect, expect_word, name}
+use Rattle.sync_syntax.specs.Reading.{Tokens, Outcome, Rule, ◌>>=◌, pure, take, kind, next, second, place, eat, eat_word, expect, expect_word, name, too_deep}
 use Rattle.sync_syntax.specs.Operators.{declares_by, writing_by, is_name}
 use Rattle.sync_syntax.specs.Statements.{named, ending, end_by, end, expr, given, declared, more_declared, declaration, written, write, value, write_or_value, simple, expr_unless, simple_unless, returned, return_at, throw, declare, only_simple, declare_or_simple, plain, jump, block, otherwise, choose, repeat, each, for_declared, for_simple, for_by, for_at, word_by, sign_by, statement_by, opened, statement, block_in, own_name_by, own_name, second_parameter, head}
+use Rattle.sync_syntax.specs.Faults.{is_written}
 use Rattle.sync_syntax.specs.Grammar as g
-use Rattle.sync_syntax.proofs.Alike.{Alike, bind_alike, first_alike, two_alike, all_alike, loosely, pure_alike, refuse_alike, deep_alike, taken_alike, kind_alike, see_alike, eat_alike, eat_word_alike, expect_alike, expect_word_alike, name_alike}
+use Rattle.sync_syntax.specs.Expressions.{nested}
+use Rattle.sync_syntax.proofs.Alike.{Alike, More, one_less, bind_alike, first_alike, two_alike, all_alike, loosely, pure_alike, refuse_alike, deep_alike, deep_unwritten, taken_alike, kind_alike, see_alike, eat_alike, eat_word_alike, expect_alike, expect_word_alike, name_alike}
 use Rattle.sync_syntax.proofs.AlikeExpressions.{nested_alike, name_nested}
 use Rattle.sync_syntax.proofs.CompleteStatements.{read_same, Heading, made}
 use Rattle.sync_syntax.proofs.Loops.{separated_alike, block_alike}
@@ -102,11 +104,11 @@ name_of : (k : Kind) → is_name k ≡ true → NameOf k
 name_of (kinds.Name n) h = record { name = n; is = refl }
 name_of _ h = absurd cc
 
-by_bool : {P : Type 0} (b : Bool) → (b ≡ true → P) → (b ≡ false → P) → P
-by_bool true f g = f refl
-by_bool false f g = g refl
+none_some : {A : Type 0} (o : Option A) → is_some o ≡ false → o ≡ None
+none_some None h = refl
+none_some (Some a) h = absurd cc
 
-module _ (room : ℕ) (more : ℕ → ℕ) (low : (m : ℕ) → room ≤ more m) where
+module _ (room : ℕ) (more : ℕ → ℕ) (low : More room more) where
   expr_alike : (ts : Tokens) → AreTokens ts → Alike false (expr room ts) (λ m. expr (more m)) ts
   expr_alike ts a = nested_alike room more low false ts a
 
@@ -144,13 +146,42 @@ module _ (room : ℕ) (more : ℕ → ℕ) (low : (m : ℕ) → room ≤ more m)
   value_alike k (t ∷ r) a h =
       first_alike (λ m. value (more m)) (λ m. (expr (more m) >>= λ x. pure (simples.Value t.place x))) t r (λ m other _. refl) k (value room (t ∷ r)) (bind_alike k ((expr room) (t ∷ r)) (λ m. expr (more m)) (λ x. pure (simples.Value t.place x)) (λ m x. pure (simples.Value t.place x)) (t ∷ r) (h) (λ x us9 _ a9. pure_alike (simples.Value t.place x) us9 a9))
 
-  write_or_value_alike : (o : Option Writing) (x : List ℕ) (ts : Tokens) → kind ts ≡ kinds.Name x → writing_by (second ts) ≡ o → AreTokens ts
+  write_or_value_alike : (o : Option Writing) (x : List ℕ) (ts : Tokens) → kind ts ≡ kinds.Name x → writing_by (second ts) ≡ o → (o ≡ None → 0 < room) → AreTokens ts
       → Alike true (write_or_value room o ts) (λ m. write_or_value (more m) o) ts
-  write_or_value_alike None x ts is h a = value_alike true ts a (name_nested room more low x ts is a)
-  write_or_value_alike (Some w) x ts is h a = write_alike w x ts is h a
+  write_or_value_alike None x ts is h some a = value_alike true ts a (name_nested room more low (some refl) x ts is a)
+  write_or_value_alike (Some w) x ts is h some a = write_alike w x ts is h a
 
   abbrev simple_choice : ℕ → Bool → Rule Simple
   simple_choice room b us = cond b (write_or_value room (writing_by (second us)) us) (value room us)
+
+  value_none : (r : ℕ) → r ≡ 0 → (us : Tokens) → value r us ≡ Err (too_deep us)
+  unfolding value nested
+  value_none r e us = subst (λ (k : ℕ). value k us ≡ Err (too_deep us)) (sym e) refl
+
+  unwritten : (r : ℕ) (t : Token) (x : List ℕ) (other : Tokens) → t.kind ≡ kinds.Name x → is_written t.kind (kind other) ≡ false → simple r (t ∷ other) ≡ value r (t ∷ other)
+  unfolding simple second next kind writing_by
+  unwritten r t x [] is none = rw is refl
+  unwritten r t x (w ∷ ws) is none =
+      let h : writing_by w.kind ≡ None = none_some (writing_by w.kind) (subst (λ k. is_written k w.kind ≡ false) is none) in
+      ap (λ k. cond (is_name k) (write_or_value r (writing_by w.kind) (t ∷ w ∷ ws)) (value r (t ∷ w ∷ ws))) is ∙ ap (λ o. write_or_value r o (t ∷ w ∷ ws)) h
+
+  name_taken : (o : Option Writing) (x : List ℕ) (t u : Token) (r : Tokens) → t.kind ≡ kinds.Name x → is_name t.kind ≡ true → writing_by u.kind ≡ o → (o ≡ None → 0 < room)
+      → AreTokens (t ∷ u ∷ r) → Alike false (write_or_value room o (t ∷ u ∷ r)) (λ m. simple (more m)) (t ∷ u ∷ r)
+  unfolding simple second next kind
+  name_taken o x t u r is named h some a =
+      loosely (write_or_value room o (t ∷ u ∷ r)) (λ m. simple (more m)) (t ∷ u ∷ r)
+      (two_alike (λ m. simple (more m)) (λ m. write_or_value (more m) o) t u r (λ m other. ap (λ c. simple_choice (more m) c (t ∷ u ∷ other)) named ∙ ap (λ w. write_or_value (more m) w (t ∷ u ∷ other)) h)
+      (write_or_value room o (t ∷ u ∷ r)) (write_or_value_alike o x (t ∷ u ∷ r) is h some a))
+
+  -- by whether the name is written, and whether something may be open
+  name_by_room : (o : Option Writing) (b : Bool) (x : List ℕ) (t u : Token) (r : Tokens) → t.kind ≡ kinds.Name x → is_name t.kind ≡ true → writing_by u.kind ≡ o → nat_lt 0 room ≡ b
+      → AreTokens (t ∷ u ∷ r) → Alike false (write_or_value room o (t ∷ u ∷ r)) (λ m. simple (more m)) (t ∷ u ∷ r)
+  name_by_room None false x t u r is named h none a =
+      let zero_room : room ≡ 0 = (let low : room ≤ 0 = ltb-false 0 room none in omega arith) in
+      subst (λ (q : Outcome Simple). Alike false q (λ m. simple (more m)) (t ∷ u ∷ r)) (sym (value_none room zero_room (t ∷ u ∷ r)))
+      (deep_unwritten (λ m. simple (more m)) t (u ∷ r) (λ other w. unwritten (more 0) t x other is w ∙ value_none (more 0) (low.first ∙ zero_room) (t ∷ other)))
+  name_by_room None true x t u r is named h some a = name_taken None x t u r is named h (λ _. ltb-true 0 room some) a
+  name_by_room (Some w) b x t u r is named h some a = name_taken (Some w) x t u r is named h (λ e. absurd cc) a
 
   simple_by : (b : Bool) (ts : Tokens) → is_name (kind ts) ≡ b → AreTokens ts → Alike false (simple_choice room b ts) (λ m. simple (more m)) ts
   unfolding simple second next kind
@@ -159,10 +190,7 @@ module _ (room : ℕ) (more : ℕ → ℕ) (low : (m : ℕ) → room ≤ more m)
       first_alike (λ m. simple (more m)) (λ m. value (more m)) t r (λ m other _. ap (λ b. simple_choice (more m) b (t ∷ other)) is) false (value room (t ∷ r)) (value_alike false (t ∷ r) a (expr_alike (t ∷ r) a))
   simple_by true (t ∷ []) is a = let n : NameOf t.kind = name_of t.kind is in absurd (subst IsLast n.is a)
   simple_by true (t ∷ u ∷ r) is a =
-      let n : NameOf t.kind = name_of t.kind is in
-      loosely (write_or_value room (writing_by u.kind) (t ∷ u ∷ r)) (λ m. simple (more m)) (t ∷ u ∷ r)
-      (two_alike (λ m. simple (more m)) (λ m. write_or_value (more m) (writing_by u.kind)) t u r (λ m other. ap (λ b. simple_choice (more m) b (t ∷ u ∷ other)) is)
-      (write_or_value room (writing_by u.kind) (t ∷ u ∷ r)) (write_or_value_alike (writing_by u.kind) n.name (t ∷ u ∷ r) n.is refl a))
+      let n : NameOf t.kind = name_of t.kind is in name_by_room (writing_by u.kind) (nat_lt 0 room) n.name t u r n.is is refl refl a
 
   simple_alike : (ts : Tokens) → AreTokens ts → Alike false (simple room ts) (λ m. simple (more m)) ts
   unfolding simple
@@ -216,7 +244,7 @@ jump_alike false ts w is a = refuse_alike ts a
 jumps_alike : (l : Bool) (x : Statement) (ts : Tokens) (w : Word) → kind ts ≡ kinds.Word w → AreTokens ts → Alike false ((jump l >>= λ _. pure x) ts) (λ m. (jump l >>= λ _. pure x)) ts
 jumps_alike l x ts w is a = bind_alike false (jump l ts) (λ m. jump l) (λ _. pure x) (λ m _. pure x) ts (jump_alike l ts w is a) (λ _ us _ b. pure_alike x us b)
 
-module _ (room : ℕ) (more : ℕ → ℕ) (low : (m : ℕ) → room ≤ more m)
+module _ (room : ℕ) (more : ℕ → ℕ) (low : More room more)
     (hi : (l : Bool) (ts : Tokens) → AreTokens ts → Alike false (statement room l ts) (λ m. statement (more m) l) ts) where
   all_block_alike : (l : Bool) (ts : Tokens) → AreTokens ts → Alike false (block room (statement room) l ts) (λ m. block (more m) (statement (more m)) l) ts
   all_block_alike l ts a = block_alike room more (statement room) (λ m. statement (more m)) l (hi l) (statement_goes room l) (λ m. statement_goes (more m) l) ts a
@@ -292,15 +320,15 @@ module _ (room : ℕ) (more : ℕ → ℕ) (low : (m : ℕ) → room ≤ more m)
       first_alike (λ m. opened (more m) (statement (more m)) l) (λ m. statement_by (more m) (statement (more m)) t.place l t.kind) t r (λ m other _. refl) false (opened room (statement room) l (t ∷ r))
       (statement_by_alike t.place l t.kind (t ∷ r) refl a)
 
-statement_alike : (room : ℕ) (more : ℕ → ℕ) → ((m : ℕ) → room ≤ more m) → (l : Bool) (ts : Tokens) → AreTokens ts → Alike false (statement room l ts) (λ m. statement (more m) l) ts
+statement_alike : (room : ℕ) (more : ℕ → ℕ) → More room more → (l : Bool) (ts : Tokens) → AreTokens ts → Alike false (statement room l ts) (λ m. statement (more m) l) ts
 unfolding statement
-statement_alike zero more low l ts a = deep_alike false (λ m. statement (more m) l) ts a
+statement_alike zero more low l ts a = deep_alike (λ m. statement (more m) l) ts (λ us. subst (λ (k : ℕ). statement k l us ≡ Err (too_deep us)) (sym low.first) refl) a
 statement_alike (suc room) more low l ts a =
-    let less : (m : ℕ) → room ≤ more m - 1 = λ m. omega (arith, low m) in
-    all_alike (λ m. statement (more m) l) (λ m. opened (more m - 1) (statement (more m - 1)) l) (λ m us _. deeper (λ k. statement k l us) (more m) (omega (arith, low m))) false (opened room (statement room) l ts) ts a
+    let less : More room (λ m. more m - 1) = one_less room more low in
+    all_alike (λ m. statement (more m) l) (λ m. opened (more m - 1) (statement (more m - 1)) l) (λ m us _. deeper (λ k. statement k l us) (more m) (omega (arith, low.low m))) false (opened room (statement room) l ts) ts a
     (opened_alike room (λ m. more m - 1) less (statement_alike room (λ m. more m - 1) less) l ts a)
 
-block_in_alike : (room : ℕ) (more : ℕ → ℕ) → ((m : ℕ) → room ≤ more m) → (ts : Tokens) → AreTokens ts → Alike false (block_in room false ts) (λ m. block_in (more m) false) ts
+block_in_alike : (room : ℕ) (more : ℕ → ℕ) → More room more → (ts : Tokens) → AreTokens ts → Alike false (block_in room false ts) (λ m. block_in (more m) false) ts
 block_in_alike room more low ts a = all_block_alike room more low (statement_alike room more low) false ts a
 
 -- ---- programs
@@ -326,14 +354,14 @@ head_alike ts a = bind_alike false ((expect_word words.Function) ts) (λ m. expe
 abbrev pub body_in : ℕ → Rule (List Statement)
 body_in room = (expect signs.BraceOpen >>= λ _. (block_in room false >>= λ found. (eat signs.Semicolon >>= λ b. if b then (end >>= λ _. pure (found)) else (end >>= λ _. pure (found)))))
 
-body_alike : (room : ℕ) (more : ℕ → ℕ) → ((m : ℕ) → room ≤ more m) → (ts : Tokens) → AreTokens ts → Alike false (body_in room ts) (λ m. body_in (more m)) ts
+body_alike : (room : ℕ) (more : ℕ → ℕ) → More room more → (ts : Tokens) → AreTokens ts → Alike false (body_in room ts) (λ m. body_in (more m)) ts
 body_alike room more low ts a = bind_alike false ((expect signs.BraceOpen) ts) (λ m. expect signs.BraceOpen) (λ _. (block_in room false >>= λ found. (eat signs.Semicolon >>= λ b. if b then (end >>= λ _. pure (found)) else (end >>= λ _. pure (found))))) (λ m _. (block_in (more m) false >>= λ found. (eat signs.Semicolon >>= λ b. if b then (end >>= λ _. pure (found)) else (end >>= λ _. pure (found))))) ts (expect_alike signs.BraceOpen ts a) (λ _ us58 _ a58. bind_alike false ((block_in room false) us58) (λ m. block_in (more m) false) (λ found. (eat signs.Semicolon >>= λ b. if b then (end >>= λ _. pure (found)) else (end >>= λ _. pure (found)))) (λ m found. (eat signs.Semicolon >>= λ b. if b then (end >>= λ _. pure (found)) else (end >>= λ _. pure (found)))) us58 (block_in_alike room more low us58 a58) (λ found us59 _ a59. eat_alike signs.Semicolon ((end >>= λ _. pure (found))) ((end >>= λ _. pure (found))) (λ m. (end >>= λ _. pure (found))) (λ m. (end >>= λ _. pure (found))) us59 a59 (λ _ a60 _. bind_alike false ((end) (next us59)) (λ m. end) (λ _. pure (found)) (λ m _. pure (found)) (next us59) (end_alike (next us59) a60) (λ _ us61 _ a61. pure_alike (found) us61 a61)) (λ _. bind_alike false ((end) us59) (λ m. end) (λ _. pure (found)) (λ m _. pure (found)) us59 (end_alike us59 a59) (λ _ us62 _ a62. pure_alike (found) us62 a62))))
 
 -- a program, where so much more may be open in its body
 abbrev pub program_in : ℕ → Rule Program
 program_in room = head >>= λ h. (λ us. (body_in room >>= λ found. pure (made h (place us) found)) us)
 
-rest_alike : (room : ℕ) (more : ℕ → ℕ) → ((m : ℕ) → room ≤ more m) → (h : Heading) (ts : Tokens) → AreTokens ts
+rest_alike : (room : ℕ) (more : ℕ → ℕ) → More room more → (h : Heading) (ts : Tokens) → AreTokens ts
     → Alike false ((body_in room >>= λ found. pure (made h (place ts) found)) ts)
     (λ m us. (body_in (more m) >>= λ found. pure (made h (place us) found)) us) ts
 unfolding place
@@ -346,7 +374,7 @@ rest_alike room more low h (t ∷ r) a =
     (λ m found. pure (made h t.place found)) (t ∷ r) (body_alike room more low (t ∷ r) a)
     (λ found us _ b. pure_alike (made h t.place found) us b))
 
-pub program_alike : (room : ℕ) (more : ℕ → ℕ) → ((m : ℕ) → room ≤ more m) → (ts : Tokens) → AreTokens ts → Alike false (program_in room ts) (λ m. program_in (more m)) ts
+pub program_alike : (room : ℕ) (more : ℕ → ℕ) → More room more → (ts : Tokens) → AreTokens ts → Alike false (program_in room ts) (λ m. program_in (more m)) ts
 program_alike room more low ts a =
     bind_alike false (head ts) (λ m. head) (λ h us. (body_in room >>= λ found. pure (made h (place us) found)) us)
     (λ m h us. (body_in (more m) >>= λ found. pure (made h (place us) found)) us) ts (head_alike ts a)

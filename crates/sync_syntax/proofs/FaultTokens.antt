@@ -1,6 +1,6 @@
 -- A text that is read as no program has its fault at the first token at fault: some program begins with the tokens before it, and none
 -- with those up to one that no rule reads.
-use Rattle.std.proofs.Common.{◌≡◌, inl, inr, ◌≢◌, ℕ, suc, ◌+◌, ◌≤◌, nat_lt, Bool, true, false, cond, List, [], ◌∷◌, ◌++◌, length, Ok, Err, Result, IfErr, refl, sym, subst, ap, ◌∙◌, append_assoc, le-ltb, arith}
+use Rattle.std.proofs.Common.{◌≡◌, inl, inr, ◌≢◌, ℕ, suc, ◌+◌, ◌<◌, ◌≤◌, nat_lt, Bool, true, false, cond, List, [], ◌∷◌, ◌++◌, length, Ok, Err, Result, IfErr, refl, sym, subst, ap, ◌∙◌, append_assoc, le-ltb, ltb-true, ltb-false, arith}
 use Rattle.std.specs.Str.{IsUtf8, chars}
 use Rattle.std.proofs.lemmas.Str.{encodes-chars, length-le-encodes}
 use Rattle.sync_tokens.specs.Places.{start, IsBefore}
@@ -17,9 +17,10 @@ use Rattle.sync_syntax.specs.declared.tree.Program.{Program}
 use Rattle.sync_syntax.specs.declared.tree.Statement.{Statement}
 use Rattle.sync_syntax.specs.Depth.{depth}
 use Rattle.sync_syntax.specs.Faults as f
-use Rattle.sync_syntax.specs.Faults.{NoneBegins, SomeBegins, IsFaultOf, FaultsAreFirst}
+use Rattle.sync_syntax.specs.Faults.{NoneBegins, NoneWithin, is_written, SomeBegins, IsFaultOf, FaultsAreFirst}
 use Rattle.sync_syntax.specs.Grammar as g
 use Rattle.sync_syntax.specs.Grammar.{Takes, IsTail, IsProgram}
+use Rattle.sync_syntax.specs.Laws.{max_depth}
 use Rattle.sync_syntax.specs.Reading.{Tokens, Outcome, Rule, and_then, ◌>>=◌, pure, kind, place, sees, after, expect, refusal, too_deep}
 use Rattle.sync_syntax.specs.Statements.{block_in, body_room, end, head, body, program, only, max_len, parsed, Gives}
 use Rattle.sync_syntax.proofs.Alike.{Alike, Stops, deep, unexpected}
@@ -78,6 +79,17 @@ none_begins before t e h rest p a d =
     let found : only (program_in (body_room + depth c) (before ++ t ∷ rest)) ≡ Ok p = program_in_read c (body_room + depth c) (omega arith) b in
     let stops : only (program_in (body_room + depth c) (before ++ t ∷ rest)) ≡ Err e = ap only (h (depth c) rest b) in
     absurd cc
+
+at_most : (n : ℕ) → (b : Bool) → nat_lt max_depth n ≡ b → (b ≡ false → ⊥) → max_depth < n
+at_most n true is h = ltb-true max_depth n is
+at_most n false is h = absurd (h refl)
+
+none_within : (before : Tokens) (t : Token) (e : ParseFault)
+    → ((other : Tokens) → is_written t.kind (kind other) ≡ false → AreTokens (before ++ t ∷ other) → program_in body_room (before ++ t ∷ other) ≡ Err e) → NoneWithin before t
+none_within before t e h rest p none a d =
+    let stops : only (program_in body_room (before ++ t ∷ rest)) ≡ Err e = ap only (h rest none a) in
+    at_most (depth d) (nat_lt max_depth (depth d)) refl
+    (λ low. (let found : only (program_in body_room (before ++ t ∷ rest)) ≡ Ok p = program_in_read d body_room (ltb-false max_depth (depth d) low) a in absurd cc))
 
 -- ---- two tokens at one place are one
 
@@ -160,7 +172,8 @@ at_place ts e before t r split is h a rise =
 
 stops_at : (ts : Tokens) (e : ParseFault) → AreTokens ts → Rise ts → Halts (Spells ProgramOf AtEnd) ts e → Stops false (λ m. program_in (body_room + m)) ts e → IsFaultOf ts e
 unfolding refusal too_deep kind place
-stops_at ts e a rise halts (deep before t r is fault) = subst (IsFaultOf ts) (sym fault) (f.deep before t r is (at_place ts e before t r is (ap placed fault) halts a rise))
+stops_at ts e a rise halts (deep before t r is some fault h) =
+    subst (IsFaultOf ts) (sym fault) (f.deep before t r is (at_place ts e before t r is (ap placed fault) halts a rise) (none_within before t e h))
 stops_at ts e a rise halts (unexpected before t r is some fault h) =
     subst (IsFaultOf ts) (sym fault) (f.unexpected before t r is (at_place ts e before t r is (ap placed fault) halts a rise) (none_begins before t e h))
 
@@ -172,7 +185,7 @@ program_fault : (ts : Tokens) (e : ParseFault) → AreTokens ts → Rise ts → 
 program_fault ts e a rise is =
     let err : program ts ≡ Err e = only_fault (program ts) e is in
     let r : program_in body_room ts ≡ Err e = sym (program_is ts) ∙ err in
-    let alike : Alike false (program_in body_room ts) (λ m. program_in (body_room + m)) ts = program_alike body_room (λ m. body_room + m) (λ m. omega arith) ts a in
+    let alike : Alike false (program_in body_room ts) (λ m. program_in (body_room + m)) ts = program_alike body_room (λ m. body_room + m) (record { first = refl; low = λ m. omega arith }) ts a in
     let grows : Grows (λ _ _ _. Unit {0}) (Spells ProgramOf AtEnd) (program ts) ts = program_grows ts a in
     stops_at ts e a rise (subst (λ (q : Outcome Program). Grows (λ _ _ _. Unit {0}) (Spells ProgramOf AtEnd) q ts) err grows)
     (subst (λ (q : Outcome Program). Alike false q (λ m. program_in (body_room + m)) ts) r alike)
