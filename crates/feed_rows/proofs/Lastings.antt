@@ -1,5 +1,5 @@
 -- what lasts up to a place
-use Rattle.std.proofs.Common.{◌≡◌, ℕ, ◌+◌, ◌<◌, ◌≤◌, refl, sym, ◌∙◌, ap, subst, arith, Bool, true, false, ◌||◌, if◌then◌else◌, List, [], ◌∷◌, length, get_or, take, zero, suc, Option, Some, None}
+use Rattle.std.proofs.Common.{◌≡◌, ℕ, ◌+◌, ◌<◌, ◌≤◌, refl, sym, ◌∙◌, ap, subst, arith, Bool, true, false, ◌||◌, if◌then◌else◌, List, [], ◌∷◌, length, get_or, take, zero, suc, Option, Some}
 use Rattle.std.specs.Prelude.{String}
 use Rattle.std.specs.BTreeMap.{BTreeMap, get_by_text}
 use Rattle.std.specs.Global.{Global}
@@ -10,7 +10,6 @@ use Rattle.feed_rows.specs.declared.lasting.Lasting.{Lasting}
 use Rattle.sg_history.specs.View.{every, passes}
 use Rattle.grant_history.specs.declared.periods.Period.{Period}
 use Rattle.grant_history.specs.Periods.{periods_have}
-use Rattle.feed_rows.specs.declared.shown.Switch.{Switch}
 use Rattle.feed_rows.specs.declared.shown.Viewer.{Viewer}
 use Rattle.feed_rows.specs.declared.by_channels.Kept.{Kept}
 use Rattle.feed_rows.specs.Shown.{is_shown, AreSwitches, IsLastSwitch}
@@ -66,10 +65,6 @@ module _ (periods : List Period) (filter : Option (List (List ℕ))) (channels :
       by : (b : Bool) → passes filter (every ∷ channels) ≡ b → Lasts (is_shown periods filter channels) k l
       by true is = shown_through is lasts
       by false is = shown_never is none lasts.past
-
--- the last switch after a place, by the last one of all
-pub switched_after : (test : ℕ → Bool) (from to : ℕ) (switch : Switch) → IsLastSwitch test 0 to (Some switch) → switch.by ≤ from → IsLastSwitch test from to None
-switched_after test from to switch last early = λ j a b. last.3 j (omega (arith, a, early)) b
 
 -- what is kept once a list of channels was put in
 pub switches_put : (viewer : Viewer) (to : ℕ) (old new : BTreeMap (String Global) Kept) (name : List ℕ) (kept : Kept) → AreSwitches viewer to old

@@ -40,11 +40,6 @@ inserted row (first ∷ others) =
     ap (λ (es : List ((ℕ × ℕ) × Row)). match_ordering (key_cmp row.key first.key) (under_key row ∷ under_key first ∷ map under_key others) (((first.key.by, first.key.seq), row) ∷ map under_key others) (under_key first ∷ es)) (inserted row others)
     ∙ one_inserted (key_cmp row.key first.key) row first others (insert_over row others) refl
 
--- a row that is asked for is put in
-pub asked_inserted : (options : Options) (since : Key) (o : Option Row) (row : Row) (before : List Row) → o ≡ Some row → keeps options since row ≡ true → map under_key (insert_asked options since o before) ≡ map under_key (insert_over row before)
-asked_inserted options since o row before e k =
-    ap (λ (x : Option Row). map under_key (insert_asked options since x before)) e ∙ ap (λ (b : Bool). map under_key (if b then insert_over row before else before)) k
-
 -- the rows under their keys
 pub values_under : (rows : List Row) → map (λ (e : (ℕ × ℕ) × Row). e.1) (map under_key rows) ≡ rows
 values_under rows = map-map (λ (e : (ℕ × ℕ) × Row). e.1) under_key rows ∙ map-id rows
