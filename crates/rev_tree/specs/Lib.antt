@@ -2,6 +2,7 @@ pub mod Answer
 pub mod Extension
 pub mod Order
 pub mod OwnRev
+pub mod Layers
 pub mod Parts
 pub mod Rising
 pub mod Search

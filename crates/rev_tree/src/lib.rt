@@ -6,6 +6,7 @@ mod bound;
 mod extend;
 mod history;
 pub mod laws;
+mod layer;
 mod leaf;
 mod own;
 mod part;

@@ -7,33 +7,65 @@ ghost use Rattle.rev_tree.specs.Rising.{rises, is_within, last_where, last_alive
 ghost use Rattle.rev_tree.specs.Tree as trees;
 
 use crate::bound::Bound;
+use crate::layer::Layer;
 use crate::leaf::Leaf;
-use crate::part::Part;
-use crate::row::{self, Row};
+use crate::row::Row;
 use crate::tree::Node;
 use sg_names::RevId;
 use std::alloc::{AllocError, Global};
 use std::marker::Model;
 use std::sync::Arc;
 
-/// Nodes by rising revision, in rows of blocks of at most 64.
+/// The most nodes that stand without blocks.
+const MOST_FEW: usize = 64;
+
+/// A few nodes, or nodes in rows of blocks.
+#[derive(Drop)]
+pub enum Layers {
+    Few(Layer<Node>),
+    Many(Layer<Row<Row<Node>>>),
+}
+
+/// Nodes by rising revision: at most 64, or in rows of blocks of at most 64.
 #[derive(Drop)]
 pub struct RisingNodes {
-    rows: Vec<Arc<Row<Row<Node>>>>,
+    layers: Layers,
 }
 
 impl Model for RisingNodes {
-    ghost use Rattle.std.specs.Prelude.{List, IsTrue};
+    ghost use Rattle.std.specs.Prelude.{List};
     ghost use Rattle.rev_tree.specs.declared.tree.Node.{Node};
-    ghost use Rattle.rev_tree.specs.Rising.{rises};
-    ghost use Rattle.rev_tree.specs.Parts.{joined, are_sound};
+    ghost use Rattle.rev_tree.specs.Layers.{nodes_in};
 
     ghost Value = { List Node };
 
-    ghost view = { λ r. joined ⟦<Row<Row<Node>> as Part>⟧.nodes r.rows.items };
+    ghost view = { λ r. nodes_in r.layers };
+}
 
-    ghost invariant = { λ r. IsTrue (are_sound ⟦<Row<Row<Node>> as Part>⟧.is_sound r.rows.items)
-        × IsTrue (rises (joined ⟦<Row<Row<Node>> as Part>⟧.nodes r.rows.items)) };
+/// Some nodes, in rows of blocks where they are more than a few.
+fn few_or_many(nodes: Layer<Node>) -> Result<RisingNodes, AllocError>
+    ensures { IfOk result (λ made. made ≡ nodes) }
+{
+    if nodes.len() <= MOST_FEW {
+        return Ok(RisingNodes {
+            layers: Layers::Few(nodes),
+        });
+    }
+    let rows = rows_of(&nodes);
+    drop(nodes);
+    Ok(RisingNodes {
+        layers: Layers::Many(rows?),
+    })
+}
+
+/// Some nodes, in rows of blocks.
+fn rows_of(nodes: &Layer<Node>) -> Result<Layer<Row<Row<Node>>>, AllocError>
+    ensures { IfOk result (λ made. made ≡ nodes.now) }
+{
+    let blocks = nodes.in_rows()?;
+    let rows = blocks.in_rows();
+    drop(blocks);
+    rows
 }
 
 impl RisingNodes {
@@ -42,13 +74,16 @@ impl RisingNodes {
         ensures { result ≡ [] }
     {
         RisingNodes {
-            rows: Vec::new(alloc),
+            layers: Layers::Few(Layer::new(alloc)),
         }
     }
 
     /// The allocator of the nodes.
     pub fn allocator(&self) -> Global {
-        *self.rows.allocator()
+        match &self.layers {
+            Layers::Few(nodes) => nodes.allocator(),
+            Layers::Many(nodes) => nodes.allocator(),
+        }
     }
 
     /// The last node that is within a bound. Allocates nothing.
@@ -56,22 +91,30 @@ impl RisingNodes {
         ensures value { option_copied result ≡ last_where (is_within bound.now) self.now }
         ensures rises { IsTrue (rises self.now) }
     {
-        row::last_in(self.rows.as_slice(), bound)
+        match &self.layers {
+            Layers::Few(nodes) => nodes.last_within(bound),
+            Layers::Many(nodes) => nodes.last_within(bound),
+        }
     }
 
     /// The last node, or the last one that is not deleted. Allocates nothing.
     pub fn last_alive(&self, alive: bool) -> Option<&Node>
-        ensures value { option_copied result ≡ last_alive alive self.now }
-        ensures rises { IsTrue (rises self.now) }
+        ensures { option_copied result ≡ last_alive alive self.now }
     {
-        row::last_alive_in(self.rows.as_slice(), alive)
+        match &self.layers {
+            Layers::Few(nodes) => nodes.last_alive(alive),
+            Layers::Many(nodes) => nodes.last_alive(alive),
+        }
     }
 
     /// Puts the nodes as leaves at the end, the last one first.
     pub fn push_leaves(&self, leaves: &mut Vec<Leaf>) -> Result<(), AllocError>
         ensures { OnOk result (leaves.new.items ≡ leaves.old.items ++ falling self.now) }
     {
-        row::push_leaves_of(self.rows.as_slice(), leaves)
+        match &self.layers {
+            Layers::Few(nodes) => nodes.push_leaves(leaves),
+            Layers::Many(nodes) => nodes.push_leaves(leaves),
+        }
     }
 
     /// The node of a revision. Allocates nothing.
@@ -142,9 +185,14 @@ impl RisingNodes {
     pub fn copy(&self) -> Result<RisingNodes, AllocError>
         ensures { IfOk result (λ made. made ≡ self.now) }
     {
-        Ok(RisingNodes {
-            rows: row::copies(self.allocator(), self.rows.as_slice())?,
-        })
+        match &self.layers {
+            Layers::Few(nodes) => Ok(RisingNodes {
+                layers: Layers::Few(nodes.copy()?),
+            }),
+            Layers::Many(nodes) => Ok(RisingNodes {
+                layers: Layers::Many(nodes.copy()?),
+            }),
+        }
     }
 
     /// These nodes and a further one.
@@ -152,18 +200,26 @@ impl RisingNodes {
         requires { trees.knows self.now (arc_value node.now).rev ≡ false }
         ensures { IfOk result (λ made. made ≡ insert_node (arc_value node.now) self.now) }
     {
-        Ok(RisingNodes {
-            rows: row::put_in(self.allocator(), self.rows.as_slice(), node)?,
-        })
+        match &self.layers {
+            Layers::Few(nodes) => few_or_many(nodes.put(node)?),
+            Layers::Many(nodes) => Ok(RisingNodes {
+                layers: Layers::Many(nodes.put(node)?),
+            }),
+        }
     }
 
     /// These nodes without that of a revision.
     pub fn take_out(&self, rev: &RevId) -> Result<RisingNodes, AllocError>
         ensures { IfOk result (λ made. made ≡ without rev.now self.now) }
     {
-        Ok(RisingNodes {
-            rows: row::take_from(self.allocator(), self.rows.as_slice(), rev)?,
-        })
+        match &self.layers {
+            Layers::Few(nodes) => Ok(RisingNodes {
+                layers: Layers::Few(nodes.take_out(rev)?),
+            }),
+            Layers::Many(nodes) => Ok(RisingNodes {
+                layers: Layers::Many(nodes.take_out(rev)?),
+            }),
+        }
     }
 }
 

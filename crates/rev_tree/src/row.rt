@@ -192,7 +192,7 @@ fn row_of<P: Part>(alloc: Global, from: &[Arc<P>]) -> Result<Arc<Row<P>>, AllocE
 }
 
 /// The rows of some parts: none where there are none, two where there are too many for one.
-fn rows_of<P: Part>(alloc: Global, parts: &[Arc<P>]) -> Result<Vec<Arc<Row<P>>>, AllocError>
+pub fn rows_of<P: Part>(alloc: Global, parts: &[Arc<P>]) -> Result<Vec<Arc<Row<P>>>, AllocError>
     requires sound { IsTrue (are_sound P.is_sound parts.now) }
     requires rises { IsTrue (rises (joined P.nodes parts.now)) }
     ensures { IfOk result (λ rows. AreParts (λ row. joined P.nodes row.parts.items)
