@@ -1,5 +1,5 @@
 -- The printed text of a program that a text is, and what it is read as.
-use Rattle.std.proofs.Common.{◌≡◌, ℕ, ◌+◌, ◌^◌, ◌<◌, Bool, true, false, List, [], ◌∷◌, ◌++◌, length, refl, sym, subst, arith}
+use Rattle.std.proofs.Common.{◌≡◌, ℕ, ◌+◌, ◌^◌, ◌<◌, ◌≤◌, Bool, true, false, List, [], ◌∷◌, ◌++◌, length, Result, Ok, Err, OnOk, refl, sym, subst, arith}
 use Rattle.std.specs.Prelude.{IsUtf8, codes, decimal, flat_map, chars, ◌==◌}
 use Rattle.std.proofs.lemmas.Fmt.{IsAscii-decimal}
 use Rattle.std.proofs.lemmas.Str.{IsUtf8-append, IsUtf8-encode, IsUtf8-from_ascii, IsUtf8-nil, scalars-chars}
@@ -14,9 +14,11 @@ use Rattle.sync_tokens.specs.declared.token.Word.TheVariants as words
 use Rattle.sync_syntax.specs.declared.tree.Program.{Program}
 use Rattle.sync_syntax.specs.Grammar.{IsProgram}
 use Rattle.sync_syntax.specs.Laws.{ProgramsAreRead, GrammarIsUnambiguous, ReadIsProgram}
+use Rattle.sync_syntax.specs.Statements.{max_len}
+use Rattle.sync_syntax.specs.Texts.{HasText}
 use Rattle.sync_print.specs.declared.printer.Last.{Last}
 use Rattle.sync_print.specs.declared.printer.Last.TheVariants.{Opening}
-use Rattle.sync_print.specs.Laws.{placeless, PrintedIsReadBack, PrintedIsParsed}
+use Rattle.sync_print.specs.Laws.{placeless, IsReadAlike, IsReadBack, PrintedIsReadBack, PrintedIsParsed}
 use Rattle.sync_print.specs.Printing.{printed}
 use Rattle.sync_print.specs.Spelling.{word_text, escaped, quoted, spelling, left_by, joins, gap}
 use Rattle.sync_print.specs.Trees.{program}
@@ -128,3 +130,16 @@ printed_is_parsed tokens read unambiguous sound text u p d short =
       read = λ low. read (printed p) v short r.tree r.is low;
       alone = λ q h. unambiguous (printed p) v q r.tree (sound (printed p) q h) r.is;
     }
+
+-- ---- what a text is
+
+pub read_alike : PrintedIsReadBack → (p q : Program) (t : List ℕ) → HasText q → q ≡ p → t ≡ printed q → length t + 2 < 2 ^ 64 → IsReadAlike p
+read_alike law p q t h same is short =
+    subst IsReadAlike same (law h.text h.utf8 q h.is (subst (λ (z : List ℕ). length z + 2 < 2 ^ 64) is short))
+
+pub back_within : PrintedIsParsed → (p q : Program) → HasText q → q ≡ p → length (printed p) ≤ max_len → IsReadBack p
+back_within law p q h same = subst (λ r. length (printed r) ≤ max_len → IsReadBack r) same (law h.text h.utf8 q h.is)
+
+pub on_ok : {A E P : Type 0} (r : Result A E) → P → OnOk r P
+on_ok (Ok a) p = p
+on_ok (Err e) p = tt

@@ -27,11 +27,14 @@ abbrev pub TokensAreReadBack : Type 0
 TokensAreReadBack = (all ts : List Token) (p : Program) → IsProgram all p → kinds_of ts ≡ program p ++ kinds.End ∷ []
     → (r : Program) × IsProgram ts r × (placeless r ≡ placeless p)
 
+-- the printed text of a program is by the grammar a program that differs from it in its places alone
+abbrev pub IsReadAlike : Program → Type 0
+IsReadAlike p = (r : Program) × IsProgram (tokens_of (printed p)) r × (placeless r ≡ placeless p)
+
 -- The printed text of a program that a text is by the grammar, is by the grammar a program that differs from it in its places
 -- alone, however long it is and however much is open. Its length fits 64 bits.
 abbrev pub PrintedIsReadBack : Type 0
-PrintedIsReadBack = (text : List ℕ) → IsUtf8 text → (p : Program) → IsProgram (tokens_of text) p → length (printed p) + 2 < 2 ^ 64
-    → (r : Program) × IsProgram (tokens_of (printed p)) r × (placeless r ≡ placeless p)
+PrintedIsReadBack = (text : List ℕ) → IsUtf8 text → (p : Program) → IsProgram (tokens_of text) p → length (printed p) + 2 < 2 ^ 64 → IsReadAlike p
 
 -- what a program is read as from its printed text
 pub record IsReadBack (p : Program) : Type 0 where
