@@ -3,8 +3,7 @@
 use json_doc::DocText;
 use std::alloc::{AllocError, Global};
 use sync_print::print;
-use sync_syntax::tree::Program;
-use sync_syntax::{ParseFault, SyntaxWhy, parse};
+use sync_syntax::{ParseFault, Program, SyntaxWhy, parse};
 
 /// How many of so many printings gave a text.
 fn write(alloc: Global, program: &Program, count: u32) -> u32 {

@@ -15,8 +15,7 @@ use sg_history::{
 use sg_outside::Bytes;
 use std::alloc::Global;
 use sync_resolve::{Resolved, resolve};
-use sync_syntax::parse;
-use sync_syntax::tree::Program;
+use sync_syntax::{Program, parse};
 use write_path::{Ground, Shelf, SoloGround};
 
 /// The sync function by which revisions are judged: the one that a gateway has where its configuration has none.

@@ -17,8 +17,7 @@ use sg_outside::Memory;
 use std::alloc::{AllocError, Global};
 use std::sync::Arc;
 use sync_resolve::{ResolveFault, Resolved, resolve};
-use sync_syntax::tree::Program;
-use sync_syntax::{ParseFault, parse};
+use sync_syntax::{ParseFault, Program, parse};
 
 /// The sync function where the configuration has none.
 const DEFAULT_SYNC: &str = "function(doc, oldDoc) { channel(doc.channels); }";

@@ -17,7 +17,8 @@ use crate::statement::statements;
 use std::alloc::Global;
 use std::marker::Model;
 use sync_code::{ProgramCode, code_of_program};
-use sync_syntax::tree::{Declares, Program};
+use sync_syntax::Program;
+use sync_syntax::tree::{self, Declares};
 
 /// A program whose names all stand for variables, functions and methods, which contracts see as that
 /// program. Its code is kept beside it, in which each name stands for a slot.
@@ -63,7 +64,7 @@ impl Resolved {
 
 /// The parameters.
 #[tactic(auto, unfolding(crate::specs::Resolving::parameter_faults), using(crate::proofs::Earliest::earliest_append))]
-fn parameters(first: &mut Option<ResolveFault>, scope: &Scope, program: &Program)
+fn parameters(first: &mut Option<ResolveFault>, scope: &Scope, program: &tree::Program)
     ensures { first.new ≡ earliest first.old (spec.parameter_faults program.now scope.now) }
 {
     scope.once(first, Declares::Var, &program.first);
@@ -78,7 +79,7 @@ fn walk(
     alloc: Global,
     first: &mut Option<ResolveFault>,
     scope: &mut Scope,
-    program: &Program,
+    program: &tree::Program,
 ) -> Result<(), Memory>
     ensures { OnOk result (first.new ≡ earliest first.old
         (spec.parameter_faults program.now scope.old
@@ -91,7 +92,7 @@ fn walk(
 
 /// The first fault of a program's names.
 #[tactic(auto, unfolding(crate::specs::Resolving::faults))]
-fn first_fault(alloc: Global, program: &Program) -> Result<Option<ResolveFault>, Memory>
+fn first_fault(alloc: Global, program: &tree::Program) -> Result<Option<ResolveFault>, Memory>
     ensures { IfOk result (λ first. first ≡ earliest None (faults program.now)) }
 {
     let mut first = None;
@@ -105,7 +106,7 @@ fn first_fault(alloc: Global, program: &Program) -> Result<Option<ResolveFault>,
 }
 
 /// Whether a program's names have no fault, or else the first.
-fn check(alloc: Global, program: &Program) -> Result<(), ResolveFault>
+fn check(alloc: Global, program: &tree::Program) -> Result<(), ResolveFault>
     ensures ok { IfOk result (λ _. IsResolved program.now) }
     ensures fault { IfErr result (λ e. e ≢ Memory → IsFirst e (faults program.now)) }
 {
@@ -117,7 +118,7 @@ fn check(alloc: Global, program: &Program) -> Result<(), ResolveFault>
 }
 
 /// The code of a program, where its names have no fault.
-fn code_of(alloc: Global, program: &Program) -> Result<ProgramCode, ResolveFault>
+fn code_of(alloc: Global, program: &tree::Program) -> Result<ProgramCode, ResolveFault>
     ensures ok { IfOk result (λ code. IsResolved program.now × IsCodeOf code program.now) }
     ensures fault { IfErr result (λ e. e ≢ Memory → IsFirst e (faults program.now)) }
 {
@@ -133,7 +134,7 @@ pub fn resolve(alloc: Global, program: Program) -> Result<Resolved, ResolveFault
     // Else it is the first fault, but for `Memory`.
     ensures fault { IfErr result (λ e. e ≢ Memory → IsFirst e (faults program)) }
 {
-    match code_of(alloc, &program) {
+    match code_of(alloc, program.as_tree()) {
         Ok(code) => Ok(Resolved { program, code }),
         Err(fault) => {
             drop(program);

@@ -3,8 +3,7 @@
 use std::alloc::Global;
 use std::test::Fail;
 use sync_resolve::{Resolved, resolve};
-use sync_syntax::parse;
-use sync_syntax::tree::Program;
+use sync_syntax::{Program, parse};
 
 /// Puts each document into the channel of every user.
 const OPEN: &str = "function(doc) { channel(\"!\"); }";

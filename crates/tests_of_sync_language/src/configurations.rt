@@ -134,7 +134,7 @@ fn write_user(user: &ConfigUser, text: &mut Bytes) -> Result<(), AllocError> {
 
 /// How many parameters the sync function has.
 fn parameters(config: &Config) -> &'static [u8] {
-    match config.program.as_program().second {
+    match config.program.as_program().as_tree().second {
         Some(_) => b"2. ",
         None => b"1. ",
     }

@@ -6,8 +6,7 @@ use sg_outside::Bytes;
 use std::alloc::{AllocError, Global};
 use std::test::Fail;
 use sync_print::print;
-use sync_syntax::tree::Program;
-use sync_syntax::{ParseFault, Place, SyntaxFault, SyntaxWhy, parse};
+use sync_syntax::{ParseFault, Place, Program, SyntaxFault, SyntaxWhy, parse};
 
 /// Programs, with an empty line between each two.
 const PROGRAMS: &str = "\

@@ -6,8 +6,7 @@ use sg_outside::Bytes;
 use std::alloc::{AllocError, Global};
 use std::test::Fail;
 use sync_resolve::{ResolveFault, resolve};
-use sync_syntax::Place;
-use sync_syntax::tree::Program;
+use sync_syntax::{Place, Program};
 
 /// Functions with the first fault of their names, one a line. A body stands on the second line of its function, whose parameters
 /// are `doc` and `old`; a text that begins with `function` is whole.
