@@ -1,6 +1,7 @@
 -- Where a variable stands among those that were written, what it holds, and that each stands once.
-use Rattle.std.proofs.Common.{◌≡◌, ℕ, zero, suc, ◌+◌, ◌<◌, ◌≤◌, ◌==◌, true, false, ◌&&◌, if◌then◌else◌, IsTrue, List, [], ◌∷◌, ◌++◌, length, set, Option, Some, None, refl, sym, ap, ◌∙◌, subst, arith, rules, inl, inr, add-one}
+use Rattle.std.proofs.Common.{◌≡◌, ℕ, zero, suc, ◌+◌, ◌<◌, ◌≤◌, ◌==◌, true, false, ◌&&◌, if◌then◌else◌, IsTrue, List, [], ◌∷◌, ◌++◌, length, Option, Some, None, refl, sym, ap, ◌∙◌, subst, arith, rules, inl, inr, add-one}
 use Rattle.std.specs.List.{slice_get}
+use Rattle.std.specs.Prelude.{slice_set, slice_index_or}
 use Rattle.std.specs.Str.{bytes_eq}
 use Rattle.std.proofs.lemmas.Bool.{cases_Bool}
 use Rattle.std.proofs.lemmas.Bool.Decides.{Decides-eqb}
@@ -8,29 +9,13 @@ use Rattle.std.proofs.lemmas.Slice.Eq.{bytes_eq-Decides}
 use Rattle.sync_meaning.specs.declared.variables.Variable.{Variable}
 use Rattle.sync_meaning.specs.declared.value.Value.{Value}
 use Rattle.sync_meaning.specs.declared.value.Value.TheVariants as v
-use Rattle.sync_meaning.specs.Slots.{is_variable, place_of, is_written, each_once}
+use Rattle.sync_meaning.specs.Slots.{is_variable, place_of, held, is_written, each_once, replaced}
 use Rattle.sync_meaning.specs.Variables.{variable, value_in, written}
-
--- what a variable that was found holds, or undefined where there is none
-abbrev pub held : Option Variable → Value
-held None = v.Undefined
-held (Some x) = x.value
 
 pub value_held : (name : List ℕ) (number : ℕ) (xs : List Variable) → value_in name number xs ≡ held (slice_get xs (place_of name number xs))
 value_held name number [] = refl
 value_held name number (x ∷ xs) =
     elim (cases_Bool (is_variable name number x)) [ inl e ↦ rw e refl | inr e ↦ rw (e, add-one) (value_held name number xs) ]
-
-pub written_set : (name : List ℕ) (number : ℕ) (value : Value) (xs : List Variable) → place_of name number xs < length xs
-    → written name number value xs ≡ set xs (place_of name number xs) (variable name number value)
-written_set name number value [] below = absurd (omega (arith, below))
-written_set name number value (x ∷ xs) below =
-    elim (cases_Bool (is_variable name number x)) [
-      | inl e ↦ rw e refl
-      | inr e ↦
-          let less : place_of name number xs + 1 < suc (length xs) = subst (λ b. (if b then 0 else place_of name number xs + 1) < suc (length xs)) e below in
-          rw (e, add-one) (ap (λ l. x ∷ l) (written_set name number value xs (omega (arith, less))))
-    ]
 
 pub written_last : (name : List ℕ) (number : ℕ) (value : Value) (xs : List Variable) → length xs ≤ place_of name number xs
     → written name number value xs ≡ xs ++ variable name number value ∷ []
@@ -53,6 +38,36 @@ its_name name number x e = (bytes_eq-Decides name x.name).0 (grind (arith, e))
 
 its_number : (name : List ℕ) (number : ℕ) (x : Variable) → is_variable name number x ≡ true → number ≡ x.number
 its_number name number x e = (Decides-eqb number x.number).0 (grind (arith, e))
+
+-- the variable that is meant holds another value in its place
+same_variable : (name : List ℕ) (number : ℕ) (value : Value) (x : Variable) → is_variable name number x ≡ true → variable name number value ≡ record x { value = value }
+same_variable name number value x e = λ i. record { name = its_name name number x e i; number = its_number name number x e i; value = value }
+
+written_at_place : (name : List ℕ) (number : ℕ) (value : Value) (xs : List Variable) → place_of name number xs < length xs
+    → written name number value xs ≡ replaced (place_of name number xs) value xs
+written_at_place name number value [] below = absurd (omega (arith, below))
+written_at_place name number value (x ∷ xs) below =
+    elim (cases_Bool (is_variable name number x)) [
+      | inl e ↦ rw e (ap (λ y. y ∷ xs) (same_variable name number value x e))
+      | inr e ↦
+          let less : place_of name number xs + 1 < suc (length xs) = subst (λ b. (if b then 0 else place_of name number xs + 1) < suc (length xs)) e below in
+          rw (e, add-one) (ap (λ l. x ∷ l) (written_at_place name number value xs (omega (arith, less))))
+    ]
+
+pub written_there : (name : List ℕ) (number : ℕ) (value : Value) (xs : List Variable) (at : ℕ) → at ≡ place_of name number xs → at < length xs
+    → written name number value xs ≡ replaced at value xs
+written_there name number value xs at e below =
+    written_at_place name number value xs (subst (λ k. k < length xs) e below) ∙ sym (ap (λ k. replaced k value xs) e)
+
+-- writing a value at a place is setting the variable there
+abbrev with_value : Value → Variable → Variable
+with_value value x = record { name = x.name; number = x.number; value = value }
+
+pub replaced_set : (at : ℕ) (value : Value) (xs : List Variable) (x : Variable) → at < length xs
+    → slice_set xs at (with_value value (slice_index_or xs at x)) ≡ replaced at value xs
+replaced_set at value [] x below = absurd (omega (arith, below))
+replaced_set zero value (y ∷ ys) x below = refl
+replaced_set (suc at) value (y ∷ ys) x below = ap (λ l. y ∷ l) (replaced_set at value ys x (omega (arith, below)))
 
 -- a variable that stands at a place was written
 written_at : (name : List ℕ) (number : ℕ) (xs : List Variable) (at : ℕ) (x : Variable) → slice_get xs at ≡ Some x → is_variable name number x ≡ true

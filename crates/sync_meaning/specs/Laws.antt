@@ -1,5 +1,5 @@
 -- What holds of every run.
-use Rattle.std.specs.Prelude.{◌≡◌, ℕ, ◌+◌, ◌≤◌, IsTrue, Option, Ok, Err}
+use Rattle.std.specs.Prelude.{◌≡◌, ℕ, ◌+◌, ◌≤◌, IsTrue, Option, None, Ok, Err}
 use Rattle.json_doc.specs.Tree.{Tree}
 use Rattle.sg_names.specs.Channels.{is_channels}
 use Rattle.sg_names.specs.Grants.{is_grants}
@@ -14,7 +14,7 @@ use Rattle.sync_meaning.specs.declared.fault.Stop.TheVariants.{Deny, Memory}
 use Rattle.sync_meaning.specs.declared.state.Context.{Context}
 use Rattle.sync_meaning.specs.Acts.{Found, denial}
 use Rattle.sync_meaning.specs.Builtins.{effect_count}
-use Rattle.sync_meaning.specs.Meaning.{meaning_within}
+use Rattle.sync_meaning.specs.Meaning.{meaning_within, meaning}
 use Rattle.sync_syntax.specs.Moved.{moved}
 
 -- no visit was left
@@ -54,3 +54,8 @@ placeless (Err e) = Err (placeless_stop e)
 abbrev pub PlacesChangeNoKind : Type 0
 PlacesChangeNoKind = (f : Place → Place) (visits : ℕ) (p : Program) (doc : Tree) (old : Option Tree) (context : Context)
     → placeless (meaning_within visits (moved f p) doc old context) ≡ placeless (meaning_within visits p doc old context)
+
+-- a program without a second parameter says the same whatever stood before the document
+abbrev pub OldIsNotAsked : Type 0
+OldIsNotAsked = (p : Program) (doc : Tree) (old : Option Tree) (context : Context) → p.second ≡ None
+    → meaning p doc old context ≡ meaning p doc None context

@@ -1,6 +1,7 @@
 //! What holds of every run, however the program is evaluated. The calls do nothing.
 
-ghost use Rattle.sync_meaning.specs.Laws.{EffectsAreLawful, MoreVisitsChangeNothing, PlacesChangeNoKind};
+ghost use Rattle.sync_meaning.specs.Laws.{EffectsAreLawful, MoreVisitsChangeNothing, OldIsNotAsked};
+ghost use Rattle.sync_meaning.specs.Laws.{PlacesChangeNoKind};
 
 /// More visits change no verdict that was reached.
 pub fn more_visits()
@@ -15,4 +16,9 @@ pub fn effects()
 /// The places of a program change nothing but the place of the rule.
 pub fn places()
     ensures { PlacesChangeNoKind }
+{}
+
+/// A program of one parameter says the same whatever stood before.
+pub fn old_is_not_asked()
+    ensures { OldIsNotAsked }
 {}

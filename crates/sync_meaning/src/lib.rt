@@ -31,7 +31,7 @@ pub use shared::Shared;
 pub use state::{Context, State};
 pub use text::Text;
 pub use value::{Value, last_named, value_of};
-pub use variables::{Slot, Variable, Variables};
+pub use variables::{Literal, Slot, Variable, Variables};
 
 /// Memory ran out.
 pub type Memory = std::alloc::AllocError;

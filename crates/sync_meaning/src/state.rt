@@ -97,11 +97,11 @@ impl State {
 
     /// A variable takes a value.
     #[tactic(auto, unfolding(crate::specs::Statements::store))]
-    pub fn store(&mut self, slot: &Slot, value: Value) -> Result<(), Stop>
+    pub fn store(&mut self, alloc: Global, slot: &Slot, value: Value) -> Result<(), Stop>
         ensures { Does (statements.store slot.now.name slot.now.number value self.old) result
             self.new }
     {
-        self.variables.write(slot, value)?;
+        self.variables.write(alloc, slot, value)?;
         Ok(())
     }
 }
