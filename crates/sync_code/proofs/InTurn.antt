@@ -5,18 +5,24 @@ use Rattle.sync_tokens.specs.declared.place.Place.{Place}
 use Rattle.sync_syntax.specs.declared.tree.Declares.{Declares}
 use Rattle.sync_syntax.specs.declared.tree.Expr.{Expr}
 use Rattle.sync_syntax.specs.declared.tree.Named.{Named}
+use Rattle.sync_syntax.specs.declared.tree.Simple.{Simple}
+use Rattle.sync_syntax.specs.declared.tree.Start.{Start}
 use Rattle.sync_syntax.specs.declared.tree.Statement.{Statement}
 use Rattle.sync_syntax.specs.declared.tree.Statement.TheVariants as statements
 use Rattle.sync_meaning.specs.declared.scope.Scope.{Scope}
-use Rattle.sync_meaning.specs.Variables.{declared, all_declared, behind, behind_all}
+use Rattle.sync_meaning.specs.Variables.{declared, all_declared, started, behind, behind_all}
+use Rattle.sync_code.specs.declared.code.Begin.{Begin}
 use Rattle.sync_code.specs.declared.code.Code.{Code}
 use Rattle.sync_code.specs.declared.code.Held.{Held}
+use Rattle.sync_code.specs.declared.code.Plain.{Plain}
 use Rattle.sync_code.specs.declared.code.Step.{Step, the_lemmas}
 use Rattle.sync_code.specs.declared.code.Step.TheOpen.{Step-F}
 use Rattle.sync_code.specs.declared.code.Step.TheVariants as steps
+use Rattle.sync_code.specs.declared.statement.WhileHead.{WhileHead}
 use Rattle.sync_code.specs.Code.{source, fits, source_or_none, fits_or_none}
+use Rattle.sync_code.specs.Heads.{IsWhileHead}
 use Rattle.sync_code.specs.Made.{IsCode}
-use Rattle.sync_code.specs.Steps.{held_source, name_sources, new_fits, names_fit, said, source_at, fits_at, step_source, step_fits, step_sources, steps_fit}
+use Rattle.sync_code.specs.Steps.{held_source, name_sources, new_fits, names_fit, begin_or_none, plain_or_none_fits, said, source_at, fits_at, step_source, step_fits, step_sources, steps_fit}
 
 -- whether one of two holds does not turn on how they are taken together
 both : (a b c : Bool) → (a && (b && c)) ≡ ((a && b) && c)
@@ -103,7 +109,7 @@ next_step made one found statement i first scope after before below here code ne
       next ∙ ap (behind statement) before.2 ∙ sym (ap (λ l. behind_all l first) grown ∙ behind_all_more (step_sources made) statement first),
     )
 
--- ---- a statement behind `else`
+-- ---- a statement behind `else`, and the body of a `for`
 
 said_if : (p : Place) (c : Code) (s t : Step)
     → said (steps.If p c s (Some t)) ≡ record { source = source_at (Step-F.If p c (said s) (Some (said t))); fits = fits_at (Step-F.If p c (said s) (Some (said t))) }
@@ -121,11 +127,28 @@ if_else_of p c s t x f o scope inner condition first seen other =
       fits = subst IsTrue (sym (ap (λ a. a.fits scope) (said_if p c s t))) (holds_both _ _ condition.fits (holds_both _ _ first.fits fitting));
     }
 
-pub if_else : (p : Place) (c : Code) (s t : Step) (x x' : Expr) (f f' g o o' : Statement) (scope inner : Scope)
-    → x ≡ x' → f ≡ f' → g ≡ f' → o ≡ o'
-    → IsCode (source c) x (fits c scope) → IsCode (step_source s) f (step_fits s scope) → inner ≡ behind g scope
+pub if_else : (p : Place) (c : Code) (s t : Step) (x x' : Expr) (f f' o o' : Statement) (scope inner : Scope)
+    → x ≡ x' → f ≡ f' → o ≡ o'
+    → IsCode (source c) x (fits c scope) → IsCode (step_source s) f (step_fits s scope) → inner ≡ behind f scope
     → IsCode (step_source t) o (step_fits t inner)
     → IsCode (step_source (steps.If p c s (Some t))) (statements.If p x' f' (Some o')) (step_fits (steps.If p c s (Some t)) scope)
-if_else p c s t x x' f f' g o o' scope inner ex ef eg eo condition first seen other =
+if_else p c s t x x' f f' o o' scope inner ex ef eo condition first seen other =
     if_else_of p c s t x' f' o' scope inner (subst (λ y. IsCode (source c) y (fits c scope)) ex condition) (subst (λ y. IsCode (step_source s) y (step_fits s scope)) ef first)
-    (seen ∙ ap (λ y. behind y scope) eg) (subst (λ y. IsCode (step_source t) y (step_fits t inner)) eo other)
+    (seen ∙ ap (λ y. behind y scope) ef) (subst (λ y. IsCode (step_source t) y (step_fits t inner)) eo other)
+
+said_for : (p : Place) (begin : Option Begin) (c : Option Code) (last : Option Plain) (b : Step)
+    → said (steps.For p begin c last b) ≡ record { source = source_at (Step-F.For p begin c last (said b)); fits = fits_at (Step-F.For p begin c last (said b)) }
+said_for p begin c last b = search (rules, the_lemmas)
+
+pub for_body : (p : Place) (head : WhileHead) (b : Step) (start : Option Start) (x : Option Expr) (l : Option Simple) (s : Statement) (scope inner : Scope)
+    → IsWhileHead start x l scope head → inner ≡ started start scope → IsCode (step_source b) s (step_fits b inner)
+    → IsCode (step_source (steps.For p head.begin head.condition head.last b)) (statements.For p start x l s) (step_fits (steps.For p head.begin head.condition head.last b) scope)
+for_body p head b start x l s scope inner is seen body =
+    let there : started start scope ≡ started (begin_or_none head.begin) scope = ap (λ y. started y scope) (sym is.begin.same) in
+    let condition : IsTrue (fits_or_none head.condition (started (begin_or_none head.begin) scope)) = subst (λ z. IsTrue (fits_or_none head.condition z)) there is.condition.fits in
+    let last : IsTrue (plain_or_none_fits head.last (started (begin_or_none head.begin) scope)) = subst (λ z. IsTrue (plain_or_none_fits head.last z)) there is.last.fits in
+    let inside : IsTrue (step_fits b (started (begin_or_none head.begin) scope)) = subst (λ z. IsTrue (step_fits b z)) (seen ∙ there) body.fits in
+    record {
+      same = ap (λ a. a.source) (said_for p head.begin head.condition head.last b) ∙ (λ i. statements.For p (is.begin.same i) (is.condition.same i) (is.last.same i) (body.same i));
+      fits = subst IsTrue (sym (ap (λ a. a.fits scope) (said_for p head.begin head.condition head.last b))) (holds_both _ _ is.begin.fits (holds_both _ _ condition (holds_both _ _ last inside)));
+    }

@@ -2,7 +2,7 @@
 
 use json_doc::DocText;
 use sqlite_items::{Boxed, Items};
-use sync_meaning::{Slot, Text};
+use sync_meaning::{Literal, Slot};
 use sync_syntax::tree::{Declares, Operator, Prefix, Writes};
 use sync_tokens::Place;
 
@@ -14,7 +14,7 @@ pub enum Code {
     Null(Place),
     Bool(Place, bool),
     Integer(Place, u64),
-    Text(Place, Text),
+    Text(Place, Literal),
     Name(Place, Slot),
     List(Place, Items<Code>),
     Object(Place, Items<(DocText, Code)>),

@@ -10,9 +10,8 @@ use crate::slots::Slots;
 use json_doc::DocText;
 use sqlite_items::{Boxed, Items};
 use std::alloc::Global;
-use sync_meaning::{Scope, Slot, Text};
+use sync_meaning::{Scope, Slot};
 use sync_syntax::tree::{Expr, Operator, Suffix};
-use sync_tokens::Place;
 
 /// The variable that a name stands for.
 pub(crate) fn slot_of(
@@ -24,12 +23,6 @@ pub(crate) fn slot_of(
     ensures { IfOk result (λ made. IsCode made.name name.now (slot_fits made scope.now)) }
 {
     slots.slot(alloc, name, scope.number_of(name))
-}
-
-fn text(alloc: Global, place: Place, text: &DocText) -> Result<Code, Memory>
-    ensures { IfOk result (λ made. made ≡ Code.Text place text.now) }
-{
-    Ok(Code::Text(place, Text::from_str(alloc, text.as_str())?))
 }
 
 /// The code of an expression.
@@ -47,7 +40,7 @@ pub(crate) fn code_of(
         Expr::Null(place) => Ok(Code::Null(*place)),
         Expr::Bool(place, truth) => Ok(Code::Bool(*place, *truth)),
         Expr::Integer(place, n) => Ok(Code::Integer(*place, *n)),
-        Expr::Text(place, found) => text(alloc, *place, found),
+        Expr::Text(place, found) => Ok(Code::Text(*place, slots.literal(alloc, found)?)),
         Expr::Name(place, name) => Ok(Code::Name(*place, slot_of(alloc, slots, scope, name)?)),
         Expr::List(place, exprs) => Ok(Code::List(
             *place,

@@ -15,7 +15,8 @@ use sync_meaning::{Scope, Slot};
 use sync_syntax::tree::{Named, Program, Statement};
 use sync_tokens::Place;
 
-/// The code of a program: its parameters, its body, and how many slots its variables have.
+/// The code of a program: its parameters, its body, how many slots its variables have, and how many
+/// of its texts are numbered.
 #[derive(Debug, Drop)]
 pub struct ProgramCode {
     pub first: Slot,
@@ -23,6 +24,7 @@ pub struct ProgramCode {
     pub place: Place,
     pub body: Items<Step>,
     pub slots: usize,
+    pub literals: usize,
 }
 
 /// One of the function's own variables.
@@ -55,8 +57,10 @@ fn body_of(
     ensures { IfOk result (λ made. IsCode (step_sources made) statements.now
         (steps_fit made top)) }
 {
-    let scope = Scope::top(alloc)?;
-    steps_of(alloc, slots, scope, statements)
+    let mut scope = Scope::top(alloc);
+    let steps = steps_of(alloc, slots, &mut scope, statements);
+    drop(scope);
+    steps
 }
 
 /// The code of a program, which nests as deep as it.
@@ -73,5 +77,6 @@ pub fn code_of_program(alloc: Global, program: &Program) -> Result<ProgramCode, 
         place: program.place,
         body,
         slots: slots.count(),
+        literals: slots.literals(),
     })
 }

@@ -1,7 +1,8 @@
 //! The code of the parts of statements that hold no statement.
 
-ghost use Rattle.std.specs.Prelude.{◌≡◌, ◌&&◌, IfOk};
+ghost use Rattle.std.specs.Prelude.{◌≡◌, ◌&&◌, Some, IfOk, OnOk};
 ghost use Rattle.sync_syntax.specs.declared.tree.Simple as Simple;
+ghost use Rattle.sync_meaning.specs.Variables.{all_declared, started};
 ghost use Rattle.sync_code.specs.Code.{fits_or_none, slot_fits, source_or_none};
 ghost use Rattle.sync_code.specs.Made.{IsCode};
 ghost use Rattle.sync_code.specs.Steps.{begin_fits, begin_or_none, begin_or_none_fits, begin_source, held_source, name_sources, names_fit, new_fits, opening_fits, opening_source, plain_fits, plain_or_none, plain_or_none_fits, plain_source};
@@ -66,38 +67,39 @@ fn declared_one(
     }
 }
 
-/// The variables of a declaration.
+/// The variables of a declaration, each of which is seen behind its own value.
 fn declared_all(
     alloc: Global,
     slots: &mut Slots,
-    first: Scope,
+    scope: &mut Scope,
     declares: Declares,
     found: &[(Named, Option<Boxed<Expr>>)],
 ) -> Result<Items<(Held, Option<Boxed<Code>>)>, Memory>
-    ensures { IfOk result (λ made. IsCode (name_sources made) found.now
-        (names_fit declares made first)) }
+    ensures code { IfOk result (λ made. IsCode (name_sources made) found.now
+        (names_fit declares made scope.old)) }
+    ensures seen { OnOk result (scope.new ≡ all_declared declares found.now scope.old) }
 {
     let mut made = Items::new(alloc);
-    let mut scope = first;
     for name in found {
-        made.push(declared_one(alloc, slots, &scope, declares, name)?)?;
-        scope = scope.declared(alloc, declares, &name.0.name)?;
+        made.push(declared_one(alloc, slots, scope, declares, name)?)?;
+        scope.declare(alloc, declares, &name.0.name)?;
     }
     Ok(made)
 }
 
-/// The code of a declaration.
+/// The code of a declaration, behind which its variables are seen.
 pub(crate) fn opening(
     alloc: Global,
     slots: &mut Slots,
-    scope: &Scope,
+    scope: &mut Scope,
     found: &Declaration,
 ) -> Result<Opening, Memory>
-    ensures { IfOk result (λ made. IsCode (opening_source made) found.now
-        (opening_fits made scope.now)) }
+    ensures code { IfOk result (λ made. IsCode (opening_source made) found.now
+        (opening_fits made scope.old)) }
+    ensures seen { OnOk result (scope.new
+        ≡ all_declared found.now.declares found.now.names scope.old) }
 {
-    let first = scope.share()?;
-    let names = declared_all(alloc, slots, first, found.declares, found.names.as_slice())?;
+    let names = declared_all(alloc, slots, scope, found.declares, found.names.as_slice())?;
     Ok(Opening {
         place: found.place,
         declares: found.declares,
@@ -175,9 +177,15 @@ pub(crate) fn plain_if_any(
     }
 }
 
-fn begin(alloc: Global, slots: &mut Slots, scope: &Scope, start: &Start) -> Result<Begin, Memory>
-    ensures { IfOk result (λ made. IsCode (begin_source made) start.now
-        (begin_fits made scope.now)) }
+fn begin(
+    alloc: Global,
+    slots: &mut Slots,
+    scope: &mut Scope,
+    start: &Start,
+) -> Result<Begin, Memory>
+    ensures code { IfOk result (λ made. IsCode (begin_source made) start.now
+        (begin_fits made scope.old)) }
+    ensures seen { OnOk result (scope.new ≡ started (Some start.now) scope.old) }
 {
     match start {
         Start::Declare(found) => Ok(Begin::Declare(opening(alloc, slots, scope, found)?)),
@@ -188,25 +196,28 @@ fn begin(alloc: Global, slots: &mut Slots, scope: &Scope, start: &Start) -> Resu
 fn boxed_begin(
     alloc: Global,
     slots: &mut Slots,
-    scope: &Scope,
+    scope: &mut Scope,
     start: &Start,
 ) -> Result<Boxed<Begin>, Memory>
-    ensures { IfOk result (λ made. IsCode (begin_source made) start.now
-        (begin_fits made scope.now)) }
+    ensures code { IfOk result (λ made. IsCode (begin_source made) start.now
+        (begin_fits made scope.old)) }
+    ensures seen { OnOk result (scope.new ≡ started (Some start.now) scope.old) }
 {
     let begin = begin(alloc, slots, scope, start)?;
     Boxed::new(alloc, begin)
 }
 
-/// The code of the beginning of a `for`, which may be absent.
+/// The code of the beginning of a `for`, which may be absent, and behind which its variables are
+/// seen.
 pub(crate) fn begin_if_any(
     alloc: Global,
     slots: &mut Slots,
-    scope: &Scope,
+    scope: &mut Scope,
     start: &Option<Boxed<Start>>,
 ) -> Result<Option<Boxed<Begin>>, Memory>
-    ensures { IfOk result (λ made. IsCode (begin_or_none made) start.now
-        (begin_or_none_fits made scope.now)) }
+    ensures code { IfOk result (λ made. IsCode (begin_or_none made) start.now
+        (begin_or_none_fits made scope.old)) }
+    ensures seen { OnOk result (scope.new ≡ started start.now scope.old) }
 {
     match start {
         Some(start) => Ok(Some(boxed_begin(alloc, slots, scope, start.get())?)),

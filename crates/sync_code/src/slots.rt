@@ -1,4 +1,4 @@
-//! The slots of the variables of a program.
+//! The slots of the variables of a program, and the numbers of its longer texts.
 
 ghost use Rattle.std.specs.Prelude.{◌≡◌, IfOk};
 
@@ -6,7 +6,10 @@ use crate::Memory;
 use json_doc::DocText;
 use std::alloc::Global;
 use std::collections::BTreeMap;
-use sync_meaning::{Shared, Slot};
+use sync_meaning::{Literal, Slot};
+
+/// How many bytes a text has at most that is not numbered.
+const SHORT: usize = 16;
 
 /// The slots that were given so far: each variable of `let` and `const` has the one of its number,
 /// and each of the function's own variables one between these.
@@ -14,6 +17,7 @@ use sync_meaning::{Shared, Slot};
 pub struct Slots {
     own: BTreeMap<String, usize>,
     count: usize,
+    literals: usize,
 }
 
 impl Slots {
@@ -22,6 +26,7 @@ impl Slots {
         Slots {
             own: BTreeMap::new(alloc),
             count: 0,
+            literals: 0,
         }
     }
 
@@ -30,6 +35,13 @@ impl Slots {
         ensures { result ≡ self.now.count }
     {
         self.count
+    }
+
+    /// How many longer texts have a number.
+    pub fn literals(&self) -> usize
+        ensures { result ≡ self.now.literals }
+    {
+        self.literals
     }
 
     /// The slot of one of the function's own variables.
@@ -57,7 +69,19 @@ impl Slots {
     {
         let at = self.place(alloc, name, number)?;
         self.count = self.count.max(at.saturating_add(1));
-        let name = Shared::new(alloc, name.copy(alloc)?)?;
+        let name = name.copy(alloc)?;
         Ok(Slot { name, number, at })
+    }
+
+    /// A text of the program, with its number where it is a longer one.
+    pub fn literal(&mut self, alloc: Global, text: &DocText) -> Result<Literal, Memory>
+        ensures { IfOk result (λ made. made.text ≡ text.now) }
+    {
+        let at = self.literals;
+        if text.len() > SHORT {
+            self.literals = at.saturating_add(1);
+        }
+        let text = text.copy(alloc)?;
+        Ok(Literal { text, at })
     }
 }

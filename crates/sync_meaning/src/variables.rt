@@ -155,12 +155,7 @@ fn replace(variables: &mut Vec<Variable>, at: usize, value: Value)
 }
 
 /// A variable that was not written yet stands behind the others.
-fn append(
-    alloc: Global,
-    items: &mut Vec<Variable>,
-    slot: &Slot,
-    value: Value,
-) -> Result<(), Memory>
+fn append(alloc: Global, items: &mut Vec<Variable>, slot: &Slot, value: Value) -> Result<(), Memory>
     ensures ok { OnOk result (items.new.items ≡ items.old.items
         ++ spec.variable slot.now.name slot.now.number value ∷ []) }
     ensures err { OnErr result (items.new.items ≡ items.old.items) }

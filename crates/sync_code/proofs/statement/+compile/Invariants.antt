@@ -5,5 +5,5 @@ use Rattle.sync_code.proofs.statement.+compile.Given as goal
 
 abbrev pub invariant-steps_of-loop-statement : goal.invariant-steps_of-loop-statement
 invariant-steps_of-loop-statement l =
-    (step_sources l.made ≡ take l.statement-index l.statements) × IsTrue (steps_fit l.made l.fn.first)
-    × (l.scope ≡ behind_all (step_sources l.made) l.fn.first)
+    (step_sources l.made ≡ take l.statement-index l.statements) × IsTrue (steps_fit l.made l.fn.scope)
+    × (l.scope ≡ behind_all (step_sources l.made) l.fn.scope)
