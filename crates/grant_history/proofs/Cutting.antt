@@ -2,6 +2,7 @@
 use Rattle.std.proofs.Common.{◌≡◌, ◌<◌, ◌≤◌, ◌+◌, ◌-◌, ℕ, zero, suc, refl, sym, ◌∙◌, ap, subst, arith, Bool, true, false, ◌&&◌, ◌||◌, nat_le, nat_lt, List, [], ◌∷◌, ◌++◌, length, drop, get_or}
 use Rattle.std.specs.Prelude.{nat_eq}
 use Rattle.std.specs.List.{list_any}
+use Rattle.std.specs.Option.{option_copied}
 use Rattle.std.specs.List.Sorted.{IsPermutation}
 use Rattle.std.proofs.lemmas.Bool.{true≢false}
 use Rattle.std.proofs.lemmas.List.{drop_more, drop_all}
@@ -14,7 +15,7 @@ use Rattle.grant_history.specs.declared.track.Track.{Track}
 use Rattle.grant_history.specs.Cuts.{is_cut, IsSteady, Covers, Rise}
 use Rattle.grant_history.specs.Spells.{Stays, Swept, spells_have, open_has}
 use Rattle.grant_history.specs.Tracks.{has_place, was_held, held_last, held_at}
-use Rattle.grant_history.specs.Ways.{track_has, gift_has, ways_have}
+use Rattle.grant_history.specs.Ways.{track_has, list_has, ways_have}
 use Rattle.grant_history.proofs.Gathered.{any_end, any_same}
 use Rattle.grant_history.proofs.Sweeping.{stretched}
 
@@ -109,13 +110,13 @@ covers_same old new one other c same = record { kept = c.kept; steady = λ k h. 
 
 -- those of a user: its own, and those of its roles
 pub all_steady : (none a b sorted : List ℕ) (w : Ways) → Covers none a (track_has w.own.exists) → Covers none a (track_has w.own.channel)
-    → Covers a b (λ k. list_any (λ g. gift_has g k) w.gifts.items) → IsPermutation b sorted → IsSteady sorted (ways_have w)
+    → Covers a b (λ k. list_has (option_copied w.gifts) k) → IsPermutation b sorted → IsSteady sorted (ways_have w)
 all_steady none a b sorted w exists channel roles moved k h =
     let unmoved : is_cut b (k + 1) ≡ false = list_any-IsPermutation (nat_eq (k + 1)) b sorted moved ∙ h in
     let before : is_cut a (k + 1) ≡ false = roles.kept (k + 1) unmoved in
-    ap (λ (e : Bool). e && (list_any (λ g. gift_has g (k + 1)) w.gifts.items || (track_has w.own.channel (k + 1) || (w.is_everyone || false)))) (exists.steady k before)
+    ap (λ (e : Bool). e && (list_has (option_copied w.gifts) (k + 1) || (track_has w.own.channel (k + 1) || (w.is_everyone || false)))) (exists.steady k before)
     ∙ ap (λ (r : Bool). track_has w.own.exists k && (r || (track_has w.own.channel (k + 1) || (w.is_everyone || false)))) (roles.steady k unmoved)
-    ∙ ap (λ (c : Bool). track_has w.own.exists k && (list_any (λ g. gift_has g k) w.gifts.items || (c || (w.is_everyone || false)))) (channel.steady k before)
+    ∙ ap (λ (c : Bool). track_has w.own.exists k && (list_has (option_copied w.gifts) k || (c || (w.is_everyone || false)))) (channel.steady k before)
 
 -- each of these from a place on is greater
 none_later : (cuts : List ℕ) (i m : ℕ) → ((n : ℕ) → i ≤ n → n < length cuts → m < get_or cuts n m) → is_cut (drop i cuts) m ≡ false

@@ -16,3 +16,4 @@ pub mod Sweeping
 pub mod Dividing
 pub mod Cutting
 pub mod Members
+pub mod Gifting

@@ -19,6 +19,7 @@ pub mod Stands
 pub mod Winners
 pub mod Reads
 pub mod Givers
+pub mod Gifts
 pub mod Cuts
 pub mod Spells
 pub mod Sorted

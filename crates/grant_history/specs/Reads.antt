@@ -17,12 +17,6 @@ is_channel what.Exists x = false
 is_channel (what.Channel c) x = bytes_eq c x
 is_channel (what.Role r) x = false
 
--- whether something is the role
-abbrev pub is_role : What → List ℕ → Bool
-is_role what.Exists x = false
-is_role (what.Channel c) x = false
-is_role (what.Role r) x = bytes_eq r x
-
 -- whether one of these that are held at a place is the channel
 abbrev pub channel_among : List Held → ℕ → List ℕ → Bool
 channel_among list k x = list_any (λ h. held_at h.track k && is_channel h.what x) list

@@ -203,6 +203,13 @@ impl Holding {
         }
     }
 
+    /// When this exists, if it ever did.
+    pub fn existence(&self) -> Option<&Track>
+        ensures { (k : ℕ) → track_has result k ≡ held_in self.now.items what.Exists k }
+    {
+        self.track(&What::Exists)
+    }
+
     /// When this exists, and when a channel is held.
     pub fn tracks_of(&self, channel: &ChannelName) -> ChannelTracks<'_>
         ensures exists { (k : ℕ) → track_has result.exists k
@@ -211,7 +218,7 @@ impl Holding {
             ≡ channel_among self.now.items k channel.now }
     {
         ChannelTracks {
-            exists: self.track(&What::Exists),
+            exists: self.existence(),
             channel: self.channel_track(channel),
         }
     }

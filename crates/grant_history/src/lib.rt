@@ -6,6 +6,7 @@ mod by_name;
 mod channels;
 mod cuts;
 mod facts;
+mod gifts;
 mod given;
 mod givers;
 mod held;

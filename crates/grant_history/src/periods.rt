@@ -6,7 +6,7 @@ ghost use Rattle.sg_history.specs.Principals as principals;
 ghost use Rattle.sg_history.specs.History.{among};
 ghost use Rattle.grant_history.specs.Periods.{period_of, names_of, may_have, Adds, AreAllPeriods, AreSoFar};
 ghost use Rattle.grant_history.specs.Cuts.{IsSteady, Rise};
-ghost use Rattle.grant_history.specs.Givers.{has_at_with};
+ghost use Rattle.grant_history.specs.Gifts.{has_at_by};
 ghost use Rattle.grant_history.specs.Reads.{list_channel, user_channel};
 ghost use Rattle.grant_history.specs.Sorted.{AreSorted};
 ghost use Rattle.grant_history.specs.Spells.{AreApart, Stays, Swept, spells_have};
@@ -14,7 +14,8 @@ ghost use Rattle.grant_history.specs.Ways.{ways_have};
 
 use crate::channels::channels_ever;
 use crate::cuts::cuts_of;
-use crate::givers::{Giver, givers_of};
+use crate::gifts::{Gifts, gifts_of};
+use crate::givers::givers_of;
 use crate::held::Holding;
 use crate::holders::Holders;
 use crate::reads::everyone;
@@ -33,7 +34,7 @@ pub struct Period {
 }
 
 /// Goes on to a place, unless it is there, and answers where it is then.
-fn sweep_to(sweep: &mut Sweep, at: u64, k: u64, ways: &Ways<'_>) -> Result<u64, Memory>
+fn sweep_to(sweep: &mut Sweep, at: u64, k: u64, ways: &Ways<'_, '_>) -> Result<u64, Memory>
     ensures swept { IfOk result (λ now. Swept sweep.old (ways_have ways.now) at
         → Stays (ways_have ways.now) at k
         → Swept sweep.new (ways_have ways.now) now) }
@@ -48,7 +49,7 @@ fn sweep_to(sweep: &mut Sweep, at: u64, k: u64, ways: &Ways<'_>) -> Result<u64, 
 
 /// The spells in which a user has a channel in any of these ways, of which these places have each at
 /// which that may change.
-fn spells_by(alloc: Global, cuts: &[u64], ways: &Ways<'_>) -> Result<Vec<Spell>, Memory>
+fn spells_by(alloc: Global, cuts: &[u64], ways: &Ways<'_, '_>) -> Result<Vec<Spell>, Memory>
     requires steady { IsSteady cuts.now (ways_have ways.now) }
     requires rise { Rise cuts.now }
     ensures apart { IfOk result (λ list. AreApart list.items) }
@@ -65,7 +66,7 @@ fn spells_by(alloc: Global, cuts: &[u64], ways: &Ways<'_>) -> Result<Vec<Spell>,
 
 /// The spells in which a user has a channel in any of these ways. Each way is asked at each place at
 /// which the answer may change.
-fn spells_of(alloc: Global, ways: &Ways<'_>) -> Result<Vec<Spell>, Memory>
+fn spells_of(alloc: Global, ways: &Ways<'_, '_>) -> Result<Vec<Spell>, Memory>
     ensures apart { IfOk result (λ list. AreApart list.items) }
     ensures says { IfOk result (λ list. (k : ℕ)
         → spells_have list.items k ≡ ways_have ways.now k) }
@@ -74,18 +75,18 @@ fn spells_of(alloc: Global, ways: &Ways<'_>) -> Result<Vec<Spell>, Memory>
     spells_by(alloc, cuts.as_slice(), ways)
 }
 
-/// The spells in which a user that has or had these things and roles has a channel.
+/// The spells in which a user that has or had these things has a channel, by what its roles give.
 fn spells_with(
     alloc: Global,
     all: &Holding,
-    givers: &[Giver<'_>],
+    gifts: &Gifts<'_>,
     channel: &ChannelName,
 ) -> Result<Vec<Spell>, Memory>
     ensures apart { IfOk result (λ list. AreApart list.items) }
     ensures says { IfOk result (λ list. (k : ℕ)
-        → spells_have list.items k ≡ has_at_with givers.now all.now.items channel.now k) }
+        → spells_have list.items k ≡ has_at_by gifts.now all.now.items channel.now k) }
 {
-    let ways = ways_of(alloc, all, givers, channel)?;
+    let ways = ways_of(all, gifts, channel);
     spells_of(alloc, &ways)
 }
 
@@ -122,13 +123,13 @@ fn add_channel(
     alloc: Global,
     periods: &mut Vec<Period>,
     all: &Holding,
-    givers: &[Giver<'_>],
+    gifts: &Gifts<'_>,
     channel: &ChannelName,
 ) -> Result<(), Memory>
     ensures { OnOk result (Adds periods.old.items periods.new.items channel.now
-        (has_at_with givers.now all.now.items channel.now)) }
+        (has_at_by gifts.now all.now.items channel.now)) }
 {
-    let spells = spells_with(alloc, all, givers, channel)?;
+    let spells = spells_with(alloc, all, gifts, channel)?;
     add_spells(alloc, periods, channel, spells.as_slice())
 }
 
@@ -137,16 +138,16 @@ fn add_periods(
     alloc: Global,
     periods: &mut Vec<Period>,
     all: &Holding,
-    givers: &[Giver<'_>],
+    gifts: &Gifts<'_>,
     channels: &[&ChannelName],
 ) -> Result<(), Memory>
     requires sorted { AreSorted (names_of channels.now) }
     requires none { periods.old.items ≡ [] }
     ensures { OnOk result (AreSoFar (names_of channels.now) periods.new.items
-        (has_at_with givers.now all.now.items)) }
+        (has_at_by gifts.now all.now.items)) }
 {
     for channel in channels {
-        add_channel(alloc, periods, all, givers, channel)?;
+        add_channel(alloc, periods, all, gifts, channel)?;
     }
     Ok(())
 }
@@ -155,17 +156,17 @@ fn add_periods(
 fn periods_for(
     alloc: Global,
     all: &Holding,
-    givers: &[Giver<'_>],
+    gifts: &Gifts<'_>,
     channels: &[&ChannelName],
 ) -> Result<Vec<Period>, Memory>
     requires { AreSorted (names_of channels.now) }
     ensures { IfOk result (λ list. AreSoFar (names_of channels.now) list.items
-        (has_at_with givers.now all.now.items)) }
+        (has_at_by gifts.now all.now.items)) }
 {
     // most channels have one period
     let room = channels.len().saturating_add(channels.len() / 4);
     let mut periods = Vec::with_capacity(alloc, room)?;
-    add_periods(alloc, &mut periods, all, givers, channels)?;
+    add_periods(alloc, &mut periods, all, gifts, channels)?;
     Ok(periods)
 }
 
@@ -183,7 +184,8 @@ fn periods_among(
         (λ c k. list_channel roles.now all.now.items k c)) }
 {
     let givers = givers_of(alloc, roles, all.all())?;
-    periods_for(alloc, all, givers.as_slice(), channels)
+    let gifts = gifts_of(alloc, givers.as_slice())?;
+    periods_for(alloc, all, &gifts, channels)
 }
 
 /// The periods of a user that has or had these, given the channel that every user has.

@@ -1,20 +1,20 @@
 //! The ways in which a user has one channel: by itself and by its roles. Each name is looked up
 //! once, and the places are then asked of what was found.
 
-ghost use Rattle.std.specs.Prelude.{◌≡◌, ◌||◌, ℕ, IfOk, OnOk};
+ghost use Rattle.std.specs.Prelude.{◌≡◌, ℕ, OnOk};
 ghost use Rattle.std.specs.List.{list_any};
+ghost use Rattle.std.specs.Option.{option_copied};
 ghost use Rattle.std.specs.Str.{bytes_eq};
 ghost use Rattle.sg_history.specs.Principals.{everyone};
 ghost use Rattle.grant_history.specs.Cuts.{Covers};
-ghost use Rattle.grant_history.specs.Givers.{giver_has, has_at_with};
-ghost use Rattle.grant_history.specs.Ways.{gift_has, track_has, ways_have};
+ghost use Rattle.grant_history.specs.Gifts.{has_at_by};
+ghost use Rattle.grant_history.specs.Ways.{gift_has, list_has, track_has, ways_have};
 
-use crate::givers::Giver;
+use crate::gifts::{GiftList, Gifts, gifts_in};
 use crate::held::Holding;
 use crate::track::Track;
 use sg_history::ChannelName;
 use sg_outside::Memory;
-use std::alloc::Global;
 
 /// When one user or role exists, and when it holds one channel, where it ever did.
 #[derive(Clone, Copy)]
@@ -31,10 +31,10 @@ pub struct Gift<'a> {
 }
 
 /// All ways in which a user has one channel.
-#[derive(Drop)]
-pub struct Ways<'a> {
-    pub own: ChannelTracks<'a>,
-    pub gifts: Vec<Gift<'a>>,
+#[derive(Clone, Copy)]
+pub struct Ways<'b, 'a> {
+    pub own: ChannelTracks<'b>,
+    pub gifts: Option<&'b GiftList<'a>>,
     pub is_everyone: bool,
 }
 
@@ -87,78 +87,50 @@ impl<'a> ChannelTracks<'a> {
     }
 }
 
-/// Puts a role behind others, unless it never had the channel.
-fn add_gift<'a>(
-    gifts: &mut Vec<Gift<'a>>,
-    giver: &Giver<'a>,
-    channel: &ChannelName,
-) -> Result<(), Memory>
-    ensures { OnOk result ((k : ℕ) → list_any (λ g. gift_has g k) gifts.new.items
-        ≡ (list_any (λ g. gift_has g k) gifts.old.items || giver_has giver.now k channel.now)) }
-{
-    let by = giver.of.tracks_of(channel);
-    let held = giver.track;
-    match by.channel {
-        None => Ok(()),
-        Some(_) => {
-            gifts.push(Gift { held, by })?;
-            Ok(())
-        }
-    }
-}
-
-/// The roles of these that have or had a channel.
-fn gifts_of<'a>(
-    alloc: Global,
-    givers: &[Giver<'a>],
-    channel: &ChannelName,
-) -> Result<Vec<Gift<'a>>, Memory>
-    ensures { IfOk result (λ gifts. (k : ℕ) → list_any (λ g. gift_has g k) gifts.items
-        ≡ list_any (λ g. giver_has g k channel.now) givers.now) }
-{
-    let mut gifts = Vec::new(alloc);
-    for giver in givers {
-        add_gift(&mut gifts, giver, channel)?;
-    }
-    Ok(gifts)
-}
-
 fn is_everyone(channel: &ChannelName) -> bool
     ensures { result ≡ bytes_eq everyone channel.now }
 {
     b"!".as_slice() == channel.as_bytes()
 }
 
-/// The ways in which a user that has or had these things and roles has a channel.
-pub fn ways_of<'a>(
-    alloc: Global,
-    all: &'a Holding,
-    givers: &[Giver<'a>],
+/// The ways in which a user that has or had these things has a channel, by what its roles give.
+pub fn ways_of<'b, 'a>(
+    all: &'b Holding,
+    gifts: &'b Gifts<'a>,
     channel: &ChannelName,
-) -> Result<Ways<'a>, Memory>
-    ensures { IfOk result (λ ways. (k : ℕ) → ways_have ways k
-        ≡ has_at_with givers.now all.now.items channel.now k) }
+) -> Ways<'b, 'a>
+    ensures { (k : ℕ) → ways_have result k
+        ≡ has_at_by gifts.now all.now.items channel.now k }
 {
-    let gifts = gifts_of(alloc, givers, channel)?;
-    Ok(Ways {
+    Ways {
         own: all.tracks_of(channel),
-        gifts,
+        gifts: gifts_in(gifts, channel),
         is_everyone: is_everyone(channel),
-    })
+    }
 }
 
-fn has_by(gifts: &[Gift<'_>], k: u64) -> bool
+fn any_has(gifts: &[Gift<'_>], k: u64) -> bool
     ensures { result ≡ list_any (λ g. gift_has g k) gifts.now }
 {
     gifts.iter().any(|g| g.has(k))
 }
 
-impl<'a> Ways<'a> {
+/// Whether a role gives the channel at a place.
+fn has_by(gifts: Option<&GiftList<'_>>, k: u64) -> bool
+    ensures { result ≡ list_has (option_copied gifts.entry) k }
+{
+    match gifts {
+        None => false,
+        Some(kept) => any_has(kept.list.as_slice(), k),
+    }
+}
+
+impl<'b, 'a> Ways<'b, 'a> {
     /// Whether the user has the channel at a place. Allocates nothing.
     pub fn has(&self, k: u64) -> bool
         ensures { result ≡ ways_have self.now k }
     {
         holds(self.own.exists, k)
-            && (has_by(self.gifts.as_slice(), k) || holds(self.own.channel, k) || self.is_everyone)
+            && (has_by(self.gifts, k) || holds(self.own.channel, k) || self.is_everyone)
     }
 }

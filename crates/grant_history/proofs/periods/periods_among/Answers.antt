@@ -16,4 +16,4 @@ use Rattle.grant_history.proofs.periods.periods_among.Goals as goal
 pub returns : goal.returns
 returns c = IfOk-weaker c.periods_for.result _ _ (λ list is.
     all_so_far (names_of c.args.channels.now) list.items c.args.roles.now c.args.all.now.items _ is c.requires.among
-    (λ x k. ap (λ (b : Bool). held_in c.args.all.now.items what.Exists k && (b || (channel_among c.args.all.now.items k x || (bytes_eq everyone x || false)))) (ap (λ (l : List Giver). list_any (λ g. giver_has g k x) l) c.as_slice.ensures.value ∙ c.in_ok-givers.ensures k x ∙ ap (λ (l : List Held). by_roles c.args.roles.now l k x) c.all.ensures))) c.periods_for.ensures
+    (λ x k. ap (λ (b : Bool). held_in c.args.all.now.items what.Exists k && (b || (channel_among c.args.all.now.items k x || (bytes_eq everyone x || false)))) (c.in_ok-gifts.ensures x k ∙ ap (λ (l : List Giver). list_any (λ g. giver_has g k x) l) c.as_slice.ensures.value ∙ c.in_ok-givers.ensures k x ∙ ap (λ (l : List Held). by_roles c.args.roles.now l k x) c.all.ensures))) c.periods_for.ensures

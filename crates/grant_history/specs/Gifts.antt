@@ -1,0 +1,32 @@
+-- The roles that give channels, by the names of these.
+use Rattle.std.specs.Prelude.{ℕ, Bool, false, ◌&&◌, ◌||◌, List, String, Option}
+use Rattle.std.specs.Borrow.{Bor}
+use Rattle.std.specs.BTreeMap.{BTreeMap, get_by_text}
+use Rattle.std.specs.Global.{Global}
+use Rattle.std.specs.Str.{bytes_eq}
+use Rattle.sg_history.specs.Principals.{everyone}
+use Rattle.grant_history.specs.declared.facts.What.TheVariants as what
+use Rattle.grant_history.specs.declared.gifts.GiftList.{GiftList}
+use Rattle.grant_history.specs.declared.givers.Giver.{Giver}
+use Rattle.grant_history.specs.declared.held.Held.{Held}
+use Rattle.grant_history.specs.declared.track.Track.{Track}
+use Rattle.grant_history.specs.Holdings.{held_in}
+use Rattle.grant_history.specs.Reads.{is_channel, channel_among}
+use Rattle.grant_history.specs.Tracks.{held_at}
+use Rattle.grant_history.specs.Ways.{list_has, track_has}
+
+abbrev pub Gifts : Type 0
+Gifts = BTreeMap (String Global) GiftList
+
+-- whether a role gives the channel at a place
+abbrev pub gifts_have : Gifts → List ℕ → ℕ → Bool
+gifts_have gifts x k = list_has (get_by_text gifts x) k
+
+-- whether a role, given when it exists, gives the channel at a place by one thing that it has or had
+abbrev pub held_gives : Giver → Option (Bor Track) → List ℕ → ℕ → Held → Bool
+held_gives g exists x k h = is_channel h.what x && (held_at g.track.now k && (track_has exists k && held_at h.track k))
+
+-- whether a user that has or had these things has a channel at a place, by what its roles give
+abbrev pub has_at_by : Gifts → List Held → List ℕ → ℕ → Bool
+has_at_by gifts list x k =
+    held_in list what.Exists k && (gifts_have gifts x k || (channel_among list k x || (bytes_eq everyone x || false)))
