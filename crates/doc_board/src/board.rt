@@ -1,6 +1,6 @@
 //! The board: the log, each document's tree, and the rooms that are outstanding.
 
-ghost use Rattle.std.specs.Prelude.{◌≡◌, ◌≢◌, ◌≤◌, ◌<◌, ◌+◌, ◌-◌, ◌*◌, ◌++◌, ◌∷◌, [], ℕ, List, false, true, length, reverse, is_some, Some, None, option_map, OnOk, OnErr, IfOk, IfErr, IfSome, IfNone, IsTrue, Err};
+ghost use Rattle.std.specs.Prelude.{◌≡◌, ◌≢◌, ◌≤◌, ◌<◌, ◌+◌, ◌-◌, ◌*◌, ◌++◌, ◌∷◌, [], ℕ, List, false, true, length, min, reverse, is_some, Some, None, option_map, OnOk, OnErr, IfOk, IfErr, IfSome, IfNone, IsTrue, Err};
 ghost use Rattle.std.specs.Option.{option_copied};
 ghost use Rattle.sg_history.specs.Book.{waiting_at};
 ghost use Rattle.sg_history.specs.History.{entries_of, among};
@@ -205,6 +205,8 @@ impl Board {
         ensures reads { self.new.reads
             ≤ self.old.reads + 2 * (length self.old.log - self.old.known) }
         ensures reads_rise { self.old.reads ≤ self.new.reads }
+        ensures counted { min (self.old.reads + (self.new.known - self.old.known))
+            18446744073709551615 ≤ self.new.reads }
     {
         let front = self.front();
         let mut log = LogReads::new(&self.storage.log);
@@ -232,6 +234,8 @@ impl Board {
         ensures reads { self.new.reads
             ≤ self.old.reads + 2 * (length self.old.log - self.old.known) }
         ensures reads_rise { self.old.reads ≤ self.new.reads }
+        ensures counted { min (self.old.reads + (self.new.known - self.old.known))
+            18446744073709551615 ≤ self.new.reads }
         ensures exists { IfOk result (λ found. is_some found ≡ principals.exists
             (principals.user_at (newest_first self.old) user.now)) }
         ensures sorted { IfOk result (λ found. IfSome found (λ channels. AreSorted channels)) }
@@ -314,6 +318,8 @@ impl Board {
         ensures reads { self.new.reads
             ≤ self.old.reads + 2 * (length self.old.log - self.old.known) }
         ensures reads_rise { self.old.reads ≤ self.new.reads }
+        ensures counted { min (self.old.reads + (self.new.known - self.old.known))
+            18446744073709551615 ≤ self.new.reads }
         ensures at { IfOk result (λ s. s.at ≡ length self.old.log) }
         ensures last { IfOk result (λ s. s.last ≡ last_on self.old revision.now.doc) }
         ensures step { IfOk result
