@@ -1,5 +1,5 @@
 -- the winner among leaves, and leaves in order
-use Rattle.std.proofs.Common.{◌≡◌, ℕ, zero, suc, ◌-◌, ◌<◌, ◌≤◌, take, length-append, true, false, ◌&&◌, not, Bool, List, [], ◌∷◌, insert, get_or, refl, sym, ap, ◌∙◌, subst, map, filter, ◌++◌, append-nil, append_assoc, length, Option, Some, None, arith, inl, inr}
+use Rattle.std.proofs.Common.{◌≡◌, ℕ, zero, suc, ◌-◌, ◌<◌, take, length-append, true, false, ◌&&◌, not, Bool, List, [], ◌∷◌, insert, get_or, refl, sym, ap, ◌∙◌, subst, map, filter, ◌++◌, append-nil, append_assoc, length, Option, Some, None, arith, inl, inr}
 use Rattle.std.specs.Prelude.{option_map, nat_lt, nat_eq, if◌then◌else◌}
 use Rattle.std.specs.List.{list_any, list_all, All}
 use Rattle.std.specs.List.Sorted.{IsPermutation}
@@ -349,14 +349,3 @@ revs_end limit xs revs all k is so_far =
     let none : within limit xs ≡ [] = none_within limit xs is in
     let old : revs ++ map (λ (l : Leaf). l.rev) (take k []) ≡ all = rw none at so_far in
     sym (append-nil revs) ∙ ap (λ (rs : List RevId). revs ++ rs) (sym (take_none k)) ∙ old
-
-take_zero : (ls : List Leaf) → map (λ (l : Leaf). l.rev) (take 0 ls) ≡ []
-take_zero [] = refl
-take_zero (l ∷ ls) = refl
-
--- so many are all
-pub revs_full : (limit : Limit) (xs : List Node) (revs all : List RevId) (most : ℕ) → most ≤ length revs → revs ++ map (λ (l : Leaf). l.rev) (take (most - length revs) (falling (within limit xs))) ≡ all → revs ≡ all
-revs_full limit xs revs all most full so_far =
-    let none : most - length revs ≡ 0 = omega arith in
-    let old : revs ++ map (λ (l : Leaf). l.rev) (take 0 (falling (within limit xs))) ≡ all = rw none at so_far in
-    sym (append-nil revs) ∙ ap (λ (rs : List RevId). revs ++ rs) (sym (take_zero (falling (within limit xs)))) ∙ old

@@ -104,18 +104,7 @@ pub row_is : {X Z : Type 0} (nodes : X → List Node) (sound : X → Bool) (part
 row_is nodes sound [] h = cc
 row_is nodes sound (x ∷ xs) h = let parts = and_parts (are_sound sound (x ∷ xs)) (rises (joined nodes (x ∷ xs))) h in record { some = omega arith; are_all = parts.0; rising = parts.1 }
 
-pub head_joined : {X Z : Type 0} (nodes : X → List Node) (parts : List (Arc X Z)) (part : Arc X Z) (n : Node) → 0 < length parts → part ≡ get_or parts 0 part → IsHead (nodes (arc_value part)) n → IsHead (joined nodes parts) n
-head_joined nodes parts part n some is head = record { more = head.more ++ joined nodes (drop 1 parts); is = joined_at nodes parts 0 part some is ∙ rw head.is refl }
-
--- no parts hold nothing
-pub none_hold : {X Z : Type 0} (nodes : X → List Node) (parts : List (Arc X Z)) → length parts ≡ 0 → joined nodes parts ≡ []
-none_hold nodes [] h = refl
-none_hold nodes (x ∷ xs) h = absurd (omega arith)
-
--- one part, and two
-pub one_holds : {X Z : Type 0} (nodes : X → List Node) (sound : X → Bool) (rows : List (Arc X Z)) (a : Arc X Z) (all : List Node) → rows ≡ a ∷ [] → nodes (arc_value a) ≡ all → sound (arc_value a) ≡ true → AreParts nodes sound rows all
-one_holds nodes sound rows a all e n s = record { hold = rw e (append-nil (nodes (arc_value a)) ∙ n); are_all = rw (e, s) refl }
-
+-- two parts
 pub two_hold : {X Z : Type 0} (nodes : X → List Node) (sound : X → Bool) (rows : List (Arc X Z)) (a b : Arc X Z) (one two all : List Node) → rows ≡ a ∷ b ∷ [] → nodes (arc_value a) ≡ one → nodes (arc_value b) ≡ two → sound (arc_value a) ≡ true → sound (arc_value b) ≡ true → one ++ two ≡ all → AreParts nodes sound rows all
 two_hold nodes sound rows a b one two all e n m s t sum = record { hold = rw e (rw (n, m, append-nil two) sum); are_all = rw (e, s, t) refl }
 

@@ -6,7 +6,6 @@ pub mod RowSteps
 pub mod Grown
 pub mod Hanging
 pub mod Places
-pub mod Lines
 pub mod Kept
 pub mod HexDigests
 pub mod OfWrites

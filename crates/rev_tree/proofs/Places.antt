@@ -62,3 +62,12 @@ pub none_added : (tree : List Node) (revs : List RevId) → added tree (drop (kn
 none_added tree [] = refl
 none_added tree (a ∷ more) =
     elim (cases_Bool (knows tree a)) [ inl e ↦ rw e (rw e refl) | inr e ↦ rw (e, add-one) (none_added tree more) ]
+
+-- where the nearest ancestor is known, or there is none, nothing is added
+pub none_before : (tree : List Node) (revs : List RevId) → known_place tree revs ≡ 0 → added tree revs ≡ []
+none_before tree [] h = refl
+none_before tree (a ∷ more) h =
+    elim (cases_Bool (knows tree a)) [
+      | inl e ↦ rw e refl
+      | inr e ↦ let later : known_place tree more + 1 ≡ 0 = rw e at h in absurd (omega (arith, later))
+    ]

@@ -116,10 +116,6 @@ put_in_part n before [] after h first next = cc
 put_in_part n before (x ∷ xs) after h first next =
     sym (insert_front n before x (xs ++ after) h first ∙ ap (λ (ns : List Node). before ++ ns) (insert_past n (x ∷ xs) after next))
 
--- a node that is less than all is put into the first part
-pub put_in_first : (n : Node) (x : Node) (xs after : List Node) → is_lt (rev_cmp x.rev n.rev) ≡ false → insert_node n (x ∷ xs) ++ after ≡ insert_node n (x ∷ (xs ++ after))
-put_in_first n x xs after h = rw h refl
-
 pub below_insert : (rev : RevId) (n : Node) (xs : List Node) → is_lt (rev_cmp rev n.rev) ≡ true → is_below_all rev xs ≡ true → is_below_all rev (insert_node n xs) ≡ true
 below_insert rev n [] here h = and_from _ _ here refl
 below_insert rev n (x ∷ xs) here h =

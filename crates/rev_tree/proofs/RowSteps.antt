@@ -10,14 +10,10 @@ use Rattle.rev_tree.specs.declared.leaf.Leaf.{Leaf}
 use Rattle.rev_tree.specs.declared.tree.Node.{Node}
 use Rattle.rev_tree.specs.Tree.{knows}
 use Rattle.rev_tree.specs.Rising.{rises, insert_node, without, last_node, last_where, falling, starts, is_within}
-use Rattle.rev_tree.specs.Parts.{joined, AreParts}
+use Rattle.rev_tree.specs.Parts.{joined}
 use Rattle.rev_tree.proofs.RevOrder.{Closed, within_strictly}
 use Rattle.rev_tree.proofs.Rises.{found_in, put_in_part, insert_past, take_from_part, or_false, last_past, last_front, falling_append}
 use Rattle.rev_tree.proofs.Joins.{joined_at, joined_by}
-
--- the same parts hold nodes that are equal
-pub parts_hold : {X Z : Type 0} (nodes : X → List Node) (sound : X → Bool) (parts : List (Arc X Z)) (one other : List Node) → AreParts nodes sound parts one → one ≡ other → AreParts nodes sound parts other
-parts_hold nodes sound parts one other h e = record { hold = h.hold ∙ e; are_all = h.are_all }
 
 starts_strictly : (rev : RevId) (xs : List Node) → starts (is_within (record { rev = rev; or_equal = false })) xs ≡ starts (λ r. is_lt (rev_cmp r rev)) xs
 starts_strictly rev [] = refl

@@ -162,6 +162,9 @@ impl Tree {
         ensures { IfOk result (λ nodes. nodes ≡ extension.with_nodes
             (arc_value node.now ∷ extension.added self.now ancestors.now) self.now) }
     {
+        if place == 0 {
+            return self.nodes.put(node);
+        }
         let below = history::with_ancestors(&self.nodes, ancestors, place)?;
         let nodes = below.put(node);
         drop(below);
