@@ -2,3 +2,4 @@ pub mod Earliest
 pub mod First
 pub mod Closing
 pub mod Steps
+pub mod Second

@@ -1,6 +1,6 @@
 //! Programs whose names stand for something.
 
-ghost use Rattle.std.specs.Prelude.{◌≡◌, ◌≢◌, ◌++◌, [], None, IfErr, IfOk, OnOk};
+ghost use Rattle.std.specs.Prelude.{◌≡◌, ◌≢◌, ◌++◌, [], is_some, None, IfErr, IfOk, OnOk};
 ghost use Rattle.sync_code.specs.Made.{IsCodeOf};
 ghost use Rattle.sync_resolve.specs.declared.fault.ResolveFault.TheVariants.{Memory};
 ghost use Rattle.sync_resolve.specs.Faults.{IsFirst, earliest};
@@ -52,6 +52,14 @@ impl Resolved {
         ensures resolved { IsResolved result.now }
     {
         &self.program
+    }
+
+    /// Whether it has a second parameter, which takes the document before.
+    #[tactic(auto, using(crate::proofs::Second::both_or_none))]
+    pub fn takes_old(&self) -> bool
+        ensures { result ≡ is_some self.now.second }
+    {
+        self.code.second.is_some()
     }
 
     /// The program's code.
