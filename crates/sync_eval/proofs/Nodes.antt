@@ -12,6 +12,7 @@ use Rattle.sync_meaning.specs.declared.callee.Target.TheVariants as t
 use Rattle.sync_meaning.specs.declared.scope.Scope.{Scope}
 use Rattle.sync_meaning.specs.declared.state.State.{State}
 use Rattle.sync_meaning.specs.declared.value.Value.TheVariants as v
+use Rattle.sync_meaning.specs.declared.variables.Literal.{Literal}
 use Rattle.sync_meaning.specs.declared.variables.Slot.{Slot}
 use Rattle.sync_meaning.specs.Acts.{Found, Act, and_then, pure, Does}
 use Rattle.sync_meaning.specs.Expressions as spec
@@ -56,10 +57,10 @@ node_Integer inner scope s p n =
     let l : out-Expr (source (c.Integer p n)) ≡ Expr-F.Integer p n = search (rules, codes.the_lemmas, exprs.the_lemmas) in
     ap (λ x. spec.node_at inner scope x s) l
 
-pub node_Text : (inner : Inner) (scope : Scope) (s : State) (p : Place) (x : List ℕ) → spec.node inner scope (source (c.Text p x)) s ≡ spec.literal p (Ok (v.Text x)) s
+pub node_Text : (inner : Inner) (scope : Scope) (s : State) (p : Place) (x : Literal) → spec.node inner scope (source (c.Text p x)) s ≡ spec.literal p (Ok (v.Text x.text)) s
 unfolding spec.node
 node_Text inner scope s p x =
-    let l : out-Expr (source (c.Text p x)) ≡ Expr-F.Text p x = search (rules, codes.the_lemmas, exprs.the_lemmas) in
+    let l : out-Expr (source (c.Text p x)) ≡ Expr-F.Text p x.text = search (rules, codes.the_lemmas, exprs.the_lemmas) in
     ap (λ z. spec.node_at inner scope z s) l
 
 pub node_Name : (inner : Inner) (scope : Scope) (s : State) (p : Place) (x : Slot) → spec.node inner scope (source (c.Name p x)) s ≡ spec.name scope p x.name s

@@ -7,6 +7,7 @@ use Rattle.sync_syntax.specs.declared.tree.Operator.{Operator}
 use Rattle.sync_syntax.specs.declared.tree.Prefix.{Prefix}
 use Rattle.sync_syntax.specs.declared.tree.Statement.{out-Statement}
 use Rattle.sync_syntax.specs.declared.tree.Statement as statements
+use Rattle.sync_meaning.specs.declared.variables.Literal.{Literal}
 use Rattle.sync_meaning.specs.declared.variables.Slot.{Slot}
 use Rattle.sync_meaning.specs.Expressions as e
 use Rattle.sync_meaning.specs.Statements as s
@@ -36,7 +37,7 @@ place_Bool p b = search (rules, codes.the_lemmas, exprs.the_lemmas)
 pub place_Integer : (p : Place) (n : ℕ) → e.place_of (source (c.Integer p n)) ≡ p
 place_Integer p n = search (rules, codes.the_lemmas, exprs.the_lemmas)
 
-pub place_Text : (p : Place) (x : List ℕ) → e.place_of (source (c.Text p x)) ≡ p
+pub place_Text : (p : Place) (x : Literal) → e.place_of (source (c.Text p x)) ≡ p
 place_Text p x = search (rules, codes.the_lemmas, exprs.the_lemmas)
 
 pub place_Name : (p : Place) (x : Slot) → e.place_of (source (c.Name p x)) ≡ p

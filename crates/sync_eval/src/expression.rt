@@ -20,7 +20,7 @@ use sqlite_items::Items;
 use std::alloc::Global;
 use sync_code::{Code, Memory, Tail};
 use sync_meaning::{
-    Builtin, FaultKind, Method, Rule, RuleKind, Slot, State, Stop, Target, Text, Value, bounded,
+    Builtin, FaultKind, Literal, Method, Rule, RuleKind, Slot, State, Stop, Target, Value, bounded,
     built_in, by_method, combined, indexed, listed, member, prefixed, truth,
 };
 use sync_syntax::tree::{Operator, Prefix};
@@ -137,7 +137,7 @@ fn is_array_name(expr: &Code) -> bool
     ensures { result ≡ spec.is_array_name (source expr.now) }
 {
     match expr {
-        Code::Name(_, slot) => slot.name.get().as_str() == "Array",
+        Code::Name(_, slot) => slot.name.as_str() == "Array",
         _ => false,
     }
 }
@@ -216,11 +216,11 @@ fn literal(state: &mut State, place: Place, found: Result<Value, Stop>) -> Resul
 
 /// What a text of the program evaluates to.
 #[tactic(auto, unfolding(sync_meaning::specs::Expressions::literal))]
-fn text(state: &mut State, place: Place, text: &Text) -> Result<Value, Stop>
-    ensures { Does (spec.literal place (Ok (Value.Text text.now)) state.old) result state.new }
+fn text(alloc: Global, state: &mut State, place: Place, text: &Literal) -> Result<Value, Stop>
+    ensures { Does (spec.literal place (Ok (Value.Text text.now.text)) state.old) result state.new }
 {
     state.visit(place)?;
-    Ok(Value::Text(text.share()?))
+    Ok(Value::Text(state.variables.literal(alloc, text)?))
 }
 
 /// What a name evaluates to.
@@ -736,7 +736,7 @@ impl<F: Fn(Global, u64, &mut State, &Code, bool) -> Result<Target, Stop>> Expres
             state.old result state.new }
     {
         match expr {
-            Code::Name(_, slot) => Ok(called_by(slot.name.get().as_str())),
+            Code::Name(_, slot) => Ok(called_by(slot.name.as_str())),
             Code::Postfix(first, suffixes) => {
                 self.postfix(state, true, first.get(), suffixes.as_slice())
             }
@@ -774,7 +774,7 @@ impl<F: Fn(Global, u64, &mut State, &Code, bool) -> Result<Target, Stop>> Expres
             Code::Null(place) => literal(state, *place, Ok(Value::Null)),
             Code::Bool(place, truth) => literal(state, *place, Ok(Value::Bool(*truth))),
             Code::Integer(place, n) => literal(state, *place, bounded(*place, *n as i128)),
-            Code::Text(place, found) => text(state, *place, found),
+            Code::Text(place, found) => text(self.alloc, state, *place, found),
             Code::Name(place, slot) => name(state, *place, slot),
             Code::List(place, exprs) => self.list(state, *place, exprs.as_slice()),
             Code::Object(place, exprs) => self.object(state, *place, exprs.as_slice()),

@@ -11,7 +11,7 @@ use crate::statement::{Statements, run};
 use json_doc::Doc;
 use std::alloc::Global;
 use sync_code::Memory;
-use sync_meaning::{Completion, Context, Effects, State, Stop, Value, Variables, value_of};
+use sync_meaning::{Completion, Context, Effects, Slot, State, Stop, Value, Variables, value_of};
 use sync_resolve::Resolved;
 
 /// How many visits a run has.
@@ -28,28 +28,8 @@ fn value_before(alloc: Global, old: Option<&Doc>) -> Result<Value, Memory>
     }
 }
 
-/// The first parameter takes a value.
-#[tactic(auto, using(crate::proofs::Parameters::first_written))]
-fn write_first(program: &Resolved, value: Value, variables: &mut Variables) -> Result<(), Memory>
-    ensures { OnOk result (variables.new
-        ≡ written program.now.first.name 0 value variables.old) }
-{
-    variables.write(&program.as_code().first, value)
-}
-
-/// The second parameter takes a value, where there is one.
-#[tactic(auto, using(crate::proofs::Parameters::second_written))]
-fn write_second(program: &Resolved, value: Value, variables: &mut Variables) -> Result<(), Memory>
-    ensures { OnOk result (variables.new
-        ≡ spec.with_second program.now.second value variables.old) }
-{
-    match &program.as_code().second {
-        Some(second) => variables.write(second, value),
-        None => Ok(()),
-    }
-}
-
 /// The first parameter takes the document.
+#[tactic(auto, using(crate::proofs::Parameters::first_written))]
 fn write_document(
     alloc: Global,
     program: &Resolved,
@@ -60,10 +40,25 @@ fn write_document(
         (values.value_of (node_tree doc.now)) variables.old) }
 {
     let value = value_of(alloc, doc.as_node())?;
-    write_first(program, value, variables)
+    variables.write(alloc, &program.as_code().first, value)
+}
+
+/// A parameter takes the document before.
+fn write_old(
+    alloc: Global,
+    slot: &Slot,
+    old: Option<&Doc>,
+    variables: &mut Variables,
+) -> Result<(), Memory>
+    ensures { OnOk result (variables.new ≡ written slot.now.name slot.now.number
+        (spec.value_before (option_map (λ doc. node_tree doc.now) old.entry)) variables.old) }
+{
+    let value = value_before(alloc, old)?;
+    variables.write(alloc, slot, value)
 }
 
 /// The second parameter, where there is one, takes the document before.
+#[tactic(auto, using(crate::proofs::Parameters::second_written))]
 fn write_before(
     alloc: Global,
     program: &Resolved,
@@ -73,8 +68,10 @@ fn write_before(
     ensures { OnOk result (variables.new ≡ spec.with_second program.now.second
         (spec.value_before (option_map (λ doc. node_tree doc.now) old.entry)) variables.old) }
 {
-    let value = value_before(alloc, old)?;
-    write_second(program, value, variables)
+    match &program.as_code().second {
+        Some(second) => write_old(alloc, second, old, variables),
+        None => Ok(()),
+    }
 }
 
 /// The parameters.
@@ -88,7 +85,8 @@ fn parameters(
     ensures { IfOk result (λ variables. variables ≡ spec.parameters program.now (node_tree doc.now)
         (option_map (λ doc. node_tree doc.now) old.entry)) }
 {
-    let mut variables = Variables::new(alloc, program.as_code().slots)?;
+    let code = program.as_code();
+    let mut variables = Variables::new(alloc, code.slots, code.literals)?;
     if let Err(error) = write_document(alloc, program, doc, &mut variables) {
         drop(variables);
         return Err(error);

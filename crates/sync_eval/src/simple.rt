@@ -88,14 +88,20 @@ fn one_more(place: Place, value: &Value, by: i64) -> Result<Value, Stop>
 }
 
 /// A variable takes the difference of two values.
-fn put_difference(state: &mut State, held: &Held, first: &Value, second: &Value) -> Result<(), Stop>
+fn put_difference(
+    alloc: Global,
+    state: &mut State,
+    held: &Held,
+    first: &Value,
+    second: &Value,
+) -> Result<(), Stop>
     ensures { DoesWhere (slot_fits held.now.slot)
         (λ scope. rests.assigned scope (held_source held.now)
         (values.calculated held.now.place (λ a b. a -ℤ b) first.now second.now))
         state.old result state.new }
 {
     let value = subtracted(held.place, first, second)?;
-    assign(state, &held.slot, value)
+    assign(alloc, state, &held.slot, value)
 }
 
 /// A visit, and how the statement ends.
@@ -162,7 +168,7 @@ impl Parts {
             (Declares::Var, None) => Ok(()),
             _ => {
                 let value = self.value_or_undefined(state, expr)?;
-                state.store(&held.slot, value)
+                state.store(self.alloc, &held.slot, value)
             }
         }
     }
@@ -203,7 +209,7 @@ impl Parts {
             state.old result state.new }
     {
         let value = self.value(state, expr)?;
-        assign(state, &held.slot, value)
+        assign(self.alloc, state, &held.slot, value)
     }
 
     /// `+=`
@@ -252,7 +258,7 @@ impl Parts {
             state.old result state.new }
     {
         let value = added(self.alloc, held.place, first, second)?;
-        assign(state, &held.slot, value)
+        assign(self.alloc, state, &held.slot, value)
     }
 
     /// `-=`
@@ -282,7 +288,7 @@ impl Parts {
             state.old result state.new }
     {
         let second = self.value(state, expr)?;
-        let done = put_difference(state, held, first, &second);
+        let done = put_difference(self.alloc, state, held, first, &second);
         drop(second);
         done
     }
@@ -296,7 +302,7 @@ impl Parts {
         let first = read(state, &held.slot)?;
         let value = one_more(held.place, &first, by);
         drop(first);
-        assign(state, &held.slot, value?)
+        assign(self.alloc, state, &held.slot, value?)
     }
 
     #[tactic(auto, unfolding(sync_meaning::specs::Statements::expression))]

@@ -211,7 +211,7 @@ impl<F: Fn(Global, u64, &mut State, &Step) -> Result<Completion, Stop>> Statemen
             (λ scope. rests.round_of self.now.depth scope slot.now.name slot.now.number item.now
             (step_source body.now)) state.old result state.new }
     {
-        state.store(slot, item.share()?)?;
+        state.store(self.alloc, slot, item.share()?)?;
         self.inner(state, body)
     }
 

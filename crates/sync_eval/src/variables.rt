@@ -5,6 +5,7 @@ ghost use Rattle.sync_meaning.specs.Statements as statements;
 ghost use Rattle.sync_code.specs.Code.{slot_fits};
 ghost use Rattle.sync_eval.specs.Nested.{DoesWhere};
 
+use std::alloc::Global;
 use sync_meaning::{Slot, State, Stop, Value};
 
 /// What the variable that a name stands for holds.
@@ -16,9 +17,14 @@ pub(crate) fn read(state: &mut State, slot: &Slot) -> Result<Value, Stop>
 }
 
 /// The variable that a name stands for takes a value.
-pub(crate) fn assign(state: &mut State, slot: &Slot, value: Value) -> Result<(), Stop>
+pub(crate) fn assign(
+    alloc: Global,
+    state: &mut State,
+    slot: &Slot,
+    value: Value,
+) -> Result<(), Stop>
     ensures { DoesWhere (slot_fits slot.now)
         (λ scope. statements.assign scope slot.now.name value) state.old result state.new }
 {
-    state.store(slot, value)
+    state.store(alloc, slot, value)
 }
