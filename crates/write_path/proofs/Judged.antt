@@ -1,5 +1,5 @@
 -- what the program says of a revision by a board
-use Rattle.std.proofs.Common.{◌≡◌, ◌≢◌, ◌∙◌, ℕ, Bool, true, false, List, [], ◌∷◌, Option, Some, None, Ok, Err, refl, sym, ap, subst, option_map, true≢false}
+use Rattle.std.proofs.Common.{◌≡◌, ◌≢◌, ◌∙◌, ℕ, Bool, true, false, List, [], ◌∷◌, Option, Some, None, Ok, Err, refl, sym, ap, subst, option_map, is_some, IfSome, true≢false}
 use Rattle.sg_history.specs.declared.entries.Write.{Write}
 use Rattle.std.proofs.Common.{Bor}
 use Rattle.std.specs.Option.{option_copied}
@@ -7,18 +7,22 @@ use Rattle.json_doc.specs.declared.node.Node.{Node}
 use Rattle.json_doc.specs.Tree.{Tree}
 use Rattle.json_doc.specs.View.{node_tree}
 use Rattle.json_doc.specs.Reading.{IsDocument}
+use Rattle.json_doc.specs.System.{with_system}
 use Rattle.repl_messages.specs.declared.revision.Revision.{Revision}
 use Rattle.rev_tree.specs.Documents.{deletes}
+use Rattle.sync_syntax.specs.declared.tree.Named.{Named}
 use Rattle.sync_syntax.specs.declared.tree.Program.{Program}
 use Rattle.sync_meaning.specs.declared.effects.Effects.{Effects}
 use Rattle.sync_meaning.specs.declared.fault.Stop.TheVariants as stop
 use Rattle.sync_meaning.specs.Acts.{Found}
-use Rattle.sync_meaning.specs.Laws.{AreEffects, EffectsAreLawful}
+use Rattle.sync_meaning.specs.Laws.{AreEffects, EffectsAreLawful, OldIsNotAsked}
+use Rattle.sync_meaning.specs.Meaning.{meaning}
 use Rattle.sync_eval.specs.declared.verdict.Verdict.{Verdict}
 use Rattle.sync_eval.specs.declared.verdict.Verdict.TheVariants.{Accept, Deny, Memory}
 use Rattle.sync_eval.specs.Verdicts.{verdict}
 use Rattle.doc_board.specs.Boards.{board_of}
 use Rattle.doc_board.specs.Judging.{IsOldTree, IsSaid, IsTreeOf, board_base, body_or_empty}
+use Rattle.doc_board.specs.Recorded.{HasDocument}
 use Rattle.doc_board.specs.State.{State}
 use Rattle.write_path.specs.declared.judging.Basis.{Basis}
 use Rattle.write_path.specs.Verdicts.{IsVerdict, IsOldBody, IsSaidOfDocument, IsSaidOn, IsBasis}
@@ -53,6 +57,29 @@ verdict_is says Memory m h meant = tt
 pub trees_behind : (o : Option (Bor Node)) → option_map (λ d. node_tree d) (option_copied o) ≡ option_map (λ d. node_tree d.now) o
 trees_behind None = refl
 trees_behind (Some d) = refl
+
+-- ---- the document before
+
+-- a body that is a document has a tree, with its identifier and the deleted mark
+some_old : (body : Option (List ℕ)) (deleted : Bool) (id : List ℕ) → IfSome body (λ b. HasDocument b) → (old : Option Tree) × IsOldBody body deleted id old
+some_old None deleted id there = (None, refl)
+some_old (Some b) deleted id there = (Some (with_system id deleted there.0), (with_system id deleted there.0, (there.0, there.1, refl), refl))
+
+none_there : (second : Option Named) → is_some second ≡ false → second ≡ None
+none_there None e = refl
+none_there (Some n) e = absurd (true≢false e)
+
+-- what a program of one parameter says without a document before it says with each
+pub said_without_old : (law : OldIsNotAsked) (program : Program) (id : List ℕ) (document : Tree) (basis : Basis) (v : Verdict)
+    → is_some program.second ≡ false → IfSome basis.old (λ b. HasDocument b)
+    → (v ≢ Memory → v ≡ verdict (meaning program document None basis.context)) → IsVerdict (IsSaidOfDocument program id document basis) v
+said_without_old law program id document basis v one documents judged =
+    let there = some_old basis.old basis.old_deleted id documents in
+    verdict_is (IsSaidOfDocument program id document basis) v (meaning program document None basis.context) judged (record {
+      old = there.0;
+      is_old = there.1;
+      is_meant = law program document there.0 basis.context (none_there program.second one);
+    })
 
 -- ---- bodies
 

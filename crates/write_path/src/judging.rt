@@ -14,6 +14,7 @@ use sg_history::DocId;
 use sg_outside::Bytes;
 use std::alloc::{AllocError, Global};
 use sync_eval::{Verdict, judge};
+use sync_meaning::laws::old_is_not_asked;
 use sync_resolve::Resolved;
 
 /// What a revision is judged on besides its own document.
@@ -67,6 +68,7 @@ fn old_document(alloc: Global, basis: &Basis, id: &DocId) -> Result<Option<Doc>,
 }
 
 /// What a program says of a document that has its identifier and the deleted mark, judged on this.
+/// The body before is read where the program has a second parameter.
 fn said_of_document(
     alloc: Global,
     program: &Resolved,
@@ -77,6 +79,10 @@ fn said_of_document(
     requires { IfSome basis.now.old (λ body. HasDocument body) }
     ensures { IsVerdict (IsSaidOfDocument program.now id.now (node_tree doc.now) basis.now) result }
 {
+    if !program.takes_old() {
+        old_is_not_asked();
+        return judge(alloc, program, doc, None, &basis.context);
+    }
     match old_document(alloc, basis, id) {
         Ok(old) => {
             let said = judge(alloc, program, doc, old.as_ref(), &basis.context);
