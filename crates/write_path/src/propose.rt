@@ -31,6 +31,7 @@ use doc_board::laws::{alone, boards, few_ancestors, winners};
 use doc_board::{Board, Candidate, MOST_BODY_BYTES, NoRoom, Outcome, Snapshot};
 use json_doc::Doc;
 use repl_messages::{Field, Revision};
+use rev_tree::laws::extensions;
 use rev_tree::{Extended, Tree};
 use sg_history::{Name, RevId};
 use sg_outside::Memory;
@@ -194,6 +195,7 @@ pub(crate) fn judge(
 {
     boards();
     winners();
+    extensions();
     let judged = match extension_of(board, &revision, strict, by) {
         Ok(judged) => judged,
         Err(outcome) => {

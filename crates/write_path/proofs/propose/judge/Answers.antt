@@ -1,9 +1,16 @@
+use Rattle.std.proofs.Common.{sym, ◌∙◌}
 use Rattle.std.specs.Option.{option_copied}
+use Rattle.doc_board.specs.Answers.{recorded_with}
+use Rattle.doc_board.specs.Boards.{board_of, board_tree}
 use Rattle.write_path.proofs.Decided.{accepted_by, denied_at, denied_by, ready_by}
 use Rattle.write_path.proofs.propose.judge.Goals as goal
 
 pub accepted_of-requires-clause-old : goal.accepted_of-requires-clause-old
 accepted_of-requires-clause-old c = c.in-Ok.ensures.extends.basis.documents
+
+pub accepted_of-requires-clause-tree : goal.accepted_of-requires-clause-tree
+accepted_of-requires-clause-tree c none =
+    c.extensions.ensures.some (board_tree (board_of c.args.board.now) c.args.revision.doc) (recorded_with c.args.revision c.in-Ok.judged.kept) (sym c.in-Ok.ensures.extends.tree.tree ∙ none)
 
 pub returns-in-Ok-accepted_of-clause-ready : goal.returns-in-Ok-accepted_of-clause-ready
 returns-in-Ok-accepted_of-clause-ready c =
