@@ -15,7 +15,6 @@ pub returns : goal.returns
 returns c =
     let final = c.in_ok-ground.ground in
     let h : History = history c.log.result.now in
-    let printed_log : c.log.result.now ≡ c.into_inner-shelf.result.board.log = c.log.ensures.log ∙ ap (λ (s : State). s.log) c.board.ensures in
     let Later : List Entry → Type 0 = λ es. IsLaterThanAll final.read es in
     let Ends : List Entry → Type 0 = λ es. EndsWith es final.own in
     let whole : c.write_history-written.new.out ≡ c.run_sessions.new.out ++ codes "journal\n" ++ journal_text h → AreServed (arc_value c.args.program.now) c.args.strict c.args.sessions.items c.args.ground c.args.out.now c.write_history-written.new.out = λ printed.
@@ -24,9 +23,9 @@ returns c =
       between = c.run_sessions.new.out;
       sessions = c.in_ok-ground.ensures;
       history = h;
-      later = subst Later (sym printed_log) c.into_inner-shelf.ensures.later;
-      log = printed_log ∙ ap (λ (s : State). s.log) c.into_inner-shelf.ensures.board;
-      ends = subst Ends (sym printed_log) c.into_inner-shelf.ensures.ends;
+      later = subst Later (sym (c.log.ensures.log ∙ ap (λ (s : State). s.log) c.board.ensures)) c.into_inner-shelf.ensures.later;
+      log = c.log.ensures.log ∙ ap (λ (s : State). s.log) c.board.ensures ∙ ap (λ (s : State). s.log) c.into_inner-shelf.ensures.board;
+      ends = subst Ends (sym (c.log.ensures.log ∙ ap (λ (s : State). s.log) c.board.ensures)) c.into_inner-shelf.ensures.ends;
       printed = printed;
     } in
     on_ok_weaker c.write_history-written.result whole c.write_history-written.ensures
