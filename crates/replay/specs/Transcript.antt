@@ -67,6 +67,7 @@ abbrev pub end_text : End → List ℕ
 end_text end.Closed = codes "closed"
 end_text end.WireFault = codes "wirefault"
 end_text (end.BadFrame index why) = codes "badframe " ++ decimal index
+end_text end.LooksFull = codes "looksfull"
 end_text end.TurnsFull = codes "turnsfull"
 end_text end.Memory = codes "memory"
 

@@ -81,6 +81,7 @@ fn write_word(end: End, out: &mut Bytes) -> Result<(), Memory>
         End::BadFrame { index, .. } => return write_bad_frame(index, out),
         End::Closed => b"closed",
         End::WireFault => b"wirefault",
+        End::LooksFull => b"looksfull",
         End::TurnsFull => b"turnsfull",
         End::Memory => b"memory",
     };

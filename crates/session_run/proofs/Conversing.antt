@@ -24,6 +24,7 @@ use Rattle.session_run.specs.declared.session.Session.{Session}
 use Rattle.session_run.specs.Answered.{Moment, HasRead, IsAnswered}
 use Rattle.session_run.specs.Held.{IsReady, Makes, Halts, Conversed, Conversing}
 use Rattle.session_run.specs.Putting.{MayReply, put_as}
+use Rattle.session_run.specs.Spent.{spent_by, spent_of}
 use Rattle.session_run.specs.Turns.{IsExchange, puts_all}
 
 -- ---- messages put one after another
@@ -61,11 +62,22 @@ none_stored (event.Bodies b) is = absurd (false≢true (sym is))
 none_stored (event.Asked answer) is = absurd (false≢true (sym is))
 none_stored (event.Judged outcome) is = absurd (false≢true (sym is))
 
+none_spent : (e : Event) → is_answer e ≡ false → spent_by e ≡ 0
+none_spent (event.Whole message) is = refl
+none_spent (event.Idle front) is = refl
+none_spent (event.Fed answer) is = absurd (false≢true (sym is))
+none_spent (event.Bodies b) is = absurd (false≢true (sym is))
+none_spent (event.Asked answer) is = absurd (false≢true (sym is))
+none_spent (event.Judged outcome) is = absurd (false≢true (sym is))
+
 same_looks : (e : Event) (old new : List Look) → is_answer e ≡ false → new ≡ old → new ≡ old ++ look_of e
 same_looks e old new is same = same ∙ sym (append-nil old) ∙ ap (λ l. old ++ l) (sym (no_look e is))
 
 same_stored : (e : Event) (old new : List ℕ) → is_answer e ≡ false → new ≡ old → new ≡ old ++ stored_by e
 same_stored e old new is same = same ∙ sym (append-nil old) ∙ ap (λ l. old ++ l) (sym (none_stored e is))
+
+same_spent : (e : Event) (old new : ℕ) → is_answer e ≡ false → new ≡ old → new ≡ old + spent_by e
+same_spent e old new is same = omega (arith, same, none_spent e is)
 
 pub at_most_two : (p : Pending) → most_answers p ≤ 2
 at_most_two pending.Nothing = omega arith
@@ -77,26 +89,27 @@ at_most_two (pending.Push asker) = omega arith
 
 -- the one step by the first event
 first_step : (program : Program) (old new : Session) (first : Event) (before now : Moment) (s : Step) (user : List ℕ) (strict : Bool) → is_answer first ≡ false → s.event ≡ first → Leads old.core (s ∷ []) new.core
-    → new.listing.looks ≡ old.listing.looks → new.listing.stored ≡ old.listing.stored
+    → new.listing.looks ≡ old.listing.looks → new.listing.stored ≡ old.listing.stored → new.listing.spent ≡ old.listing.spent
     → IsAnswered before old.core.user program old.core.strict None first now
     → Conversed program old new first before now (s ∷ []) None
-first_step program old new first before now s user strict is event_is leads looks stored answered = record {
+first_step program old new first before now s user strict is event_is leads looks stored spent answered = record {
   leads = leads;
   exchange = event_is;
   answered = (before, refl, subst (λ e. IsAnswered before old.core.user program old.core.strict None e now) (sym event_is) answered);
   looks = same_looks first old.listing.looks new.listing.looks is looks ∙ ap (λ e. old.listing.looks ++ look_of e) (sym event_is);
   stored = same_stored first old.listing.stored new.listing.stored is stored ∙ ap (λ e. old.listing.stored ++ stored_by e) (sym event_is);
+  spent = omega (arith, same_spent first old.listing.spent new.listing.spent is spent, ap spent_by event_is);
 }
 
 pub begun : (program : Program) (old new : Session) (first : Event) (before now : Moment) (want : Option Want) → is_answer first ≡ false
-    → (made : Makes old new first want) → new.listing.looks ≡ old.listing.looks → new.listing.stored ≡ old.listing.stored
+    → (made : Makes old new first want) → new.listing.looks ≡ old.listing.looks → new.listing.stored ≡ old.listing.stored → new.listing.spent ≡ old.listing.spent
     → IsAnswered before old.core.user program old.core.strict None first now
     → WantsFor new.core.feed new.core.pending want → IsReady new → MayReply new.mux (due_with new.core.pending)
     → feed_front old.core.feed ≤ now.lowest → AreWithin now.lowest (front_by first)
     → new.core.requests ≤ old.core.requests + 10001
     → Conversing program old new first before now want (made.step ∷ [])
-begun program old new first before now want is made looks stored answered wants ready may front within few = record {
-  conversed = first_step program old new first before now made.step old.core.user old.core.strict is made.event_is (old.core, refl, made.steps) looks stored answered;
+begun program old new first before now want is made looks stored spent answered wants ready may front within few = record {
+  conversed = first_step program old new first before now made.step old.core.user old.core.strict is made.event_is (old.core, refl, made.steps) looks stored spent answered;
   user = made.user;
   strict = made.strict;
   want_is = made.want_is;
@@ -120,19 +133,24 @@ looks_on old middle new more one a b = b ∙ ap (λ l. l ++ one) a ∙ append_as
 stored_on : (old middle new more : List ℕ) (one : List ℕ) → middle ≡ old ++ more → new ≡ middle ++ one → new ≡ old ++ (more ++ one)
 stored_on old middle new more one a b = b ∙ ap (λ l. l ++ one) a ∙ append_assoc old more one
 
+spent_on : (old middle new more one : ℕ) → middle ≡ old + more → new ≡ middle + one → new ≡ old + (more + one)
+spent_on old middle new more one a b = omega (arith, a, b)
+
 -- one step more, by an answer
 next_step : (program : Program) (old middle new : Session) (first : Event) (before now after : Moment) (steps : List Step) (s : Step) (answer : Event) (wanted : Want)
     → Conversed program old middle first before now steps None → wanted_after steps ≡ Some wanted
     → s.event ≡ answer → is_answer answer ≡ true → IsAnswered now old.core.user program old.core.strict (Some wanted) answer after
     → Steps middle.core s new.core
     → new.listing.looks ≡ middle.listing.looks ++ look_of answer → new.listing.stored ≡ middle.listing.stored ++ stored_by answer
+    → new.listing.spent ≡ middle.listing.spent + spent_by answer
     → Conversed program old new first before after (s ∷ steps) None
-next_step program old middle new first before now after steps s answer wanted so_far want_is event_is is answered made looks stored = record {
+next_step program old middle new first before now after steps s answer wanted so_far want_is event_is is answered made looks stored spent = record {
   leads = (middle.core, so_far.leads, made);
   exchange = exchange_on first s steps (ap is_answer event_is ∙ is) so_far.exchange;
   answered = (now, so_far.answered, subst (λ w. IsAnswered now old.core.user program old.core.strict w s.event after) (sym want_is) (subst (λ e. IsAnswered now old.core.user program old.core.strict (Some wanted) e after) (sym event_is) answered));
   looks = looks_on old.listing.looks middle.listing.looks new.listing.looks (looks_of steps) (look_of s.event) so_far.looks (looks ∙ ap (λ e. middle.listing.looks ++ look_of e) (sym event_is));
   stored = stored_on old.listing.stored middle.listing.stored new.listing.stored (stored_of steps) (stored_by s.event) so_far.stored (stored ∙ ap (λ e. middle.listing.stored ++ stored_by e) (sym event_is));
+  spent = spent_on old.listing.spent middle.listing.spent new.listing.spent (spent_of steps) (spent_by s.event) so_far.spent (spent ∙ ap (λ e. middle.listing.spent + spent_by e) (sym event_is));
 }
 
 -- an event for which nothing more was done
@@ -144,13 +162,15 @@ halted_step : (program : Program) (old middle new : Session) (first : Event) (be
     → is_answer answer ≡ true → IsAnswered now old.core.user program old.core.strict (Some wanted) answer after
     → new.core ≡ middle.core
     → new.listing.looks ≡ middle.listing.looks ++ look_of answer → new.listing.stored ≡ middle.listing.stored ++ stored_by answer
+    → new.listing.spent ≡ middle.listing.spent + spent_by answer
     → Conversed program old new first before after steps (Some answer)
-halted_step program old middle new first before now after steps answer wanted so_far want_is is answered same looks stored = record {
+halted_step program old middle new first before now after steps answer wanted so_far want_is is answered same looks stored spent = record {
   leads = subst (Leads old.core steps) (sym same) so_far.leads;
   exchange = exchange_on first (unmade answer) steps is so_far.exchange;
   answered = (now, so_far.answered, subst (λ w. IsAnswered now old.core.user program old.core.strict w answer after) (sym want_is) answered);
   looks = looks_on old.listing.looks middle.listing.looks new.listing.looks (looks_of steps) (look_of answer) so_far.looks looks;
   stored = stored_on old.listing.stored middle.listing.stored new.listing.stored (stored_of steps) (stored_by answer) so_far.stored stored;
+  spent = spent_on old.listing.spent middle.listing.spent new.listing.spent (spent_of steps) (spent_by answer) so_far.spent spent;
 }
 
 -- ---- from want to want
@@ -163,6 +183,7 @@ pub record Answers (middle asked : Session) (user : List ℕ) (program : Program
   pub mux : asked.mux ≡ middle.mux
   pub looks : asked.listing.looks ≡ middle.listing.looks ++ look_of answer
   pub stored : asked.listing.stored ≡ middle.listing.stored ++ stored_by answer
+  pub spent : asked.listing.spent ≡ middle.listing.spent + spent_by answer
 
 by_user : (program : Program) (old middle asked : Session) (now after : Moment) (wanted : Want) (answer : Event) → middle.core.user ≡ old.core.user → middle.core.strict ≡ old.core.strict
     → Answers middle asked middle.core.user program middle.core.strict now after wanted answer → IsAnswered now old.core.user program old.core.strict (Some wanted) answer after
@@ -182,7 +203,7 @@ went_on program old middle asked new first before now after steps answer wanted 
   conversed = next_step program old middle new first before now after steps made.step answer wanted so_far.conversed so_far.want_is made.event_is got.is
       (by_user program old middle asked now after wanted answer so_far.user so_far.strict got)
       (subst (λ (m : Machine). Steps m made.step new.core) got.core made.steps)
-      (ap (λ l. l.looks) listing ∙ got.looks) (ap (λ l. l.stored) listing ∙ got.stored);
+      (ap (λ l. l.looks) listing ∙ got.looks) (ap (λ l. l.stored) listing ∙ got.stored) (ap (λ l. l.spent) listing ∙ got.spent);
   user = made.user ∙ ap (λ (m : Machine). m.user) got.core ∙ so_far.user;
   strict = made.strict ∙ ap (λ (m : Machine). m.strict) got.core ∙ so_far.strict;
   want_is = made.want_is;
@@ -205,7 +226,7 @@ halted_at program old middle asked new first before now after steps answer wante
   Some answer,
   after,
   halted_step program old middle new first before now after steps answer wanted so_far.conversed so_far.want_is got.is
-      (by_user program old middle asked now after wanted answer so_far.user so_far.strict got) (same ∙ got.core) (ap (λ l. l.looks) listing ∙ got.looks) (ap (λ l. l.stored) listing ∙ got.stored),
+      (by_user program old middle asked now after wanted answer so_far.user so_far.strict got) (same ∙ got.core) (ap (λ l. l.looks) listing ∙ got.looks) (ap (λ l. l.stored) listing ∙ got.stored) (ap (λ l. l.spent) listing ∙ got.spent),
   read,
 )
 halted_at program old middle asked new first before now after steps answer wanted so_far got (inr (s, made, event_is)) listing read = (
@@ -214,16 +235,16 @@ halted_at program old middle asked new first before now after steps answer wante
   after,
   next_step program old middle new first before now after steps s answer wanted so_far.conversed so_far.want_is event_is got.is
       (by_user program old middle asked now after wanted answer so_far.user so_far.strict got)
-      (subst (λ (m : Machine). Steps m s new.core) got.core made) (ap (λ l. l.looks) listing ∙ got.looks) (ap (λ l. l.stored) listing ∙ got.stored),
+      (subst (λ (m : Machine). Steps m s new.core) got.core made) (ap (λ l. l.looks) listing ∙ got.looks) (ap (λ l. l.stored) listing ∙ got.stored) (ap (λ l. l.spent) listing ∙ got.spent),
   read,
 )
 
 -- memory ran out as the first event was taken
 pub halted_first : (program : Program) (old new : Session) (first : Event) (before now : Moment) → is_answer first ≡ false
-    → Halts old new first → new.listing.looks ≡ old.listing.looks → new.listing.stored ≡ old.listing.stored
+    → Halts old new first → new.listing.looks ≡ old.listing.looks → new.listing.stored ≡ old.listing.stored → new.listing.spent ≡ old.listing.spent
     → IsAnswered before old.core.user program old.core.strict None first now → HasRead now now
     → (steps : List Step) × (halted : Option Event) × (last : Moment) × Conversed program old new first before last steps halted × HasRead last now
-halted_first program old new first before now is (inl same) looks stored answered read = (
+halted_first program old new first before now is (inl same) looks stored spent answered read = (
   [],
   Some first,
   now,
@@ -233,18 +254,19 @@ halted_first program old new first before now is (inl same) looks stored answere
     answered = (before, refl, answered);
     looks = same_looks first old.listing.looks new.listing.looks is looks;
     stored = same_stored first old.listing.stored new.listing.stored is stored;
+    spent = omega (arith, same_spent first old.listing.spent new.listing.spent is spent);
   },
   read,
 )
-halted_first program old new first before now is (inr (s, made, event_is)) looks stored answered read =
-    (s ∷ [], None, now, first_step program old new first before now s old.core.user old.core.strict is event_is (old.core, refl, made) looks stored answered, read)
+halted_first program old new first before now is (inr (s, made, event_is)) looks stored spent answered read =
+    (s ∷ [], None, now, first_step program old new first before now s old.core.user old.core.strict is event_is (old.core, refl, made) looks stored spent answered, read)
 
 -- memory ran out as the history was read
 pub halted_read : (program : Program) (old middle new : Session) (first : Event) (before now after : Moment) (want : Option Want) (steps : List Step)
-    → Conversing program old middle first before now want steps → new.core ≡ middle.core → new.listing.looks ≡ middle.listing.looks → new.listing.stored ≡ middle.listing.stored
+    → Conversing program old middle first before now want steps → new.core ≡ middle.core → new.listing.looks ≡ middle.listing.looks → new.listing.stored ≡ middle.listing.stored → new.listing.spent ≡ middle.listing.spent
     → HasRead now after
     → (made : List Step) × (halted : Option Event) × (last : Moment) × Conversed program old new first before last made halted × HasRead last after
-halted_read program old middle new first before now after want steps so_far core looks stored read = (
+halted_read program old middle new first before now after want steps so_far core looks stored spent read = (
   steps,
   None,
   now,
@@ -254,6 +276,7 @@ halted_read program old middle new first before now after want steps so_far core
     answered = so_far.conversed.answered;
     looks = looks ∙ so_far.conversed.looks;
     stored = stored ∙ so_far.conversed.stored;
+    spent = spent ∙ so_far.conversed.spent;
   },
   read,
 )

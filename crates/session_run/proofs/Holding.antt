@@ -1,5 +1,5 @@
 -- A session that runs, from turn to turn.
-use Rattle.std.proofs.Common.{◌≡◌, ℕ, ◌+◌, Bool, true, false, ◌&&◌, not, List, [], ◌∷◌, ◌++◌, length, Option, Some, None, Result, Ok, Err, refl, sym, ◌∙◌, ap, subst, if◌then◌else◌, arith, append-nil}
+use Rattle.std.proofs.Common.{◌≡◌, ◌≤◌, ℕ, ◌+◌, Bool, true, false, ◌&&◌, not, List, [], ◌∷◌, ◌++◌, length, Option, Some, None, Result, Ok, Err, refl, sym, ◌∙◌, ap, subst, if◌then◌else◌, arith, append-nil}
 use Rattle.std.proofs.lemmas.Bool.{false≢true}
 use Rattle.std.proofs.lemmas.List.{append_assoc, length-append}
 use Rattle.std.specs.Arc.{arc_value}
@@ -32,6 +32,7 @@ use Rattle.session_run.specs.declared.session.Session.{Session}
 use Rattle.session_run.specs.Answered.{Moment, IsAnswered, AreAnswered}
 use Rattle.session_run.specs.Held.{IsAtRest, IsRead, Holds, Turned, inbox_after, counted}
 use Rattle.session_run.specs.Served.{are_frames, bytes_of}
+use Rattle.session_run.specs.Spent.{most_looks, spent_by, spent_of}
 use Rattle.session_run.specs.Turns.{SessionTurn, steps_of, frame_in, frames_of, is_frame, framed, framed_by, events_of, came_after, put_after, all_put_after, IsJoined}
 use Rattle.session_run.proofs.Taking.{Kept, Wants}
 
@@ -166,6 +167,10 @@ pub stored_after : (steps earlier : List Step) → stored_of (steps ++ earlier) 
 stored_after [] earlier = sym (append-nil (stored_of earlier))
 stored_after (s ∷ steps) earlier = ap (λ l. l ++ stored_by s.event) (stored_after steps earlier) ∙ append_assoc (stored_of earlier) (stored_of steps) (stored_by s.event)
 
+pub spent_after : (steps earlier : List Step) → spent_of (steps ++ earlier) ≡ spent_of earlier + spent_of steps
+spent_after [] earlier = omega arith
+spent_after (s ∷ steps) earlier = omega (arith, spent_after steps earlier)
+
 still_wanted : (steps earlier : List Step) → wanted_after earlier ≡ None → wanted_after (steps ++ earlier) ≡ wanted_after steps
 still_wanted [] earlier none = none
 still_wanted (s ∷ steps) earlier none = refl
@@ -224,9 +229,9 @@ pub holds_on : Came → Expects → Joins → Kept → Wants
     (result : Got) (traffic traffic_after : Option Traffic) (t : SessionTurn)
     → Holds setup start now old turns frames results sent
     → (did : Turned (arc_value setup.program) old new result now final traffic traffic_after t None new.mux.outbox []) → did.value ≡ new.mux.sent.value → IsAtRest new → did.now ≡ final
-    → new.mux.inbox ≡ expecting_all (put_by t.steps) (inbox_after old.mux.inbox t.frame)
+    → new.mux.inbox ≡ expecting_all (put_by t.steps) (inbox_after old.mux.inbox t.frame) → new.listing.spent ≤ most_looks
     → Holds setup start final new (t ∷ turns) (frames ++ did.frames) (results ++ result ∷ []) (sent ++ did.sent)
-holds_on came_law expects joins kept_law wants setup start now final old new turns frames results sent result traffic traffic_after t held did value rest now_is inbox =
+holds_on came_law expects joins kept_law wants setup start now final old new turns frames results sent result traffic traffic_after t held did value rest now_is inbox few =
     let written : AreWrittenAfter (all_sent [] frames) did.sent did.frames × (did.value ≡ checksum (all_sent (all_sent [] frames) did.frames)) = did.written (all_sent [] frames) held.checked in
     let got : Received old new turns results result t.frame t.given = received_on came_law joins setup start now old new turns frames results sent result t.frame t.given held did.read in
     let users : (new.core.user ≡ old.core.user) × (new.core.strict ≡ old.core.strict) = users_stay kept_law old.core t.steps new.core did.leads in
@@ -242,6 +247,8 @@ holds_on came_law expects joins kept_law wants setup start now final old new tur
           (all_stand expects (put_by t.steps) (inbox_after old.mux.inbox t.frame) (came_after t.frame (events_of turns)) got.inbox);
       looks = did.looks ∙ ap (λ l. l ++ looks_of t.steps) held.looks ∙ sym (looks_after t.steps (steps_of turns));
       stored = did.stored ∙ ap (λ l. l ++ stored_of t.steps) held.stored ∙ sym (stored_after t.steps (steps_of turns));
+      spent = did.spent ∙ ap (λ n. n + spent_of t.steps) held.spent ∙ sym (spent_after t.steps (steps_of turns));
+      few = few;
       count = counted_on old new turns t did.count held.count;
       taken = got.taken;
       kinds = got.kinds;
@@ -261,9 +268,9 @@ nothing_checked = refl
 pub holds_new : (setup : Setup) (now : Moment) (s : Session)
     → StandsFor new_inbox [] → AreApart new_inbox new_sending
     → s.core ≡ new_machine setup.user setup.version setup.strict
-    → s.mux.inbox ≡ new_inbox → s.mux.outbox ≡ new_sending → s.mux.received.value ≡ 0 → s.mux.sent.value ≡ 0 → s.listing.looks ≡ [] → s.listing.stored ≡ [] → s.frames ≡ 0
+    → s.mux.inbox ≡ new_inbox → s.mux.outbox ≡ new_sending → s.mux.received.value ≡ 0 → s.mux.sent.value ≡ 0 → s.listing.looks ≡ [] → s.listing.stored ≡ [] → s.listing.spent ≡ 0 → s.frames ≡ 0
     → Holds setup now now s [] [] [] []
-holds_new setup now s stands apart core inbox outbox received sent looks stored frames = record {
+holds_new setup now s stands apart core inbox outbox received sent looks stored spent frames = record {
   user = ap (λ (m : Machine). m.user) core;
   strict = ap (λ (m : Machine). m.strict) core;
   led = (core, refl);
@@ -281,6 +288,8 @@ holds_new setup now s stands apart core inbox outbox received sent looks stored 
   inbox = subst (λ s. StandsFor s []) (sym inbox) stands;
   looks = looks;
   stored = stored;
+  spent = spent;
+  few = omega (arith, spent);
   count = frames;
   taken = refl;
   kinds = refl;

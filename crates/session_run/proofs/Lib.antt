@@ -4,6 +4,7 @@ pub mod Ending
 pub mod Holding
 pub mod Owning
 pub mod ActsPut
+pub mod Spending
 pub mod Taking
 pub mod Turning
 pub mod Whole

@@ -1,5 +1,5 @@
 -- One result of the wire, from what is done for it to the frames that went.
-use Rattle.std.proofs.Common.{◌≡◌, inl, ℕ, ◌+◌, ◌≤◌, Bool, true, false, List, [], ◌∷◌, ◌++◌, Option, Some, None, Ok, refl, sym, ◌∙◌, ap, subst, arith, le_refl}
+use Rattle.std.proofs.Common.{◌≡◌, ◌⊎◌, inl, inr, ℕ, ◌+◌, ◌≤◌, Bool, true, false, List, [], ◌∷◌, ◌++◌, Option, Some, None, Ok, refl, sym, ◌∙◌, ap, subst, arith, le_refl}
 use Rattle.std.specs.List.{list_any}
 use Rattle.sg_outside.specs.Wire.{Traffic}
 use Rattle.sg_outside.specs.declared.sink.Gave.{Gave}
@@ -21,11 +21,12 @@ use Rattle.session_core.specs.declared.event.Event.{Event}
 use Rattle.session_core.specs.declared.event.Event.TheVariants as event
 use Rattle.session_core.specs.declared.machine.Pending.{Pending}
 use Rattle.session_core.specs.declared.machine.Pending.TheVariants as pending
-use Rattle.session_core.specs.Conduct.{due_at, feed_front}
+use Rattle.session_core.specs.declared.act.Want.{Want}
+use Rattle.session_core.specs.Conduct.{due_at, feed_front, WantsFor}
 use Rattle.session_core.specs.Fronts.{looks_of, stored_of}
 use Rattle.session_core.specs.Running.{waits}
 use Rattle.session_core.specs.State.{Machine}
-use Rattle.session_core.specs.Steps.{Step, Leads, put_by}
+use Rattle.session_core.specs.Steps.{Step, Leads, put_by, wanted_after}
 use Rattle.sync_syntax.specs.declared.tree.Program.{Program}
 use Rattle.session_mux.specs.declared.mux.Mux.{Mux}
 use Rattle.session_mux.specs.Muxed.{Gives, IsPart, acknowledged_by, HaveGone}
@@ -36,6 +37,7 @@ use Rattle.session_run.specs.declared.session.Session.{Session}
 use Rattle.session_run.specs.Answered.{Moment, HasRead, AreAnswered}
 use Rattle.session_run.specs.Held.{IsReady, IsAtRest, IsCalled, Conversed, Conversing, Went, GoesOn, IsEndOf, Turned, Takes}
 use Rattle.session_run.specs.Putting.{MayReply, put_as}
+use Rattle.session_run.specs.Spent.{most_looks, spent_of, NeedsMore, IsMet}
 use Rattle.session_run.specs.Turns.{undone, IsForTaken, IsForIdle, puts_all}
 use Rattle.session_run.proofs.Conversing.{at_rest, outbox_steps_on}
 use Rattle.session_run.proofs.ActsPut.{PicksApart, picked_apart, picked_requests}
@@ -53,12 +55,13 @@ none_written value sent e = (tt, e)
 abbrev went_with : (program : Program) (old middle new : Session) (first : Option Event) (before now final : Moment) (traffic traffic_after : Option Traffic) (steps : List Step) (halted : Option Event) (failed : List Gave)
     → Leads old.core steps middle.core → IsCalled first (undone halted ++ steps) → AreAnswered before old.core.user program old.core.strict (undone halted ++ steps) now → HasRead now final
     → middle.listing.looks ≡ old.listing.looks ++ looks_of (undone halted ++ steps) → middle.listing.stored ≡ old.listing.stored ++ stored_of (undone halted ++ steps)
+    → middle.listing.spent ≡ old.listing.spent + spent_of (undone halted ++ steps)
     → new.core ≡ middle.core → new.listing ≡ middle.listing
     → (out : Sending) → out ≡ after_outbox_steps old.mux.outbox (puts_all (put_by steps)) → (crc : Crc) → crc ≡ old.mux.sent
     → (frames : List FrameParts) (texts : List (List ℕ)) (left : Sending) (value : ℕ)
     → ArePicked out frames left → AreWrittenFrom crc.value frames texts value → Records traffic [] texts failed traffic_after
     → Went program old new first before final traffic traffic_after steps halted left failed
-went_with program old middle new first before now final traffic traffic_after steps halted failed leads called answered reads looks stored core listing out out_is crc crc_is frames texts left value go written records = record {
+went_with program old middle new first before now final traffic traffic_after steps halted failed leads called answered reads looks stored spent core listing out out_is crc crc_is frames texts left value go written records = record {
   now = now;
   frames = frames;
   sent = texts;
@@ -69,6 +72,7 @@ went_with program old middle new first before now final traffic traffic_after st
   reads = reads;
   looks = ap (λ l. l.looks) listing ∙ looks;
   stored = ap (λ l. l.stored) listing ∙ stored;
+  spent = ap (λ l. l.spent) listing ∙ spent;
   go = subst (λ o. ArePicked o frames left) out_is go;
   written = subst (λ (c : Crc). AreWrittenFrom c.value frames texts value) crc_is written;
   records = records;
@@ -86,38 +90,49 @@ rested law middle new frames left rest ready core inbox go idle left_is = record
   idle = ap picked (sym left_is) ∙ idle;
 }
 
+-- no answer is awaited, or one more look is needed than a session takes
+abbrev Rests : Bool → Session → List Step → Type 0
+Rests true s steps = s.core.pending ≡ pending.Nothing
+Rests false s steps = NeedsMore s.listing.spent steps
+
 -- what a session has before it sends
-record Puts (program : Program) (old middle : Session) (first : Option Event) (before final : Moment) (steps : List Step) : Type 0 where
+record Puts (program : Program) (old middle : Session) (first : Option Event) (before final : Moment) (met : Bool) (steps : List Step) : Type 0 where
   pub leads : Leads old.core steps middle.core
   pub called : IsCalled first steps
   pub answered : AreAnswered before old.core.user program old.core.strict steps final
   pub looks : middle.listing.looks ≡ old.listing.looks ++ looks_of steps
   pub stored : middle.listing.stored ≡ old.listing.stored ++ stored_of steps
+  pub spent : middle.listing.spent ≡ old.listing.spent + spent_of steps
   pub mux : middle.mux ≡ put_as old.mux (put_by steps)
   pub ready : IsReady middle
-  pub rest : middle.core.pending ≡ pending.Nothing
+  pub rest : Rests met middle steps
   pub front : feed_front middle.core.feed ≤ final.lowest
   pub few : middle.core.requests ≤ old.core.requests + 30003
 
-abbrev puts_went : (program : Program) (old middle new : Session) (first : Option Event) (before final : Moment) (traffic traffic_after : Option Traffic) (steps : List Step) (failed : List Gave)
-    → Puts program old middle first before final steps → HasRead final final → new.core ≡ middle.core → new.listing ≡ middle.listing → middle.mux.sent ≡ old.mux.sent
+abbrev puts_went : (program : Program) (old middle new : Session) (first : Option Event) (before final : Moment) (traffic traffic_after : Option Traffic) (met : Bool) (steps : List Step) (failed : List Gave)
+    → Puts program old middle first before final met steps → HasRead final final → new.core ≡ middle.core → new.listing ≡ middle.listing → middle.mux.sent ≡ old.mux.sent
     → (frames : List FrameParts) (texts : List (List ℕ)) (left : Sending) (value : ℕ)
     → ArePicked middle.mux.outbox frames left → AreWrittenFrom middle.mux.sent.value frames texts value → Records traffic [] texts failed traffic_after
     → Went program old new first before final traffic traffic_after steps None left failed
-puts_went program old middle new first before final traffic traffic_after steps failed put read core listing sent frames texts left value go written records =
-    went_with program old middle new first before final final traffic traffic_after steps None failed put.leads put.called put.answered read put.looks put.stored core listing
+puts_went program old middle new first before final traffic traffic_after met steps failed put read core listing sent frames texts left value go written records =
+    went_with program old middle new first before final final traffic traffic_after steps None failed put.leads put.called put.answered read put.looks put.stored put.spent core listing
     middle.mux.outbox (ap (λ (m : Mux). m.outbox) put.mux) middle.mux.sent sent frames texts left value go written records
 
-goes_by : (program : Program) → PicksApart → (old middle new : Session) (first : Option Event) (before final : Moment) (traffic traffic_after : Option Traffic) (steps : List Step) (g : Gave) (result : Option End)
-    → Puts program old middle first before final steps → HasRead final final → new.core ≡ middle.core → new.listing ≡ middle.listing → middle.mux.sent ≡ old.mux.sent
+still_rests : (met : Bool) (middle new : Session) (steps : List Step) → new.core ≡ middle.core → new.listing ≡ middle.listing → Rests met middle steps
+    → (new.core.pending ≡ pending.Nothing) ⊎ NeedsMore new.listing.spent steps
+still_rests true middle new steps core listing rest = inl (ap (λ (m : Machine). m.pending) core ∙ rest)
+still_rests false middle new steps core listing rest = inr (subst (λ l. NeedsMore l.spent steps) (sym listing) rest)
+
+goes_by : (program : Program) → PicksApart → (old middle new : Session) (first : Option Event) (before final : Moment) (traffic traffic_after : Option Traffic) (steps : List Step) (g : Gave) (met : Bool) (result : Option End)
+    → Puts program old middle first before final met steps → HasRead final final → new.core ≡ middle.core → new.listing ≡ middle.listing → middle.mux.sent ≡ old.mux.sent
     → new.mux.inbox ≡ middle.mux.inbox
-    → HaveGone middle.mux.outbox middle.mux.sent.value traffic traffic_after g new.mux.outbox new.mux.sent.value → IsEndOf g result
+    → HaveGone middle.mux.outbox middle.mux.sent.value traffic traffic_after g new.mux.outbox new.mux.sent.value → IsEndOf g met result
     → GoesOn program old new first before final traffic traffic_after result
-goes_by program law old middle new first before final traffic traffic_after steps gave.Done result put read core listing sent inbox (frames, texts, left, value, go, written, records, (idle, left_is, value_is)) e =
+goes_by program law old middle new first before final traffic traffic_after steps gave.Done true result put read core listing sent inbox (frames, texts, left, value, go, written, records, (idle, left_is, value_is)) e =
     let gone : ArePicked middle.mux.outbox frames new.mux.outbox = subst (ArePicked middle.mux.outbox frames) left_is go in
     subst (GoesOn program old new first before final traffic traffic_after) (sym e) (
       steps,
-      puts_went program old middle new first before final traffic traffic_after steps [] put read core listing sent frames texts new.mux.outbox value gone written records,
+      puts_went program old middle new first before final traffic traffic_after true steps [] put read core listing sent frames texts new.mux.outbox value gone written records,
       value_is,
       rested law middle new frames left put.rest put.ready core inbox go idle left_is,
       refl,
@@ -125,41 +140,57 @@ goes_by program law old middle new first before final traffic traffic_after step
       subst (λ (m : Machine). feed_front m.feed ≤ final.lowest) (sym core) put.front,
       subst (λ (m : Machine). m.requests ≤ old.core.requests + 30003) (sym core) put.few,
     )
-goes_by program law old middle new first before final traffic traffic_after steps gave.Failed result put read core listing sent inbox (frames, texts, left, value, go, written, records, is_left) e =
+goes_by program law old middle new first before final traffic traffic_after steps gave.Done false result put read core listing sent inbox (frames, texts, left, value, go, written, records, (idle, left_is, value_is)) e =
     subst (GoesOn program old new first before final traffic traffic_after) (sym e) (
       steps,
       left,
-      puts_went program old middle new first before final traffic traffic_after steps (gave.Failed ∷ []) put read core listing sent frames texts left value go written records,
-      ap (λ (m : Machine). m.pending) core ∙ put.rest,
+      puts_went program old middle new first before final traffic traffic_after false steps [] put read core listing sent frames texts left value go written records,
+      idle,
+      subst (λ l. NeedsMore l.spent steps) (sym listing) put.rest,
       refl,
     )
-goes_by program law old middle new first before final traffic traffic_after steps gave.Memory result put read core listing sent inbox (frames, texts, left, value, go, written, records, is_left) e =
+goes_by program law old middle new first before final traffic traffic_after steps gave.Failed met result put read core listing sent inbox (frames, texts, left, value, go, written, records, is_left) e =
+    subst (GoesOn program old new first before final traffic traffic_after) (sym e) (
+      steps,
+      left,
+      puts_went program old middle new first before final traffic traffic_after met steps (gave.Failed ∷ []) put read core listing sent frames texts left value go written records,
+      still_rests met middle new steps core listing put.rest,
+      refl,
+    )
+goes_by program law old middle new first before final traffic traffic_after steps gave.Memory met result put read core listing sent inbox (frames, texts, left, value, go, written, records, is_left) e =
     subst (GoesOn program old new first before final traffic traffic_after) (sym e)
-    (steps, None, left, puts_went program old middle new first before final traffic traffic_after steps [] put read core listing sent frames texts left value go written records)
+    (steps, None, left, puts_went program old middle new first before final traffic traffic_after met steps [] put read core listing sent frames texts left value go written records)
 
 -- ---- an event
 
-conversing_puts : (program : Program) (old middle : Session) (first : Event) (before final : Moment) (steps : List Step) → Conversing program old middle first before final None steps → Puts program old middle (Some first) before final steps
-conversing_puts program old middle first before final steps so_far = record {
+rests_by : (program : Program) (old middle : Session) (first : Event) (before final : Moment) (met : Bool) (want : Option Want) (steps : List Step) → Conversing program old middle first before final want steps
+    → IsMet met want middle.listing.spent → Rests met middle steps
+rests_by program old middle first before final true want steps so_far none = at_rest middle.core.feed middle.core.pending (subst (λ w. WantsFor middle.core.feed middle.core.pending w) none so_far.wants)
+rests_by program old middle first before final false want steps so_far (wanted, is, full) = (full, wanted, so_far.want_is ∙ is)
+
+conversing_puts : (program : Program) (old middle : Session) (first : Event) (before final : Moment) (met : Bool) (want : Option Want) (steps : List Step) → Conversing program old middle first before final want steps
+    → IsMet met want middle.listing.spent → Puts program old middle (Some first) before final met steps
+conversing_puts program old middle first before final met want steps so_far is_met = record {
   leads = so_far.conversed.leads;
   called = so_far.conversed.exchange;
   answered = so_far.conversed.answered;
   looks = so_far.conversed.looks;
   stored = so_far.conversed.stored;
+  spent = so_far.conversed.spent;
   mux = so_far.mux;
   ready = so_far.ready;
-  rest = at_rest middle.core.feed middle.core.pending so_far.wants;
+  rest = rests_by program old middle first before final met want steps so_far is_met;
   front = so_far.front;
   few = omega (arith, so_far.room);
 }
 
-pub event_goes : (program : Program) → PicksApart → (old middle new : Session) (first : Event) (before final : Moment) (traffic traffic_after : Option Traffic) (g : Gave) (result : Option End)
-    → ((steps : List Step) × Conversing program old middle first before final None steps) → HasRead final final → new.core ≡ middle.core → new.listing ≡ middle.listing → middle.mux.sent ≡ old.mux.sent
+pub event_goes : (program : Program) → PicksApart → (old middle new : Session) (first : Event) (before final : Moment) (traffic traffic_after : Option Traffic) (g : Gave) (met : Bool) (result : Option End)
+    → ((steps : List Step) × (want : Option Want) × Conversing program old middle first before final want steps × IsMet met want middle.listing.spent) → HasRead final final → new.core ≡ middle.core → new.listing ≡ middle.listing → middle.mux.sent ≡ old.mux.sent
     → new.mux.inbox ≡ middle.mux.inbox
-    → HaveGone middle.mux.outbox middle.mux.sent.value traffic traffic_after g new.mux.outbox new.mux.sent.value → IsEndOf g result
+    → HaveGone middle.mux.outbox middle.mux.sent.value traffic traffic_after g new.mux.outbox new.mux.sent.value → IsEndOf g met result
     → GoesOn program old new (Some first) before final traffic traffic_after result
-event_goes program law old middle new first before final traffic traffic_after g result (steps, so_far) read core listing sent inbox gone e =
-    goes_by program law old middle new (Some first) before final traffic traffic_after steps g result (conversing_puts program old middle first before final steps so_far) read core listing sent inbox gone e
+event_goes program law old middle new first before final traffic traffic_after g met result (steps, want, so_far, is_met) read core listing sent inbox gone e =
+    goes_by program law old middle new (Some first) before final traffic traffic_after steps g met result (conversing_puts program old middle first before final met want steps so_far is_met) read core listing sent inbox gone e
 
 -- memory ran out
 pub event_halts : (program : Program) (old new : Session) (first : Event) (before final : Moment) (traffic : Option Traffic) → Records traffic [] [] [] traffic
@@ -169,7 +200,7 @@ event_halts program old new first before final traffic records (steps, halted, n
   steps,
   halted,
   after_outbox_steps old.mux.outbox (puts_all (put_by steps)),
-  went_with program old new new (Some first) before now final traffic traffic steps halted [] so_far.leads so_far.exchange so_far.answered read so_far.looks so_far.stored refl refl
+  went_with program old new new (Some first) before now final traffic traffic steps halted [] so_far.leads so_far.exchange so_far.answered read so_far.looks so_far.stored so_far.spent refl refl
       (after_outbox_steps old.mux.outbox (puts_all (put_by steps))) refl old.mux.sent refl [] [] (after_outbox_steps old.mux.outbox (puts_all (put_by steps))) old.mux.sent.value refl (none_written old.mux.sent.value) records,
 )
 
@@ -178,16 +209,17 @@ pub nothing_goes : (program : Program) → PicksApart → (old new : Session) (n
     → old.core.pending ≡ pending.Nothing → IsReady old → feed_front old.core.feed ≤ now.lowest → HasRead now now → new.core ≡ old.core → new.listing ≡ old.listing
     → new.mux.inbox ≡ old.mux.inbox
     → old.listing.looks ≡ old.listing.looks ++ [] → old.listing.stored ≡ old.listing.stored ++ []
-    → HaveGone old.mux.outbox old.mux.sent.value traffic traffic_after g new.mux.outbox new.mux.sent.value → IsEndOf g result
+    → HaveGone old.mux.outbox old.mux.sent.value traffic traffic_after g new.mux.outbox new.mux.sent.value → IsEndOf g true result
     → GoesOn program old new None now now traffic traffic_after result
 nothing_goes program law old new now traffic traffic_after g result rest ready front read core listing inbox looks stored gone e =
-    goes_by program law old old new None now now traffic traffic_after [] g result
+    goes_by program law old old new None now now traffic traffic_after [] g true result
     (record {
       leads = refl;
       called = refl;
       answered = refl;
       looks = looks;
       stored = stored;
+      spent = omega arith;
       mux = refl;
       ready = ready;
       rest = rest;
@@ -258,6 +290,7 @@ turn_of program old middle new bytes given first before final traffic traffic_af
   reads = went.reads;
   looks = went.looks ∙ ap (λ l. l.looks ++ looks_of (undone halted ++ steps)) listing;
   stored = went.stored ∙ ap (λ l. l.stored ++ stored_of (undone halted ++ steps)) listing;
+  spent = went.spent ∙ ap (λ l. l.spent + spent_of (undone halted ++ steps)) listing;
   count = count;
   no_bad_ack = gives.no_bad_ack;
   go = subst (λ s. ArePicked s went.frames left) (ap (λ s. after_outbox_steps s (puts_all (put_by steps))) gives.outbox ∙ sym (outbox_steps_on old.mux.outbox (acknowledged_by given) (puts_all (put_by steps)))) went.go;
@@ -289,6 +322,14 @@ frame_goes program old middle new bytes given first before final traffic traffic
   now,
 )
 frame_goes program old middle new bytes given first before final traffic traffic_after (Some (end.BadFrame index w)) gives calls core listing sent received count goes = absurd goes
+frame_goes program old middle new bytes given first before final traffic traffic_after (Some end.LooksFull) gives calls core listing sent received count (steps, left, went, idle, more, now) = (
+  record { frame = Some gives.frame; given = given; steps = steps },
+  left,
+  turn_of program old middle new bytes given first before final traffic traffic_after steps None left [] gives calls core listing sent received count went,
+  idle,
+  more,
+  now,
+)
 frame_goes program old middle new bytes given first before final traffic traffic_after (Some end.TurnsFull) gives calls core listing sent received count goes = absurd goes
 frame_goes program old middle new bytes given first before final traffic traffic_after (Some end.Memory) gives calls core listing sent received count (steps, halted, left, went) =
     inl (
@@ -340,6 +381,7 @@ idle_turn program old new front before final traffic traffic_after steps halted 
   reads = went.reads;
   looks = went.looks;
   stored = went.stored;
+  spent = went.spent;
   count = omega (arith, count);
   no_bad_ack = tt;
   go = went.go;
@@ -371,6 +413,14 @@ idle_takes program old new front before final traffic traffic_after (Some end.Wi
   now,
 )
 idle_takes program old new front before final traffic traffic_after (Some (end.BadFrame index w)) waiting received count goes = absurd goes
+idle_takes program old new front before final traffic traffic_after (Some end.LooksFull) waiting received count (steps, left, went, idle, more, now) = (
+  record { frame = None; given = takens.Nothing; steps = steps },
+  left,
+  idle_turn program old new front before final traffic traffic_after steps None left [] waiting received count went,
+  idle,
+  more,
+  now,
+)
 idle_takes program old new front before final traffic traffic_after (Some end.TurnsFull) waiting received count goes = absurd goes
 idle_takes program old new front before final traffic traffic_after (Some end.Memory) waiting received count (steps, halted, left, went) =
     inl (
@@ -398,6 +448,7 @@ idle_passes program old now traffic waiting rest front read records looks stored
     reads = read;
     looks = looks;
     stored = stored;
+    spent = omega arith;
     count = omega arith;
     no_bad_ack = tt;
     go = refl;

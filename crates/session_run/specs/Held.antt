@@ -1,5 +1,5 @@
 -- What only proofs need: what a session that runs has, and what one result of the wire changes.
-use Rattle.std.specs.Prelude.{◌≡◌, ◌⊎◌, ◌≤◌, ℕ, ◌+◌, ◌*◌, true, List, [], ◌∷◌, ◌++◌, length, Option, Some, None, Ok}
+use Rattle.std.specs.Prelude.{◌≡◌, ◌⊎◌, ◌≤◌, ℕ, ◌+◌, ◌*◌, Bool, true, false, List, [], ◌∷◌, ◌++◌, length, Option, Some, None, Ok}
 use Rattle.sg_outside.specs.Wire.{Traffic}
 use Rattle.sg_outside.specs.declared.sink.Gave.{Gave}
 use Rattle.sg_outside.specs.declared.sink.Gave.TheVariants as gave
@@ -33,6 +33,7 @@ use Rattle.session_run.specs.declared.serve.Setup.{Setup}
 use Rattle.session_run.specs.declared.session.Session.{Session}
 use Rattle.session_run.specs.Answered.{Moment, HasRead, AreAnswered}
 use Rattle.session_run.specs.Putting.{put_as, MayReply}
+use Rattle.session_run.specs.Spent.{most_looks, spent_of, NeedsMore}
 use Rattle.session_run.specs.Served.{are_frames, bytes_of, IsServed}
 use Rattle.session_run.specs.Turns.{SessionTurn, undone, steps_of, frames_of, framed, framed_by, events_of, IsExchange, IsFor, AreLed, AreJoined, AreSent, puts_all, done_in}
 
@@ -65,6 +66,7 @@ pub record Conversed (program : Program) (old new : Session) (first : Event) (be
   pub answered : AreAnswered before old.core.user program old.core.strict (undone halted ++ steps) now
   pub looks : new.listing.looks ≡ old.listing.looks ++ looks_of (undone halted ++ steps)
   pub stored : new.listing.stored ≡ old.listing.stored ++ stored_of (undone halted ++ steps)
+  pub spent : new.listing.spent ≡ old.listing.spent + spent_of (undone halted ++ steps)
 
 -- so far all went well, and this is wanted
 pub record Conversing (program : Program) (old new : Session) (first : Event) (before now : Moment) (want : Option Want) (steps : List Step) : Type 0 where
@@ -103,6 +105,7 @@ pub record Went (program : Program) (old new : Session) (first : Option Event) (
   pub reads : HasRead now final
   pub looks : new.listing.looks ≡ old.listing.looks ++ looks_of (undone halted ++ steps)
   pub stored : new.listing.stored ≡ old.listing.stored ++ stored_of (undone halted ++ steps)
+  pub spent : new.listing.spent ≡ old.listing.spent + spent_of (undone halted ++ steps)
   pub go : ArePicked (after_outbox_steps old.mux.outbox (puts_all (put_by steps))) frames left
   pub written : AreWrittenFrom old.mux.sent.value frames sent value
   pub records : Records traffic [] sent failed traffic_after
@@ -114,8 +117,11 @@ GoesOn program old new first before final traffic traffic_after None =
     × (went.now ≡ final) × (new.mux.inbox ≡ expecting_all (put_by steps) old.mux.inbox) × (feed_front new.core.feed ≤ final.lowest)
     × (new.core.requests ≤ old.core.requests + 30003)
 GoesOn program old new first before final traffic traffic_after (Some end.WireFault) =
-    (steps : List Step) × (left : Sending) × (went : Went program old new first before final traffic traffic_after steps None left (gave.Failed ∷ [])) × (new.core.pending ≡ pending.Nothing)
-    × (went.now ≡ final)
+    (steps : List Step) × (left : Sending) × (went : Went program old new first before final traffic traffic_after steps None left (gave.Failed ∷ []))
+    × ((new.core.pending ≡ pending.Nothing) ⊎ NeedsMore new.listing.spent steps) × (went.now ≡ final)
+GoesOn program old new first before final traffic traffic_after (Some end.LooksFull) =
+    (steps : List Step) × (left : Sending) × (went : Went program old new first before final traffic traffic_after steps None left []) × (picked left ≡ None)
+    × NeedsMore new.listing.spent steps × (went.now ≡ final)
 GoesOn program old new first before final traffic traffic_after (Some end.Memory) =
     (steps : List Step) × (halted : Option Event) × (left : Sending) × Went program old new first before final traffic traffic_after steps halted left []
 GoesOn program old new first before final traffic traffic_after (Some other) = ⊥
@@ -144,6 +150,7 @@ pub record Turned (program : Program) (old new : Session) (result : Got) (before
   pub reads : HasRead now final
   pub looks : new.listing.looks ≡ old.listing.looks ++ looks_of (undone halted ++ t.steps)
   pub stored : new.listing.stored ≡ old.listing.stored ++ stored_of (undone halted ++ t.steps)
+  pub spent : new.listing.spent ≡ old.listing.spent + spent_of (undone halted ++ t.steps)
   pub count : new.frames ≡ old.frames + counted t.frame
   pub no_bad_ack : IsNoBadAck t.given old.mux.outbox
   pub go : ArePicked (after_outbox_steps old.mux.outbox (done_in t)) frames left
@@ -160,6 +167,7 @@ pub record Leaves (old new : Session) (before final : Moment) (traffic traffic_a
   pub core : new.core ≡ old.core
   pub looks : new.listing.looks ≡ old.listing.looks
   pub stored : new.listing.stored ≡ old.listing.stored
+  pub spent : new.listing.spent ≡ old.listing.spent
   pub same : final ≡ before
   pub records : Records traffic [] [] [] traffic_after
 
@@ -170,8 +178,11 @@ Takes program old new result before final traffic traffic_after None =
     × (did.now ≡ final) × (new.mux.inbox ≡ expecting_all (put_by t.steps) (inbox_after old.mux.inbox t.frame)) × (feed_front new.core.feed ≤ final.lowest)
     × (new.core.requests ≤ old.core.requests + 30003)
 Takes program old new result before final traffic traffic_after (Some end.WireFault) =
-    (t : SessionTurn) × (left : Sending) × (did : Turned program old new result before final traffic traffic_after t None left (gave.Failed ∷ [])) × (new.core.pending ≡ pending.Nothing)
-    × (did.now ≡ final)
+    (t : SessionTurn) × (left : Sending) × (did : Turned program old new result before final traffic traffic_after t None left (gave.Failed ∷ []))
+    × ((new.core.pending ≡ pending.Nothing) ⊎ NeedsMore new.listing.spent t.steps) × (did.now ≡ final)
+Takes program old new result before final traffic traffic_after (Some end.LooksFull) =
+    (t : SessionTurn) × (left : Sending) × (did : Turned program old new result before final traffic traffic_after t None left []) × (picked left ≡ None)
+    × NeedsMore new.listing.spent t.steps × (did.now ≡ final)
 Takes program old new result before final traffic traffic_after (Some (end.BadFrame index w)) =
     (bytes : List ℕ) × (result ≡ got.Frame bytes) × (index ≡ old.frames + 1)
     × IsBadFrame (frame_at old.mux.received.value bytes) (answer_at old.mux.inbox) old.mux.outbox w × Leaves old new before final traffic traffic_after
@@ -194,6 +205,8 @@ pub record Holds (setup : Setup) (start now : Moment) (s : Session) (turns : Lis
   pub inbox : StandsFor s.mux.inbox (events_of turns)
   pub looks : s.listing.looks ≡ looks_of (steps_of turns)
   pub stored : s.listing.stored ≡ stored_of (steps_of turns)
+  pub spent : s.listing.spent ≡ spent_of (steps_of turns)
+  pub few : s.listing.spent ≤ most_looks
   pub count : s.frames ≡ length (frames_of turns)
   pub taken : are_frames results ≡ true
   pub kinds : framed_by results ≡ framed turns
@@ -218,8 +231,9 @@ RunsOn setup start final traffic s traffic_now count None = Runs setup start fin
 RunsOn setup start final traffic s traffic_now count (Some e) =
     IsServed setup start final traffic (record { end = e; looks = s.listing.looks; stored = s.listing.stored }) traffic_now
 
--- a frame that was not sent ends the session
-abbrev pub IsEndOf : Gave → Option End → Type 0
-IsEndOf gave.Done result = result ≡ None
-IsEndOf gave.Failed result = result ≡ Some end.WireFault
-IsEndOf gave.Memory result = result ≡ Some end.Memory
+-- a frame that was not sent ends the session, and else that a look is needed where none is left
+abbrev pub IsEndOf : Gave → Bool → Option End → Type 0
+IsEndOf gave.Done true result = result ≡ None
+IsEndOf gave.Done false result = result ≡ Some end.LooksFull
+IsEndOf gave.Failed met result = result ≡ Some end.WireFault
+IsEndOf gave.Memory met result = result ≡ Some end.Memory

@@ -5,4 +5,5 @@ pub mod Listed
 pub mod Own
 pub mod Putting
 pub mod Served
+pub mod Spent
 pub mod Turns

@@ -14,6 +14,7 @@ use Rattle.session_core.specs.declared.event.Event.{Event}
 use Rattle.session_core.specs.declared.machine.Pending.TheVariants as pending
 use Rattle.session_core.specs.Fronts.{looks_of, stored_of}
 use Rattle.session_core.specs.State.{Machine, new_machine}
+use Rattle.session_core.specs.Steps.{Step}
 use Rattle.session_mux.specs.declared.frame_why.FrameWhy.{FrameWhy}
 use Rattle.session_mux.specs.declared.frame_why.FrameWhy.TheVariants as why
 use Rattle.session_mux.specs.Frames.{IsBadTaken, why_of}
@@ -23,6 +24,7 @@ use Rattle.session_run.specs.declared.ended.End.TheVariants as end
 use Rattle.session_run.specs.declared.ended.Ended.{Ended}
 use Rattle.session_run.specs.declared.serve.Setup.{Setup}
 use Rattle.session_run.specs.Answered.{Moment, HasRead, AreAnswered}
+use Rattle.session_run.specs.Spent.{most_looks, spent_of, NeedsMore}
 use Rattle.session_run.specs.Turns.{SessionTurn, undone, steps_of, frames_of, framed, framed_by, events_of, AreLed, AreJoined, AreSent}
 
 -- ---- what was received
@@ -68,13 +70,14 @@ abbrev pub most_results : ℕ
 most_results = 1099511627776
 
 -- The end, by the results that were taken in these turns, the last one, and the sending that failed: the wire's end; its fault as it
--- received or as it sent; the frame after those of the turns, which is at fault; none, where all results that a session receives were
--- taken; out of memory a frame or none.
+-- received or as it sent; the frame after those of the turns, which is at fault; none, where all looks that a session takes are spent
+-- and one more is needed, or all results that it receives were taken; out of memory a frame or none.
 abbrev pub EndsBy : List SessionTurn → Sending → End → List Got → List Got → List Gave → Type 0
 EndsBy turns left end.Closed taken last failed = (last ≡ got.End ∷ []) × (failed ≡ [])
 EndsBy turns left end.WireFault taken last failed = ((last ≡ got.Failed ∷ []) × (failed ≡ [])) ⊎ ((last ≡ []) × (failed ≡ gave.Failed ∷ []))
 EndsBy turns left (end.BadFrame index w) taken last failed =
     (index ≡ length (frames_of turns) + 1) × (bad : Got) × (last ≡ bad ∷ []) × IsBad turns left (bytes_of taken) bad w × (failed ≡ [])
+EndsBy turns left end.LooksFull taken last failed = (last ≡ []) × (failed ≡ [])
 EndsBy turns left end.TurnsFull taken last failed = (last ≡ []) × (length taken ≡ most_results) × (failed ≡ [])
 EndsBy turns left end.Memory taken last failed = (((bytes : List ℕ) × (last ≡ got.Frame bytes ∷ [])) ⊎ (last ≡ [])) × (failed ≡ [])
 
@@ -83,13 +86,17 @@ abbrev pub IsSentAt : End → Sending → Type 0
 IsSentAt end.Closed left = picked left ≡ None
 IsSentAt end.WireFault left = Unit {0}
 IsSentAt (end.BadFrame index w) left = picked left ≡ None
+IsSentAt end.LooksFull left = picked left ≡ None
 IsSentAt end.TurnsFull left = picked left ≡ None
 IsSentAt end.Memory left = Unit {0}
 
--- no answer is awaited and each event was dealt with, unless memory ran out
-abbrev pub IsClosedAt : End → Machine → Option Event → Type 0
-IsClosedAt end.Memory m halted = Unit {0}
-IsClosedAt other m halted = (m.pending ≡ pending.Nothing) × (halted ≡ None)
+-- Each event was dealt with, unless memory ran out. Where the looks are full, one more is needed than a session takes; where the wire
+-- failed, that, or no answer is awaited; at each other end none is.
+abbrev pub IsClosedAt : End → List Step → Machine → Option Event → Type 0
+IsClosedAt end.Memory steps m halted = Unit {0}
+IsClosedAt end.LooksFull steps m halted = NeedsMore (spent_of steps) steps × (halted ≡ None)
+IsClosedAt end.WireFault steps m halted = ((m.pending ≡ pending.Nothing) ⊎ NeedsMore (spent_of steps) steps) × (halted ≡ None)
+IsClosedAt other steps m halted = (m.pending ≡ pending.Nothing) × (halted ≡ None)
 
 -- the ground is as it was at the last step, unless memory ran out
 abbrev pub IsStillAt : End → Moment → Moment → Type 0
@@ -101,7 +108,7 @@ IsStillAt other now final = final ≡ now
 -- A session: of the results that were received those before the last are the frames and idle moments of turns; each message that
 -- they gave, and each idle moment, was dealt with as a session of this setup does, by answers of boards that were read one after another
 -- and each for its step; what was sent are the frames of what was put, after each turn as many as may be sent; the looks and the stored
--- sequences are those of the steps. Behind its last step it read no more. Where memory ran out it may have, and the last event may be one for which nothing was done: its look is listed, and
+-- sequences are those of the steps, which spent no more looks than a session takes. Behind its last step it read no more. Where memory ran out it may have, and the last event may be one for which nothing was done: its look is listed, and
 -- what it stored, but nothing is put or wanted for it.
 pub record IsSession (setup : Setup) (start final : Moment) (ended : Ended) (results : List Got) (sent : List (List ℕ)) (failed : List Gave) : Type 0 where
   pub turns : List SessionTurn
@@ -119,12 +126,13 @@ pub record IsSession (setup : Setup) (start final : Moment) (ended : Ended) (res
   pub read : frames_at 0 (bytes_of taken) ≡ Ok (frames_of turns)
   pub joined : AreJoined turns
   pub led : AreLed (new_machine setup.user setup.version setup.strict) halted turns machine
-  pub closed : IsClosedAt ended.end machine halted
+  pub closed : IsClosedAt ended.end (steps_of turns) machine halted
   pub answered : AreAnswered start setup.user (arc_value setup.program) setup.strict (undone halted ++ steps_of turns) now
   pub reads : HasRead now final
   pub still : IsStillAt ended.end now final
   pub looks : ended.looks ≡ looks_of (undone halted ++ steps_of turns)
   pub stored : ended.stored ≡ stored_of (undone halted ++ steps_of turns)
+  pub few : spent_of (undone halted ++ steps_of turns) ≤ most_looks
   pub put : AreSent turns frames left
   pub written : AreWrittenAfter [] sent frames
   pub whole : IsSentAt ended.end left

@@ -13,6 +13,8 @@ pub enum End {
     WireFault,
     /// A frame is at fault. Frames and text messages are counted from 1.
     BadFrame { index: u64, why: FrameWhy },
+    /// So many looks were taken as a session takes at most, 1,000,000, and one more is needed. A proposal is one too.
+    LooksFull,
     /// So many results were received as a session receives at most: 2^40.
     TurnsFull,
     /// Out of memory.

@@ -1,9 +1,11 @@
-//! The looks of a session, and the sequences at which its revisions were stored.
+//! The looks of a session, how many of those that it may take they are, and the sequences at which its revisions were stored.
 
-ghost use Rattle.std.specs.Prelude.{◌≡◌, ◌≤◌, ◌++◌, [], OnOk};
+ghost use Rattle.std.specs.Prelude.{◌≡◌, ◌≤◌, ◌<◌, ◌+◌, ◌++◌, [], true, false, OnOk};
 ghost use Rattle.std.specs.Option.{option_to_list};
 ghost use Rattle.repl_messages.specs.Looks as looked;
 ghost use Rattle.session_core.specs.Fronts as fronts;
+ghost use Rattle.session_run.specs.Spent as spending;
+ghost use Rattle.session_run.specs.Spent.{most_looks};
 
 use crate::ended::Sequences;
 use doc_board::Outcome;
@@ -13,12 +15,16 @@ use sg_outside::Memory;
 use std::alloc::Global;
 use std::marker::Model;
 
-/// Both lists.
+/// Both lists, and how many looks are spent.
 #[derive(Drop)]
 pub(crate) struct Listing {
     looks: Vec<Look>,
     stored: Vec<u64>,
+    spent: u64,
 }
+
+/// How many looks a session takes at most.
+const MOST_LOOKS: u64 = 1_000_000;
 
 impl Model for Listing {
     ghost use Rattle.std.specs.Prelude.{◌-◌, vec_len, vec_capacity};
@@ -29,6 +35,7 @@ impl Model for Listing {
     ghost view = { λ l. record {
       looks = l.looks.items;
       stored = l.stored.items;
+      spent = l.spent;
       spare_looks = vec_capacity l.looks - vec_len l.looks;
       spare_stored = vec_capacity l.stored - vec_len l.stored;
     } };
@@ -39,10 +46,12 @@ impl Listing {
     pub(crate) fn new(alloc: Global) -> Listing
         ensures looks { result.looks ≡ [] }
         ensures stored { result.stored ≡ [] }
+        ensures spent { result.spent ≡ 0 }
     {
         Listing {
             looks: Vec::new(alloc),
             stored: Vec::new(alloc),
+            spent: 0,
         }
     }
 
@@ -50,6 +59,7 @@ impl Listing {
     pub(crate) fn reserve(&mut self) -> Result<(), Memory>
         ensures looks { self.new.looks ≡ self.old.looks }
         ensures stored { self.new.stored ≡ self.old.stored }
+        ensures spent { self.new.spent ≡ self.old.spent }
         ensures room_for_a_look { OnOk result (1 ≤ self.new.spare_looks) }
         ensures room_for_a_sequence { OnOk result (1 ≤ self.new.spare_stored) }
     {
@@ -58,13 +68,25 @@ impl Listing {
         Ok(())
     }
 
-    /// Lists the look by which an event answers, if it does by one, and the sequence of the revision that it stored, if it did.
+    /// Whether all looks are spent that a session takes.
+    pub(crate) fn is_full(&self) -> bool
+        ensures full { result ≡ true → self.now.spent ≡ most_looks }
+        ensures left { result ≡ false → self.now.spent ≤ most_looks → self.now.spent < most_looks }
+    {
+        self.spent == MOST_LOOKS
+    }
+
+    /// Lists the look by which an event answers, if it does by one, and the sequence of the revision that it stored, if it did; and
+    /// counts the look, or the proposal.
     pub(crate) fn list(&mut self, event: &Event)
+        requires left { self.old.spent < most_looks }
         requires room_for_a_look { 1 ≤ self.old.spare_looks }
         requires room_for_a_sequence { 1 ≤ self.old.spare_stored }
         ensures looks { self.new.looks ≡ self.old.looks ++ fronts.look_of event.now }
         ensures stored { self.new.stored ≡ self.old.stored ++ fronts.stored_by event.now }
+        ensures spent { self.new.spent ≡ self.old.spent + spending.spent_by event.now }
     {
+        self.spent += spent_by(event);
         if let Some(look) = look_of(event) {
             self.looks.push_reserved(look);
         }
@@ -113,6 +135,17 @@ fn look_of(event: &Event) -> Option<Look>
         Event::Judged(outcome) => (judged_at(outcome)?, Purpose::Push),
     };
     Some(Look { front, purpose })
+}
+
+/// How many looks an event is the answer of.
+fn spent_by(event: &Event) -> u64
+    ensures spent { result ≡ spending.spent_by event.now }
+    ensures few { result ≤ 1 }
+{
+    match event {
+        Event::Whole(_) | Event::Idle { .. } => 0,
+        Event::Fed(_) | Event::Bodies(_) | Event::Asked(_) | Event::Judged(_) => 1,
+    }
 }
 
 /// The length of the log that a look for a feed was at.

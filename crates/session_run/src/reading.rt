@@ -1,10 +1,12 @@
 //! Reads of the history, by what is wanted.
 
-ghost use Rattle.std.specs.Prelude.{◌≡◌, ◌≤◌, true, Some, IfOk, OnErr};
+ghost use Rattle.std.specs.Prelude.{◌≡◌, ◌≤◌, ◌+◌, ◌*◌, true, Some, IfOk, OnErr};
 ghost use Rattle.repl_messages.specs.Looks as looks;
 ghost use Rattle.session_core.specs.Conduct.{WantsFor, is_answer, feed_front};
 ghost use Rattle.session_core.specs.State.{Awaits};
 ghost use Rattle.session_run.specs.Answered.{moment, HasRead, IsAnswered};
+ghost use Rattle.session_run.specs.Spent.{spent_by};
+ghost use Rattle.write_path.specs.Origins.{Spends, Stays};
 
 use repl_messages::{Offers, Revision};
 use session_core::{Core, Event, Want};
@@ -23,6 +25,7 @@ pub(crate) fn read<G: Ground>(
 ) -> Result<Event, Memory>
     requires wants { WantsFor core.now.feed core.now.pending (Some want) }
     requires front { feed_front core.now.feed ≤ G.lowest_front ground.old }
+    requires draws { 2 ≤ G.left ground.old }
     ensures answered { IfOk result (λ event. IsAnswered
         (moment (G.read ground.old) (G.lowest_front ground.old) (G.recorded ground.old)
         (G.own ground.old))
@@ -36,6 +39,9 @@ pub(crate) fn read<G: Ground>(
         (G.own ground.old))
         (moment (G.read ground.new) (G.lowest_front ground.new) (G.recorded ground.new)
         (G.own ground.new))) }
+    ensures spends { Spends (G.origin ground.old) (G.origin ground.new) (G.left ground.old) (G.left ground.new) }
+    ensures spent { IfOk result (λ event. spent_by event ≡ 1) }
+    ensures stays { OnErr result (Stays (G.origin ground.old) (G.origin ground.new) (G.left ground.old) (G.left ground.new)) }
 {
     match want {
         Want::Feed { since, options } => {

@@ -1,6 +1,6 @@
 //! Sessions, from a wire's first result to the end.
 
-ghost use Rattle.std.specs.Prelude.{◌≡◌, ◌<◌, Some};
+ghost use Rattle.std.specs.Prelude.{◌≡◌, ◌≤◌, ◌<◌, ◌+◌, Some};
 ghost use Rattle.session_run.specs.declared.ended.End.{End};
 ghost use Rattle.session_run.specs.Answered.{moment};
 ghost use Rattle.session_run.specs.Served.{IsServed};
@@ -30,17 +30,23 @@ const MOST_RESULTS: u64 = 1_099_511_627_776;
 /// Serves one device: receives its frames one after another, answers each message that they give, sends what is
 /// put for it, and goes on until the wire ends, a fault ends the session, or memory runs out. At idle moments a
 /// continuous feed goes on where the history has grown. All frames are sent from one buffer; where there is no memory for it,
-/// nothing is received. Gives the ground back.
+/// nothing is received. At most two draws of sequences are made for a look. Gives the ground back.
 pub fn serve_session<W: Wire, G: Ground>(
     alloc: Global,
     ground: G,
     setup: Setup,
     wire: &mut W,
 ) -> (G, Ended)
+    requires draws { 2000000 ≤ G.left ground }
     ensures session { IsServed setup
         (moment (G.read ground) (G.lowest_front ground) (G.recorded ground) (G.own ground))
         (moment (G.read result.0) (G.lowest_front result.0) (G.recorded result.0) (G.own result.0))
         (W.recorded wire.old) result.1 (W.recorded wire.new) }
+
+    // At most so many draws are made as a session has for its looks.
+    ensures origin { G.origin result.0 ≡ G.origin ground }
+    ensures least { G.left result.0 ≤ G.left ground }
+    ensures most { G.left ground ≤ G.left result.0 + 2000000 }
 
     // The wire is said to have failed only where it did.
     ensures fault { result.1.end ≡ End.WireFault → W.faults wire.old < W.faults wire.new }

@@ -1,6 +1,6 @@
 //! A session that runs: result by result.
 
-ghost use Rattle.std.specs.Prelude.{◌≡◌, ◌⊎◌, ◌≤◌, ◌<◌, ◌+◌, ◌++◌, [], true, false, List, ℕ, Option, None, Some, IfOk, OnOk, IfErr, OnErr};
+ghost use Rattle.std.specs.Prelude.{◌≡◌, ◌⊎◌, ◌≤◌, ◌<◌, ◌+◌, ◌*◌, ◌++◌, [], true, false, Bool, List, ℕ, Option, None, Some, IfOk, OnOk, IfErr, OnErr};
 ghost use Rattle.std.specs.Arc.{arc_value};
 ghost use Rattle.blip_mux.specs.Apart.{AreApart};
 ghost use Rattle.blip_mux.specs.Sending.{picked};
@@ -17,6 +17,7 @@ ghost use Rattle.session_run.specs.declared.serve.Setup.{Setup};
 ghost use Rattle.session_run.specs.Answered.{Moment, moment, HasRead, IsAnswered};
 ghost use Rattle.session_run.specs.Held.{IsAtRest, IsReady, Makes, Halts, Conversed, Conversing, IsEndOf, Holds, GoesOn, Takes, Runs, RunsOn};
 ghost use Rattle.session_run.specs.Putting.{MayReply};
+ghost use Rattle.session_run.specs.Spent.{most_looks, spent_by, IsMet, CanLook, Draws};
 
 use crate::ended::{End, Ended};
 use crate::listing::Listing;
@@ -48,6 +49,7 @@ impl Session {
             → Holds setup now now result [] [] [] [] }
         ensures core { result.core ≡ new_machine user version strict }
         ensures frames { result.frames ≡ 0 }
+        ensures spent { result.listing.spent ≡ 0 }
     {
         blip_mux::laws::inbox_states();
         blip_mux::laws::replies();
@@ -129,6 +131,8 @@ impl Session {
     ) -> Result<Event, Memory>
         requires wants { WantsFor self.old.core.feed self.old.core.pending (Some want) }
         requires front { feed_front self.old.core.feed ≤ G.lowest_front ground.old }
+        requires left { self.old.listing.spent < most_looks }
+        requires looks { CanLook (G.left ground.old) self.old.listing.spent }
         ensures answered { IfOk result (λ event. IsAnswered
             (moment (G.read ground.old) (G.lowest_front ground.old)
             (G.recorded ground.old) (G.own ground.old)) self.old.core.user
@@ -141,6 +145,8 @@ impl Session {
             ≡ self.old.listing.looks ++ look_of event) }
         ensures stored { IfOk result (λ event. self.new.listing.stored
             ≡ self.old.listing.stored ++ stored_by event) }
+        ensures spent { IfOk result (λ event. self.new.listing.spent
+            ≡ self.old.listing.spent + spent_by event) }
         ensures read { OnErr result (HasRead
             (moment (G.read ground.old) (G.lowest_front ground.old)
             (G.recorded ground.old) (G.own ground.old))
@@ -148,6 +154,9 @@ impl Session {
             (G.recorded ground.new) (G.own ground.new))) }
         ensures same_looks { OnErr result (self.new.listing.looks ≡ self.old.listing.looks) }
         ensures same_stored { OnErr result (self.new.listing.stored ≡ self.old.listing.stored) }
+        ensures same_spent { OnErr result (self.new.listing.spent ≡ self.old.listing.spent) }
+        ensures draws { Draws (G.origin ground.old) (G.origin ground.new) (G.left ground.old)
+            (G.left ground.new) self.old.listing.spent self.new.listing.spent }
         ensures core { self.new.core ≡ self.old.core }
         ensures mux { self.new.mux ≡ self.old.mux }
         ensures frames { self.new.frames ≡ self.old.frames }
@@ -161,14 +170,15 @@ impl Session {
         Ok(event)
     }
 
-    /// Takes an event, and the answers of all reads that are wanted for it, one after another.
+    /// Takes an event, and the answers of all reads that are wanted for it, one after another. Answers whether that is all: else one more
+    /// look is wanted than a session takes.
     fn converse<G: Ground>(
         &mut self,
         alloc: Global,
         ground: &mut G,
         program: &Resolved,
         event: Event,
-    ) -> Result<(), Memory>
+    ) -> Result<bool, Memory>
         requires awaited { Awaits self.old.core event }
         requires first { is_answer event ≡ false }
         requires room { self.old.core.requests ≤ 9223372036854745800 }
@@ -176,14 +186,16 @@ impl Session {
         requires may { MayReply self.old.mux (due_at self.old.core.pending event) }
         requires front { feed_front self.old.core.feed ≤ G.lowest_front ground.old }
         requires seen { AreWithin (G.lowest_front ground.old) (front_by event) }
+        requires looks { CanLook (G.left ground.old) self.old.listing.spent }
         ensures ok { (before : Moment)
             → IsAnswered before self.old.core.user program.now self.old.core.strict None event
             (moment (G.read ground.old) (G.lowest_front ground.old)
             (G.recorded ground.old) (G.own ground.old))
-            → OnOk result ((steps : List Step)
+            → IfOk result (λ met. (steps : List Step) × (want : Option Want)
             × Conversing program.now self.old self.new event before
             (moment (G.read ground.new) (G.lowest_front ground.new)
-            (G.recorded ground.new) (G.own ground.new)) None steps) }
+            (G.recorded ground.new) (G.own ground.new)) want steps
+            × IsMet met want self.new.listing.spent) }
         ensures halted { (before : Moment)
             → IsAnswered before self.old.core.user program.now self.old.core.strict None event
             (moment (G.read ground.old) (G.lowest_front ground.old)
@@ -193,6 +205,8 @@ impl Session {
             × HasRead now
             (moment (G.read ground.new) (G.lowest_front ground.new)
             (G.recorded ground.new) (G.own ground.new))) }
+        ensures draws { Draws (G.origin ground.old) (G.origin ground.new) (G.left ground.old)
+            (G.left ground.new) self.old.listing.spent self.new.listing.spent }
         ensures frames { self.new.frames ≡ self.old.frames }
         ensures received { self.new.mux.received ≡ self.old.mux.received }
         ensures sent { self.new.mux.sent ≡ self.old.mux.sent }
@@ -204,10 +218,14 @@ impl Session {
         write_path::laws::was_read();
         let mut want = self.take_event(alloc, event)?;
         while let Some(wanted) = want {
+            if self.listing.is_full() {
+                drop(wanted);
+                return Ok(false);
+            }
             let answer = self.answer(alloc, ground, program, wanted)?;
             want = self.take_event(alloc, answer)?;
         }
-        Ok(())
+        Ok(true)
     }
 
     /// Answers an event, and sends what may be sent. Answers how the session ends, where it ends here.
@@ -226,6 +244,7 @@ impl Session {
         requires may { MayReply self.old.mux (due_at self.old.core.pending event) }
         requires front { feed_front self.old.core.feed ≤ G.lowest_front ground.old }
         requires seen { AreWithin (G.lowest_front ground.old) (front_by event) }
+        requires looks { CanLook (G.left ground.old) self.old.listing.spent }
         ensures goes { (before : Moment)
             → IsAnswered before self.old.core.user program.now self.old.core.strict None event
             (moment (G.read ground.old) (G.lowest_front ground.old)
@@ -234,6 +253,8 @@ impl Session {
             (moment (G.read ground.new) (G.lowest_front ground.new)
             (G.recorded ground.new) (G.own ground.new)) (W.recorded wire.old) (W.recorded
             wire.new) result }
+        ensures draws { Draws (G.origin ground.old) (G.origin ground.new) (G.left ground.old)
+            (G.left ground.new) self.old.listing.spent self.new.listing.spent }
         ensures faults { W.faults wire.old ≤ W.faults wire.new }
         ensures fault { result ≡ Some End.WireFault → W.faults wire.old < W.faults wire.new }
         ensures frames { self.new.frames ≡ self.old.frames }
@@ -242,7 +263,7 @@ impl Session {
         blip_mux::laws::replies();
         session_mux::laws::traffic();
         match self.converse(alloc, ground, program, event) {
-            Ok(()) => end_of(self.mux.send_all(wire)),
+            Ok(met) => end_of(self.mux.send_all(wire), met),
             Err(_) => Some(End::Memory),
         }
     }
@@ -255,13 +276,14 @@ impl Session {
             → feed_front self.old.core.feed ≤ now.lowest
             → GoesOn program self.old self.new None now now (W.recorded wire.old)
             (W.recorded wire.new) result }
+        ensures listing { self.new.listing ≡ self.old.listing }
         ensures faults { W.faults wire.old ≤ W.faults wire.new }
         ensures fault { result ≡ Some End.WireFault → W.faults wire.old < W.faults wire.new }
         ensures frames { self.new.frames ≡ self.old.frames }
         ensures received { self.new.mux.received ≡ self.old.mux.received }
     {
         blip_mux::laws::replies();
-        end_of(self.mux.send_all(wire))
+        end_of(self.mux.send_all(wire), true)
     }
 
     /// Takes a frame: its message, where it gives one, is answered, and what may be sent is sent. Answers how the session
@@ -278,12 +300,15 @@ impl Session {
         requires room { self.old.core.requests ≤ 9223372036854745800 }
         requires count { self.old.frames < 18446744073709551615 }
         requires front { feed_front self.old.core.feed ≤ G.lowest_front ground.old }
+        requires looks { CanLook (G.left ground.old) self.old.listing.spent }
         ensures takes { Takes program.now self.old self.new (Got.Frame bytes.now)
             (moment (G.read ground.old) (G.lowest_front ground.old)
             (G.recorded ground.old) (G.own ground.old))
             (moment (G.read ground.new) (G.lowest_front ground.new)
             (G.recorded ground.new) (G.own ground.new)) (W.recorded wire.old) (W.recorded wire.new)
             result }
+        ensures draws { Draws (G.origin ground.old) (G.origin ground.new) (G.left ground.old)
+            (G.left ground.new) self.old.listing.spent self.new.listing.spent }
         ensures faults { W.faults wire.old ≤ W.faults wire.new }
         ensures fault { result ≡ Some End.WireFault → W.faults wire.old < W.faults wire.new }
         ensures count { self.new.frames ≤ self.old.frames + 1 }
@@ -315,12 +340,15 @@ impl Session {
         requires rest { IsAtRest self.old }
         requires room { self.old.core.requests ≤ 9223372036854745800 }
         requires front { feed_front self.old.core.feed ≤ G.lowest_front ground.old }
+        requires looks { CanLook (G.left ground.old) self.old.listing.spent }
         ensures takes { Takes program.now self.old self.new Got.Idle
             (moment (G.read ground.old) (G.lowest_front ground.old)
             (G.recorded ground.old) (G.own ground.old))
             (moment (G.read ground.new) (G.lowest_front ground.new)
             (G.recorded ground.new) (G.own ground.new)) (W.recorded wire.old) (W.recorded wire.new)
             result }
+        ensures draws { Draws (G.origin ground.old) (G.origin ground.new) (G.left ground.old)
+            (G.left ground.new) self.old.listing.spent self.new.listing.spent }
         ensures faults { W.faults wire.old ≤ W.faults wire.new }
         ensures fault { result ≡ Some End.WireFault → W.faults wire.old < W.faults wire.new }
         ensures count { self.new.frames ≡ self.old.frames }
@@ -346,6 +374,7 @@ impl Session {
         requires room { self.old.core.requests ≤ 9223372036854745800 }
         requires count { self.old.frames < 18446744073709551615 }
         requires front { feed_front self.old.core.feed ≤ G.lowest_front ground.old }
+        requires looks { CanLook (G.left ground.old) self.old.listing.spent }
         ensures runs { (setup : Setup) (start : Moment) (traffic : Option Traffic) (count : ℕ)
             → arc_value setup.program ≡ program.now
             → Runs setup start
@@ -356,6 +385,8 @@ impl Session {
             (moment (G.read ground.new) (G.lowest_front ground.new)
             (G.recorded ground.new) (G.own ground.new)) traffic self.new (W.recorded
             wire.new) count result }
+        ensures draws { Draws (G.origin ground.old) (G.origin ground.new) (G.left ground.old)
+            (G.left ground.new) self.old.listing.spent self.new.listing.spent }
         ensures rest { result ≡ None → IsAtRest self.new }
         ensures front { result ≡ None → feed_front self.new.core.feed ≤ G.lowest_front ground.new }
         ensures few { result ≡ None → self.new.core.requests ≤ self.old.core.requests + 30003 }
@@ -388,12 +419,13 @@ impl Session {
     }
 }
 
-/// How the session ends, where a frame was not sent.
-fn end_of(gave: Gave) -> Option<End>
-    ensures { IsEndOf gave result }
+/// How the session ends, where a frame was not sent, or not all looks were taken that are wanted.
+fn end_of(gave: Gave, met: bool) -> Option<End>
+    ensures { IsEndOf gave met result }
 {
     match gave {
-        Gave::Done => None,
+        Gave::Done if met => None,
+        Gave::Done => Some(End::LooksFull),
         Gave::Failed => Some(End::WireFault),
         Gave::Memory => Some(End::Memory),
     }

@@ -114,6 +114,7 @@ pub trait Ground: Drop {
         strict: bool,
         revision: Revision,
     ) -> Outcome
+        requires draws { 2 ≤ left self.old }
         ensures stores { Stores (read self.old) (read self.new) (lowest_front self.old)
             (lowest_front self.new)
             (own self.old) (own self.new) (recorded self.old)
@@ -124,7 +125,8 @@ pub trait Ground: Drop {
     /// Puts or drops a user or a role: stores the command's entry, which is in its grammar, or answers that there is no room for it,
     /// or that memory is short.
     fn command(&mut self, command: Command) -> Outcome
-        requires { IsEntry (entry_of command) }
+        requires entry { IsEntry (entry_of command) }
+        requires draws { 2 ≤ left self.old }
         ensures commands { Commands (read self.old) (read self.new) (lowest_front self.old)
             (lowest_front self.new)
             (own self.old) (own self.new) (recorded self.old) (entry_of command) result }

@@ -1,6 +1,7 @@
 use Rattle.std.proofs.Common.{◌≤◌, ◌*◌}
 use Rattle.session_core.specs.Conduct.{feed_front}
 use Rattle.session_run.specs.Held.{IsAtRest, Runs}
+use Rattle.session_run.specs.Spent.{Draws}
 use Rattle.session_run.proofs.serve.serve_session.Given as goal
 
 abbrev pub invariant-loop-received : goal.invariant-loop-received
@@ -12,5 +13,6 @@ invariant-loop-received g l = record {
   front : feed_front l.session.core.feed ≤ g.G.Ground.lowest_front l.ground;
   room : l.session.core.requests ≤ l.received * 30003;
   count : l.session.frames ≤ l.received;
+  draws : Draws (g.G.Ground.origin l.initial.ground) (g.G.Ground.origin l.ground) (g.G.Ground.left l.initial.ground) (g.G.Ground.left l.ground) 0 l.session.listing.spent;
   faults : g.W.Wire.faults l.initial.wire ≤ g.W.Wire.faults l.wire;
 }

@@ -4,6 +4,7 @@ use Rattle.session_core.specs.Steps.{Step}
 use Rattle.session_run.specs.Answered.{Moment, IsAnswered}
 use Rattle.session_run.specs.Held.{IsReady, Conversing}
 use Rattle.session_run.specs.Putting.{MayReply}
+use Rattle.session_run.specs.Spent.{Draws}
 use Rattle.session_run.proofs.session.Session.converse.Given as goal
 
 abbrev pub invariant-loop-want : goal.invariant-loop-want
@@ -16,6 +17,7 @@ invariant-loop-want g l = record {
   frames : l.self.frames ≡ l.fn.self.frames;
   received : l.self.mux.received ≡ l.fn.self.mux.received;
   sent : l.self.mux.sent ≡ l.fn.self.mux.sent;
+  draws : Draws (g.G.Ground.origin l.initial.ground) (g.G.Ground.origin l.ground) (g.G.Ground.left l.initial.ground) (g.G.Ground.left l.ground) l.fn.self.listing.spent l.self.listing.spent;
   run : (before : Moment) → IsAnswered before l.fn.self.core.user l.fn.program l.fn.self.core.strict None l.fn.event
       (record { read = g.G.Ground.read l.initial.ground; lowest = g.G.Ground.lowest_front l.initial.ground; recorded = g.G.Ground.recorded l.initial.ground; own = g.G.Ground.own l.initial.ground })
       → (steps : List Step) × Conversing l.fn.program l.fn.self l.self l.fn.event before

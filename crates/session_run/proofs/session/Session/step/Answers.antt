@@ -19,7 +19,7 @@ returns-in-Frame-clause-runs g c setup start traffic count same runs below =
     (c.traffic.ensures.received (g.W.Wire.recorded c.args.wire.now) (g.W.Wire.recorded c.recv.new.self) (got.Frame c.in-Frame.bytes)
     (subst (λ r. ReceivesIfRecorded (g.W.Wire.recorded c.args.wire.now) r (g.W.Wire.recorded c.recv.new.self)) c.in-Frame.is c.recv.ensures.recorded) (not_memory (got.Frame c.in-Frame.bytes) refl))
     (subst (λ b. Takes c.args.program.now c.args.self.now c.take_frame.new.self (got.Frame b) (record { read = g.G.Ground.read c.args.ground.now; lowest = g.G.Ground.lowest_front c.args.ground.now; recorded = g.G.Ground.recorded c.args.ground.now; own = g.G.Ground.own c.args.ground.now })
-    (record { read = g.G.Ground.read c.take_frame.new.ground; lowest = g.G.Ground.lowest_front c.take_frame.new.ground; recorded = g.G.Ground.recorded c.take_frame.new.ground; own = g.G.Ground.own c.take_frame.new.ground }) (g.W.Wire.recorded c.recv.new.self) (g.W.Wire.recorded c.take_frame.new.wire) c.take_frame.result) c.as_slice.ensures c.take_frame.ensures.takes) runs
+    (record { read = g.G.Ground.read c.take_frame.new.ground; lowest = g.G.Ground.lowest_front c.take_frame.new.ground; recorded = g.G.Ground.recorded c.take_frame.new.ground; own = g.G.Ground.own c.take_frame.new.ground }) (g.W.Wire.recorded c.recv.new.self) (g.W.Wire.recorded c.take_frame.new.wire) c.take_frame.result) c.as_slice.ensures c.take_frame.ensures.takes) c.take_frame.ensures.draws.few runs
 
 pub returns-in-Frame-clause-rest : goal.returns-in-Frame-clause-rest
 returns-in-Frame-clause-rest g c =
@@ -49,7 +49,7 @@ returns-in-Text-clause-runs g c setup start traffic count same runs below =
     (record { read = g.G.Ground.read c.args.ground.now; lowest = g.G.Ground.lowest_front c.args.ground.now; recorded = g.G.Ground.recorded c.args.ground.now; own = g.G.Ground.own c.args.ground.now })
     traffic (g.W.Wire.recorded c.args.wire.now) (g.W.Wire.recorded c.recv.new.self) c.args.self.now c.args.self.now count (end.BadFrame (c.args.self.now.frames + 1) why.NotBinary) (got.Text ∷ []) refl
     (read_nothing (record { read = g.G.Ground.read c.args.ground.now; lowest = g.G.Ground.lowest_front c.args.ground.now; recorded = g.G.Ground.recorded c.args.ground.now; own = g.G.Ground.own c.args.ground.now }))
-    refl refl (omega (arith, below))
+    refl refl (omega (arith, below)) tt
     (λ turns frames results sent held counted. (ap (λ n. n + 1) held.count, got.Text, refl, refl, refl))
     (c.traffic.ensures.received (g.W.Wire.recorded c.args.wire.now) (g.W.Wire.recorded c.recv.new.self) (got.Text)
     (subst (λ r. ReceivesIfRecorded (g.W.Wire.recorded c.args.wire.now) r (g.W.Wire.recorded c.recv.new.self)) c.in-Text.is c.recv.ensures.recorded) (not_memory (got.Text) refl))
@@ -64,7 +64,7 @@ returns-in-Idle-clause-runs g c setup start traffic count same runs below =
     (read_nothing (record { read = g.G.Ground.read c.args.ground.now; lowest = g.G.Ground.lowest_front c.args.ground.now; recorded = g.G.Ground.recorded c.args.ground.now; own = g.G.Ground.own c.args.ground.now }))
     (c.traffic.ensures.received (g.W.Wire.recorded c.args.wire.now) (g.W.Wire.recorded c.recv.new.self) (got.Idle)
     (subst (λ r. ReceivesIfRecorded (g.W.Wire.recorded c.args.wire.now) r (g.W.Wire.recorded c.recv.new.self)) c.in-Idle.is c.recv.ensures.recorded) (not_memory (got.Idle) refl))
-    c.take_idle.ensures.takes runs
+    c.take_idle.ensures.takes c.take_idle.ensures.draws.few runs
 
 pub returns-in-Idle-clause-rest : goal.returns-in-Idle-clause-rest
 returns-in-Idle-clause-rest g c =
@@ -90,7 +90,7 @@ returns-in-End-clause-runs g c setup start traffic count same runs below =
     (record { read = g.G.Ground.read c.args.ground.now; lowest = g.G.Ground.lowest_front c.args.ground.now; recorded = g.G.Ground.recorded c.args.ground.now; own = g.G.Ground.own c.args.ground.now })
     traffic (g.W.Wire.recorded c.args.wire.now) (g.W.Wire.recorded c.recv.new.self) c.args.self.now c.args.self.now count end.Closed (got.End ∷ []) refl
     (read_nothing (record { read = g.G.Ground.read c.args.ground.now; lowest = g.G.Ground.lowest_front c.args.ground.now; recorded = g.G.Ground.recorded c.args.ground.now; own = g.G.Ground.own c.args.ground.now }))
-    refl refl (omega (arith, below)) (λ turns frames results sent held counted. (refl, refl))
+    refl refl (omega (arith, below)) tt (λ turns frames results sent held counted. (refl, refl))
     (c.traffic.ensures.received (g.W.Wire.recorded c.args.wire.now) (g.W.Wire.recorded c.recv.new.self) (got.End)
     (subst (λ r. ReceivesIfRecorded (g.W.Wire.recorded c.args.wire.now) r (g.W.Wire.recorded c.recv.new.self)) c.in-End.is c.recv.ensures.recorded) (not_memory (got.End) refl))
     runs
@@ -101,7 +101,7 @@ returns-in-Failed-clause-runs g c setup start traffic count same runs below =
     (record { read = g.G.Ground.read c.args.ground.now; lowest = g.G.Ground.lowest_front c.args.ground.now; recorded = g.G.Ground.recorded c.args.ground.now; own = g.G.Ground.own c.args.ground.now })
     traffic (g.W.Wire.recorded c.args.wire.now) (g.W.Wire.recorded c.recv.new.self) c.args.self.now c.args.self.now count end.WireFault (got.Failed ∷ []) refl
     (read_nothing (record { read = g.G.Ground.read c.args.ground.now; lowest = g.G.Ground.lowest_front c.args.ground.now; recorded = g.G.Ground.recorded c.args.ground.now; own = g.G.Ground.own c.args.ground.now }))
-    refl refl (omega (arith, below)) (λ turns frames results sent held counted. inl (refl, refl))
+    refl refl (omega (arith, below)) tt (λ turns frames results sent held counted. inl (refl, refl))
     (c.traffic.ensures.received (g.W.Wire.recorded c.args.wire.now) (g.W.Wire.recorded c.recv.new.self) (got.Failed)
     (subst (λ r. ReceivesIfRecorded (g.W.Wire.recorded c.args.wire.now) r (g.W.Wire.recorded c.recv.new.self)) c.in-Failed.is c.recv.ensures.recorded) (not_memory (got.Failed) refl))
     runs
@@ -112,6 +112,6 @@ returns-in-Memory-clause-runs g c setup start traffic count same runs below =
     (record { read = g.G.Ground.read c.args.ground.now; lowest = g.G.Ground.lowest_front c.args.ground.now; recorded = g.G.Ground.recorded c.args.ground.now; own = g.G.Ground.own c.args.ground.now })
     traffic (g.W.Wire.recorded c.args.wire.now) (g.W.Wire.recorded c.recv.new.self) c.args.self.now c.args.self.now count end.Memory [] refl
     (read_nothing (record { read = g.G.Ground.read c.args.ground.now; lowest = g.G.Ground.lowest_front c.args.ground.now; recorded = g.G.Ground.recorded c.args.ground.now; own = g.G.Ground.own c.args.ground.now }))
-    refl refl (omega (arith, below)) (λ turns frames results sent held counted. (inr refl, refl))
+    refl refl (omega (arith, below)) tt (λ turns frames results sent held counted. (inr refl, refl))
     (c.traffic.ensures.not_received (g.W.Wire.recorded c.args.wire.now) (g.W.Wire.recorded c.recv.new.self) (subst (λ r. ReceivesIfRecorded (g.W.Wire.recorded c.args.wire.now) r (g.W.Wire.recorded c.recv.new.self)) c.in-Memory.is c.recv.ensures.recorded))
     runs
