@@ -24,6 +24,10 @@ pub after_all : ((a b c : BoardState) → After a b → After b c → After a c)
 after_all again [] b c all next = tt
 after_all again (earlier ∷ others) b c all next = (again earlier b c all.0 next, after_all again others b c all.1 next)
 
+pub after_each : (xs ys : List BoardState) (b : BoardState) → IsAfterAll (xs ++ ys) b → IsAfterAll xs b × IsAfterAll ys b
+after_each [] ys b all = (tt, all)
+after_each (x ∷ xs) ys b all = let rest = after_each xs ys b all.1 in ((all.0, rest.0), rest.1)
+
 pub after_both : (xs ys : List BoardState) (b : BoardState) → IsAfterAll xs b → IsAfterAll ys b → IsAfterAll (xs ++ ys) b
 after_both [] ys b all more = more
 after_both (x ∷ xs) ys b all more = (all.0, after_both xs ys b all.1 more)
