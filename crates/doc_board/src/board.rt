@@ -188,7 +188,7 @@ impl Board {
     }
 
     /// The sequence of the last write of a document, 0 where there is none.
-    fn last_write(&self, doc: &DocId) -> u64
+    pub fn last_write(&self, doc: &DocId) -> u64
         ensures { result ≡ last_on self.now doc.now }
     {
         document::last_of(document::document_of(&self.storage.documents, doc))
