@@ -1,8 +1,7 @@
 -- places at which a test may change, as they are gathered, and a sweep over them
-use Rattle.std.proofs.Common.{◌≡◌, ◌<◌, ◌≤◌, ◌+◌, ◌-◌, ℕ, zero, suc, refl, sym, ◌∙◌, ap, subst, arith, Bool, true, false, ◌&&◌, ◌||◌, nat_le, nat_lt, List, [], ◌∷◌, ◌++◌, length, drop, get_or}
+use Rattle.std.proofs.Common.{◌≡◌, ◌<◌, ◌≤◌, ◌+◌, ◌-◌, ℕ, zero, suc, refl, sym, ◌∙◌, ap, subst, arith, Bool, true, false, ◌&&◌, ◌||◌, cond, nat_le, nat_lt, List, [], ◌∷◌, ◌++◌, length, drop, get_or}
 use Rattle.std.specs.Prelude.{nat_eq}
 use Rattle.std.specs.List.{list_any}
-use Rattle.std.specs.Option.{option_copied}
 use Rattle.std.specs.List.Sorted.{IsPermutation}
 use Rattle.std.proofs.lemmas.Bool.{true≢false}
 use Rattle.std.proofs.lemmas.List.{drop_more, drop_all}
@@ -15,7 +14,9 @@ use Rattle.grant_history.specs.declared.track.Track.{Track}
 use Rattle.grant_history.specs.Cuts.{is_cut, IsSteady, Covers, Rise}
 use Rattle.grant_history.specs.Spells.{Stays, Swept, spells_have, open_has}
 use Rattle.grant_history.specs.Tracks.{has_place, was_held, held_last, held_at}
-use Rattle.grant_history.specs.Ways.{track_has, list_has, ways_have}
+use Rattle.grant_history.specs.Counts.{up_to, open_at}
+use Rattle.grant_history.specs.Ways.{gifts_open, is_within, track_has, ways_have}
+use Rattle.grant_history.proofs.Counting.{first as count_first}
 use Rattle.grant_history.proofs.Gathered.{any_end, any_same}
 use Rattle.grant_history.proofs.Sweeping.{stretched}
 
@@ -108,15 +109,54 @@ track_covers t start middle new c is = record {
 pub covers_same : (old new : List ℕ) (one other : ℕ → Bool) → Covers old new one → ((k : ℕ) → other k ≡ one k) → Covers old new other
 covers_same old new one other c same = record { kept = c.kept; steady = λ k h. same (k + 1) ∙ c.steady k h ∙ sym (same k) }
 
--- those of a user: its own, and those of its roles
-pub all_steady : (none a b sorted : List ℕ) (w : Ways) → Covers none a (track_has w.own.exists) → Covers none a (track_has w.own.channel)
-    → Covers a b (λ k. list_has (option_copied w.gifts) k) → IsPermutation b sorted → IsSteady sorted (ways_have w)
-all_steady none a b sorted w exists channel roles moved k h =
-    let unmoved : is_cut b (k + 1) ≡ false = list_any-IsPermutation (nat_eq (k + 1)) b sorted moved ∙ h in
-    let before : is_cut a (k + 1) ≡ false = roles.kept (k + 1) unmoved in
-    ap (λ (e : Bool). e && (list_has (option_copied w.gifts) (k + 1) || (track_has w.own.channel (k + 1) || (w.is_everyone || false)))) (exists.steady k before)
-    ∙ ap (λ (r : Bool). track_has w.own.exists k && (r || (track_has w.own.channel (k + 1) || (w.is_everyone || false)))) (roles.steady k unmoved)
-    ∙ ap (λ (c : Bool). track_has w.own.exists k && (list_has (option_copied w.gifts) k || (c || (w.is_everyone || false)))) (channel.steady k before)
+-- those of a user: while it has the role, its own, and those of its roles
+pub ways_cover : (start a b c d : List ℕ) (w : Ways) → Covers start a (is_within w.within) → Covers a b (track_has w.own.exists) → Covers b c (track_has w.own.channel) → Covers c d (gifts_open w.gifts) → Covers start d (ways_have w)
+ways_cover start a b c d w within exists channel gifts = record {
+  kept = λ k h. within.kept k (exists.kept k (channel.kept k (gifts.kept k h)));
+  steady = λ k h.
+      let third : is_cut c (k + 1) ≡ false = gifts.kept (k + 1) h in
+      let second : is_cut b (k + 1) ≡ false = channel.kept (k + 1) third in
+      let first : is_cut a (k + 1) ≡ false = exists.kept (k + 1) second in
+      parts (within.steady k first) (exists.steady k second) (channel.steady k third) (gifts.steady k h);
+}
+  where
+    parts : {i j e f c d g h : Bool} → i ≡ j → e ≡ f → c ≡ d → g ≡ h → (i && (e && (g || (c || (w.is_everyone || false))))) ≡ (j && (f && (h || (d || (w.is_everyone || false)))))
+    parts {i = i} {j = j} {e = e} {f = f} {c = c} {d = d} {g = g} {h = h} one two three four =
+        ap (λ (b : Bool). b && (e && (g || (c || (w.is_everyone || false))))) one
+        ∙ ap (λ (b : Bool). j && (b && (g || (c || (w.is_everyone || false))))) two
+        ∙ ap (λ (b : Bool). j && (f && (g || (b || (w.is_everyone || false))))) three
+        ∙ ap (λ (b : Bool). j && (f && (b || (d || (w.is_everyone || false))))) four
+
+-- in another order
+pub sorted_steady : (start cuts sorted : List ℕ) (test : ℕ → Bool) → Covers start cuts test → IsPermutation cuts sorted → IsSteady sorted test
+sorted_steady start cuts sorted test c moved k h = c.steady k (list_any-IsPermutation (nat_eq (k + 1)) cuts sorted moved ∙ h)
+
+-- at a place where none of these is as many are before it or there
+count_steady : (xs : List ℕ) (k : ℕ) → is_cut xs (k + 1) ≡ false → up_to xs (k + 1) ≡ up_to xs k
+count_steady [] k h = refl
+count_steady (x ∷ xs) k h =
+    count_first x xs (k + 1)
+    ∙ ap (λ (b : Bool). cond b 1 0 + up_to xs (k + 1)) (begins x (first_none (nat_eq (k + 1) x) (is_cut xs (k + 1)) h))
+    ∙ ap (λ (n : ℕ). cond (nat_le x k) 1 0 + n) (count_steady xs k (second_none (nat_eq (k + 1) x) (is_cut xs (k + 1)) h))
+    ∙ sym (count_first x xs k)
+  where
+    begins : (o : ℕ) → nat_eq (k + 1) o ≡ false → nat_le o (k + 1) ≡ nat_le o k
+    begins o h = grind (arith, h)
+
+-- where spells begin and where they end
+pub events_cover : (old middle new begins ends : List ℕ) → middle ≡ old ++ begins → new ≡ middle ++ ends → Covers old new (open_at begins ends)
+events_cover old middle new begins ends one two = record {
+  kept = λ k h. (parts k h).0;
+  steady = λ k h.
+      let p = parts (k + 1) h in
+      ap (λ (n : ℕ). nat_lt n (up_to begins (k + 1))) (count_steady ends k p.2) ∙ ap (λ (n : ℕ). nat_lt (up_to ends k) n) (count_steady begins k p.1);
+}
+  where
+    parts : (k : ℕ) → is_cut new k ≡ false → (is_cut old k ≡ false) × (is_cut begins k ≡ false) × (is_cut ends k ≡ false)
+    parts k h =
+        let last = cut_parts middle ends k (ap (λ (l : List ℕ). is_cut l k) (sym two) ∙ h) in
+        let first = cut_parts old begins k (ap (λ (l : List ℕ). is_cut l k) (sym one) ∙ last.0) in
+        (first.0, first.1, last.1)
 
 -- each of these from a place on is greater
 none_later : (cuts : List ℕ) (i m : ℕ) → ((n : ℕ) → i ≤ n → n < length cuts → m < get_or cuts n m) → is_cut (drop i cuts) m ≡ false

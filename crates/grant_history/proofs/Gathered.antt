@@ -5,7 +5,7 @@ use Rattle.std.specs.List.{list_any}
 use Rattle.std.proofs.lemmas.List.{drop_more, drop_all, append-nil}
 
 -- what is left is the next and those behind it
-split : {X : Type 0} (xs : List X) (i : ℕ) (x : X) → i < length xs → x ≡ get_or xs i x → x ∷ drop (i + 1) xs ≡ drop i xs
+pub split : {X : Type 0} (xs : List X) (i : ℕ) (x : X) → i < length xs → x ≡ get_or xs i x → x ∷ drop (i + 1) xs ≡ drop i xs
 split {X = X} xs i x within is = ap (λ (y : X). y ∷ drop (i + 1) xs) is ∙ sym (drop_more xs i x within)
 
 -- what is put behind others for each

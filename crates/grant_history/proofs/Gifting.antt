@@ -1,4 +1,4 @@
--- roles that give channels, as they are gathered
+-- spells in which roles give channels, as they are gathered
 use Rattle.std.proofs.Common.{◌≡◌, ℕ, refl, sym, ◌∙◌, ap, Bool, true, false, ◌&&◌, ◌||◌, List, [], ◌∷◌, ◌++◌, Option, Some, None, Bor, if◌then◌else◌}
 use Rattle.std.specs.BTreeMap.{get_by_text}
 use Rattle.std.specs.List.{list_any}
@@ -8,12 +8,12 @@ use Rattle.grant_history.specs.declared.gifts.GiftList.{GiftList}
 use Rattle.grant_history.specs.declared.givers.Giver.{Giver}
 use Rattle.grant_history.specs.declared.held.Held.{Held}
 use Rattle.grant_history.specs.declared.track.Track.{Track}
-use Rattle.grant_history.specs.declared.ways.Gift.{Gift}
-use Rattle.grant_history.specs.Gifts.{Gifts, gifts_have, held_gives}
+use Rattle.grant_history.specs.declared.spells.Spell.{Spell}
+use Rattle.grant_history.specs.Gifts.{Gifts, gifts_have, held_gives, list_has}
 use Rattle.grant_history.specs.Reads.{is_channel, channel_among}
 use Rattle.grant_history.specs.Tracks.{held_at}
-use Rattle.grant_history.specs.Ways.{gift_has, list_has, track_has}
-use Rattle.grant_history.proofs.Gathered.{any_end}
+use Rattle.grant_history.specs.Spells.{spell_has, spells_have}
+use Rattle.grant_history.specs.Ways.{track_has}
 
 turned : (a b : Bool) → (a || b) ≡ (b || a)
 turned true true = refl
@@ -21,27 +21,35 @@ turned true false = refl
 turned false true = refl
 turned false false = refl
 
--- a channel's list has one more
-pub one_more : (old new : Gifts) (c : List ℕ) (now : GiftList) (gift : Gift) (had : Option GiftList)
+-- a channel's list has more
+pub one_more : (old new : Gifts) (c : List ℕ) (now : GiftList) (spells : List Spell) (had : Option GiftList)
     → get_by_text old c ≡ had
-    → ((k : ℕ) → list_any (λ g. gift_has g k) now.list.items ≡ (list_has had k || gift_has gift k))
+    → ((k : ℕ) → spells_have now.list.items k ≡ (list_has had k || spells_have spells k))
     → ((x : List ℕ) → get_by_text new x ≡ (if bytes_eq c x then Some now else get_by_text old x))
-    → (x : List ℕ) (k : ℕ) → gifts_have new x k ≡ ((bytes_eq c x && gift_has gift k) || gifts_have old x k)
-one_more old new c now gift had there more sets x k = ap (λ (o : Option GiftList). list_has o k) (sets x) ∙ by (bytes_eq c x) refl
+    → (x : List ℕ) (k : ℕ) → gifts_have new x k ≡ ((bytes_eq c x && spells_have spells k) || gifts_have old x k)
+one_more old new c now spells had there more sets x k = ap (λ (o : Option GiftList). list_has o k) (sets x) ∙ by (bytes_eq c x) refl
   where
-    by : (b : Bool) → bytes_eq c x ≡ b → list_has (if b then Some now else get_by_text old x) k ≡ ((b && gift_has gift k) || gifts_have old x k)
+    by : (b : Bool) → bytes_eq c x ≡ b → list_has (if b then Some now else get_by_text old x) k ≡ ((b && spells_have spells k) || gifts_have old x k)
     by true is =
         more k
-        ∙ turned (list_has had k) (gift_has gift k)
-        ∙ ap (λ (o : Option GiftList). gift_has gift k || list_has o k) (sym there)
-        ∙ ap (λ (y : List ℕ). gift_has gift k || gifts_have old y k) ((bytes_decides c x).0 is)
+        ∙ turned (list_has had k) (spells_have spells k)
+        ∙ ap (λ (o : Option GiftList). spells_have spells k || list_has o k) (sym there)
+        ∙ ap (λ (y : List ℕ). spells_have spells k || gifts_have old y k) ((bytes_decides c x).0 is)
     by false is = refl
 
-pub list_more : (old new : List Gift) (gift : Gift) → new ≡ old ++ gift ∷ [] → (k : ℕ) → list_any (λ g. gift_has g k) new ≡ (list_any (λ g. gift_has g k) old || gift_has gift k)
-list_more old new gift is k = ap (λ (l : List Gift). list_any (λ g. gift_has g k) l) is ∙ any_end (λ g. gift_has g k) old gift
+any_append : (xs ys : List Spell) (k : ℕ) → spells_have (xs ++ ys) k ≡ (spells_have xs k || spells_have ys k)
+any_append [] ys k = refl
+any_append (x ∷ xs) ys k = ap (λ (b : Bool). spell_has k x || b) (any_append xs ys k) ∙ by (spell_has k x)
+  where
+    by : (b : Bool) → (b || (spells_have xs k || spells_have ys k)) ≡ ((b || spells_have xs k) || spells_have ys k)
+    by true = refl
+    by false = refl
 
-pub list_first : (none new : List Gift) (gift : Gift) → none ≡ [] → new ≡ none ++ gift ∷ [] → (k : ℕ) → list_any (λ g. gift_has g k) new ≡ (list_has None k || gift_has gift k)
-list_first none new gift empty is k = list_more none new gift is k ∙ ap (λ (l : List Gift). list_any (λ g. gift_has g k) l || gift_has gift k) empty
+pub list_more : (old new spells : List Spell) → new ≡ old ++ spells → (k : ℕ) → spells_have new k ≡ (spells_have old k || spells_have spells k)
+list_more old new spells is k = ap (λ (l : List Spell). spells_have l k) is ∙ any_append old spells k
+
+pub list_first : (none new spells : List Spell) → none ≡ [] → new ≡ none ++ spells → (k : ℕ) → spells_have new k ≡ (list_has None k || spells_have spells k)
+list_first none new spells empty is k = ap (λ (l : List Spell). spells_have l k) (is ∙ ap (λ (l : List Spell). l ++ spells) empty)
 
 -- what a role gives by all things that it has or had
 pub all_given : (g : Giver) (exists : Option (Bor Track)) (x : List ℕ) (k : ℕ) (has : Bool) (all : List Held) → track_has exists k ≡ has

@@ -14,6 +14,7 @@ pub mod Winning
 pub mod Reading
 pub mod Sweeping
 pub mod Dividing
+pub mod Counting
 pub mod Cutting
 pub mod Members
 pub mod Gifting

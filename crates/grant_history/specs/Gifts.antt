@@ -1,5 +1,5 @@
--- The roles that give channels, by the names of these.
-use Rattle.std.specs.Prelude.{ℕ, Bool, false, ◌&&◌, ◌||◌, List, String, Option}
+-- When roles give channels, by the names of these.
+use Rattle.std.specs.Prelude.{ℕ, Bool, false, ◌&&◌, ◌||◌, List, String, Option, None, Some}
 use Rattle.std.specs.Borrow.{Bor}
 use Rattle.std.specs.BTreeMap.{BTreeMap, get_by_text}
 use Rattle.std.specs.Global.{Global}
@@ -13,10 +13,16 @@ use Rattle.grant_history.specs.declared.track.Track.{Track}
 use Rattle.grant_history.specs.Holdings.{held_in}
 use Rattle.grant_history.specs.Reads.{is_channel, channel_among}
 use Rattle.grant_history.specs.Tracks.{held_at}
-use Rattle.grant_history.specs.Ways.{list_has, track_has}
+use Rattle.grant_history.specs.Spells.{spells_have}
+use Rattle.grant_history.specs.Ways.{track_has}
 
 abbrev pub Gifts : Type 0
 Gifts = BTreeMap (String Global) GiftList
+
+-- whether one of the spells that are kept of a channel, if any are, has a place
+abbrev pub list_has : Option GiftList → ℕ → Bool
+list_has None k = false
+list_has (Some kept) k = spells_have kept.list.items k
 
 -- whether a role gives the channel at a place
 abbrev pub gifts_have : Gifts → List ℕ → ℕ → Bool
@@ -26,7 +32,10 @@ gifts_have gifts x k = list_has (get_by_text gifts x) k
 abbrev pub held_gives : Giver → Option (Bor Track) → List ℕ → ℕ → Held → Bool
 held_gives g exists x k h = is_channel h.what x && (held_at g.track.now k && (track_has exists k && held_at h.track k))
 
--- whether a user that has or had these things has a channel at a place, by what its roles give
+-- whether a user that has or had these things has a channel at a place, given whether a role gives it there
+abbrev pub has_by : List Held → List ℕ → ℕ → Bool → Bool
+has_by list x k given = held_in list what.Exists k && (given || (channel_among list k x || (bytes_eq everyone x || false)))
+
+-- the same, by what its roles give
 abbrev pub has_at_by : Gifts → List Held → List ℕ → ℕ → Bool
-has_at_by gifts list x k =
-    held_in list what.Exists k && (gifts_have gifts x k || (channel_among list k x || (bytes_eq everyone x || false)))
+has_at_by gifts list x k = has_by list x k (gifts_have gifts x k)

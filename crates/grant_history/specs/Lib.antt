@@ -2,6 +2,8 @@ pub mod Dated
 pub mod Spans
 pub mod Tracks
 pub mod Ways
+pub mod Counts
+pub mod Events
 pub mod Facts
 pub mod Sources
 pub mod Things

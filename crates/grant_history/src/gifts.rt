@@ -1,82 +1,90 @@
-//! What the roles of a user give, by channel: the channels of each role are gone over once.
+//! When the roles of a user give which channel: the channels of each role are gone over once.
 
-ghost use Rattle.std.specs.Prelude.{◌≡◌, ◌&&◌, ◌||◌, ◌++◌, ◌∷◌, [], ℕ, List, None, IfOk, OnOk};
+ghost use Rattle.std.specs.Prelude.{◌≡◌, ◌&&◌, ◌||◌, ◌++◌, ℕ, List, None, IfOk, OnOk};
 ghost use Rattle.std.specs.BTreeMap.{get_by_text};
 ghost use Rattle.std.specs.List.{list_any};
-ghost use Rattle.std.specs.Option.{option_copied};
 ghost use Rattle.std.specs.Str.{bytes_eq};
+ghost use Rattle.grant_history.specs.Events.{is_open};
 ghost use Rattle.grant_history.specs.Gifts.{gifts_have, held_gives};
 ghost use Rattle.grant_history.specs.Givers.{giver_has};
-ghost use Rattle.grant_history.specs.Ways.{gift_has, list_has};
+ghost use Rattle.grant_history.specs.Spells.{spells_have};
+ghost use Rattle.grant_history.specs.Ways.{ways_have};
 
 use crate::by_name;
+use crate::events::Events;
 use crate::facts::What;
 use crate::givers::Giver;
 use crate::held::Held;
+use crate::spells::Spell;
+use crate::sweeps::spells_of;
 use crate::track::Track;
-use crate::ways::{ChannelTracks, Gift};
+use crate::ways::{ChannelTracks, Ways, way_by};
 use sg_history::ChannelName;
 use sg_outside::Memory;
 use std::alloc::Global;
 use std::collections::BTreeMap;
 
-/// The roles that give one channel.
+/// The spells in which roles give one channel, those of each role behind those of the one before.
 #[derive(Drop)]
-pub struct GiftList<'a> {
-    pub list: Vec<Gift<'a>>,
+pub struct GiftList {
+    pub list: Vec<Spell>,
 }
 
-/// The roles that give channels, by the names of these.
-pub type Gifts<'a> = BTreeMap<String, GiftList<'a>>;
+/// The spells in which roles give channels, by the names of these.
+pub type Gifts = BTreeMap<String, GiftList>;
 
-fn add_to<'a>(gifts: &mut GiftList<'a>, gift: Gift<'a>) -> Result<(), Memory>
-    ensures { OnOk result (gifts.new.list.items ≡ gifts.old.list.items ++ gift.entry ∷ []) }
+fn add_to(gifts: &mut GiftList, spells: &[Spell]) -> Result<(), Memory>
+    ensures { OnOk result (gifts.new.list.items ≡ gifts.old.list.items ++ spells.now) }
 {
-    gifts.list.push(gift)?;
+    gifts.list.extend_from_slice(spells)?;
     Ok(())
 }
 
-/// Keeps a role that gives a channel where none is kept of that.
-fn begin<'a>(
-    alloc: Global,
-    gifts: &mut Gifts<'a>,
-    channel: &str,
-    gift: Gift<'a>,
-) -> Result<(), Memory>
+/// Keeps the spells in which a role gives a channel, where none are kept of that.
+fn begin(alloc: Global, gifts: &mut Gifts, channel: &str, spells: &[Spell]) -> Result<(), Memory>
     requires { get_by_text gifts.old channel.now ≡ None }
     ensures { OnOk result ((x : List ℕ) (k : ℕ) → gifts_have gifts.new x k
-        ≡ ((bytes_eq channel.now x && gift_has gift.entry k) || gifts_have gifts.old x k)) }
+        ≡ ((bytes_eq channel.now x && spells_have spells.now k) || gifts_have gifts.old x k)) }
 {
     let mut begun = GiftList {
         list: Vec::new(alloc),
     };
-    add_to(&mut begun, gift)?;
+    add_to(&mut begun, spells)?;
     by_name::put(alloc, gifts, channel, begun)
 }
 
-/// Keeps a role that gives a channel.
-fn add_gift<'a>(
+/// Keeps the spells in which a role gives a channel.
+fn add_spells(
     alloc: Global,
-    gifts: &mut Gifts<'a>,
+    gifts: &mut Gifts,
     channel: &str,
-    gift: Gift<'a>,
+    spells: &[Spell],
 ) -> Result<(), Memory>
     ensures { OnOk result ((x : List ℕ) (k : ℕ) → gifts_have gifts.new x k
-        ≡ ((bytes_eq channel.now x && gift_has gift.entry k) || gifts_have gifts.old x k)) }
+        ≡ ((bytes_eq channel.now x && spells_have spells.now k) || gifts_have gifts.old x k)) }
 {
     if let Some(kept) = gifts.get_mut(channel) {
-        return add_to(kept, gift);
+        return add_to(kept, spells);
     }
-    begin(alloc, gifts, channel, gift)
+    begin(alloc, gifts, channel, spells)
+}
+
+/// Keeps when a user has a channel by a role.
+fn add_way(alloc: Global, gifts: &mut Gifts, channel: &str, way: &Ways<'_>) -> Result<(), Memory>
+    ensures { OnOk result ((x : List ℕ) (k : ℕ) → gifts_have gifts.new x k
+        ≡ ((bytes_eq channel.now x && ways_have way.now k) || gifts_have gifts.old x k)) }
+{
+    let spells = spells_of(alloc, way)?;
+    add_spells(alloc, gifts, channel, spells.as_slice())
 }
 
 /// Keeps of a role, given when it exists, what one thing that it has or had gives, if that is a channel.
-fn add_held<'a>(
+fn add_held(
     alloc: Global,
-    gifts: &mut Gifts<'a>,
-    giver: &Giver<'a>,
-    exists: Option<&'a Track>,
-    held: &'a Held,
+    gifts: &mut Gifts,
+    giver: &Giver<'_>,
+    exists: Option<&Track>,
+    held: &Held,
 ) -> Result<(), Memory>
     ensures { OnOk result ((x : List ℕ) (k : ℕ) → gifts_have gifts.new x k
         ≡ (held_gives giver.now exists.entry x k held.now || gifts_have gifts.old x k)) }
@@ -87,23 +95,20 @@ fn add_held<'a>(
                 exists,
                 channel: Some(&held.track),
             };
-            let gift = Gift {
-                held: giver.track,
-                by,
-            };
-            add_gift(alloc, gifts, channel.as_str(), gift)
+            let way = way_by(giver.track, by);
+            add_way(alloc, gifts, channel.as_str(), &way)
         }
         _ => Ok(()),
     }
 }
 
 /// The same of all things that the role has or had.
-fn add_all<'a>(
+fn add_all(
     alloc: Global,
-    gifts: &mut Gifts<'a>,
-    giver: &Giver<'a>,
-    exists: Option<&'a Track>,
-    all: &'a [Held],
+    gifts: &mut Gifts,
+    giver: &Giver<'_>,
+    exists: Option<&Track>,
+    all: &[Held],
 ) -> Result<(), Memory>
     ensures { OnOk result ((x : List ℕ) (k : ℕ) → gifts_have gifts.new x k
         ≡ (list_any (held_gives giver.now exists.entry x k) all.now
@@ -116,7 +121,7 @@ fn add_all<'a>(
 }
 
 /// Keeps what a role gives.
-fn add_giver<'a>(alloc: Global, gifts: &mut Gifts<'a>, giver: &Giver<'a>) -> Result<(), Memory>
+fn add_giver(alloc: Global, gifts: &mut Gifts, giver: &Giver<'_>) -> Result<(), Memory>
     ensures { OnOk result ((x : List ℕ) (k : ℕ) → gifts_have gifts.new x k
         ≡ (giver_has giver.now k x || gifts_have gifts.old x k)) }
 {
@@ -124,7 +129,7 @@ fn add_giver<'a>(alloc: Global, gifts: &mut Gifts<'a>, giver: &Giver<'a>) -> Res
     add_all(alloc, gifts, giver, of.existence(), of.all())
 }
 
-fn add_givers<'a>(alloc: Global, gifts: &mut Gifts<'a>, givers: &[Giver<'a>]) -> Result<(), Memory>
+fn add_givers(alloc: Global, gifts: &mut Gifts, givers: &[Giver<'_>]) -> Result<(), Memory>
     ensures { OnOk result ((x : List ℕ) (k : ℕ) → gifts_have gifts.new x k
         ≡ (list_any (λ g. giver_has g k x) givers.now || gifts_have gifts.old x k)) }
 {
@@ -135,7 +140,7 @@ fn add_givers<'a>(alloc: Global, gifts: &mut Gifts<'a>, givers: &[Giver<'a>]) ->
 }
 
 /// What these roles give.
-pub fn gifts_of<'a>(alloc: Global, givers: &[Giver<'a>]) -> Result<Gifts<'a>, Memory>
+pub fn gifts_of(alloc: Global, givers: &[Giver<'_>]) -> Result<Gifts, Memory>
     ensures { IfOk result (λ gifts. (x : List ℕ) (k : ℕ) → gifts_have gifts x k
         ≡ list_any (λ g. giver_has g k x) givers.now) }
 {
@@ -144,10 +149,13 @@ pub fn gifts_of<'a>(alloc: Global, givers: &[Giver<'a>]) -> Result<Gifts<'a>, Me
     Ok(gifts)
 }
 
-/// The roles that give a channel, if any ever did.
-pub fn gifts_in<'b, 'a>(gifts: &'b Gifts<'a>, channel: &ChannelName) -> Option<&'b GiftList<'a>>
-    ensures { (k : ℕ) → list_has (option_copied result) k
-        ≡ gifts_have gifts.now channel.now k }
+/// When roles give a channel.
+pub fn events_in(alloc: Global, gifts: &Gifts, channel: &ChannelName) -> Result<Events, Memory>
+    ensures { IfOk result (λ events. (k : ℕ)
+        → is_open events k ≡ gifts_have gifts.now channel.now k) }
 {
-    gifts.get(channel.as_str())
+    match gifts.get(channel.as_str()) {
+        None => Events::of(alloc, &[]),
+        Some(kept) => Events::of(alloc, kept.list.as_slice()),
+    }
 }

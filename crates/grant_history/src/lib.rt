@@ -4,7 +4,7 @@
 mod blocks;
 mod by_name;
 mod channels;
-mod cuts;
+mod events;
 mod facts;
 mod gifts;
 mod given;
@@ -19,6 +19,7 @@ mod places;
 mod reads;
 mod spells;
 mod store;
+mod sweeps;
 mod track;
 mod ways;
 mod whole;

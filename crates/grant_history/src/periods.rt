@@ -1,26 +1,24 @@
 //! The periods in which a user has channels.
 
-ghost use Rattle.std.specs.Prelude.{◌≡◌, ◌≤◌, ◌++◌, [], ℕ, List, map, max, IfOk, OnOk};
+ghost use Rattle.std.specs.Prelude.{◌≡◌, ◌++◌, [], ℕ, List, map, IfOk, OnOk};
 ghost use Rattle.std.specs.BTreeMap.{get_by_text};
 ghost use Rattle.sg_history.specs.Principals as principals;
 ghost use Rattle.sg_history.specs.History.{among};
 ghost use Rattle.grant_history.specs.Periods.{period_of, names_of, may_have, Adds, AreAllPeriods, AreSoFar};
-ghost use Rattle.grant_history.specs.Cuts.{IsSteady, Rise};
 ghost use Rattle.grant_history.specs.Gifts.{has_at_by};
 ghost use Rattle.grant_history.specs.Reads.{list_channel, user_channel};
 ghost use Rattle.grant_history.specs.Sorted.{AreSorted};
-ghost use Rattle.grant_history.specs.Spells.{AreApart, Stays, Swept, spells_have};
-ghost use Rattle.grant_history.specs.Ways.{ways_have};
+ghost use Rattle.grant_history.specs.Spells.{AreApart, spells_have};
 
 use crate::channels::channels_ever;
-use crate::cuts::cuts_of;
-use crate::gifts::{Gifts, gifts_of};
+use crate::gifts::{Gifts, events_in, gifts_of};
 use crate::givers::givers_of;
 use crate::held::Holding;
 use crate::holders::Holders;
 use crate::reads::everyone;
-use crate::spells::{Spell, Sweep};
-use crate::ways::{Ways, ways_of};
+use crate::spells::Spell;
+use crate::sweeps::spells_of;
+use crate::ways::ways_of;
 use sg_history::{ChannelName, Name};
 use sg_outside::Memory;
 use std::alloc::Global;
@@ -33,60 +31,19 @@ pub struct Period {
     pub to: Option<u64>,
 }
 
-/// Goes on to a place, unless it is there, and answers where it is then.
-fn sweep_to(sweep: &mut Sweep, at: u64, k: u64, ways: &Ways<'_, '_>) -> Result<u64, Memory>
-    ensures swept { IfOk result (λ now. Swept sweep.old (ways_have ways.now) at
-        → Stays (ways_have ways.now) at k
-        → Swept sweep.new (ways_have ways.now) now) }
-    ensures place { IfOk result (λ now. now ≡ max at k) }
-{
-    if k <= at {
-        return Ok(at);
-    }
-    sweep.turn(k, ways.has(k))?;
-    Ok(k)
-}
-
-/// The spells in which a user has a channel in any of these ways, of which these places have each at
-/// which that may change.
-fn spells_by(alloc: Global, cuts: &[u64], ways: &Ways<'_, '_>) -> Result<Vec<Spell>, Memory>
-    requires steady { IsSteady cuts.now (ways_have ways.now) }
-    requires rise { Rise cuts.now }
-    ensures apart { IfOk result (λ list. AreApart list.items) }
-    ensures says { IfOk result (λ list. (k : ℕ)
-        → spells_have list.items k ≡ ways_have ways.now k) }
-{
-    let mut sweep = Sweep::new(alloc, ways.has(0));
-    let mut at = 0;
-    for k in cuts {
-        at = sweep_to(&mut sweep, at, *k, ways)?;
-    }
-    sweep.finish()
-}
-
-/// The spells in which a user has a channel in any of these ways. Each way is asked at each place at
-/// which the answer may change.
-fn spells_of(alloc: Global, ways: &Ways<'_, '_>) -> Result<Vec<Spell>, Memory>
-    ensures apart { IfOk result (λ list. AreApart list.items) }
-    ensures says { IfOk result (λ list. (k : ℕ)
-        → spells_have list.items k ≡ ways_have ways.now k) }
-{
-    let cuts = cuts_of(alloc, ways)?;
-    spells_by(alloc, cuts.as_slice(), ways)
-}
-
 /// The spells in which a user that has or had these things has a channel, by what its roles give.
 fn spells_with(
     alloc: Global,
     all: &Holding,
-    gifts: &Gifts<'_>,
+    gifts: &Gifts,
     channel: &ChannelName,
 ) -> Result<Vec<Spell>, Memory>
     ensures apart { IfOk result (λ list. AreApart list.items) }
     ensures says { IfOk result (λ list. (k : ℕ)
         → spells_have list.items k ≡ has_at_by gifts.now all.now.items channel.now k) }
 {
-    let ways = ways_of(all, gifts, channel);
+    let events = events_in(alloc, gifts, channel)?;
+    let ways = ways_of(all, &events, channel);
     spells_of(alloc, &ways)
 }
 
@@ -123,7 +80,7 @@ fn add_channel(
     alloc: Global,
     periods: &mut Vec<Period>,
     all: &Holding,
-    gifts: &Gifts<'_>,
+    gifts: &Gifts,
     channel: &ChannelName,
 ) -> Result<(), Memory>
     ensures { OnOk result (Adds periods.old.items periods.new.items channel.now
@@ -138,7 +95,7 @@ fn add_periods(
     alloc: Global,
     periods: &mut Vec<Period>,
     all: &Holding,
-    gifts: &Gifts<'_>,
+    gifts: &Gifts,
     channels: &[&ChannelName],
 ) -> Result<(), Memory>
     requires sorted { AreSorted (names_of channels.now) }
@@ -156,7 +113,7 @@ fn add_periods(
 fn periods_for(
     alloc: Global,
     all: &Holding,
-    gifts: &Gifts<'_>,
+    gifts: &Gifts,
     channels: &[&ChannelName],
 ) -> Result<Vec<Period>, Memory>
     requires { AreSorted (names_of channels.now) }

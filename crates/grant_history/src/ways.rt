@@ -1,16 +1,16 @@
 //! The ways in which a user has one channel: by itself and by its roles. Each name is looked up
 //! once, and the places are then asked of what was found.
 
-ghost use Rattle.std.specs.Prelude.{◌≡◌, ℕ, OnOk};
-ghost use Rattle.std.specs.List.{list_any};
-ghost use Rattle.std.specs.Option.{option_copied};
+ghost use Rattle.std.specs.Prelude.{◌≡◌, ◌&&◌, ℕ, OnOk};
 ghost use Rattle.std.specs.Str.{bytes_eq};
 ghost use Rattle.sg_history.specs.Principals.{everyone};
 ghost use Rattle.grant_history.specs.Cuts.{Covers};
-ghost use Rattle.grant_history.specs.Gifts.{has_at_by};
-ghost use Rattle.grant_history.specs.Ways.{gift_has, list_has, track_has, ways_have};
+ghost use Rattle.grant_history.specs.Events.{is_open};
+ghost use Rattle.grant_history.specs.Gifts.{has_by};
+ghost use Rattle.grant_history.specs.Tracks.{held_at};
+ghost use Rattle.grant_history.specs.Ways.{gifts_open, is_within, track_has, ways_have};
 
-use crate::gifts::{GiftList, Gifts, gifts_in};
+use crate::events::Events;
 use crate::held::Holding;
 use crate::track::Track;
 use sg_history::ChannelName;
@@ -23,18 +23,12 @@ pub struct ChannelTracks<'a> {
     pub channel: Option<&'a Track>,
 }
 
-/// A role that a user has or had: when, and when the role exists and holds one channel.
+/// All ways in which a user has one channel, or has it by one role: only while it has the role.
 #[derive(Clone, Copy)]
-pub struct Gift<'a> {
-    pub held: &'a Track,
-    pub by: ChannelTracks<'a>,
-}
-
-/// All ways in which a user has one channel.
-#[derive(Clone, Copy)]
-pub struct Ways<'b, 'a> {
-    pub own: ChannelTracks<'b>,
-    pub gifts: Option<&'b GiftList<'a>>,
+pub struct Ways<'a> {
+    pub within: Option<&'a Track>,
+    pub own: ChannelTracks<'a>,
+    pub gifts: Option<&'a Events>,
     pub is_everyone: bool,
 }
 
@@ -48,9 +42,30 @@ fn holds(track: Option<&Track>, k: u64) -> bool
     }
 }
 
+/// The same, where what has no track is always held.
+fn is_held(within: Option<&Track>, k: u64) -> bool
+    ensures { result ≡ is_within within.entry k }
+{
+    match within {
+        None => true,
+        Some(track) => track.holds(k),
+    }
+}
+
+/// Whether a role gives the channel at a place.
+fn is_given(gifts: Option<&Events>, k: u64) -> bool
+    ensures { result ≡ gifts_open gifts.entry k }
+{
+    match gifts {
+        None => false,
+        Some(events) => events.has(k),
+    }
+}
+
 /// Adds the places at which it may change whether something is held.
-fn add_cuts(cuts: &mut Vec<u64>, track: Option<&Track>) -> Result<(), Memory>
-    ensures { OnOk result (Covers cuts.old.items cuts.new.items (track_has track.entry)) }
+fn add_track(cuts: &mut Vec<u64>, track: Option<&Track>) -> Result<(), Memory>
+    ensures held { OnOk result (Covers cuts.old.items cuts.new.items (track_has track.entry)) }
+    ensures within { OnOk result (Covers cuts.old.items cuts.new.items (is_within track.entry)) }
 {
     match track {
         None => Ok(()),
@@ -58,32 +73,13 @@ fn add_cuts(cuts: &mut Vec<u64>, track: Option<&Track>) -> Result<(), Memory>
     }
 }
 
-impl<'a> Gift<'a> {
-    fn has(&self, k: u64) -> bool
-        ensures { result ≡ gift_has self.now k }
-    {
-        self.held.holds(k) && holds(self.by.exists, k) && holds(self.by.channel, k)
-    }
-
-    /// Adds the places at which it may change whether the user has the channel by this role.
-    pub fn add_cuts(&self, cuts: &mut Vec<u64>) -> Result<(), Memory>
-        ensures { OnOk result (Covers cuts.old.items cuts.new.items (gift_has self.now)) }
-    {
-        self.held.add_cuts(cuts)?;
-        self.by.add_cuts(cuts)
-    }
-}
-
-impl<'a> ChannelTracks<'a> {
-    /// Adds the places at which it may change whether this exists, or the channel is held.
-    pub fn add_cuts(&self, cuts: &mut Vec<u64>) -> Result<(), Memory>
-        ensures exists { OnOk result (Covers cuts.old.items cuts.new.items
-            (track_has self.now.exists)) }
-        ensures channel { OnOk result (Covers cuts.old.items cuts.new.items
-            (track_has self.now.channel)) }
-    {
-        add_cuts(cuts, self.exists)?;
-        add_cuts(cuts, self.channel)
+/// The same, whether a role gives the channel.
+fn add_gifts(cuts: &mut Vec<u64>, gifts: Option<&Events>) -> Result<(), Memory>
+    ensures { OnOk result (Covers cuts.old.items cuts.new.items (gifts_open gifts.entry)) }
+{
+    match gifts {
+        None => Ok(()),
+        Some(events) => events.add_cuts(cuts),
     }
 }
 
@@ -93,44 +89,49 @@ fn is_everyone(channel: &ChannelName) -> bool
     b"!".as_slice() == channel.as_bytes()
 }
 
-/// The ways in which a user that has or had these things has a channel, by what its roles give.
-pub fn ways_of<'b, 'a>(
-    all: &'b Holding,
-    gifts: &'b Gifts<'a>,
-    channel: &ChannelName,
-) -> Ways<'b, 'a>
+/// The ways in which a user that has or had these things has a channel, by when its roles give it.
+pub fn ways_of<'a>(all: &'a Holding, gifts: &'a Events, channel: &ChannelName) -> Ways<'a>
     ensures { (k : ℕ) → ways_have result k
-        ≡ has_at_by gifts.now all.now.items channel.now k }
+        ≡ has_by all.now.items channel.now k (is_open gifts.now k) }
 {
     Ways {
+        within: None,
         own: all.tracks_of(channel),
-        gifts: gifts_in(gifts, channel),
+        gifts: Some(gifts),
         is_everyone: is_everyone(channel),
     }
 }
 
-fn any_has(gifts: &[Gift<'_>], k: u64) -> bool
-    ensures { result ≡ list_any (λ g. gift_has g k) gifts.now }
+/// The way in which a user has a channel by a role, given when it has the role.
+pub fn way_by<'a>(held: &'a Track, by: ChannelTracks<'a>) -> Ways<'a>
+    ensures { (k : ℕ) → ways_have result k
+        ≡ (held_at held.now k && (track_has by.entry.exists k && track_has by.entry.channel k)) }
 {
-    gifts.iter().any(|g| g.has(k))
-}
-
-/// Whether a role gives the channel at a place.
-fn has_by(gifts: Option<&GiftList<'_>>, k: u64) -> bool
-    ensures { result ≡ list_has (option_copied gifts.entry) k }
-{
-    match gifts {
-        None => false,
-        Some(kept) => any_has(kept.list.as_slice(), k),
+    Ways {
+        within: Some(held),
+        own: by,
+        gifts: None,
+        is_everyone: false,
     }
 }
 
-impl<'b, 'a> Ways<'b, 'a> {
+impl<'a> Ways<'a> {
     /// Whether the user has the channel at a place. Allocates nothing.
     pub fn has(&self, k: u64) -> bool
         ensures { result ≡ ways_have self.now k }
     {
-        holds(self.own.exists, k)
-            && (has_by(self.gifts, k) || holds(self.own.channel, k) || self.is_everyone)
+        is_held(self.within, k)
+            && holds(self.own.exists, k)
+            && (is_given(self.gifts, k) || holds(self.own.channel, k) || self.is_everyone)
+    }
+
+    /// Adds the places at which that may change.
+    pub fn add_cuts(&self, cuts: &mut Vec<u64>) -> Result<(), Memory>
+        ensures { OnOk result (Covers cuts.old.items cuts.new.items (ways_have self.now)) }
+    {
+        add_track(cuts, self.within)?;
+        add_track(cuts, self.own.exists)?;
+        add_track(cuts, self.own.channel)?;
+        add_gifts(cuts, self.gifts)
     }
 }

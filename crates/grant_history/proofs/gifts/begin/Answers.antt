@@ -5,5 +5,5 @@ use Rattle.grant_history.proofs.gifts.begin.Goals as goal
 
 pub returns : goal.returns
 returns c = on_ok c.put.result _ _ (λ sets.
-    one_more c.args.gifts.now c.put.new.map c.args.channel.now c.add_to.new.gifts c.args.gift None c.requires
-    (list_first c.new.result.items c.add_to.new.gifts.list.items c.args.gift c.new.ensures.items c.in_ok-add_to.ensures) sets) c.put.ensures.ok
+    one_more c.args.gifts.now c.put.new.map c.args.channel.now c.add_to.new.gifts c.args.spells.now None c.requires
+    (list_first c.new.result.items c.add_to.new.gifts.list.items c.args.spells.now c.new.ensures.items c.in_ok-add_to.ensures) sets) c.put.ensures.ok

@@ -1,15 +1,13 @@
 use Rattle.std.proofs.Common.{◌∙◌, ap, Bool, ◌&&◌, ◌||◌, false}
-use Rattle.std.specs.Option.{option_copied}
 use Rattle.grant_history.specs.declared.facts.What.TheVariants as what
-use Rattle.grant_history.specs.Gifts.{gifts_have}
+use Rattle.grant_history.specs.Events.{is_open}
 use Rattle.grant_history.specs.Holdings.{held_in}
 use Rattle.grant_history.specs.Reads.{channel_among}
-use Rattle.grant_history.specs.Ways.{list_has, track_has}
+use Rattle.grant_history.specs.Ways.{track_has}
 use Rattle.grant_history.proofs.ways.ways_of.Goals as goal
 
 pub returns : goal.returns
 returns c = λ k.
-    ap (λ (b : Bool). b && (list_has (option_copied c.gifts_in.result) k || (track_has c.tracks_of.result.channel k || (c.is_everyone.result || false)))) (c.tracks_of.ensures.exists k)
-    ∙ ap (λ (b : Bool). held_in c.args.all.now.items what.Exists k && (b || (track_has c.tracks_of.result.channel k || (c.is_everyone.result || false)))) (c.gifts_in.ensures k)
-    ∙ ap (λ (b : Bool). held_in c.args.all.now.items what.Exists k && (gifts_have c.args.gifts.now c.args.channel.now k || (b || (c.is_everyone.result || false)))) (c.tracks_of.ensures.channel k)
-    ∙ ap (λ (b : Bool). held_in c.args.all.now.items what.Exists k && (gifts_have c.args.gifts.now c.args.channel.now k || (channel_among c.args.all.now.items k c.args.channel.now || (b || false)))) c.is_everyone.ensures
+    ap (λ (b : Bool). b && (is_open c.args.gifts.now k || (track_has c.tracks_of.result.channel k || (c.is_everyone.result || false)))) (c.tracks_of.ensures.exists k)
+    ∙ ap (λ (b : Bool). held_in c.args.all.now.items what.Exists k && (is_open c.args.gifts.now k || (b || (c.is_everyone.result || false)))) (c.tracks_of.ensures.channel k)
+    ∙ ap (λ (b : Bool). held_in c.args.all.now.items what.Exists k && (is_open c.args.gifts.now k || (channel_among c.args.all.now.items k c.args.channel.now || (b || false)))) c.is_everyone.ensures

@@ -2,7 +2,7 @@ use Rattle.std.proofs.Common.{◌∙◌, ◌+◌, arith, refl, get_or}
 use Rattle.std.proofs.lemmas.Result.{IfOk-weaker}
 use Rattle.grant_history.specs.Ways.{ways_have}
 use Rattle.grant_history.proofs.Cutting.{none_left, rest_after, says_all, stays_before}
-use Rattle.grant_history.proofs.periods.spells_by.Goals as goal
+use Rattle.grant_history.proofs.sweeps.spells_by.Goals as goal
 
 pub loop-k-init : goal.loop-k-init
 loop-k-init c = record {

@@ -2,7 +2,7 @@ use Rattle.std.proofs.Common.{◌≡◌, ◌≤◌, ◌+◌, ℕ, drop, false}
 use Rattle.grant_history.specs.Cuts.{is_cut}
 use Rattle.grant_history.specs.Spells.{Swept}
 use Rattle.grant_history.specs.Ways.{ways_have}
-use Rattle.grant_history.proofs.periods.spells_by.Given as goal
+use Rattle.grant_history.proofs.sweeps.spells_by.Given as goal
 
 -- the spells are right up to here, and what is left has each later place at which they may change
 abbrev pub invariant-loop-k : goal.invariant-loop-k
