@@ -28,9 +28,9 @@ pub struct Setup {
 const MOST_RESULTS: u64 = 1_099_511_627_776;
 
 /// Serves one device: receives its frames one after another, answers each message that they give, sends what is
-/// put for it, and goes on until the wire ends, a fault ends the session, or memory runs out. At idle moments a
-/// continuous feed goes on where the history has grown. All frames are sent from one buffer; where there is no memory for it,
-/// nothing is received. At most two draws of sequences are made for a look. Gives the ground back.
+/// put for it, and goes on until the wire ends, a fault ends the session, its looks or results are full, or memory runs out. At
+/// idle moments a continuous feed goes on where the history has grown. All frames are sent from one buffer; where there is no
+/// memory for it, nothing is received. At most two draws of sequences are made for a look. Gives the ground back.
 pub fn serve_session<W: Wire, G: Ground>(
     alloc: Global,
     ground: G,
