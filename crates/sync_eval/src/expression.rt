@@ -20,7 +20,7 @@ use sqlite_items::Items;
 use std::alloc::Global;
 use sync_code::{Code, Memory, Tail};
 use sync_meaning::{
-    Builtin, FaultKind, Literal, Method, Rule, RuleKind, Slot, State, Stop, Target, Value, bounded,
+    Builtin, ByName, FaultKind, Literal, Method, Rule, RuleKind, Slot, State, Stop, Target, Value, bounded,
     built_in, by_method, combined, indexed, listed, member, prefixed, truth,
 };
 use sync_syntax::tree::{Operator, Prefix};
@@ -278,14 +278,14 @@ fn member_or_method(
 /// One member more.
 fn push_member(
     alloc: Global,
-    members: &mut Items<(DocText, Value)>,
+    members: &mut ByName<Value>,
     name: &DocText,
     value: Value,
 ) -> Result<(), Memory>
     ensures { OnOk result (members.new ≡ members.old ++ (name.now, value) ∷ []) }
 {
     match name.copy(alloc) {
-        Ok(name) => members.push((name, value)),
+        Ok(name) => members.push(name, value),
         Err(error) => {
             drop(value);
             Err(error)
@@ -354,13 +354,13 @@ impl<F: Fn(Global, u64, &mut State, &Code, bool) -> Result<Target, Stop>> Expres
         &self,
         state: &mut State,
         exprs: &[(DocText, Code)],
-    ) -> Result<Items<(DocText, Value)>, Stop>
+    ) -> Result<ByName<Value>, Stop>
         requires { Nests self.now.depth (F.pre self.now.inner) (F.post self.now.inner) }
         ensures { DoesWhere (members_fit exprs.now)
             (λ scope. spec.members (evaluated self.now.depth) scope (member_sources exprs.now))
             state.old result state.new }
     {
-        let mut found = Items::new(self.alloc);
+        let mut found = ByName::new(self.alloc);
         let mut left = exprs;
         while let [expr, rest @ ..] = left {
             match self.value(state, &expr.1) {

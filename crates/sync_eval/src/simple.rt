@@ -22,7 +22,7 @@ use std::alloc::Global;
 use sync_code::{Begin, Code, Held, Opening, Plain};
 use sync_meaning::{
     Completion, FaultKind, Rule, RuleKind, Shared, State, Stop, Value, added, bounded, integer_in,
-    last_named, subtracted, text_in, truth,
+    subtracted, text_in, truth,
 };
 use sync_syntax::tree::{Declares, Writes};
 use sync_tokens::Place;
@@ -43,7 +43,7 @@ fn forbidden_in(value: &Value) -> Option<&str>
     ensures { option_map (λ text. text.now) result ≡ spec.forbidden_in value.now }
 {
     match value {
-        Value::Object(members) => match last_named("forbidden", members.get().as_slice()) {
+        Value::Object(members) => match members.get().last("forbidden") {
             Some(found) => text_in(found),
             None => None,
         },

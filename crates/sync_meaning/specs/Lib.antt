@@ -1,7 +1,9 @@
 pub mod Acts
 pub mod Leaves
 pub mod Orders
+pub mod Units
 pub mod Values
+pub mod Rising
 pub mod Variables
 pub mod Slots
 pub mod Builtins

@@ -1,5 +1,5 @@
 -- Values: which a document has, and what the operators and methods make of them.
-use Rattle.std.specs.Prelude.{ℕ, ◌+◌, ℤ, pos, negsuc, ◌+ℤ◌, ◌-ℤ◌, ◌*ℤ◌, neg_ℤ, nat_lt, nat_eq, Bool, true, false, not, ◌&&◌, ◌||◌, if◌then◌else◌, codes, List, [], ◌∷◌, ◌++◌, length, sum_by, slice_get, Option, Some, None, unwrap_or, Ok, Err}
+use Rattle.std.specs.Prelude.{ℕ, ◌+◌, ℤ, pos, negsuc, ◌+ℤ◌, ◌-ℤ◌, ◌*ℤ◌, neg_ℤ, nat_lt, nat_eq, Bool, true, false, not, ◌&&◌, ◌||◌, if◌then◌else◌, codes, List, [], ◌∷◌, ◌++◌, length, slice_get, Option, Some, None, unwrap_or, Ok, Err}
 use Rattle.std.specs.Fmt.{signed_decimal}
 use Rattle.std.specs.List.{starts_with}
 use Rattle.std.specs.Ordering.{nat_cmp, int_cmp, int_eq, is_lt, is_gt}
@@ -18,6 +18,7 @@ use Rattle.sync_meaning.specs.declared.value.Value.{Value, out-Value}
 use Rattle.sync_meaning.specs.declared.value.Value.TheOpen.{Value-F}
 use Rattle.sync_meaning.specs.declared.value.Value.TheVariants as v
 use Rattle.sync_meaning.specs.Acts.{Found, fails, type_fault}
+pub use Rattle.sync_meaning.specs.Units.{units_of, units}
 
 -- a value as it is seen from outside
 abbrev pub Layer : Type 0
@@ -239,14 +240,6 @@ prefixed p prefix.Negate x = negated p x
 prefixed p prefix.Typeof x = Ok (v.Text (kind_name x))
 
 -- ---- members
-
--- how many units of UTF-16 the character has that begins with this byte of UTF-8: none where it begins none
-abbrev pub units_of : ℕ → ℕ
-units_of b = if nat_lt b 128 then 1 else (if nat_lt b 192 then 0 else (if nat_lt b 240 then 1 else 2))
-
--- how many units of UTF-16 a text has
-abbrev pub units : List ℕ → ℕ
-units s = sum_by units_of s
 
 -- a value, or undefined where there is none
 abbrev pub or_undefined : Option Value → Value

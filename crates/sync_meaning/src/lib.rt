@@ -4,6 +4,7 @@
 
 mod arguments;
 mod builtin;
+mod by_name;
 mod callee;
 mod completion;
 mod effects;
@@ -20,6 +21,7 @@ mod variables;
 
 pub use arguments::text_in;
 pub use builtin::built_in;
+pub use by_name::ByName;
 pub use callee::{Builtin, Method, Target};
 pub use completion::Completion;
 pub use effects::Effects;
@@ -30,7 +32,7 @@ pub use scope::Scope;
 pub use shared::Shared;
 pub use state::{Context, State};
 pub use text::Text;
-pub use value::{Value, last_named, value_of};
+pub use value::{Value, value_of};
 pub use variables::{Literal, Slot, Variable, Variables};
 
 /// Memory ran out.

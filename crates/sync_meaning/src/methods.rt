@@ -10,42 +10,13 @@ use crate::Memory;
 use crate::callee::Method;
 use crate::fault::{FaultKind, Stop};
 use crate::operators::same;
-use crate::value::{Value, last_named, share_all};
+use crate::value::{Value, share_all};
 use sqlite_items::Items;
 use std::alloc::{AllocError, Global};
 use sync_tokens::Place;
 
 /// How many items a list that is made may have.
 const MAX_ITEMS: usize = 1024;
-
-/// How many units of UTF-16 the character has that begins with this byte.
-fn units_of(byte: u8) -> usize
-    ensures { result ≡ spec.units_of byte }
-{
-    if byte < 128 {
-        1
-    } else if byte < 192 {
-        0
-    } else if byte < 240 {
-        1
-    } else {
-        2
-    }
-}
-
-/// How many units of UTF-16 a text has.
-fn units(text: &[u8]) -> Result<usize, Memory>
-    ensures { IfOk result (λ n. n ≡ spec.units text.now) }
-{
-    let mut count: usize = 0;
-    for byte in text {
-        let Some(more) = count.checked_add(units_of(*byte)) else {
-            return Err(AllocError);
-        };
-        count = more;
-    }
-    Ok(count)
-}
 
 /// A count as a value.
 fn counted(count: usize) -> Result<Value, Memory>
@@ -86,9 +57,9 @@ pub fn member(place: Place, name: &str, value: &Value) -> Result<Value, Stop>
 {
     match value {
         Value::Undefined | Value::Null => Err(Stop::fault(FaultKind::NullMember, place)),
-        Value::Object(members) => { Ok(or_undefined(last_named(name, members.get().as_slice()))?) }
+        Value::Object(members) => Ok(or_undefined(members.get().last(name))?),
         Value::List(values) => Ok(length_or(name, values.get().len())?),
-        Value::Text(text) => Ok(length_or(name, units(text.as_str().as_bytes())?)?),
+        Value::Text(text) => Ok(length_or(name, text.units())?),
         _ => Ok(Value::Undefined),
     }
 }
@@ -110,10 +81,9 @@ pub fn indexed(place: Place, value: &Value, index: &Value) -> Result<Value, Stop
 {
     match (value, index) {
         (Value::Undefined | Value::Null, _) => Err(Stop::fault(FaultKind::NullMember, place)),
-        (Value::Object(members), Value::Text(name)) => Ok(or_undefined(last_named(
-            name.as_str(),
-            members.get().as_slice(),
-        ))?),
+        (Value::Object(members), Value::Text(name)) => {
+            Ok(or_undefined(members.get().last(name.as_str()))?)
+        }
         (Value::List(values), Value::Integer(at)) => Ok(item_at(values.get().as_slice(), *at)?),
         _ => Err(Stop::fault(FaultKind::TypeFault, place)),
     }

@@ -5,7 +5,7 @@ ghost use Rattle.sync_syntax.specs.declared.tree.Declares.TheVariants as declare
 ghost use Rattle.sync_meaning.specs.Variables as spec;
 
 use crate::Memory;
-use crate::value::last_named;
+use crate::by_name::last_named;
 use json_doc::DocText;
 use sqlite_items::Items;
 use std::alloc::{AllocError, Global};

@@ -28,6 +28,11 @@ impl<T> Shared<T> {
     {
         Rc::as_ref(&self.inner)
     }
+
+    /// Whether the value has no other owner.
+    pub(crate) fn is_sole(&self) -> bool {
+        Rc::strong_count(&self.inner) == 1
+    }
 }
 
 impl<T: Drop> Shared<T> {

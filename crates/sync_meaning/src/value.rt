@@ -1,11 +1,12 @@
 //! Values.
 
-ghost use Rattle.std.specs.Prelude.{◌≡◌, IfOk, option_map};
+ghost use Rattle.std.specs.Prelude.{◌≡◌, IfOk};
 ghost use Rattle.json_doc.specs.View.{node_tree, row_trees, members_fields};
 ghost use Rattle.sync_meaning.specs.declared.value.Value as Value;
-ghost use Rattle.sync_meaning.specs.Values.{value_of, values_of, members_of, last_named};
+ghost use Rattle.sync_meaning.specs.Values.{value_of, values_of, members_of};
 
 use crate::Memory;
+use crate::by_name::ByName;
 use crate::shared::Shared;
 use crate::text::Text;
 use json_doc::{DocText, Members, Node};
@@ -23,7 +24,7 @@ pub enum Value {
     Opaque,
     Text(Text),
     List(Shared<Items<Value>>),
-    Object(Shared<Items<(DocText, Value)>>),
+    Object(Shared<ByName<Value>>),
 }
 
 impl Value {
@@ -43,6 +44,15 @@ impl Value {
         }
     }
 
+    /// Whether the value is a list or an object that nothing else holds.
+    pub(crate) fn is_sole(&self) -> bool {
+        match self {
+            Value::List(values) => values.is_sole(),
+            Value::Object(members) => members.is_sole(),
+            _ => false,
+        }
+    }
+
     /// A text.
     pub fn text(alloc: Global, text: &str) -> Result<Value, Memory>
         ensures { IfOk result (λ made. made ≡ Value.Text text.now) }
@@ -58,7 +68,7 @@ impl Value {
     }
 
     /// An object with these members.
-    pub fn object(alloc: Global, members: Items<(DocText, Value)>) -> Result<Value, Memory>
+    pub fn object(alloc: Global, members: ByName<Value>) -> Result<Value, Memory>
         ensures { IfOk result (λ made. made ≡ Value.Object members) }
     {
         Ok(Value::Object(Shared::new(alloc, members)?))
@@ -112,29 +122,13 @@ fn values_of(alloc: Global, nodes: &[Node]) -> Result<Items<Value>, Memory>
 }
 
 #[cycle(convert)]
-fn members_of(alloc: Global, members: &Members) -> Result<Items<(DocText, Value)>, Memory>
+fn members_of(alloc: Global, members: &Members) -> Result<ByName<Value>, Memory>
     ensures { IfOk result (λ made. made ≡ members_of (members_fields members.now)) }
 {
-    let mut made = Items::new(alloc);
+    let mut made = ByName::new(alloc);
     for (name, node) in members.iter() {
         let name = DocText::from_str(alloc, name.as_str())?;
-        made.push((name, value_of(alloc, node)?))?;
+        made.push(name, value_of(alloc, node)?)?;
     }
     Ok(made)
-}
-
-/// What stands last under a name.
-#[tactic(auto, unfolding(crate::specs::Values::last_named))]
-pub fn last_named<'m, T>(name: &str, members: &'m [(DocText, T)]) -> Option<&'m T>
-    ensures { option_map (λ x. x.now) result ≡ last_named name.now members.now }
-{
-    let mut found = None;
-    let mut left = members;
-    while let [member, rest @ ..] = left {
-        if name == member.0.as_str() {
-            found = Some(&member.1);
-        }
-        left = rest;
-    }
-    found
 }

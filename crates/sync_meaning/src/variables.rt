@@ -9,7 +9,7 @@ use crate::Memory;
 use crate::text::Text;
 use crate::value::Value;
 use json_doc::DocText;
-use sqlite_items::{Items, at};
+use sqlite_items::at;
 use std::alloc::Global;
 use std::marker::Model;
 
@@ -57,7 +57,9 @@ pub struct Variables {
     /// where that variable stands there.
     places: Vec<usize>,
     /// What was written and may hold lists or objects, in its order.
-    nested: Items<Value>,
+    nested: Vec<Value>,
+    /// At how many of these those are let go that nothing else holds.
+    limit: usize,
     /// The run's own copies of longer literals, by their numbers.
     literals: Vec<Option<Text>>,
 }
@@ -143,6 +145,19 @@ fn may_nest(value: &Value) -> bool {
         }
         _ => false,
     }
+}
+
+/// How many values are kept at least before some are let go.
+const MIN_KEPT: usize = 64;
+
+/// Lets go what nothing else holds, what was kept last first.
+fn let_go(values: &mut Vec<Value>) {
+    for value in values.iter_mut().rev() {
+        if value.is_sole() {
+            *value = Value::Undefined;
+        }
+    }
+    values.retain(|value| !matches!(value, Value::Undefined));
 }
 
 /// The variable at a place takes a value.
@@ -245,7 +260,8 @@ impl Variables {
         Ok(Variables {
             items: Vec::new(alloc),
             places,
-            nested: Items::new(alloc),
+            nested: Vec::new(alloc),
+            limit: MIN_KEPT,
             literals: no_copies(alloc, literals)?,
         })
     }
@@ -270,17 +286,28 @@ impl Variables {
         value_at(self.items.as_slice(), at)
     }
 
-    /// What may nest is held to the end.
+    /// Where twice as much is kept as stayed the last time, what nothing else holds is let go.
+    fn sweep(&mut self)
+        ensures { self.new ≡ self.old }
+    {
+        if self.nested.len() >= self.limit {
+            let_go(&mut self.nested);
+            self.limit = self.nested.len().saturating_mul(2).max(MIN_KEPT);
+        }
+    }
+
+    /// What may nest is held as long as anything else holds it.
     fn keep(&mut self, value: &Value) -> Result<(), Memory>
         ensures { self.new ≡ self.old }
     {
         if may_nest(value) {
             self.nested.push(value.share()?)?;
+            self.sweep();
         }
         Ok(())
     }
 
-    /// A variable takes a value, which nothing else holds to the end.
+    /// A variable takes a value, which isn't held but there.
     #[tactic(auto, using(crate::proofs::Slots::once_written))]
     fn take(&mut self, alloc: Global, slot: &Slot, value: Value) -> Result<(), Memory>
         ensures { OnOk result (self.new
@@ -331,6 +358,7 @@ impl Variables {
             places,
             nested,
             literals,
+            ..
         } = self;
         drop(items);
         drop(places);
