@@ -4,6 +4,7 @@
 mod callee;
 mod expression;
 mod fault;
+pub mod laws;
 mod own;
 mod program;
 mod scope;
