@@ -32,9 +32,6 @@ the_former g = entries g
 abbrev pub the_weighed : {g : Former {0}} → Weighed g → Weighed (the_former g)
 the_weighed w = w_list (w_pair (w_const (List ℕ)) w)
 
-pub the_empty : List (List ℕ × ⊥)
-the_empty = []
-
 abbrev fields : Former {0}
 fields = via (pair (entries this) (const Bool)) Inside (λ X a. (a.items, a.rising))
     (λ X v. record { items = v.0; rising = v.1 }) (λ X a. refl) (λ X v. refl)
