@@ -24,3 +24,4 @@ pub mod OnStorage
 pub mod OneVerdict
 pub mod JudgedWrites
 pub mod LaterSteps
+pub mod Crossing

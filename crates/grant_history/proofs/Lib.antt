@@ -18,3 +18,4 @@ pub mod Counting
 pub mod Cutting
 pub mod Members
 pub mod Gifting
+pub mod Crossing

@@ -7,6 +7,3 @@ use Rattle.log_index.specs.contracts.index.LogIndex
 
 pub index_send : IsSend LogIndex.the_row
 index_send = search (knot.crosses, maps.crosses, crosses, sendable) depth 30
-
-pub index_field_send : IsSend (LogIndex.the_field).row
-index_field_send = search (index_send, knot.crosses, maps.crosses, crosses, sendable) depth 30
