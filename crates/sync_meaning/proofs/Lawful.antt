@@ -1,10 +1,9 @@
 -- What a run gathers is in the grammar, in order, and not too much.
 use Rattle.std.proofs.Common.{◌≡◌, ℕ, ◌+◌, ◌-◌, nat_lt, Bool, true, false, ◌&&◌, cond, List, [], ◌∷◌, ◌++◌, Ok, Err, Ordering, Less, Equal, Greater, refl, subst, ap, ◌∙◌, ltb-false, arith}
-use Rattle.std.proofs.lemmas.Cmp.{nat_list_cmp_total}
 use Rattle.std.proofs.lemmas.List.Folds.{list_all-append}
 use Rattle.std.specs.Cmp.Lexicographic.{slice_cmp}
 use Rattle.std.specs.List.{list_all}
-use Rattle.std.specs.Ordering.{nat_cmp, match_ordering, ordering_reverse, ordering_then, is_lt}
+use Rattle.std.specs.Ordering.{nat_cmp, match_ordering, is_lt}
 use Rattle.sg_names.specs.Channels.{is_channels}
 use Rattle.sg_names.specs.Grammar.{is_name, is_channel_name}
 use Rattle.sg_names.specs.Grants.{grantee_text, is_grantee, is_grant, grant_cmp, is_grants}
@@ -36,6 +35,8 @@ use Rattle.sync_meaning.specs.Expressions.{read}
 use Rattle.sync_meaning.specs.Statements.{store, run}
 use Rattle.sync_meaning.specs.Meaning.{body, begin, depth_for, gathered, meaning_within}
 use Rattle.sync_meaning.specs.Laws.{AreEffects, EffectsAreLawful}
+use Rattle.sync_meaning.proofs.Named.{AllFound, users-all, roles-all, channels-all, grantees-all, all_channels-all, texts_total, grants_total, role_grants_total}
+use Rattle.sync_meaning.proofs.Puts.{put_rises}
 use Rattle.sync_meaning.proofs.Relations.{Relation, run-related, block-related}
 
 both : (a c : Bool) → a ≡ true → c ≡ true → (a && c) ≡ true
@@ -66,52 +67,6 @@ module _ {X : Type 0} (order : X → X → Ordering) where
       all_by is (order x y) x y ys (put order x ys) hx hys
       (both (is y) (list_all is (put order x ys)) (first (is y) (list_all is ys) hys) (put_all is x ys hx (second (is y) (list_all is ys) hys)))
 
-  rises_by : (o : Ordering) (y x z : X) (zs rest : List X) → order x z ≡ o → order y x ≡ Less → rises order (y ∷ z ∷ zs) ≡ true → (order x z ≡ Greater → rises order (z ∷ rest) ≡ true)
-      → rises order (y ∷ match_ordering o (x ∷ z ∷ zs) (z ∷ zs) (z ∷ rest)) ≡ true
-  rises_by Less y x z zs rest e before h hrest = rw (before, e) (second (is_lt (order y z)) (rises order (z ∷ zs)) h)
-  rises_by Equal y x z zs rest e before h hrest = h
-  rises_by Greater y x z zs rest e before h hrest =
-      both (is_lt (order y z)) (rises order (z ∷ rest)) (first (is_lt (order y z)) (rises order (z ∷ zs)) h) (hrest e)
-
-  rises_first : (o : Ordering) (x y : X) (ys rest : List X) → order x y ≡ o → rises order (y ∷ ys) ≡ true → (order x y ≡ Greater → rises order (y ∷ rest) ≡ true)
-      → rises order (match_ordering o (x ∷ y ∷ ys) (y ∷ ys) (y ∷ rest)) ≡ true
-  rises_first Less x y ys rest e h hrest = rw e h
-  rises_first Equal x y ys rest e h hrest = h
-  rises_first Greater x y ys rest e h hrest = hrest e
-
-  module _ (flips : (x y : X) → order x y ≡ Greater → order y x ≡ Less) where
-    -- behind an item that comes before it
-    put_behind : (y x : X) (ys : List X) → order y x ≡ Less → rises order (y ∷ ys) ≡ true → rises order (y ∷ put order x ys) ≡ true
-    put_behind y x [] before h = rw before refl
-    put_behind y x (z ∷ zs) before h =
-        rises_by (order x z) y x z zs (put order x zs) refl before h (λ e. put_behind z x zs (flips x z e) (second (is_lt (order y z)) (rises order (z ∷ zs)) h))
-
-    put_rises : (x : X) (ys : List X) → rises order ys ≡ true → rises order (put order x ys) ≡ true
-    put_rises x [] h = refl
-    put_rises x (y ∷ ys) h = rises_first (order x y) x y ys (put order x ys) refl h (λ e. put_behind y x ys (flips x y e) h)
-
-reversed : (o q : Ordering) → q ≡ ordering_reverse o → o ≡ Greater → q ≡ Less
-reversed o q e g = e ∙ ap ordering_reverse g
-
-texts_flip : (x y : List ℕ) → slice_cmp nat_cmp x y ≡ Greater → slice_cmp nat_cmp y x ≡ Less
-texts_flip x y g = reversed (slice_cmp nat_cmp x y) (slice_cmp nat_cmp y x) (nat_list_cmp_total.antisymm y x) g
-
-then_flips : (o q r t : Ordering) → q ≡ ordering_reverse o → t ≡ ordering_reverse r → ordering_then o r ≡ Greater → ordering_then q t ≡ Less
-then_flips Less q r t e f g = absurd cc
-then_flips Equal q r t e f g = rw e (f ∙ ap ordering_reverse g)
-then_flips Greater q r t e f g = rw e refl
-
-grants_flip : (x y : Grant) → grant_cmp x y ≡ Greater → grant_cmp y x ≡ Less
-grants_flip x y g =
-    then_flips (slice_cmp nat_cmp (grantee_text x.to) (grantee_text y.to)) (slice_cmp nat_cmp (grantee_text y.to) (grantee_text x.to))
-    (slice_cmp nat_cmp x.channel y.channel) (slice_cmp nat_cmp y.channel x.channel)
-    (nat_list_cmp_total.antisymm (grantee_text y.to) (grantee_text x.to)) (nat_list_cmp_total.antisymm y.channel x.channel) g
-
-roles_flip : (x y : RoleGrant) → role_grant_cmp x y ≡ Greater → role_grant_cmp y x ≡ Less
-roles_flip x y g =
-    then_flips (slice_cmp nat_cmp x.user y.user) (slice_cmp nat_cmp y.user x.user) (slice_cmp nat_cmp x.role y.role) (slice_cmp nat_cmp y.role x.role)
-    (nat_list_cmp_total.antisymm y.user x.user) (nat_list_cmp_total.antisymm y.role x.role) g
-
 -- ---- effects
 
 abbrev AreFound : Found Effects → Type 0
@@ -133,7 +88,7 @@ add_channel-found p c e is h =
     within-found p (record e { channels = put (slice_cmp nat_cmp) c e.channels })
     (both (list_all (λ n. is_channel_name n) (put (slice_cmp nat_cmp) c e.channels)) (rises (slice_cmp nat_cmp) (put (slice_cmp nat_cmp) c e.channels))
     (put_all (slice_cmp nat_cmp) (λ n. is_channel_name n) c e.channels is (first (list_all (λ n. is_channel_name n) e.channels) (rises (slice_cmp nat_cmp) e.channels) h.channels))
-    (put_rises (slice_cmp nat_cmp) texts_flip c e.channels (second (list_all (λ n. is_channel_name n) e.channels) (rises (slice_cmp nat_cmp) e.channels) h.channels)))
+    (put_rises (slice_cmp nat_cmp) texts_total c e.channels (second (list_all (λ n. is_channel_name n) e.channels) (rises (slice_cmp nat_cmp) e.channels) h.channels)))
     h.grants h.roles
 
 add_grant-found : (p : Place) (to : Grantee) (c : List ℕ) (e : Effects) → is_grantee to ≡ true → is_channel_name c ≡ true → AreEffects e → AreFound (add_grant p to c e)
@@ -143,7 +98,7 @@ add_grant-found p to c e is_to is_c h =
     within-found p (record e { grants = put grant_cmp g e.grants }) h.channels
     (both (list_all (λ x. is_grant x) (put grant_cmp g e.grants)) (rises grant_cmp (put grant_cmp g e.grants))
     (put_all grant_cmp (λ x. is_grant x) g e.grants (both (is_grantee to) (is_channel_name c) is_to is_c) (first (list_all (λ x. is_grant x) e.grants) (rises grant_cmp e.grants) h.grants))
-    (put_rises grant_cmp grants_flip g e.grants (second (list_all (λ x. is_grant x) e.grants) (rises grant_cmp e.grants) h.grants)))
+    (put_rises (λ a b. grant_cmp a b) grants_total g e.grants (second (list_all (λ x. is_grant x) e.grants) (rises grant_cmp e.grants) h.grants)))
     h.roles
 
 add_role-found : (p : Place) (user to : List ℕ) (e : Effects) → is_name user ≡ true → is_name to ≡ true → AreEffects e → AreFound (add_role p user to e)
@@ -153,7 +108,7 @@ add_role-found p user to e is_user is_to h =
     within-found p (record e { roles = put role_grant_cmp g e.roles }) h.channels h.grants
     (both (list_all (λ x. is_role_grant x) (put role_grant_cmp g e.roles)) (rises role_grant_cmp (put role_grant_cmp g e.roles))
     (put_all role_grant_cmp (λ x. is_role_grant x) g e.roles (both (is_name user) (is_name to) is_user is_to) (first (list_all (λ x. is_role_grant x) e.roles) (rises role_grant_cmp e.roles) h.roles))
-    (put_rises role_grant_cmp roles_flip g e.roles (second (list_all (λ x. is_role_grant x) e.roles) (rises role_grant_cmp e.roles) h.roles)))
+    (put_rises (λ a b. role_grant_cmp a b) role_grants_total g e.roles (second (list_all (λ x. is_role_grant x) e.roles) (rises role_grant_cmp e.roles) h.roles)))
 
 then-found : (r : Found Effects) (f : Effects → Found Effects) → AreFound r → ((e : Effects) → AreEffects e → AreFound (f e)) → AreFound (found_then r f)
 then-found (Ok e) f h hf = hf e h
@@ -184,56 +139,6 @@ add_roles_to-found p roles user e all is_user h = for_each-found is_name (add_ro
 add_roles-found : (p : Place) (users roles : List (List ℕ)) (e : Effects) → list_all is_name users ≡ true → list_all is_name roles ≡ true → AreEffects e → AreFound (add_roles p users roles e)
 unfolding add_roles
 add_roles-found p users roles e are all h = for_each-found is_name (add_roles_to p roles) (λ user d is hd. add_roles_to-found p roles user d all is hd) users e are h
-
--- ---- names
-
-abbrev AllFound : {A : Type 0} → (A → Bool) → Found (List A) → Type 0
-AllFound is (Ok xs) = list_all is xs ≡ true
-AllFound is (Err e) = Unit {0}
-
-one_more : {A : Type 0} (is : A → Bool) (found : List A) (x : A) → list_all is found ≡ true → is x ≡ true → list_all is (found ++ x ∷ []) ≡ true
-one_more is found x all h = list_all-append is found (x ∷ []) ∙ both (list_all is found) (list_all is (x ∷ [])) all (both (is x) true h refl)
-
-if_named : {A : Type 0} (is : A → Bool) (c : Bool) (p : Place) (a : A) (next : A → Found (List A)) → (c ≡ true → AllFound is (next a))
-    → AllFound is (found_then (cond c (Ok a) (fails BadName p)) next)
-if_named is true p a next h = h refl
-if_named is false p a next h = tt
-
-named-all : {A : Type 0} (p : Place) (f : List ℕ → A) (is : A → Bool) (found : List A) (ts : List (List ℕ)) → list_all is found ≡ true → AllFound is (named_from p f is found ts)
-named-all p f is found [] all = all
-named-all p f is found (x ∷ xs) all =
-    if_named is (is (f x)) p (f x) (λ a. named_from p f is (found ++ a ∷ []) xs) (λ h. named-all p f is (found ++ f x ∷ []) xs (one_more is found (f x) all h))
-
-texts-all : {A : Type 0} (p : Place) (f : List ℕ → A) (is : A → Bool) (r : Found (List (List ℕ))) → AllFound is (found_then r (named p f is))
-texts-all p f is (Ok ts) = named-all p f is [] ts refl
-texts-all p f is (Err e) = tt
-
-users-all : (p : Place) (x : Value) → AllFound is_name (users_in p x)
-unfolding users_in
-users-all p x = texts-all p itself is_name (texts_in p x)
-
-roles-all : (p : Place) (x : Value) → AllFound is_name (roles_in p x)
-unfolding roles_in
-roles-all p x = texts-all p bare_role is_name (texts_in p x)
-
-channels-all : (p : Place) (x : Value) → AllFound is_channel_name (channels_in p x)
-unfolding channels_in
-channels-all p x = texts-all p itself is_channel_name (texts_in p x)
-
-grantees-all : (p : Place) (x : Value) → AllFound is_grantee (grantees_in p x)
-unfolding grantees_in
-grantees-all p x = texts-all p grantee_of is_grantee (texts_in p x)
-
-on_found : {A : Type 0} (is : A → Bool) (r : Found (List A)) (next : List A → Found (List A)) → AllFound is r → ((xs : List A) → list_all is xs ≡ true → AllFound is (next xs))
-    → AllFound is (found_then r next)
-on_found is (Ok xs) next all h = h xs all
-on_found is (Err e) next all h = tt
-
-all_channels-all : (p : Place) (found : List (List ℕ)) (xs : List Value) → list_all is_channel_name found ≡ true → AllFound is_channel_name (all_channels p found xs)
-all_channels-all p found [] all = all
-all_channels-all p found (x ∷ xs) all =
-    on_found is_channel_name (channels_in p x) (λ cs. all_channels p (found ++ cs) xs) (channels-all p x)
-    (λ cs h. all_channels-all p (found ++ cs) xs (list_all-append is_channel_name found cs ∙ both (list_all is_channel_name found) (list_all is_channel_name cs) all h))
 
 -- ---- runs
 

@@ -7,6 +7,8 @@ pub mod Rising
 pub mod Variables
 pub mod Slots
 pub mod Builtins
+pub mod Arguments
+pub mod Gathered
 pub mod Expressions
 pub mod Statements
 pub mod Meaning

@@ -1,20 +1,31 @@
 //! What builtins take.
 
 ghost use Rattle.std.specs.Prelude.{◌≡◌, ◌∷◌, ◌++◌, [], option_map, IfOk, OnOk};
+ghost use Rattle.std.specs.Ordering.{nat_cmp};
+ghost use Rattle.std.specs.Cmp.Lexicographic.{slice_cmp};
 ghost use Rattle.sg_names.specs.Grammar.{is_name, is_channel_name};
 ghost use Rattle.sg_names.specs.Grants.{is_grantee};
 ghost use Rattle.sync_meaning.specs.Acts.{Gives};
+ghost use Rattle.sync_meaning.specs.Arguments as names;
+ghost use Rattle.sync_meaning.specs.Arguments.{texts, AreSame, AreSorted, GivesTexts, GivesNames};
 ghost use Rattle.sync_meaning.specs.Builtins as spec;
-ghost use Rattle.sync_meaning.specs.Leaves.{Leaves};
 
 use crate::Memory;
 use crate::fault::{FaultKind, Stop};
 use crate::value::Value;
-use json_doc::DocText;
-use sg_names::{ChannelName, Channels, Grantee, List, Name, Names, TextFault};
-use sqlite_items::Items;
+use sg_names::{ChannelName, Grantee, Name, TextFault, grammar};
 use std::alloc::Global;
+use std::cmp::Ordering;
 use sync_tokens::Place;
+
+/// What the texts of an argument are to name.
+#[derive(Clone, Copy, Debug, PartialEq, Eq)]
+pub(crate) enum Kind {
+    User,
+    Role,
+    Channel,
+    Grantee,
+}
 
 /// The text that a value is.
 #[tactic(auto, unfolding(crate::specs::Builtins::text_in))]
@@ -28,22 +39,23 @@ pub fn text_in(value: &Value) -> Option<&str>
 }
 
 /// One text more.
-fn push_text(alloc: Global, texts: &mut Items<DocText>, text: &str) -> Result<(), Memory>
-    ensures { OnOk result (texts.new ≡ texts.old ++ text.now ∷ []) }
+fn push_text<'a>(found: &mut Vec<&'a str>, text: &'a str) -> Result<(), Memory>
+    ensures { OnOk result (texts found.new.items ≡ texts found.old.items ++ text.now ∷ []) }
 {
-    let text = DocText::from_str(alloc, text)?;
-    texts.push(text)
+    found.push(text)?;
+    Ok(())
 }
 
-/// The texts that values are; none where one is no text.
-fn texts_of(alloc: Global, values: &[Value]) -> Result<Option<Items<DocText>>, Memory>
-    ensures { IfOk result (λ texts. texts ≡ spec.texts_of values.now) }
+/// The texts that values are, where they stand; none where one is no text.
+fn texts_of(alloc: Global, values: &[Value]) -> Result<Option<Vec<&str>>, Memory>
+    ensures { IfOk result (λ found. option_map (λ v. texts v.items) found
+        ≡ spec.texts_of values.now) }
 {
-    let mut found = Items::new(alloc);
+    let mut found = Vec::new(alloc);
     let mut left = values;
     while let [value, rest @ ..] = left {
         match text_in(value) {
-            Some(text) => push_text(alloc, &mut found, text)?,
+            Some(text) => push_text(&mut found, text)?,
             None => return Ok(None),
         }
         left = rest;
@@ -52,21 +64,21 @@ fn texts_of(alloc: Global, values: &[Value]) -> Result<Option<Items<DocText>>, M
 }
 
 /// One text.
-fn one_text(alloc: Global, text: &str) -> Result<Items<DocText>, Memory>
-    ensures { IfOk result (λ texts. texts ≡ text.now ∷ []) }
+fn one_text(alloc: Global, text: &str) -> Result<Vec<&str>, Memory>
+    ensures { IfOk result (λ v. texts v.items ≡ text.now ∷ []) }
 {
-    let mut one = Items::new(alloc);
-    push_text(alloc, &mut one, text)?;
+    let mut one = Vec::new(alloc);
+    push_text(&mut one, text)?;
     Ok(one)
 }
 
-/// The texts of an argument.
+/// The texts of an argument, where they stand.
 #[tactic(auto, unfolding(crate::specs::Builtins::texts_in))]
-fn texts_in(alloc: Global, place: Place, value: &Value) -> Result<Items<DocText>, Stop>
-    ensures { Gives (spec.texts_in place value.now) result }
+fn texts_in(alloc: Global, place: Place, value: &Value) -> Result<Vec<&str>, Stop>
+    ensures { GivesTexts (spec.texts_in place value.now) result }
 {
     let found = match value {
-        Value::Undefined | Value::Null => Some(Items::new(alloc)),
+        Value::Undefined | Value::Null => Some(Vec::new(alloc)),
         Value::Text(text) => Some(one_text(alloc, text.as_str())?),
         Value::List(values) => texts_of(alloc, values.get().as_slice())?,
         _ => None,
@@ -95,8 +107,139 @@ fn bare_role(text: &str) -> &str
     }
 }
 
+/// Whether a text is that of a user, or of a role with `role:` before it.
+fn is_grantee(text: &str) -> bool
+    ensures { result ≡ is_grantee (spec.grantee_of text.now) }
+{
+    match role_in(text) {
+        Some(role) => grammar::is_name(role.as_bytes()),
+        None => grammar::is_name(text.as_bytes()),
+    }
+}
+
+impl Kind {
+    /// What of a text is the name.
+    fn part(self, text: &str) -> &str
+        ensures { result.now ≡ names.part self text.now }
+    {
+        match self {
+            Kind::Role => bare_role(text),
+            _ => text,
+        }
+    }
+
+    /// Whether that is in its grammar.
+    fn admits(self, name: &str) -> bool
+        ensures { result ≡ names.admits self name.now }
+    {
+        match self {
+            Kind::User | Kind::Role => grammar::is_name(name.as_bytes()),
+            Kind::Channel => grammar::is_channel_name(name.as_bytes()),
+            Kind::Grantee => is_grantee(name),
+        }
+    }
+}
+
+/// What texts name, if each is in its grammar.
+fn named<'a>(alloc: Global, kind: Kind, place: Place, all: &[&'a str]) -> Result<Vec<&'a str>, Stop>
+    ensures { GivesTexts (spec.named place (names.part kind) (names.admits kind)
+        (texts all.now)) result }
+{
+    let mut found = Vec::new(alloc);
+    let mut left = all;
+    while let [text, rest @ ..] = left {
+        let name = kind.part(text);
+        if !kind.admits(name) {
+            return Err(Stop::fault(FaultKind::BadName, place));
+        }
+        push_text(&mut found, name)?;
+        left = rest;
+    }
+    Ok(found)
+}
+
+/// What an argument names, as it stands there.
+fn given(alloc: Global, kind: Kind, place: Place, value: &Value) -> Result<Vec<&str>, Stop>
+    ensures { GivesTexts (spec.names_in place (names.part kind) (names.admits kind) value.now)
+        result }
+{
+    let texts = texts_in(alloc, place, value)?;
+    named(alloc, kind, place, texts.as_slice())
+}
+
+fn order(one: &str, other: &str) -> Ordering
+    ensures { result ≡ slice_cmp nat_cmp one.now other.now }
+{
+    one.as_bytes().cmp(other.as_bytes())
+}
+
+/// Puts names in their order, each once.
+fn in_order(names: Vec<&str>) -> Result<Vec<&str>, Memory>
+    ensures same { IfOk result (λ v. AreSame (texts names.entry.items) (texts v.items)) }
+    ensures sorted { IfOk result (λ v. AreSorted (texts v.items)) }
+{
+    let mut names = names;
+    names.sort_by(|a, b| order(a, b))?;
+    names.dedup_by(|a, b| order(a, b).is_eq());
+    Ok(names)
+}
+
+/// What an argument names, in order, each once.
+pub(crate) fn names_in(
+    alloc: Global,
+    kind: Kind,
+    place: Place,
+    value: &Value,
+) -> Result<Vec<&str>, Stop>
+    ensures { GivesNames (spec.names_in place (names.part kind) (names.admits kind) value.now)
+        result }
+{
+    let names = given(alloc, kind, place, value)?;
+    Ok(in_order(names)?)
+}
+
+/// The channels of an argument, as they stand there.
+#[tactic(auto, unfolding(crate::specs::Builtins::channels_in))]
+fn channels_given(alloc: Global, place: Place, value: &Value) -> Result<Vec<&str>, Stop>
+    ensures { GivesTexts (spec.channels_in place value.now) result }
+{
+    given(alloc, Kind::Channel, place, value)
+}
+
+/// Names and more behind them.
+fn join<'a>(found: &mut Vec<&'a str>, more: Vec<&'a str>) -> Result<(), Memory>
+    ensures { OnOk result (texts found.new.items ≡ texts found.old.items
+        ++ texts more.entry.items) }
+{
+    let mut more = more;
+    found.append(&mut more)?;
+    Ok(())
+}
+
+/// The channels of arguments, as they stand there.
+fn all_given(alloc: Global, place: Place, values: &[Value]) -> Result<Vec<&str>, Stop>
+    ensures { GivesTexts (spec.all_channels place [] values.now) result }
+{
+    let mut found = Vec::new(alloc);
+    let mut left = values;
+    while let [value, rest @ ..] = left {
+        let more = channels_given(alloc, place, value)?;
+        join(&mut found, more)?;
+        left = rest;
+    }
+    Ok(found)
+}
+
+/// The channels of arguments, in order, each once.
+pub(crate) fn all_channels(alloc: Global, place: Place, values: &[Value]) -> Result<Vec<&str>, Stop>
+    ensures { GivesNames (spec.all_channels place [] values.now) result }
+{
+    let names = all_given(alloc, place, values)?;
+    Ok(in_order(names)?)
+}
+
 /// The name of a user or a role.
-fn name_of(alloc: Global, place: Place, text: &str) -> Result<Name, Stop>
+pub(crate) fn name_of(alloc: Global, place: Place, text: &str) -> Result<Name, Stop>
     ensures { Gives (spec.one place spec.itself is_name text.now) result }
 {
     match Name::parse(alloc, text) {
@@ -107,7 +250,7 @@ fn name_of(alloc: Global, place: Place, text: &str) -> Result<Name, Stop>
 }
 
 /// The name of a channel.
-fn channel_of(alloc: Global, place: Place, text: &str) -> Result<ChannelName, Stop>
+pub(crate) fn channel_of(alloc: Global, place: Place, text: &str) -> Result<ChannelName, Stop>
     ensures { Gives (spec.one place spec.itself is_channel_name text.now) result }
 {
     match ChannelName::parse(alloc, text) {
@@ -118,7 +261,7 @@ fn channel_of(alloc: Global, place: Place, text: &str) -> Result<ChannelName, St
 }
 
 /// A user, or a role with `role:` before it.
-fn grantee_of(alloc: Global, place: Place, text: &str) -> Result<Grantee, Stop>
+pub(crate) fn grantee_of(alloc: Global, place: Place, text: &str) -> Result<Grantee, Stop>
     ensures { Gives (spec.one place spec.grantee_of is_grantee text.now) result }
 {
     match role_in(text) {
@@ -127,140 +270,16 @@ fn grantee_of(alloc: Global, place: Place, text: &str) -> Result<Grantee, Stop>
     }
 }
 
-/// The users that texts name, behind those found.
-fn push_users(alloc: Global, place: Place, texts: &[DocText], found: &mut Names) -> Result<(), Stop>
-    ensures { Leaves (spec.named_from place spec.itself is_name found.old texts.now)
-        result found.new }
+fn order_to(one: &str, name: &[u8]) -> Ordering
+    ensures { result ≡ slice_cmp nat_cmp one.now name.now }
 {
-    let mut left = texts;
-    while let [text, rest @ ..] = left {
-        found.push(name_of(alloc, place, text.as_str())?)?;
-        left = rest;
-    }
-    Ok(())
+    one.as_bytes().cmp(name)
 }
 
-/// Names of users.
-#[tactic(auto, unfolding(crate::specs::Builtins::users_in))]
-pub(crate) fn users_in(alloc: Global, place: Place, value: &Value) -> Result<Names, Stop>
-    ensures { Gives (spec.users_in place value.now) result }
+/// Whether a name is one of these, which is found by halves. Allocates nothing.
+pub(crate) fn has_name(names: &[&str], name: &[u8]) -> bool
+    requires { AreSorted (texts names.now) }
+    ensures { result ≡ spec.is_in (texts names.now) name.now }
 {
-    let texts = texts_in(alloc, place, value)?;
-    let mut found = List::new(alloc);
-    let done = push_users(alloc, place, texts.as_slice(), &mut found);
-    drop(texts);
-    match done {
-        Ok(()) => Ok(found),
-        Err(stop) => {
-            drop(found);
-            Err(stop)
-        }
-    }
-}
-
-/// The roles that texts name, behind those found.
-fn push_roles(alloc: Global, place: Place, texts: &[DocText], found: &mut Names) -> Result<(), Stop>
-    ensures { Leaves (spec.named_from place spec.bare_role is_name found.old texts.now)
-        result found.new }
-{
-    let mut left = texts;
-    while let [text, rest @ ..] = left {
-        found.push(name_of(alloc, place, bare_role(text.as_str()))?)?;
-        left = rest;
-    }
-    Ok(())
-}
-
-/// Names of roles, which may be written with `role:` before them.
-#[tactic(auto, unfolding(crate::specs::Builtins::roles_in))]
-pub(crate) fn roles_in(alloc: Global, place: Place, value: &Value) -> Result<Names, Stop>
-    ensures { Gives (spec.roles_in place value.now) result }
-{
-    let texts = texts_in(alloc, place, value)?;
-    let mut found = List::new(alloc);
-    let done = push_roles(alloc, place, texts.as_slice(), &mut found);
-    drop(texts);
-    match done {
-        Ok(()) => Ok(found),
-        Err(stop) => {
-            drop(found);
-            Err(stop)
-        }
-    }
-}
-
-/// The channels that texts name, behind those found.
-fn push_channels(
-    alloc: Global,
-    place: Place,
-    texts: &[DocText],
-    found: &mut Channels,
-) -> Result<(), Stop>
-    ensures { Leaves (spec.named_from place spec.itself is_channel_name found.old texts.now)
-        result found.new }
-{
-    let mut left = texts;
-    while let [text, rest @ ..] = left {
-        found.push(channel_of(alloc, place, text.as_str())?)?;
-        left = rest;
-    }
-    Ok(())
-}
-
-/// Names of channels.
-#[tactic(auto, unfolding(crate::specs::Builtins::channels_in))]
-pub(crate) fn channels_in(alloc: Global, place: Place, value: &Value) -> Result<Channels, Stop>
-    ensures { Gives (spec.channels_in place value.now) result }
-{
-    let texts = texts_in(alloc, place, value)?;
-    let mut found = List::new(alloc);
-    let done = push_channels(alloc, place, texts.as_slice(), &mut found);
-    drop(texts);
-    match done {
-        Ok(()) => Ok(found),
-        Err(stop) => {
-            drop(found);
-            Err(stop)
-        }
-    }
-}
-
-/// The users and roles that texts name, behind those found.
-fn push_grantees(
-    alloc: Global,
-    place: Place,
-    texts: &[DocText],
-    found: &mut Items<Grantee>,
-) -> Result<(), Stop>
-    ensures { Leaves (spec.named_from place spec.grantee_of is_grantee found.old texts.now)
-        result found.new }
-{
-    let mut left = texts;
-    while let [text, rest @ ..] = left {
-        found.push(grantee_of(alloc, place, text.as_str())?)?;
-        left = rest;
-    }
-    Ok(())
-}
-
-/// Whom channels are granted to: users, and roles with `role:` before them.
-#[tactic(auto, unfolding(crate::specs::Builtins::grantees_in))]
-pub(crate) fn grantees_in(
-    alloc: Global,
-    place: Place,
-    value: &Value,
-) -> Result<Items<Grantee>, Stop>
-    ensures { Gives (spec.grantees_in place value.now) result }
-{
-    let texts = texts_in(alloc, place, value)?;
-    let mut found = Items::new(alloc);
-    let done = push_grantees(alloc, place, texts.as_slice(), &mut found);
-    drop(texts);
-    match done {
-        Ok(()) => Ok(found),
-        Err(stop) => {
-            drop(found);
-            Err(stop)
-        }
-    }
+    names.binary_search_by(|n| order_to(n, name)).is_ok()
 }

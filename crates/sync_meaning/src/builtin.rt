@@ -1,80 +1,83 @@
 //! The functions that are built in.
 
-ghost use Rattle.std.specs.Prelude.{◌≡◌, ◌++◌, [], IfOk};
+ghost use Rattle.std.specs.Prelude.{◌≡◌, codes};
 ghost use Rattle.sync_meaning.specs.Acts.{Does, Gives};
+ghost use Rattle.sync_meaning.specs.Arguments as names;
+ghost use Rattle.sync_meaning.specs.Arguments.{texts, AreSorted};
 ghost use Rattle.sync_meaning.specs.Builtins as spec;
 ghost use Rattle.sync_meaning.specs.Values.{found_then};
 
-use crate::Memory;
-use crate::arguments::{channels_in, grantees_in, roles_in, users_in};
+use crate::arguments::{Kind, all_channels, has_name, names_in};
 use crate::callee::Builtin;
 use crate::fault::{FaultKind, Rule, RuleKind, Stop};
 use crate::methods::is_list;
 use crate::state::{Context, State};
 use crate::value::Value;
-use sg_names::{ChannelName, Channels, Grantee, List, Name};
+use sg_names::{ChannelName, Name};
 use std::alloc::Global;
 use sync_tokens::Place;
 
-fn is_name_in(all: &[Name], name: &[u8]) -> bool
-    ensures { result ≡ spec.is_in all.now name.now }
+/// Whether one of these names is among those. Allocates nothing.
+fn shares_name(all: &[Name], names: &[&str]) -> bool
+    requires { AreSorted (texts names.now) }
+    ensures { result ≡ spec.share_one all.now (texts names.now) }
 {
-    all.iter().any(|other| name == other.as_bytes())
+    all.iter().any(|name| has_name(names, name.as_bytes()))
 }
 
-fn is_channel_in(all: &[ChannelName], name: &[u8]) -> bool
-    ensures { result ≡ spec.is_in all.now name.now }
+/// Whether one of these channels is `*`. Allocates nothing.
+fn has_every(all: &[ChannelName]) -> bool
+    ensures { result ≡ spec.is_in all.now (codes "*") }
 {
-    all.iter().any(|other| name == other.as_bytes())
+    all.iter()
+        .any(|channel| b"*".as_slice() == channel.as_bytes())
 }
 
-fn share_a_name(names: &[Name], all: &[Name]) -> bool
-    ensures { result ≡ spec.share_one names.now all.now }
+/// Whether one of these channels is among those. Allocates nothing.
+fn shares_channel(all: &[ChannelName], channels: &[&str]) -> bool
+    requires { AreSorted (texts channels.now) }
+    ensures { result ≡ spec.share_one all.now (texts channels.now) }
 {
-    names.iter().any(|name| is_name_in(all, name.as_bytes()))
-}
-
-fn share_a_channel(channels: &[ChannelName], all: &[ChannelName]) -> bool
-    ensures { result ≡ spec.share_one channels.now all.now }
-{
-    channels
-        .iter()
-        .any(|channel| is_channel_in(all, channel.as_bytes()))
+    all.iter()
+        .any(|channel| has_name(channels, channel.as_bytes()))
 }
 
 impl Context {
     /// Whether the user is one of these; the administrator passes.
     #[tactic(auto, unfolding(crate::specs::Builtins::passes_user))]
-    fn passes_user(&self, names: &[Name]) -> bool
-        ensures { result ≡ spec.passes_user self.now names.now }
+    fn passes_user(&self, names: &[&str]) -> bool
+        requires { AreSorted (texts names.now) }
+        ensures { result ≡ spec.passes_user self.now (texts names.now) }
     {
         match &self.user {
             None => true,
-            Some(user) => is_name_in(names, user.as_bytes()),
+            Some(user) => has_name(names, user.as_bytes()),
         }
     }
 
     /// Whether the user has one of these roles; the administrator passes.
     #[tactic(auto, unfolding(crate::specs::Builtins::passes_role))]
-    fn passes_role(&self, roles: &[Name]) -> bool
-        ensures { result ≡ spec.passes_role self.now roles.now }
+    fn passes_role(&self, roles: &[&str]) -> bool
+        requires { AreSorted (texts roles.now) }
+        ensures { result ≡ spec.passes_role self.now (texts roles.now) }
     {
         match &self.user {
             None => true,
-            Some(_) => share_a_name(roles, self.roles.as_slice()),
+            Some(_) => shares_name(self.roles.as_slice(), roles),
         }
     }
 
     /// Whether the user has one of these channels or `*`; the administrator passes.
     #[tactic(auto, unfolding(crate::specs::Builtins::passes_access))]
-    fn passes_access(&self, channels: &[ChannelName]) -> bool
-        ensures { result ≡ spec.passes_access self.now channels.now }
+    fn passes_access(&self, channels: &[&str]) -> bool
+        requires { AreSorted (texts channels.now) }
+        ensures { result ≡ spec.passes_access self.now (texts channels.now) }
     {
         match &self.user {
             None => true,
             Some(_) => {
-                is_channel_in(self.channels.as_slice(), b"*")
-                    || share_a_channel(channels, self.channels.as_slice())
+                has_every(self.channels.as_slice())
+                    || shares_channel(self.channels.as_slice(), channels)
             }
         }
     }
@@ -107,63 +110,38 @@ fn unless_passing(
     }
 }
 
-/// Channels and more behind them.
-fn joined(first: Channels, more: Channels) -> Result<Channels, Memory>
-    ensures { IfOk result (λ all. all ≡ first ++ more) }
-{
-    let mut all = first.into_vec();
-    let mut more = more.into_vec();
-    all.append(&mut more)?;
-    Ok(List::from_vec(all))
-}
-
-/// The channels of arguments, from left to right.
-fn all_channels(alloc: Global, place: Place, values: &[Value]) -> Result<Channels, Stop>
-    ensures { Gives (spec.all_channels place [] values.now) result }
-{
-    let mut found = List::new(alloc);
-    let mut left = values;
-    while let [value, rest @ ..] = left {
-        found = joined(found, channels_in(alloc, place, value)?)?;
-        left = rest;
-    }
-    Ok(found)
-}
-
 /// Puts the document into these channels.
 fn put_into(
     alloc: Global,
     place: Place,
-    channels: &[ChannelName],
+    channels: &[&str],
     state: &mut State,
 ) -> Result<Value, Stop>
-    ensures { Does (found_then (spec.add_channels place channels.now state.old.effects)
-        (spec.with_effects state.old)) result state.new }
+    ensures { Does (found_then (spec.for_each (names.add_channel_named place) (texts channels.now)
+        state.old.effects) (spec.with_effects state.old)) result state.new }
 {
     state.effects.add_channels(alloc, place, channels)?;
     Ok(Value::Undefined)
 }
 
 /// `channel(..)`
-#[tactic(auto, unfolding(crate::specs::Builtins::channel))]
 fn channel(alloc: Global, place: Place, values: &[Value], state: &mut State) -> Result<Value, Stop>
     ensures { Does (spec.channel place values.now state.old) result state.new }
 {
     let channels = all_channels(alloc, place, values)?;
-    let done = put_into(alloc, place, channels.as_slice(), state);
-    drop(channels);
-    done
+    put_into(alloc, place, channels.as_slice(), state)
 }
 
 /// Grants each of these channels to each of those.
 fn grant(
     alloc: Global,
     place: Place,
-    grantees: &[Grantee],
-    channels: &[ChannelName],
+    grantees: &[&str],
+    channels: &[&str],
     state: &mut State,
 ) -> Result<Value, Stop>
-    ensures { Does (found_then (spec.add_grants place grantees.now channels.now state.old.effects)
+    ensures { Does (found_then (spec.for_each (names.add_grants_named_to place
+        (texts channels.now)) (texts grantees.now) state.old.effects)
         (spec.with_effects state.old)) result state.new }
 {
     state.effects.add_grants(alloc, place, grantees, channels)?;
@@ -171,7 +149,6 @@ fn grant(
 }
 
 /// `access(users, channels)`
-#[tactic(auto, unfolding(crate::specs::Builtins::access))]
 fn access(
     alloc: Global,
     place: Place,
@@ -181,43 +158,33 @@ fn access(
 ) -> Result<Value, Stop>
     ensures { Does (spec.access place users.now channels.now state.old) result state.new }
 {
-    let grantees = grantees_in(alloc, place, users)?;
-    let channels = match channels_in(alloc, place, channels) {
-        Ok(channels) => channels,
-        Err(stop) => {
-            drop(grantees);
-            return Err(stop);
-        }
-    };
-    let done = grant(
+    let grantees = names_in(alloc, Kind::Grantee, place, users)?;
+    let channels = names_in(alloc, Kind::Channel, place, channels)?;
+    grant(
         alloc,
         place,
         grantees.as_slice(),
         channels.as_slice(),
         state,
-    );
-    drop(grantees);
-    drop(channels);
-    done
+    )
 }
 
 /// Gives each of these roles to each of those users.
 fn give(
     alloc: Global,
     place: Place,
-    users: &[Name],
-    roles: &[Name],
+    users: &[&str],
+    roles: &[&str],
     state: &mut State,
 ) -> Result<Value, Stop>
-    ensures { Does (found_then (spec.add_roles place users.now roles.now state.old.effects)
-        (spec.with_effects state.old)) result state.new }
+    ensures { Does (found_then (spec.for_each (names.add_roles_named_to place (texts roles.now))
+        (texts users.now) state.old.effects) (spec.with_effects state.old)) result state.new }
 {
     state.effects.add_roles(alloc, place, users, roles)?;
     Ok(Value::Undefined)
 }
 
 /// `role(users, roles)`
-#[tactic(auto, unfolding(crate::specs::Builtins::role))]
 fn role(
     alloc: Global,
     place: Place,
@@ -227,22 +194,12 @@ fn role(
 ) -> Result<Value, Stop>
     ensures { Does (spec.role place users.now roles.now state.old) result state.new }
 {
-    let users = users_in(alloc, place, users)?;
-    let roles = match roles_in(alloc, place, roles) {
-        Ok(roles) => roles,
-        Err(stop) => {
-            drop(users);
-            return Err(stop);
-        }
-    };
-    let done = give(alloc, place, users.as_slice(), roles.as_slice(), state);
-    drop(users);
-    drop(roles);
-    done
+    let users = names_in(alloc, Kind::User, place, users)?;
+    let roles = names_in(alloc, Kind::Role, place, roles)?;
+    give(alloc, place, users.as_slice(), roles.as_slice(), state)
 }
 
 /// `requireUser(users)`
-#[tactic(auto, unfolding(crate::specs::Builtins::require_user))]
 fn require_user(
     alloc: Global,
     place: Place,
@@ -251,14 +208,12 @@ fn require_user(
 ) -> Result<Value, Stop>
     ensures { Does (spec.require_user place users.now state.old) result state.new }
 {
-    let names = users_in(alloc, place, users)?;
+    let names = names_in(alloc, Kind::User, place, users)?;
     let passes = state.context.passes_user(names.as_slice());
-    drop(names);
     unless_passing(passes, RuleKind::User, place, state)
 }
 
 /// `requireRole(roles)`
-#[tactic(auto, unfolding(crate::specs::Builtins::require_role))]
 fn require_role(
     alloc: Global,
     place: Place,
@@ -267,14 +222,12 @@ fn require_role(
 ) -> Result<Value, Stop>
     ensures { Does (spec.require_role place roles.now state.old) result state.new }
 {
-    let roles = roles_in(alloc, place, roles)?;
+    let roles = names_in(alloc, Kind::Role, place, roles)?;
     let passes = state.context.passes_role(roles.as_slice());
-    drop(roles);
     unless_passing(passes, RuleKind::Role, place, state)
 }
 
 /// `requireAccess(channels)`
-#[tactic(auto, unfolding(crate::specs::Builtins::require_access))]
 fn require_access(
     alloc: Global,
     place: Place,
@@ -283,9 +236,8 @@ fn require_access(
 ) -> Result<Value, Stop>
     ensures { Does (spec.require_access place channels.now state.old) result state.new }
 {
-    let channels = channels_in(alloc, place, channels)?;
+    let channels = names_in(alloc, Kind::Channel, place, channels)?;
     let passes = state.context.passes_access(channels.as_slice());
-    drop(channels);
     unless_passing(passes, RuleKind::Access, place, state)
 }
 

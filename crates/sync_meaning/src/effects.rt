@@ -1,16 +1,21 @@
 //! Effects, which are kept in order, each once.
 
-ghost use Rattle.std.specs.Prelude.{◌≡◌, ◌≤◌, [], length, insert, IfOk, IfSome, IfNone, OnOk};
+ghost use Rattle.std.specs.Prelude.{◌≡◌, ◌≤◌, [], true, length, insert, IfSome, IfNone, OnOk};
+ghost use Rattle.std.specs.Cmp.{IsTotalOrder};
 ghost use Rattle.std.specs.declared.cmp.Ordering as ordering;
+ghost use Rattle.sg_names.specs.ItemList.{rises};
+ghost use Rattle.sync_meaning.specs.Acts.{Gives};
+ghost use Rattle.sync_meaning.specs.Arguments as names;
+ghost use Rattle.sync_meaning.specs.Arguments.{texts};
 ghost use Rattle.sync_meaning.specs.Leaves.{Leaves};
 ghost use Rattle.sync_meaning.specs.Builtins as spec;
 
+use crate::arguments::{channel_of, grantee_of, name_of};
 use crate::fault::{FaultKind, Stop};
-use sg_names::{
-    ChannelName, Channels, Grant, Grantee, Grants, List, Name, Names, RoleGrant, RoleGrants,
-};
+use sg_names::{ChannelName, Channels, Grant, Grants, List, RoleGrant, RoleGrants};
 use std::alloc::{AllocError, Global};
 use std::cmp::Ordering;
+use std::marker::Model;
 use std::mem;
 use sync_tokens::Place;
 
@@ -23,6 +28,23 @@ pub struct Effects {
     pub channels: Channels,
     pub grants: Grants,
     pub roles: RoleGrants,
+}
+
+/// The effects of a run so far, each of whose lists rises.
+#[derive(Drop)]
+pub struct Gathered {
+    effects: Effects,
+}
+
+impl Model for Gathered {
+    ghost use Rattle.sync_meaning.specs.declared.effects.Effects.{Effects};
+    ghost use Rattle.sync_meaning.specs.Gathered.{DoRise};
+
+    ghost Value = { Effects };
+
+    ghost view = { λ g. g.effects };
+
+    ghost invariant = { λ g. DoRise g.effects };
 }
 
 /// What has an order among others of its kind.
@@ -64,56 +86,55 @@ impl Ordered for RoleGrant {
     }
 }
 
-/// The place among items that rise at which an item goes; none where it is there.
+/// The place among items that rise at which an item goes, found by halves; none where it is there.
 fn place_for<T: Ordered>(item: &T, items: &[T]) -> Option<usize>
+    requires total { IsTotalOrder T.order }
+    requires rises { rises T.order items.now ≡ true }
     ensures there { IfNone result (spec.put T.order item.now items.now ≡ items.now) }
     ensures within { IfSome result (λ at. at ≤ length items.now) }
     ensures place { IfSome result (λ at. spec.put T.order item.now items.now
         ≡ insert items.now at item.now) }
 {
-    for (at, other) in items.iter().enumerate() {
-        match item.compare(other) {
-            Ordering::Less => return Some(at),
-            Ordering::Equal => return None,
-            Ordering::Greater => {}
-        }
+    match items.binary_search_by(|other| other.compare(item)) {
+        Ok(_) => None,
+        Err(at) => Some(at),
     }
-    Some(items.len())
 }
 
-/// A grant of a channel to a user or role.
-fn grant_of(alloc: Global, to: &Grantee, channel: &ChannelName) -> Result<Grant, AllocError>
-    ensures to { IfOk result (λ made. made.to ≡ to.now) }
-    ensures channel { IfOk result (λ made. made.channel ≡ channel.now) }
+/// A grant of the channel of a name to the user or role of another.
+fn grant_of(alloc: Global, place: Place, to: &str, channel: &str) -> Result<Grant, Stop>
+    ensures { Gives (names.grant_named place to.now channel.now) result }
 {
-    let to = to.copy(alloc)?;
-    match channel.copy(alloc) {
+    let to = grantee_of(alloc, place, to)?;
+    match channel_of(alloc, place, channel) {
         Ok(channel) => Ok(Grant { to, channel }),
-        Err(error) => {
+        Err(stop) => {
             drop(to);
-            Err(error)
+            Err(stop)
         }
     }
 }
 
-/// A role of a user.
-fn role_grant_of(alloc: Global, user: &Name, role: &Name) -> Result<RoleGrant, AllocError>
-    ensures user { IfOk result (λ made. made.user ≡ user.now) }
-    ensures role { IfOk result (λ made. made.role ≡ role.now) }
+/// A role of a user, by their names.
+fn role_grant_of(alloc: Global, place: Place, user: &str, role: &str) -> Result<RoleGrant, Stop>
+    ensures { Gives (names.role_grant_named place user.now role.now) result }
 {
-    let user = user.copy(alloc)?;
-    match role.copy(alloc) {
+    let user = name_of(alloc, place, user)?;
+    match name_of(alloc, place, role) {
         Ok(role) => Ok(RoleGrant { user, role }),
-        Err(error) => {
+        Err(stop) => {
             drop(user);
-            Err(error)
+            Err(stop)
         }
     }
 }
 
 /// An item put at its place, where it isn't there yet.
 fn put<T: Ordered>(alloc: Global, item: T, items: &mut List<T>) -> Result<(), AllocError>
-    ensures { OnOk result (items.new ≡ spec.put T.order item items.old) }
+    requires total { IsTotalOrder T.order }
+    requires rises { rises T.order items.old ≡ true }
+    ensures put { OnOk result (items.new ≡ spec.put T.order item items.old) }
+    ensures rises { rises T.order items.new ≡ true }
 {
     if let Some(at) = place_for(&item, items.as_slice()) {
         let mut all = mem::replace(items, List::new(alloc)).into_vec();
@@ -125,7 +146,7 @@ fn put<T: Ordered>(alloc: Global, item: T, items: &mut List<T>) -> Result<(), Al
 
 impl Effects {
     /// None.
-    pub fn none(alloc: Global) -> Effects
+    fn none(alloc: Global) -> Effects
         ensures channels { result.channels ≡ [] }
         ensures grants { result.grants ≡ [] }
         ensures roles { result.roles ≡ [] }
@@ -154,63 +175,74 @@ impl Effects {
         }
         Ok(())
     }
+}
 
-    /// A channel more.
-    #[tactic(auto, unfolding(crate::specs::Builtins::add_channel))]
-    fn add_channel(
-        &mut self,
-        alloc: Global,
-        place: Place,
-        channel: &ChannelName,
-    ) -> Result<(), Stop>
-        ensures { Leaves (spec.add_channel place channel.now self.old) result self.new }
+impl Gathered {
+    /// None.
+    pub fn none(alloc: Global) -> Gathered
+        ensures channels { result.channels ≡ [] }
+        ensures grants { result.grants ≡ [] }
+        ensures roles { result.roles ≡ [] }
     {
-        let channel = channel.copy(alloc)?;
-        put(alloc, channel, &mut self.channels)?;
-        self.within(place)
+        Gathered {
+            effects: Effects::none(alloc),
+        }
     }
 
-    /// A grant more.
-    #[tactic(auto, unfolding(crate::specs::Builtins::add_grant))]
+    /// The effects.
+    pub fn into_effects(self) -> Effects
+        ensures { result ≡ self }
+    {
+        self.effects
+    }
+
+    /// The channel of this name more.
+    #[tactic(auto, unfolding(crate::specs::Arguments::add_channel_named, crate::specs::Builtins::add_channel))]
+    fn add_channel(&mut self, alloc: Global, place: Place, channel: &str) -> Result<(), Stop>
+        ensures { Leaves (names.add_channel_named place channel.now self.old) result self.new }
+    {
+        let channel = channel_of(alloc, place, channel)?;
+        put(alloc, channel, &mut self.effects.channels)?;
+        self.effects.within(place)
+    }
+
+    /// The channel of this name for a user or role more.
+    #[tactic(auto, unfolding(crate::specs::Arguments::add_grant_named, crate::specs::Builtins::add_grant))]
     fn add_grant(
         &mut self,
         alloc: Global,
         place: Place,
-        to: &Grantee,
-        channel: &ChannelName,
+        to: &str,
+        channel: &str,
     ) -> Result<(), Stop>
-        ensures { Leaves (spec.add_grant place to.now channel.now self.old) result self.new }
+        ensures { Leaves (names.add_grant_named place to.now channel.now self.old) result
+            self.new }
     {
-        let grant = grant_of(alloc, to, channel)?;
-        put(alloc, grant, &mut self.grants)?;
-        self.within(place)
+        let grant = grant_of(alloc, place, to, channel)?;
+        put(alloc, grant, &mut self.effects.grants)?;
+        self.effects.within(place)
     }
 
-    /// A role more.
-    #[tactic(auto, unfolding(crate::specs::Builtins::add_role))]
-    fn add_role(
-        &mut self,
-        alloc: Global,
-        place: Place,
-        user: &Name,
-        role: &Name,
-    ) -> Result<(), Stop>
-        ensures { Leaves (spec.add_role place user.now role.now self.old) result self.new }
+    /// The role of this name for a user more.
+    #[tactic(auto, unfolding(crate::specs::Arguments::add_role_named, crate::specs::Builtins::add_role))]
+    fn add_role(&mut self, alloc: Global, place: Place, user: &str, role: &str) -> Result<(), Stop>
+        ensures { Leaves (names.add_role_named place user.now role.now self.old) result
+            self.new }
     {
-        let role = role_grant_of(alloc, user, role)?;
-        put(alloc, role, &mut self.roles)?;
-        self.within(place)
+        let role = role_grant_of(alloc, place, user, role)?;
+        put(alloc, role, &mut self.effects.roles)?;
+        self.effects.within(place)
     }
 
-    /// These channels more.
-    #[tactic(auto, unfolding(crate::specs::Builtins::add_channels))]
+    /// The channels of these names more.
     pub(crate) fn add_channels(
         &mut self,
         alloc: Global,
         place: Place,
-        channels: &[ChannelName],
+        channels: &[&str],
     ) -> Result<(), Stop>
-        ensures { Leaves (spec.add_channels place channels.now self.old) result self.new }
+        ensures { Leaves (spec.for_each (names.add_channel_named place) (texts channels.now)
+            self.old) result self.new }
     {
         let mut left = channels;
         while let [channel, rest @ ..] = left {
@@ -220,15 +252,16 @@ impl Effects {
         Ok(())
     }
 
-    #[tactic(auto, unfolding(crate::specs::Builtins::add_grants_to))]
+    #[tactic(auto, unfolding(crate::specs::Arguments::add_grants_named_to))]
     fn add_grants_to(
         &mut self,
         alloc: Global,
         place: Place,
-        channels: &[ChannelName],
-        to: &Grantee,
+        channels: &[&str],
+        to: &str,
     ) -> Result<(), Stop>
-        ensures { Leaves (spec.add_grants_to place channels.now to.now self.old) result self.new }
+        ensures { Leaves (names.add_grants_named_to place (texts channels.now) to.now self.old)
+            result self.new }
     {
         let mut left = channels;
         while let [channel, rest @ ..] = left {
@@ -238,17 +271,16 @@ impl Effects {
         Ok(())
     }
 
-    /// Each of these channels to each of those.
-    #[tactic(auto, unfolding(crate::specs::Builtins::add_grants))]
+    /// Each of these channels to each of those users and roles.
     pub(crate) fn add_grants(
         &mut self,
         alloc: Global,
         place: Place,
-        grantees: &[Grantee],
-        channels: &[ChannelName],
+        grantees: &[&str],
+        channels: &[&str],
     ) -> Result<(), Stop>
-        ensures { Leaves (spec.add_grants place grantees.now channels.now self.old) result
-            self.new }
+        ensures { Leaves (spec.for_each (names.add_grants_named_to place (texts channels.now))
+            (texts grantees.now) self.old) result self.new }
     {
         let mut left = grantees;
         while let [to, rest @ ..] = left {
@@ -258,15 +290,16 @@ impl Effects {
         Ok(())
     }
 
-    #[tactic(auto, unfolding(crate::specs::Builtins::add_roles_to))]
+    #[tactic(auto, unfolding(crate::specs::Arguments::add_roles_named_to))]
     fn add_roles_to(
         &mut self,
         alloc: Global,
         place: Place,
-        roles: &[Name],
-        user: &Name,
+        roles: &[&str],
+        user: &str,
     ) -> Result<(), Stop>
-        ensures { Leaves (spec.add_roles_to place roles.now user.now self.old) result self.new }
+        ensures { Leaves (names.add_roles_named_to place (texts roles.now) user.now self.old)
+            result self.new }
     {
         let mut left = roles;
         while let [role, rest @ ..] = left {
@@ -277,15 +310,15 @@ impl Effects {
     }
 
     /// Each of these roles to each of those users.
-    #[tactic(auto, unfolding(crate::specs::Builtins::add_roles))]
     pub(crate) fn add_roles(
         &mut self,
         alloc: Global,
         place: Place,
-        users: &[Name],
-        roles: &[Name],
+        users: &[&str],
+        roles: &[&str],
     ) -> Result<(), Stop>
-        ensures { Leaves (spec.add_roles place users.now roles.now self.old) result self.new }
+        ensures { Leaves (spec.for_each (names.add_roles_named_to place (texts roles.now))
+            (texts users.now) self.old) result self.new }
     {
         let mut left = users;
         while let [user, rest @ ..] = left {

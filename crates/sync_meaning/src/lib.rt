@@ -24,7 +24,7 @@ pub use builtin::built_in;
 pub use by_name::ByName;
 pub use callee::{Builtin, Method, Target};
 pub use completion::Completion;
-pub use effects::Effects;
+pub use effects::{Effects, Gathered};
 pub use fault::{FaultKind, Rule, RuleKind, Stop};
 pub use methods::{by_method, indexed, listed, member};
 pub use operators::{added, bounded, combined, integer_in, prefixed, subtracted, truth};

@@ -7,7 +7,7 @@ ghost use Rattle.sync_meaning.specs.Statements as statements;
 ghost use Rattle.sync_meaning.specs.Variables as variables;
 
 use crate::Memory;
-use crate::effects::Effects;
+use crate::effects::Gathered;
 use crate::fault::{Rule, RuleKind, Stop};
 use crate::value::Value;
 use crate::variables::{Slot, Variables};
@@ -61,7 +61,7 @@ pub struct State {
     /// How many visits are left.
     pub visits: u32,
     pub variables: Variables,
-    pub effects: Effects,
+    pub effects: Gathered,
 }
 
 impl State {

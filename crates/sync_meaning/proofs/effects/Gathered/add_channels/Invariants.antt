@@ -1,0 +1,10 @@
+use Rattle.std.proofs.Common.{◌≡◌, length}
+use Rattle.sync_meaning.specs.Arguments.{texts, add_channel_named}
+use Rattle.sync_meaning.specs.Builtins.{for_each}
+use Rattle.sync_meaning.proofs.effects.Gathered.add_channels.Given as goal
+
+abbrev pub invariant-loop-left : goal.invariant-loop-left
+invariant-loop-left l = for_each (add_channel_named l.fn.place) (texts l.left) l.self ≡ for_each (add_channel_named l.fn.place) (texts l.fn.channels) l.fn.self
+
+abbrev pub decreases-loop-left : goal.decreases-loop-left
+decreases-loop-left l = length l.left
