@@ -11,7 +11,9 @@ use crate::statement::{Statements, run};
 use json_doc::Doc;
 use std::alloc::Global;
 use sync_code::Memory;
-use sync_meaning::{Completion, Context, Effects, Slot, State, Stop, Value, Variables, value_of};
+use sync_meaning::{
+    Completion, Context, Effects, Gathered, Slot, State, Stop, Value, Variables, value_of,
+};
 use sync_resolve::Resolved;
 
 /// How many visits a run has.
@@ -116,7 +118,7 @@ fn begin(
             context,
             visits,
             variables,
-            effects: Effects::none(alloc),
+            effects: Gathered::none(alloc),
         }),
         Err(error) => {
             drop(context);
@@ -157,7 +159,7 @@ fn finish(state: State, done: Result<Completion, Stop>) -> Result<Effects, Stop>
     drop(context);
     variables.release();
     match done {
-        Ok(_) => Ok(effects),
+        Ok(_) => Ok(effects.into_effects()),
         Err(stop) => {
             drop(effects);
             Err(stop)
