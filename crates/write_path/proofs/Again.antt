@@ -15,6 +15,7 @@ use Rattle.doc_board.specs.declared.room.Room.{Room}
 use Rattle.doc_board.specs.Outcomes.{bytes_of}
 use Rattle.sg_history.specs.Rooms.{without_room}
 use Rattle.doc_board.specs.State.{State}
+use Rattle.doc_board.specs.Steps.{with_entry}
 use Rattle.write_path.specs.declared.retry.Ready.{Ready}
 use Rattle.write_path.specs.declared.retry.Retried.{Retried}
 use Rattle.write_path.specs.declared.retry.Retried.TheVariants as retried
@@ -64,6 +65,7 @@ may_still s m number same may =
 
 spent_still : (s m t : State) (room : Room) (number : Number) (e : Entry) → IsAsBefore s m → IsSpent m t room number e → IsSpent s t room number e
 spent_still s m t room number e same spent = record {
+  book = spent.book ∙ (λ i. with_entry number.value e (book_with (same.log i) (same.pending i)));
   stored = spent.stored
       ∙ ap (λ (es : List Entry). release es (put_waiting (record { number = number.value; entry = e }) m.pending)) same.log
       ∙ ap (λ (ws : List Waiting). release s.log (put_waiting (record { number = number.value; entry = e }) ws)) same.pending;
@@ -72,8 +74,8 @@ spent_still s m t room number e same spent = record {
 
 pub stored_again : (s m t : State) (program : Program) (strict : Bool) (by : Option (List ℕ)) (r : Revision) (room : Room) (number : Number) (c : Ready) (result : Retried)
     → IsAsBefore s m → IsReady s program strict by r c → IsHeldStored m t room number c result → IsTriedAgain s t program strict by r room number result
-stored_again s m t program strict by r room number c (retried.Answered answer) same ready (is, spent) =
-    inl (record { ready = c; is_ready = ready; answered = is; spent = spent_still s m t room number (kinds.Write c.entry) same spent })
+stored_again s m t program strict by r room number c (retried.Answered answer) same ready (is, above, spent) =
+    inl (record { ready = c; is_ready = ready; above = above; answered = is; spent = spent_still s m t room number (kinds.Write c.entry) same spent })
 stored_again s m t program strict by r room number c (retried.Overtaken given held back) same ready (a, b, is, above, after) = (
   a,
   b,

@@ -5,6 +5,9 @@ pub mod BoardBodies
 pub mod BodyLaws
 pub mod Braces
 pub mod Commanded
+pub mod Commanding
+pub mod Committing
+pub mod Crossing
 pub mod Decided
 pub mod Entries
 pub mod Grown
@@ -13,10 +16,15 @@ pub mod NameTexts
 pub mod OneRead
 pub mod OwnEnds
 pub mod Proposed
+pub mod ProposalTurns
 pub mod ReadLaws
+pub mod RoomTimes
 pub mod Rooms
 pub mod RowsSay
 pub mod Said
 pub mod Same
+pub mod Sharing
 pub mod Stored
+pub mod Triable
+pub mod Turning
 pub mod Winners

@@ -35,3 +35,12 @@ pub history_later : (read : List BoardState) (s : State) → s.pending ≡ [] �
 history_later [] s alone all = tt
 history_later (b ∷ others) s alone all =
     (subst (λ (book : Book). Later (board_book b) book) (same_book s alone) all.0.book, history_later others s alone all.1)
+
+-- the same of a board with which a gate was closed
+same_closed : (board : BoardState) → board.pending ≡ [] → board_book board ≡ book_of board.log
+same_closed board alone = ap (λ (ws : List Waiting). book_with board.log ws) alone ∙ fun_ext (λ number. nothing_else (book_of board.log number))
+
+pub closed_later : (read : List BoardState) (board : BoardState) → board.pending ≡ [] → IsAfterAll read board → IsLaterThanAll read board.log
+closed_later [] board alone all = tt
+closed_later (b ∷ others) board alone all =
+    (subst (λ (book : Book). Later (board_book b) book) (same_closed board alone) all.0.book, closed_later others board alone all.1)

@@ -18,6 +18,11 @@ later_than_rest : (added before : List BoardState) (h : List Entry) → IsLaterT
 later_than_rest [] before h all = all
 later_than_rest (x ∷ added) before h all = later_than_rest added before h all.1
 
+-- and than each of two lists
+pub later_than_each : (one other : List BoardState) (h : List Entry) → IsLaterThanAll (one ++ other) h → IsLaterThanAll one h × IsLaterThanAll other h
+later_than_each [] other h all = (tt, all)
+later_than_each (x ∷ one) other h all = let rest = later_than_each one other h all.1 in ((all.0, rest.0), rest.1)
+
 after_rest : (added before : List BoardState) (b : BoardState) → IsAfterAll (added ++ before) b → IsAfterAll before b
 after_rest [] before b all = all
 after_rest (x ∷ added) before b all = after_rest added before b all.1

@@ -10,7 +10,9 @@ pub mod Proposals
 pub mod Reads
 pub mod Retry
 pub mod Shape
+pub mod Shared
 pub mod Shelf
 pub mod Solo
 pub mod Trail
+pub mod Turns
 pub mod Verdicts

@@ -1,5 +1,5 @@
 -- What a second try of a proposal answers, and what it leaves.
-use Rattle.std.specs.Prelude.{◌≡◌, ◌≤◌, ◌⊎◌, ℕ, Bool, List, length, Option, Some}
+use Rattle.std.specs.Prelude.{◌≡◌, ◌≤◌, ◌<◌, ◌⊎◌, ℕ, Bool, List, length, Option, Some}
 use Rattle.sg_history.specs.declared.entries.Entry.{Entry}
 use Rattle.sg_history.specs.declared.entries.Entry.TheVariants as kinds
 use Rattle.sg_history.specs.declared.number.Number.{Number}
@@ -16,8 +16,8 @@ use Rattle.doc_board.specs.Candidates.{ExtendsTree}
 use Rattle.doc_board.specs.Outcomes.{IsAccepted, IsJudged, IsOutcome, IsWriteOf}
 use Rattle.doc_board.specs.Recorded.{HasDocument}
 use Rattle.sg_history.specs.Rooms.{without_room}
-use Rattle.doc_board.specs.State.{State, tree_on, last_on}
-use Rattle.doc_board.specs.Steps.{history_on, stored_at}
+use Rattle.doc_board.specs.State.{State, book_on, tree_on, last_on}
+use Rattle.doc_board.specs.Steps.{history_on, stored_at, with_entry}
 use Rattle.write_path.specs.declared.retry.Ready.{Ready}
 use Rattle.write_path.specs.declared.retry.Retried.{Retried}
 use Rattle.write_path.specs.declared.retry.Retried.TheVariants as retried
@@ -57,12 +57,13 @@ IsTurnedDown other = Unit {0}
 -- what a number that was held has then, and the rooms without the one that ended
 pub record IsSpent (before after : State) (room : Room) (number : Number) (e : Entry) : Type 0 where
   pub stored : history_on after ≡ stored_at before number.value e
+  pub book : book_on after ≡ with_entry number.value e (book_on before)
   pub rooms : after.rooms ≡ without_room room.made_for before.rooms
 
 -- the write is stored at its number, or handed back with all where its document was written above that
 abbrev pub IsHeldStored : State → State → Room → Number → Ready → Retried → Type 0
 IsHeldStored before after room number c (retried.Answered answer) =
-    (answer ≡ outcome.Stored number.value c.entry.at) × IsSpent before after room number (kinds.Write c.entry)
+    (answer ≡ outcome.Stored number.value c.entry.at) × (c.base < number.value) × IsSpent before after room number (kinds.Write c.entry)
 IsHeldStored before after room number c (retried.Overtaken r n ready) =
     (r ≡ room) × (n ≡ number) × (ready ≡ c) × (number.value ≤ c.base) × IsAsBefore before after
 
@@ -70,6 +71,7 @@ IsHeldStored before after room number c (retried.Overtaken r n ready) =
 pub record IsStoredAgain (before after : State) (program : Program) (strict : Bool) (by : Option (List ℕ)) (r : Revision) (room : Room) (number : Number) (answer : Outcome) : Type 0 where
   pub ready : Ready
   pub is_ready : IsReady before program strict by r ready
+  pub above : ready.base < number.value
   pub answered : answer ≡ outcome.Stored number.value ready.entry.at
   pub spent : IsSpent before after room number (kinds.Write ready.entry)
 

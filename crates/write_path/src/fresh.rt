@@ -4,7 +4,8 @@ ghost use Rattle.std.specs.Prelude.{◌≡◌, ◌+◌, ◌++◌, ◌∷◌, [],
 ghost use Rattle.pending_front.specs.Storing.{MayStore};
 ghost use Rattle.doc_board.specs.Candidates.{Fits, MayBeStored, entry_of, is_stale};
 ghost use Rattle.doc_board.specs.Rooms.{is_outstanding};
-ghost use Rattle.doc_board.specs.Steps.{history_on, stored_at};
+ghost use Rattle.doc_board.specs.State.{book_on};
+ghost use Rattle.doc_board.specs.Steps.{history_on, stored_at, with_entry};
 ghost use Rattle.sg_history.specs.Rooms.{without_room};
 
 use doc_board::laws::alone;
@@ -25,6 +26,8 @@ pub(crate) fn commit_fresh(
     requires fresh { is_stale board.old candidate ≡ false }
     ensures sequence { result ≡ number.value }
     ensures stored { history_on board.new ≡ stored_at board.old number.value (entry_of candidate) }
+    ensures book { book_on board.new
+        ≡ with_entry number.value (entry_of candidate) (book_on board.old) }
     ensures rooms { board.new.rooms ≡ without_room room.made_for board.old.rooms }
 {
     match board.commit(room, number, candidate) {

@@ -21,6 +21,8 @@ ghost use Rattle.repl_messages.specs.declared.revision.Revision.{Revision};
 ghost use Rattle.sync_syntax.specs.declared.tree.Program.{Program};
 ghost use Rattle.doc_board.specs.declared.outcome.Outcome.{Outcome};
 ghost use Rattle.doc_board.specs.State.{State};
+ghost use Rattle.seq_gate.specs.Passes.{Closes, joined};
+ghost use Rattle.seq_gate.specs.declared.known.Known.{Known};
 ghost use Rattle.write_path.specs.Commands.{IsBoardCommanded};
 ghost use Rattle.write_path.specs.Own.{in_order, own_after};
 ghost use Rattle.write_path.specs.Proposals.{IsBoardAfter};
@@ -78,6 +80,15 @@ pub fn was_read()
 {
     sg_history::laws::later();
 }
+
+/// The log of a board with which a gate was closed is later than each board that the last pass has read; and a history that is later
+/// than all that a joined pass has read is later than all that each of the two had read.
+pub fn closing()
+    ensures closed { (p : Known) (board : BoardState) → Closes p board
+        → IsLaterThanAll p.read board.log }
+    ensures joined { (p other : Known) (h : List Entry) → IsLaterThanAll (joined p other).read h
+        → IsLaterThanAll p.read h × IsLaterThanAll other.read h }
+{}
 
 /// A log that has, behind these entries, those that its one owner stored, in their order, has so after a proposal and after a command.
 pub fn own_entries()

@@ -52,7 +52,7 @@ fn are_revs(revs: &[RevId]) -> bool
 }
 
 /// The document of a revision that is well formed, or its refusal: of its names, its size, or its body.
-fn document_of(alloc: Global, revision: &Revision) -> Result<Doc, Outcome>
+pub(crate) fn document_of(alloc: Global, revision: &Revision) -> Result<Doc, Outcome>
     ensures formed { IfOk result (λ doc. IsWellFormed revision.now) }
     ensures document { IfOk result (λ doc. IsDocument revision.now.body (node_tree doc)) }
     ensures refusal { IfErr result (IsRefusal revision.now) }

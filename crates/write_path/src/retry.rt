@@ -9,7 +9,8 @@ ghost use Rattle.pending_front.specs.Storing.{MayStore};
 ghost use Rattle.doc_board.specs.declared.outcome.Outcome.TheVariants as outcomes;
 ghost use Rattle.doc_board.specs.Outcomes.{IsWellFormed, bytes_of};
 ghost use Rattle.doc_board.specs.Rooms.{is_outstanding};
-ghost use Rattle.doc_board.specs.Steps.{history_on, swapped_to};
+ghost use Rattle.doc_board.specs.State.{book_on};
+ghost use Rattle.doc_board.specs.Steps.{history_on, swapped_to, with_entry};
 ghost use Rattle.write_path.specs.Retry.{FitsReady, IsHeldReady, IsHeldStored, IsTriedAgain};
 ghost use Rattle.sg_history.specs.Rooms.{without_room};
 
@@ -114,6 +115,8 @@ pub fn store_at_fresh(
     ensures answer { result ≡ outcomes.Stored fresh.value ready.entry.at }
     ensures stored { history_on board.new ≡ swapped_to board.old number.value fresh.value
         (kinds.Write ready.entry) }
+    ensures book { book_on board.new ≡ with_entry fresh.value (kinds.Write ready.entry)
+        (with_entry number.value kinds.Unused (book_on board.old)) }
     ensures rooms { board.new.rooms ≡ without_room room.made_for board.old.rooms }
 {
     let Ready { entry, tree, base } = ready;

@@ -1,23 +1,39 @@
 //! The shelf: what the gateway keeps of its documents.
 
-ghost use Rattle.std.specs.Prelude.{◌≡◌, ◌||◌, [], length, IfOk};
+ghost use Rattle.std.specs.Prelude.{◌≡◌, ◌≢◌, ◌≤◌, ◌<◌, ◌||◌, ◌++◌, ◌∷◌, [], false, length, None, Some, IfOk, OnOk, OnErr, IsTrue};
 ghost use Rattle.std.specs.Option.{option_copied};
+ghost use Rattle.sg_history.specs.declared.entries.Entry.TheVariants as kinds;
 ghost use Rattle.sg_history.specs.Journal.{IsEntry};
+ghost use Rattle.sg_history.specs.Line.{is_write};
+ghost use Rattle.sg_history.specs.Rooms.{without_room};
+ghost use Rattle.pending_front.specs.Storing.{MayStore};
 ghost use Rattle.principals.specs.Script.{entry_of};
-ghost use Rattle.doc_board.specs.Outcomes.{IsByLimits, IsOutcome, bytes_of};
+ghost use Rattle.doc_board.specs.declared.outcome.Outcome.TheVariants as outcomes;
+ghost use Rattle.doc_board.specs.Boards.{board_of};
+ghost use Rattle.doc_board.specs.Limits.{IsRefusedBy, refusal};
+ghost use Rattle.doc_board.specs.Outcomes.{IsByLimits, IsOutcome, IsWellFormed, bytes_of};
+ghost use Rattle.doc_board.specs.Rooms.{is_outstanding, room_for};
+ghost use Rattle.doc_board.specs.State.{State, book_on};
+ghost use Rattle.doc_board.specs.Steps.{history_on, stored_at, swapped_to, with_entry};
 ghost use Rattle.write_path.specs.Bodies.{BodiesAt};
 ghost use Rattle.write_path.specs.Commands.{IsBoardCommanded};
 ghost use Rattle.write_path.specs.Proposals.{IsAsBefore, IsBoardAfter};
+ghost use Rattle.write_path.specs.Retry.{FitsReady, IsHeldReady};
 ghost use Rattle.write_path.specs.Shelf.{shelf_state};
+ghost use Rattle.write_path.specs.Turns.{IsJudgedAt, IsTried, WasAccepted};
 
+use crate::accepted::{Accepted, Judged};
 use crate::bodies::bodies_at;
 use crate::command::command_to;
-use crate::propose::propose_to;
-use doc_board::{Board, Outcome};
+use crate::fresh::commit_fresh;
+use crate::propose::{extension_of, propose_to};
+use crate::retry::{Ready, Retried, store_at_fresh};
+use crate::trying::store_or_retry;
+use doc_board::{Board, Candidate, NoRoom, Outcome, Room};
 use principals::Command;
 use repl_messages::{Bodies, Revision};
 use seq_gate::Kept;
-use sg_history::{Name, Options, Row};
+use sg_history::{DocId, Entry, Name, Number, Options, Row};
 use sg_outside::Memory;
 use std::alloc::Global;
 use std::marker::Model;
@@ -108,6 +124,122 @@ impl Shelf {
         ensures limits { IsByLimits 0 (shelf_state self.old) result }
     {
         command_to(&mut self.board, command)
+    }
+}
+
+// What a ground that others share has it do in its turns.
+impl Shelf {
+    /// Has its board judge a revision that is well formed.
+    pub(crate) fn extension(
+        &mut self,
+        revision: &Revision,
+        strict: bool,
+        by: Option<&Name>,
+    ) -> Result<Judged, Outcome>
+        requires { IsWellFormed revision.now }
+        ensures same { IsAsBefore self.old.board self.new.board }
+        ensures judged { IsJudgedAt self.old.board strict (option_copied by.entry) revision.now
+            result }
+    {
+        extension_of(&mut self.board, revision, strict, by)
+    }
+
+    /// The length of its board's log, and a room that is made there, or why there is none.
+    pub(crate) fn room(&mut self, doc: Option<&DocId>, bytes: u64) -> (u64, Result<Room, NoRoom>)
+        requires { bytes ≤ 20971520 }
+        ensures front { result.0 ≡ length self.old.board.log }
+        ensures log { self.new.board.log ≡ self.old.board.log }
+        ensures pending { self.new.board.pending ≡ self.old.board.pending }
+        ensures refused { IsRefusedBy (refusal (board_of self.old.board) bytes) result.1 }
+        ensures ok { OnOk result.1 (self.new.board.rooms ≡ self.old.board.rooms
+            ++ room_for (option_copied doc.entry) bytes ∷ []) }
+        ensures err { OnErr result.1 (self.new.board.rooms ≡ self.old.board.rooms) }
+        ensures room { IfOk result.1 (λ room. room.made_for
+            ≡ room_for (option_copied doc.entry) bytes) }
+    {
+        let at = self.board.front();
+        (at, self.board.room(doc, bytes))
+    }
+
+    /// Stores an entry that is no write at a number that is held, in its room: the number.
+    pub(crate) fn store_plain(&mut self, room: Room, number: Number, entry: Entry) -> u64
+        requires number { MayStore self.old.board.log self.old.board.pending number.value }
+        requires out { IsTrue (is_outstanding self.old.board.rooms room.made_for) }
+        requires fits { room.made_for.doc ≡ None }
+        requires entry { IsEntry entry }
+        requires plain { is_write entry ≡ false }
+        ensures sequence { result ≡ number.value }
+        ensures stored { history_on self.new.board ≡ stored_at self.old.board number.value entry }
+        ensures book { book_on self.new.board
+            ≡ with_entry number.value entry (book_on self.old.board) }
+        ensures rooms { self.new.board.rooms
+            ≡ without_room room.made_for self.old.board.rooms }
+    {
+        commit_fresh(&mut self.board, room, number, Candidate::Plain(entry))
+    }
+
+    /// Stores the write of an accepted revision, or tries it again.
+    pub(crate) fn store_or_retry(
+        &mut self,
+        alloc: Global,
+        program: &Resolved,
+        by: Option<&Name>,
+        strict: bool,
+        revision: Revision,
+        accepted: Accepted,
+        room: Room,
+        number: Number,
+    ) -> Retried
+        requires formed { IsWellFormed revision }
+        requires number { MayStore self.old.board.log self.old.board.pending number.value }
+        requires out { IsTrue (is_outstanding self.old.board.rooms room.made_for) }
+        requires doc { room.made_for.doc ≡ Some revision.doc }
+        requires bytes { bytes_of revision ≤ room.made_for.bytes }
+        requires accepted { (judged : State) × WasAccepted judged self.old.board program.now
+            strict (option_copied by) revision number.value accepted }
+        ensures { (judged : State)
+            → WasAccepted judged self.old.board program.now strict (option_copied by.entry)
+            revision number.value accepted
+            → IsTried judged self.old.board self.new.board program.now strict
+            (option_copied by.entry) revision room number result }
+    {
+        store_or_retry(
+            alloc,
+            &mut self.board,
+            program,
+            by,
+            strict,
+            revision,
+            accepted,
+            room,
+            number,
+        )
+    }
+
+    /// Stores a write that has overtaken its number at a fresh one, and gives the other up.
+    pub(crate) fn store_at_fresh(
+        &mut self,
+        room: Room,
+        number: Number,
+        fresh: Number,
+        ready: Ready,
+    ) -> Outcome
+        requires spent { MayStore self.old.board.log self.old.board.pending number.value }
+        requires fresh { MayStore self.old.board.log self.old.board.pending fresh.value }
+        requires apart { number.value ≢ fresh.value }
+        requires out { IsTrue (is_outstanding self.old.board.rooms room.made_for) }
+        requires fits { FitsReady room.made_for ready }
+        requires ready { IsHeldReady self.old.board ready }
+        requires above { ready.base < fresh.value }
+        ensures answer { result ≡ outcomes.Stored fresh.value ready.entry.at }
+        ensures stored { history_on self.new.board ≡ swapped_to self.old.board number.value
+            fresh.value (kinds.Write ready.entry) }
+        ensures book { book_on self.new.board ≡ with_entry fresh.value (kinds.Write ready.entry)
+            (with_entry number.value kinds.Unused (book_on self.old.board)) }
+        ensures rooms { self.new.board.rooms
+            ≡ without_room room.made_for self.old.board.rooms }
+    {
+        store_at_fresh(&mut self.board, room, number, fresh, ready)
     }
 }
 

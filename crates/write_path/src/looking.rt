@@ -1,0 +1,82 @@
+//! Turns in which a pass looks at a shelf, and leaves it as it was.
+
+ghost use Rattle.std.specs.Prelude.{◌≡◌, IfOk};
+ghost use Rattle.sg_history.specs.Board.{BoardState};
+ghost use Rattle.write_path.specs.Asks.{AskedAt};
+ghost use Rattle.write_path.specs.Bodies.{BodiesAt};
+ghost use Rattle.write_path.specs.Feed.{FeedAt};
+ghost use Rattle.write_path.specs.Shared.{IsLookTurn, Rests};
+
+use crate::ask::asked_at;
+use crate::feed::feed_at;
+use crate::shelf::Shelf;
+use crate::turns::{enter, leave_as_found};
+use repl_messages::{Asked, Bodies, Fed, Offer};
+use seq_gate::{Gate, Pass};
+use sg_history::{Key, Name, Options, Row};
+use sg_outside::Memory;
+use std::alloc::Global;
+use std::sync::Wait;
+
+/// A turn for a user's feed.
+pub(crate) fn feed_in_turn<R: Wait>(
+    rt: &R,
+    gate: &Gate<Shelf>,
+    pass: Pass<Shelf>,
+    alloc: Global,
+    user: &Name,
+    since: &Key,
+    options: &Options,
+) -> (Pass<Shelf>, Result<Fed, Memory>)
+    requires here { pass.gate ≡ gate.now }
+    requires rests { Rests pass.knows }
+    ensures gate { result.0.gate ≡ pass.gate }
+    ensures looked { (found : BoardState) × IsLookTurn pass.knows result.0.knows found
+        × IfOk result.1 (FeedAt found.log user.now since.now options.now) }
+{
+    let mut turn = enter(rt, gate, pass);
+    let fed = feed_at(alloc, turn.board().board().log(), user, since, options);
+    (leave_as_found(gate, turn), fed)
+}
+
+/// A turn for bodies.
+pub(crate) fn bodies_in_turn<R: Wait>(
+    rt: &R,
+    gate: &Gate<Shelf>,
+    pass: Pass<Shelf>,
+    alloc: Global,
+    user: &Name,
+    options: &Options,
+    rows: &[Row],
+    most: u64,
+) -> (Pass<Shelf>, Result<Bodies, Memory>)
+    requires here { pass.gate ≡ gate.now }
+    requires rests { Rests pass.knows }
+    ensures gate { result.0.gate ≡ pass.gate }
+    ensures looked { (found : BoardState) × IsLookTurn pass.knows result.0.knows found
+        × IfOk result.1 (BodiesAt found user.now options.now rows.now most) }
+{
+    doc_board::laws::after();
+    let mut turn = enter(rt, gate, pass);
+    let bodies = turn.board().bodies(alloc, user, options, rows, most);
+    (leave_as_found(gate, turn), bodies)
+}
+
+/// A turn for revisions that a device offers.
+pub(crate) fn ask_in_turn<R: Wait>(
+    rt: &R,
+    gate: &Gate<Shelf>,
+    pass: Pass<Shelf>,
+    alloc: Global,
+    offers: &[Offer],
+) -> (Pass<Shelf>, Result<Asked, Memory>)
+    requires here { pass.gate ≡ gate.now }
+    requires rests { Rests pass.knows }
+    ensures gate { result.0.gate ≡ pass.gate }
+    ensures looked { (found : BoardState) × IsLookTurn pass.knows result.0.knows found
+        × IfOk result.1 (AskedAt found offers.now) }
+{
+    let mut turn = enter(rt, gate, pass);
+    let asked = asked_at(alloc, turn.board().board(), offers);
+    (leave_as_found(gate, turn), asked)
+}
