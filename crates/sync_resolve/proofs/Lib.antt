@@ -3,4 +3,4 @@ pub mod First
 pub mod Closing
 pub mod Steps
 pub mod Second
-mod Crossing
+pub mod Crossing

@@ -9,3 +9,5 @@ mod faults;
 mod names;
 #[cfg(test)]
 mod texts;
+#[cfg(test)]
+mod threads;
