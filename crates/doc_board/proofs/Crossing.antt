@@ -13,8 +13,7 @@ use Rattle.doc_board.specs.contracts.board.Board
 
 storage_send : IsSend (Storage.the_field).row
 storage_send =
-    struct_send (Declared.shape Storage.the_type)
-    (
+    struct_send (Declared.shape Storage.the_type) (
       log.the_field_send,
       (pending.the_send, (search (document.the_send, maps.crosses, crosses, sendable) depth 30, (search (maps.crosses, crosses, sendable) depth 30, (search (knot.crosses, sendable) depth 30, (search sendable, tt))))),
     )

@@ -20,8 +20,8 @@ use sqlite_items::Items;
 use std::alloc::Global;
 use sync_code::{Code, Memory, Tail};
 use sync_meaning::{
-    Builtin, ByName, FaultKind, Literal, Method, Rule, RuleKind, Slot, State, Stop, Target, Value, bounded,
-    built_in, by_method, combined, indexed, listed, member, prefixed, truth,
+    Builtin, ByName, FaultKind, Literal, Method, Rule, RuleKind, Slot, State, Stop, Target, Value,
+    bounded, built_in, by_method, combined, indexed, listed, member, prefixed, truth,
 };
 use sync_syntax::tree::{Operator, Prefix};
 use sync_tokens::Place;
@@ -350,11 +350,7 @@ impl<F: Fn(Global, u64, &mut State, &Code, bool) -> Result<Target, Stop>> Expres
 
     /// The members of an object, from left to right.
     #[tactic(auto, unfolding(sync_meaning::specs::Expressions::members))]
-    fn members(
-        &self,
-        state: &mut State,
-        exprs: &[(DocText, Code)],
-    ) -> Result<ByName<Value>, Stop>
+    fn members(&self, state: &mut State, exprs: &[(DocText, Code)]) -> Result<ByName<Value>, Stop>
         requires { Nests self.now.depth (F.pre self.now.inner) (F.post self.now.inner) }
         ensures { DoesWhere (members_fit exprs.now)
             (λ scope. spec.members (evaluated self.now.depth) scope (member_sources exprs.now))
