@@ -1,7 +1,8 @@
 //! Does work of histories, gates and the sync language, so that what it takes can be measured from outside. The first word is the
 //! job. `draw`, `turn` and `lock` take how many threads and how often. All others take a file: `entries`, `apply`, `channels`,
-//! `roles` and `periods` a journal and how often; `propose`, `pull`, `lose`, `filter` and `names` a journal and how many; `parse`, `print` and `fault` a
-//! function and how often; `judge`, `plain_channels`, `plain_count` and `plain_pass` besides a document.
+//! `roles` and `periods` a journal and how often; `propose`, `pull`, `lose`, `filter` and `names` a journal and how many; `parse`, `print`,
+//! `resolve` and `fault` a function and how often; `judge`, `judge_user`, `judge_change` and `judge_both` besides a document, `member` the name
+//! of a member, how often and a document, and `plain_channels`, `plain_count` and `plain_pass` any file, how often and a document.
 #![tactic(auto)]
 
 mod functions;
@@ -10,9 +11,9 @@ mod grounds;
 mod judging;
 mod passes;
 mod stop;
+mod threads;
 
 use functions::told;
-use judging::{judged, plain};
 use sg_outside::{Bytes, Files, RealFiles};
 use std::alloc::{AllocError, Global};
 use std::sync::Wait;
@@ -38,7 +39,7 @@ fn few(count: u64) -> u32 {
     u32::try_from(count).unwrap_or(u32::MAX)
 }
 
-/// How many judgements of a document accepted, or how many channels or items the plain work came to.
+/// What is counted by a text and a document.
 fn worked<F: Files>(
     alloc: Global,
     files: &mut F,
@@ -46,10 +47,25 @@ fn worked<F: Files>(
     text: &str,
 ) -> Result<String, Stop> {
     let document = load(alloc, files, asked.document.as_str())?;
-    let found = match asked.job.as_str() {
-        "judge" => judged(alloc, text, document.as_slice(), few(asked.count))?,
-        job => plain(alloc, job, document.as_slice(), few(asked.count))?,
+    let job = asked.job.as_str();
+    let found = judging::job(alloc, job, text, document.as_slice(), few(asked.count))?;
+    text_of(alloc, u64::from(found))
+}
+
+/// How many judgements of a document accepted in two threads.
+fn judged_by_two<R: Threads + Sync, F: Files>(
+    rt: &R,
+    alloc: Global,
+    files: &mut F,
+    asked: &Asked,
+) -> Result<String, Stop> {
+    let function = load(alloc, files, asked.of.as_str())?;
+    let document = load(alloc, files, asked.document.as_str())?;
+    let Ok(text) = std::str::from_utf8(function.as_slice()) else {
+        return Err(Stop::Text);
     };
+    let count = few(asked.count);
+    let found = threads::judged_by_two(rt, alloc, text, document.as_slice(), count);
     text_of(alloc, u64::from(found))
 }
 
@@ -104,6 +120,7 @@ fn run<R: Threads + Wait + Sync, F: Files>(
 ) -> Result<String, Stop> {
     match asked.job.as_str() {
         "draw" | "turn" | "lock" => Ok(of_passes(rt, alloc, asked)?),
+        "judge_both" => judged_by_two(rt, alloc, files, asked),
         _ => of_file(alloc, files, asked),
     }
 }
