@@ -19,12 +19,12 @@ use sync_syntax::{Program, parse};
 use write_path::{Ground, Shelf, SoloGround};
 
 /// The sync function by which revisions are judged: the one that a gateway has where its configuration has none.
-const FUNCTION: &str = "function(doc, oldDoc) { channel(doc.channels); }";
+pub const FUNCTION: &str = "function(doc, oldDoc) { channel(doc.channels); }";
 
 /// The most ancestors that a body is asked for with.
 const ANCESTORS: u64 = 100;
 
-const START: Key = Key { by: 0, seq: 0 };
+pub const START: Key = Key { by: 0, seq: 0 };
 
 /// After the put of the user who pulls, so that what left since then is a row.
 const AFTER_START: Key = Key { by: 1, seq: 1 };
@@ -35,14 +35,14 @@ const OPTIONS: Options = Options {
     revocations: false,
 };
 
-fn log_of(alloc: Global, journal: Bytes) -> Result<Log, Stop>
+pub fn log_of(alloc: Global, journal: Bytes) -> Result<Log, Stop>
     ensures { IfOk result (λ log. AreLawful (reverse (entries_of log))) }
 {
     recorded();
     Ok(take_journal(alloc, journal)?)
 }
 
-fn ground_of(alloc: Global, journal: Bytes) -> Result<SoloGround, Stop> {
+pub fn ground_of(alloc: Global, journal: Bytes) -> Result<SoloGround, Stop> {
     let board = Board::open(alloc, log_of(alloc, journal)?)?;
     Ok(SoloGround::new(Shelf::new(board)?))
 }
@@ -61,7 +61,7 @@ fn first_rev(alloc: Global) -> Result<RevId, Stop> {
 }
 
 /// The first revision of a document that no journal has.
-fn revision_of(alloc: Global, number: u64) -> Result<Revision, Stop> {
+pub fn revision_of(alloc: Global, number: u64) -> Result<Revision, Stop> {
     let doc = doc_of(alloc, number)?;
     let rev = first_rev(alloc)?;
     Ok(Revision {
@@ -74,28 +74,31 @@ fn revision_of(alloc: Global, number: u64) -> Result<Revision, Stop> {
     })
 }
 
-fn parsed(alloc: Global) -> Result<Program, Stop> {
-    match parse(alloc, FUNCTION) {
+fn parsed(alloc: Global, function: &str) -> Result<Program, Stop> {
+    match parse(alloc, function) {
         Ok(program) => Ok(program),
         Err(_) => Err(Stop::Program),
     }
 }
 
-fn program_of(alloc: Global) -> Result<Resolved, Stop> {
-    match resolve(alloc, parsed(alloc)?) {
+pub fn program_of(alloc: Global, function: &str) -> Result<Resolved, Stop> {
+    match resolve(alloc, parsed(alloc, function)?) {
         Ok(program) => Ok(program),
         Err(_) => Err(Stop::Program),
     }
 }
 
-/// Whether the revision of this number is stored.
-fn is_stored(
+/// Whether the revision of this number is stored; it is not proposed where no draws are left for it.
+pub fn is_stored<G: Ground>(
     alloc: Global,
-    ground: &mut SoloGround,
+    ground: &mut G,
     program: &Resolved,
     user: &Name,
     number: u64,
 ) -> Result<bool, Stop> {
+    if ground.left() < 2 {
+        return Ok(false);
+    }
     let revision = revision_of(alloc, number)?;
     let outcome = ground.propose(alloc, program, Some(user), true, revision);
     Ok(matches!(outcome, Outcome::Stored { .. }))
@@ -108,7 +111,7 @@ fn stored(
     user: &Name,
     proposals: u64,
 ) -> Result<u64, Stop> {
-    let program = program_of(alloc)?;
+    let program = program_of(alloc, FUNCTION)?;
     let mut count = 0u64;
     for number in 0..proposals {
         if is_stored(alloc, ground, &program, user, number)? {
@@ -119,7 +122,12 @@ fn stored(
 }
 
 /// How many of these rows are answered with a body, or as removed.
-fn bodies(alloc: Global, ground: &mut SoloGround, user: &Name, rows: &[Row]) -> Result<u64, Stop> {
+pub fn bodies(
+    alloc: Global,
+    ground: &mut SoloGround,
+    user: &Name,
+    rows: &[Row],
+) -> Result<u64, Stop> {
     let found = ground.bodies(alloc, user, &OPTIONS, rows, ANCESTORS)?;
     let mut count = 0u64;
     for answer in found.answers.as_slice() {
@@ -131,7 +139,12 @@ fn bodies(alloc: Global, ground: &mut SoloGround, user: &Name, rows: &[Row]) -> 
 }
 
 /// The rows of all documents after a key.
-fn rows_of(alloc: Global, ground: &mut SoloGround, user: &Name, since: &Key) -> Result<Rows, Stop> {
+pub fn rows_of(
+    alloc: Global,
+    ground: &mut SoloGround,
+    user: &Name,
+    since: &Key,
+) -> Result<Rows, Stop> {
     match ground.feed(alloc, user, since, &OPTIONS)? {
         Fed::Rows { rows, .. } => Ok(rows),
         Fed::Future { .. } => Ok(Rows::new(alloc)),

@@ -1,8 +1,9 @@
 //! Does work of histories, gates and the sync language, so that what it takes can be measured from outside. The first word is the
 //! job. `draw`, `turn` and `lock` take how many threads and how often. All others take a file: `entries`, `apply`, `channels`,
-//! `roles` and `periods` a journal and how often; `propose`, `pull`, `lose`, `filter` and `names` a journal and how many; `parse`, `print`,
-//! `resolve` and `fault` a function and how often; `judge`, `judge_user`, `judge_change` and `judge_both` besides a document, `member` the name
-//! of a member, how often and a document, and `plain_channels`, `plain_count` and `plain_pass` any file, how often and a document.
+//! `roles` and `periods` a journal and how often; `propose`, `pull`, `lose`, `filter` and `names` a journal and how many; `extend`, `repeat`,
+//! `deny`, `offer` and `bodies` besides a leaf of its document `d`; `parse`, `print`, `resolve` and `fault` a function and how often; `judge`,
+//! `judge_user`, `judge_change` and `judge_both` besides a document, `member` the name of a member, how often and a document, and
+//! `plain_channels`, `plain_count` and `plain_pass` any file, how often and a document.
 #![tactic(auto)]
 
 mod functions;
@@ -12,6 +13,7 @@ mod judging;
 mod passes;
 mod stop;
 mod threads;
+mod trees;
 
 use functions::told;
 use sg_outside::{Bytes, Files, RealFiles};
@@ -21,7 +23,7 @@ use std::thread::Threads;
 use std::{env, io};
 use stop::{Stop, load};
 
-/// The job, what it takes, how often it is done, and a second file.
+/// The job, what it takes, how often it is done, and a second file or a leaf.
 #[derive(Drop)]
 struct Asked {
     job: String,
@@ -85,6 +87,12 @@ fn of_function<F: Files>(
     worked(alloc, files, asked, text)
 }
 
+/// What a job counts at a document's tree.
+fn of_tree(alloc: Global, journal: Bytes, asked: &Asked) -> Result<u64, Stop> {
+    let leaf = asked.document.as_str();
+    trees::job(alloc, journal, asked.job.as_str(), leaf, few(asked.count))
+}
+
 /// What comes of a file.
 fn of_file<F: Files>(alloc: Global, files: &mut F, asked: &Asked) -> Result<String, Stop> {
     let bytes = load(alloc, files, asked.of.as_str())?;
@@ -95,6 +103,10 @@ fn of_file<F: Files>(alloc: Global, files: &mut F, asked: &Asked) -> Result<Stri
         }
         "propose" | "pull" | "lose" | "filter" | "names" => {
             let found = grounds::job(alloc, bytes, asked.job.as_str(), asked.count)?;
+            text_of(alloc, found)
+        }
+        "extend" | "repeat" | "deny" | "offer" | "bodies" => {
+            let found = of_tree(alloc, bytes, asked)?;
             text_of(alloc, found)
         }
         _ => of_function(alloc, files, asked, &bytes),
