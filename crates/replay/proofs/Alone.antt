@@ -11,8 +11,7 @@ use Rattle.doc_board.specs.declared.outcome.Outcome.TheVariants as outcome
 use Rattle.doc_board.specs.Boards.{board_of}
 use Rattle.doc_board.specs.Outcomes.{IsByLimits, IsOutcome, IsWriteOf}
 use Rattle.doc_board.specs.State.{State}
-use Rattle.write_path.specs.Commands.{IsBoardCommanded}
-use Rattle.write_path.specs.Proposals.{IsBoardAfter}
+use Rattle.board_steps.specs.After.{IsBoardCommanded, IsBoardAfter}
 use Rattle.replay.specs.Script.{alone}
 
 board_alone : (s : State) → s.pending ≡ [] → s.rooms ≡ [] → board_of s ≡ board_of (alone s.log)

@@ -9,7 +9,7 @@ use Rattle.std.proofs.lemmas.List.Elements.{All-cons, All-head, All-nil, All-tai
 use Rattle.sg_names.specs.ItemList.{list_text, rises}
 use Rattle.sg_history.specs.History.{among}
 use Rattle.grant_history.specs.Sorted.{AreSorted}
-use Rattle.write_path.proofs.NameTexts.{names_utf8}
+use Rattle.board_steps.proofs.NameTexts.{names_utf8}
 use Rattle.replay.specs.Opening.{IsInOrder}
 
 themselves : (names : List (List ℕ)) → map (λ name. name) names ≡ names

@@ -12,8 +12,7 @@ use Rattle.doc_board.specs.declared.outcome.Outcome.{Outcome}
 use Rattle.doc_board.specs.Boards.{board_of}
 use Rattle.doc_board.specs.Outcomes.{IsByLimits, IsOutcome, bytes_of}
 use Rattle.doc_board.specs.State.{State}
-use Rattle.write_path.specs.Commands.{IsBoardCommanded}
-use Rattle.write_path.specs.Proposals.{IsBoardAfter}
+use Rattle.board_steps.specs.After.{IsBoardCommanded, IsBoardAfter}
 
 -- a board of this log that nobody else has
 abbrev pub alone : List Entry → State

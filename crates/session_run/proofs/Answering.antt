@@ -39,9 +39,9 @@ use Rattle.session_core.specs.Fronts.{judged_at, look_of, stored_by, front_by, l
 use Rattle.doc_board.specs.Outcomes.{bytes_of}
 use Rattle.session_core.specs.Right.{AreAsked, IsJudgedIn, IsRefusedIn, IsRoomedIn, IsProposedIn, IsRight, AreRight}
 use Rattle.session_core.specs.Steps.{Step, wanted_after}
-use Rattle.write_path.specs.Asks.{AskedAt}
-use Rattle.write_path.specs.Bodies.{BodiesAt}
-use Rattle.write_path.specs.Feed.{FeedAt}
+use Rattle.board_steps.specs.Asks.{AskedAt}
+use Rattle.board_steps.specs.Bodies.{BodiesAt}
+use Rattle.board_steps.specs.Feed.{FeedAt}
 use Rattle.write_path.specs.Proposals as proposals
 use Rattle.write_path.specs.Proposals.{IsAnswered, IsRefused, IsRoomed, IsStored}
 use Rattle.write_path.specs.Reads.{Reads, WasRead, IsOneOf, HasLength, IsLaterThanAll}
@@ -274,6 +274,10 @@ stored_own before after program strict user r sequence at was = (
       entry_is = refl;
       is_write = was.is_write;
       below = subst (λ n. n < sequence) (was.outcome.0.front ∙ sym was.is_write.at) was.outcome.2;
+      holding = was.holding;
+      holding_read = was.was_read;
+      there = was.there;
+      judged_write = was.judged_write;
     },
     tt,
   ),
@@ -507,8 +511,8 @@ read_since_start start between now b first is was = record {
 }
 
 judged_since : (program : Program) (user : List ℕ) (before after since now : List BoardState) (w : Waiting)
-    → (one : IsJudgedEntry program user before after w) → WasRead since now one.board → IsJudgedEntry program user since now w
-judged_since program user before after since now w one was = record {
+    → (one : IsJudgedEntry program user before after w) → WasRead since now one.board → WasRead since now one.holding → IsJudgedEntry program user since now w
+judged_since program user before after since now w one was held = record {
   revision = one.revision;
   board = one.board;
   was_read = was;
@@ -516,19 +520,23 @@ judged_since program user before after since now w one was = record {
   entry_is = one.entry_is;
   is_write = one.is_write;
   below = one.below;
+  holding = one.holding;
+  holding_read = held;
+  there = one.there;
+  judged_write = one.judged_write;
 }
 
 judged_by_now : (program : Program) (user : List ℕ) (start between now : List BoardState) (more : List BoardState) → now ≡ more ++ between → (ws : List Waiting)
     → AreJudged program user start between ws → AreJudged program user start now ws
 judged_by_now program user start between now more is [] a = tt
 judged_by_now program user start between now more is (w ∷ ws) (one, a) =
-    (judged_since program user start between start now w one (read_by_now start between now one.board more is one.was_read), judged_by_now program user start between now more is ws a)
+    (judged_since program user start between start now w one (read_by_now start between now one.board more is one.was_read) (read_by_now start between now one.holding more is one.holding_read), judged_by_now program user start between now more is ws a)
 
 judged_on : (program : Program) (user : List ℕ) (start between now : List BoardState) (first : List BoardState) → between ≡ first ++ start → (ws others : List Waiting)
     → AreJudged program user between now ws → AreJudged program user start now others → AreJudged program user start now (ws ++ others)
 judged_on program user start between now first is [] others a b = b
 judged_on program user start between now first is (w ∷ ws) others (one, a) b =
-    (judged_since program user between now start now w one (read_since_start start between now one.board first is one.was_read), judged_on program user start between now first is ws others a b)
+    (judged_since program user between now start now w one (read_since_start start between now one.board first is one.was_read) (read_since_start start between now one.holding first is one.holding_read), judged_on program user start between now first is ws others a b)
 
 own_on : (start between now : Moment) (user : List ℕ) (program : Program) (stored more : List ℕ) → Reads start.read between.read start.lowest between.lowest
     → Reads between.read now.read between.lowest now.lowest → OwnSince start user program stored between → OwnSince between user program more now

@@ -12,9 +12,9 @@ use Rattle.session_core.specs.declared.event.Event.TheVariants as event
 use Rattle.session_core.specs.declared.look.Look.{Look}
 use Rattle.session_core.specs.Fronts.{front_by}
 use Rattle.session_core.specs.Steps.{Step, wanted_after}
-use Rattle.write_path.specs.Asks.{AskedAt}
-use Rattle.write_path.specs.Bodies.{BodiesAt}
-use Rattle.write_path.specs.Feed.{FeedAt}
+use Rattle.board_steps.specs.Asks.{AskedAt}
+use Rattle.board_steps.specs.Bodies.{BodiesAt}
+use Rattle.board_steps.specs.Feed.{FeedAt}
 use Rattle.write_path.specs.Proposals.{Stores, recorded_after}
 use Rattle.write_path.specs.Reads.{Reads, WasRead, HasLength}
 

@@ -69,7 +69,7 @@ pub fn answers()
     sg_history::laws::later();
     doc_board::laws::later_boards();
     write_path::laws::reads();
-    write_path::laws::later();
+    board_steps::laws::later();
     write_path::laws::was_read();
 }
 
@@ -82,8 +82,8 @@ pub fn own_bodies()
         → AreRight h user program strict (s ∷ earlier) → HasOwnBodies h user before s }
 {
     session_core::laws::conduct();
-    write_path::laws::no_foreign_body();
-    write_path::laws::removals();
+    board_steps::laws::no_foreign_body();
+    board_steps::laws::removals();
 }
 
 /// Of a whole session: its steps lead on from a new one, so that what is said of such steps is said of these; by every history that is

@@ -214,7 +214,7 @@ impl Session {
         sg_history::laws::later();
         doc_board::laws::later_boards();
         write_path::laws::reads();
-        write_path::laws::later();
+        board_steps::laws::later();
         write_path::laws::was_read();
         let mut want = self.take_event(alloc, event)?;
         while let Some(wanted) = want {

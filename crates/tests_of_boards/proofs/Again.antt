@@ -25,10 +25,10 @@ use Rattle.doc_board.specs.Judging.{body_or_empty}
 use Rattle.doc_board.specs.Rooms.{is_outstanding, room_for}
 use Rattle.doc_board.specs.State.{State, top_of}
 use Rattle.doc_board.specs.Steps.{history_on, stored_at}
-use Rattle.write_path.specs.declared.retry.Ready.{Ready}
-use Rattle.write_path.specs.declared.retry.Retried.{Retried}
-use Rattle.write_path.specs.declared.retry.Retried.TheVariants.{Answered, Overtaken}
-use Rattle.write_path.specs.Retry.{FitsReady, IsHeldReady, IsTriedAgain}
+use Rattle.board_steps.specs.declared.retry.Ready.{Ready}
+use Rattle.board_steps.specs.declared.retry.Retried.{Retried}
+use Rattle.board_steps.specs.declared.retry.Retried.TheVariants.{Answered, Overtaken}
+use Rattle.board_steps.specs.Retry.{FitsReady, IsHeldReady, IsTriedAgain}
 use Rattle.tests_of_boards.specs.Again.{Leaves}
 
 -- a body `{}` has two bytes

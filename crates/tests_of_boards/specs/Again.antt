@@ -7,10 +7,10 @@ use Rattle.doc_board.specs.declared.candidate.Candidate.TheVariants.{Plain, Writ
 use Rattle.doc_board.specs.Rooms.{is_outstanding}
 use Rattle.doc_board.specs.State.{State}
 use Rattle.doc_board.specs.Steps.{history_on, stored_at}
-use Rattle.write_path.specs.declared.retry.Ready.{Ready}
-use Rattle.write_path.specs.declared.retry.Retried.{Retried}
-use Rattle.write_path.specs.declared.retry.Retried.TheVariants.{Answered, Overtaken}
-use Rattle.write_path.specs.Retry.{FitsReady, IsHeldReady}
+use Rattle.board_steps.specs.declared.retry.Ready.{Ready}
+use Rattle.board_steps.specs.declared.retry.Retried.{Retried}
+use Rattle.board_steps.specs.declared.retry.Retried.TheVariants.{Answered, Overtaken}
+use Rattle.board_steps.specs.Retry.{FitsReady, IsHeldReady}
 
 -- an entry is stored at the number, or the room, the number and the write are handed back at a board with the same log and the same that waits
 abbrev pub Leaves : State → State → ℕ → Retried → Type 0

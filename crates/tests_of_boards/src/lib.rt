@@ -12,6 +12,8 @@ mod machine;
 #[cfg(test)]
 mod programs;
 #[cfg(test)]
+mod sharing;
+#[cfg(test)]
 mod tries;
 #[cfg(test)]
 mod waiting;

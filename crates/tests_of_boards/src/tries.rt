@@ -4,10 +4,11 @@ ghost use Rattle.std.specs.Prelude.{◌≡◌, ◌≢◌, [], IfSome, IsTrue};
 ghost use Rattle.sg_names.specs.RevId as names;
 ghost use Rattle.pending_front.specs.Storing.{MayStore};
 ghost use Rattle.doc_board.specs.Rooms.{is_outstanding};
-ghost use Rattle.write_path.specs.Retry.{FitsReady, IsHeldReady};
+ghost use Rattle.board_steps.specs.Retry.{FitsReady, IsHeldReady};
 ghost use Rattle.tests_of_boards.specs.Again.{IsReadyAfter, Leaves};
 
 use crate::programs::open;
+use board_steps::{Ready, Retried, propose_again, store_at_fresh};
 use doc_board::{Board, Candidate, Commit, Outcome, Room};
 use json_doc::read_doc;
 use repl_messages::Revision;
@@ -15,7 +16,7 @@ use sg_history::{DocId, Number, RevId, Revs, TextFault};
 use sg_outside::Bytes;
 use std::alloc::Global;
 use std::test::Fail;
-use write_path::{Ready, Resolved, Retried, propose_again, store_at_fresh};
+use write_path::Resolved;
 
 fn is_rev(rev: &RevId) -> bool
     ensures { result ≡ names.is_rev rev.now }

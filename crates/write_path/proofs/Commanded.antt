@@ -14,7 +14,8 @@ use Rattle.doc_board.specs.declared.outcome.Outcome.TheVariants as outcome
 use Rattle.doc_board.specs.Boards.{board_of, body_size}
 use Rattle.doc_board.specs.Outcomes.{IsByLimits}
 use Rattle.doc_board.specs.State.{State}
-use Rattle.write_path.specs.Commands.{Commands, IsBoardCommanded, IsCommanded}
+use Rattle.write_path.specs.Commands.{Commands, IsCommanded}
+use Rattle.board_steps.specs.After.{IsBoardCommanded}
 use Rattle.write_path.specs.Proposals.{recorded_after}
 use Rattle.write_path.specs.Own.{own_before, own_after}
 use Rattle.write_path.proofs.Grown.{Extended, after_entry}

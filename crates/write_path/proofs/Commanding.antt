@@ -13,7 +13,7 @@ use Rattle.doc_board.specs.Boards.{board_of}
 use Rattle.doc_board.specs.Limits.{IsRefusedBy, refusal}
 use Rattle.doc_board.specs.State.{State}
 use Rattle.write_path.specs.Commands.{Commands, IsCommanded}
-use Rattle.write_path.specs.Shape.{no_room_outcome}
+use Rattle.board_steps.specs.Shape.{no_room_outcome}
 use Rattle.write_path.specs.Shared.{IsLookTurn}
 use Rattle.write_path.specs.Turns.{IsRoomTurn, IsStoreTurn}
 use Rattle.write_path.proofs.Proposed.{Again, no_shorter}

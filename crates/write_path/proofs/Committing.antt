@@ -33,18 +33,20 @@ use Rattle.doc_board.specs.State.{State, book_on, last_on, top_on}
 use Rattle.doc_board.specs.Steps.{history_on, stored_at, swapped_to, with_entry}
 use Rattle.doc_board.proofs.Documents.{same_names}
 use Rattle.doc_board.proofs.Standing.{last_there}
-use Rattle.write_path.specs.declared.accepted.Accepted.{Accepted}
-use Rattle.write_path.specs.declared.retry.Ready.{Ready}
-use Rattle.write_path.specs.declared.retry.Retried.TheVariants as retried
+use Rattle.board_steps.specs.declared.accepted.Accepted.{Accepted}
+use Rattle.board_steps.specs.declared.retry.Ready.{Ready}
+use Rattle.board_steps.specs.declared.retry.Retried.TheVariants as retried
 use Rattle.write_path.specs.Reads.{IsOneOf}
-use Rattle.write_path.specs.Retry.{FitsReady, IsHandedBack, IsHeldReady, IsReady, IsSpent, IsStoredAgain, IsTurnedDownAgain}
+use Rattle.board_steps.specs.Retry.{FitsReady, IsHandedBack, IsHeldReady, IsReady, IsSpent, IsStoredAgain, IsTurnedDownAgain}
 use Rattle.write_path.specs.Shared.{IsOvertaken, Rests}
-use Rattle.write_path.specs.Turns.{IsAcceptedFor, IsCommitted, IsOvertakenAt, IsStoredBy, IsStoredFirst, IsTried, WasAccepted}
-use Rattle.write_path.proofs.Again.{fits_ready, held_still, may_still, past_log}
-use Rattle.write_path.proofs.Alone.{fresh_on}
-use Rattle.write_path.proofs.Proposed.{Again, same_board}
+use Rattle.write_path.specs.Turns.{IsAcceptedFor, IsCommitted, IsOvertakenAt, IsStoredBy}
+use Rattle.board_steps.specs.Tried.{IsStoredFirst, IsTried, WasAccepted}
+use Rattle.board_steps.proofs.Again.{fits_ready, held_still, may_still, past_log}
+use Rattle.board_steps.proofs.Alone.{fresh_on}
+use Rattle.write_path.proofs.Proposed.{Again}
+use Rattle.board_steps.proofs.SameBoards.{same_board}
 use Rattle.write_path.proofs.RoomTimes.{put_back, times_less, times_outstanding}
-use Rattle.write_path.proofs.Triable.{LaterBoards, fits_room, may_be_stored}
+use Rattle.board_steps.proofs.Triable.{LaterBoards, fits_room, may_be_stored}
 use Rattle.write_path.proofs.Turning.{Rising, may_leave_stored, may_store, room_out, stored_own, stored_rests, stored_turn, times_one, unused_own, weaker}
 
 -- what the laws of boards say of the write that is stored
@@ -126,9 +128,6 @@ elsewhere s t number e book k less =
 
 may_again : (s : State) (c : Ready) (number : ℕ) → IsHeldReady s c → MayStore s.log s.pending number → c.base < number → MayBeStored s number (candidate.Write c.entry c.tree c.base)
 may_again s c number held may above = (held.is_entry, held.document, omega (arith, held.at, past_log s.log s.pending number may), above, λ fresh. held.extends)
-
-pub last_ready : (judged : State) (program : Program) (strict : Bool) (by : Option (List ℕ)) (r : Revision) (c : Ready) (number : ℕ) → IsReady judged program strict by r c → last_on judged r.doc < number → last_on judged c.entry.doc < number
-last_ready judged program strict by r c number ready above = subst (λ (doc : List ℕ). last_on judged doc < number) (sym ready.made.is_write.doc) above
 
 module _ (leaving : Leaving) (judging : Judging) (later : LaterBoards) (rising : Rising) (again : Again)
     (p : Known) (judged s t : State) (program : Program) (strict : Bool) (by : Option (List ℕ)) (r : Revision) (a : Accepted) (room : Room) (number : Number) (answer : Outcome)

@@ -4,17 +4,12 @@ use Rattle.std.proofs.lemmas.List.{length-append}
 use Rattle.std.proofs.lemmas.Option.{none-some}
 use Rattle.sg_history.specs.declared.book.Waiting.{Waiting}
 use Rattle.sg_history.specs.declared.entries.Entry.{Entry}
-use Rattle.sg_history.specs.declared.entries.Write.{Write}
 use Rattle.sg_history.specs.declared.room.RoomFor.{RoomFor}
 use Rattle.sg_history.specs.Board.{SideValue, After, board_book, board_count, side_at}
-use Rattle.sg_history.specs.Book.{Book, Later, book_of, book_with}
+use Rattle.sg_history.specs.Book.{Book, Later, book_of}
 use Rattle.sg_history.specs.History.{Extends, as_write}
-use Rattle.rev_tree.specs.declared.tree.Node.{Node}
-use Rattle.rev_tree.specs.Documents.{tree_in, last_in}
 use Rattle.doc_board.specs.Boards.{board_of, bytes_stored, bytes_waiting, bytes_asked, body_size}
-use Rattle.doc_board.specs.Judging.{body_or_empty}
-use Rattle.doc_board.specs.Candidates.{ExtendsTree}
-use Rattle.doc_board.specs.State.{State, tree_on, last_on, top_of}
+use Rattle.doc_board.specs.State.{State}
 use Rattle.write_path.proofs.OneRead.{same_book}
 
 -- a history that extends another has the later book
@@ -24,10 +19,6 @@ Extended = (g h : List Entry) → Extends g h → Later (book_of g) (book_of h)
 stored_more : (es : List Entry) (e : Entry) → bytes_stored (es ++ e ∷ []) ≡ bytes_stored es + body_size (as_write e)
 stored_more [] e = omega arith
 stored_more (x ∷ es) e = omega (arith, stored_more es e)
-
-pub small_body : (body : List ℕ) → length body ≤ 20971520 → length (body_or_empty body) ≤ 20971520
-small_body [] h = omega arith
-small_body (b ∷ bytes) h = h
 
 one_longer : (es : List Entry) (e : Entry) → length (es ++ e ∷ []) ≡ length es + 1
 one_longer es e = omega (arith, length-append es (e ∷ []))
@@ -74,15 +65,3 @@ at_before es e zero low = refl
 at_before [] e (suc number) low = absurd (omega (arith, low))
 at_before (x ∷ es) e (suc zero) low = refl
 at_before (x ∷ es) e (suc (suc number)) low = at_before es e (suc number) (omega (arith, low))
-
--- ---- boards with the same log
-
-pub extends_still : (s t : State) (w : Write) (tree : List Node) → t.log ≡ s.log → t.pending ≡ s.pending → ExtendsTree (tree_on s w.doc) w tree → ExtendsTree (tree_on t w.doc) w tree
-extends_still s t w tree same pending h =
-    subst (λ (es : List Entry). ExtendsTree (tree_in (book_with es t.pending) (top_of es t.pending) w.doc) w tree) (sym same)
-    (subst (λ (ws : List Waiting). ExtendsTree (tree_in (book_with s.log ws) (top_of s.log ws) w.doc) w tree) (sym pending) h)
-
-pub last_still : (s t : State) (doc : List ℕ) → t.log ≡ s.log → t.pending ≡ s.pending → last_on s doc ≡ last_on t doc
-last_still s t doc same pending =
-    ap (λ (es : List Entry). last_in (book_with es s.pending) (top_of es s.pending) doc) (sym same)
-    ∙ ap (λ (ws : List Waiting). last_in (book_with t.log ws) (top_of t.log ws) doc) (sym pending)

@@ -10,9 +10,8 @@ use Rattle.sync_syntax.specs.declared.tree.Program.{Program}
 use Rattle.doc_board.specs.declared.outcome.Outcome.{Outcome}
 use Rattle.doc_board.specs.declared.outcome.Outcome.TheVariants as outcome
 use Rattle.doc_board.specs.State.{State}
-use Rattle.write_path.specs.Commands.{IsBoardCommanded}
+use Rattle.board_steps.specs.After.{IsBoardCommanded, IsBoardAfter}
 use Rattle.write_path.specs.Own.{in_order, own_after, own_before}
-use Rattle.write_path.specs.Proposals.{IsBoardAfter}
 use Rattle.write_path.proofs.Proposed.{at_sequence}
 
 -- one entry more at the end of both

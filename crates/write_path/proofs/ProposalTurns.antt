@@ -18,18 +18,19 @@ use Rattle.doc_board.specs.Boards.{board_of}
 use Rattle.doc_board.specs.Limits.{IsRefusedBy, refusal}
 use Rattle.doc_board.specs.Outcomes.{IsOutcome, bytes_of}
 use Rattle.doc_board.specs.State.{State}
-use Rattle.write_path.specs.declared.accepted.Accepted.{Accepted}
-use Rattle.write_path.specs.declared.accepted.Judged.{Judged}
-use Rattle.write_path.specs.Accepted.{ArePartsOf, IsAcceptedBy, IsAcceptedOn}
+use Rattle.board_steps.specs.declared.accepted.Accepted.{Accepted}
+use Rattle.board_steps.specs.declared.accepted.Judged.{Judged}
+use Rattle.board_steps.specs.Accepted.{ArePartsOf, IsAcceptedBy, IsAcceptedOn}
 use Rattle.write_path.specs.Proposals.{IsProposed}
 use Rattle.write_path.specs.Reads.{IsOneOf, Reads, WasRead}
-use Rattle.write_path.specs.Retry.{IsTurnedDown}
-use Rattle.write_path.specs.Shape.{no_room_outcome}
+use Rattle.board_steps.specs.Retry.{IsTurnedDown}
+use Rattle.board_steps.specs.Shape.{no_room_outcome}
 use Rattle.write_path.specs.Shared.{IsLookTurn, IsTurn, MayDrawInTurn}
-use Rattle.write_path.specs.Turns.{IsAcceptedFor, IsCommitTurn, IsCommitted, IsDecidedAt, IsDownBy, IsJudgedAt, IsProposedInTurns, IsRoomTurn, IsStoredBy}
-use Rattle.write_path.specs.Verdicts.{IsDeniedOn, IsSaidOn}
+use Rattle.write_path.specs.Turns.{IsAcceptedFor, IsCommitTurn, IsCommitted, IsDownBy, IsProposedInTurns, IsRoomTurn, IsStoredBy}
+use Rattle.board_steps.specs.Tried.{IsDecidedAt, IsJudgedAt}
+use Rattle.board_steps.specs.Verdicts.{IsDeniedOn, IsSaidOn}
 use Rattle.write_path.proofs.Committing.{last_below}
-use Rattle.write_path.proofs.Decided.{accepted_by, denied_at, denied_by}
+use Rattle.board_steps.proofs.Decided.{accepted_by, denied_at, denied_by}
 use Rattle.write_path.proofs.Proposed.{Again, no_shorter}
 use Rattle.write_path.proofs.Sharing.{turn_reads}
 

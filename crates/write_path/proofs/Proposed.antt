@@ -8,7 +8,6 @@ use Rattle.sg_history.specs.Board.{BoardState, After, IsAfterAll}
 use Rattle.sg_history.specs.Board.{board_book}
 use Rattle.sg_history.specs.Book.{Book, book_of, write_at, written_in}
 use Rattle.sg_history.specs.declared.entries.Write.{Write}
-use Rattle.sg_history.specs.declared.room.RoomFor.{RoomFor}
 use Rattle.repl_messages.specs.declared.revision.Revision.{Revision}
 use Rattle.sync_syntax.specs.declared.tree.Program.{Program}
 use Rattle.doc_board.specs.declared.outcome.Outcome.{Outcome}
@@ -17,10 +16,12 @@ use Rattle.doc_board.specs.Boards.{board_of, board_last}
 use Rattle.doc_board.specs.JudgedWrites.{IsJudgedWrite, IsNextWrite}
 use Rattle.doc_board.specs.Outcomes.{IsOutcome, IsByLimits, IsWriteOf, bytes_of}
 use Rattle.doc_board.specs.State.{State, last_on}
-use Rattle.write_path.specs.Proposals.{IsAnswered, IsRoomed, IsProposed, IsAsBefore, IsBoardAfter, Stores, recorded_after}
+use Rattle.write_path.specs.Proposals.{IsAnswered, IsRoomed, IsProposed, Stores, recorded_after}
+use Rattle.board_steps.specs.After.{IsAsBefore, IsBoardAfter}
 use Rattle.write_path.specs.Reads.{Reads, WasRead}
 use Rattle.write_path.specs.Own.{own_before, own_after}
-use Rattle.write_path.proofs.Grown.{Extended, after_entry, small_body, at_before, at_end}
+use Rattle.write_path.proofs.Grown.{Extended, after_entry, at_before, at_end}
+use Rattle.board_steps.proofs.SameBoards.{small_body}
 use Rattle.write_path.proofs.OneRead.{same_book}
 
 abbrev pub Again : Type 0
@@ -30,13 +31,6 @@ abbrev pub Itself : Type 0
 Itself = (b : BoardState) → After b b
 
 -- ---- the board after an answer
-
--- boards with the same log, the same that waits and the same rooms are one board
-pub same_board : (s t : State) → IsAsBefore s t → board_of t ≡ board_of s
-same_board s t e =
-    ap (λ (es : List Entry). board_of (record { log = es; pending = t.pending; rooms = t.rooms; known = 0; reads = 0 })) e.log
-    ∙ ap (λ (ws : List Waiting). board_of (record { log = s.log; pending = ws; rooms = t.rooms; known = 0; reads = 0 })) e.pending
-    ∙ ap (λ (rooms : List RoomFor). board_of (record { log = s.log; pending = s.pending; rooms = rooms; known = 0; reads = 0 })) e.rooms
 
 pub same_after : Itself → (s t : State) → IsAsBefore s t → After (board_of s) (board_of t)
 same_after itself s t e = subst (λ (b : BoardState). After (board_of s) b) (sym (same_board s t e)) (itself (board_of s))

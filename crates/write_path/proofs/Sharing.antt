@@ -8,7 +8,7 @@ use Rattle.seq_gate.specs.declared.known.Known.{Known}
 use Rattle.write_path.specs.Reads.{Reads, WasRead}
 use Rattle.write_path.specs.Shared.{IsLookTurn, IsTurn, Rests}
 use Rattle.write_path.proofs.RoomTimes.{all_gone}
-use Rattle.write_path.proofs.Proposed.{Again, Itself, all_after, first_read, no_shorter, second_read}
+use Rattle.write_path.proofs.Proposed.{Again, Itself, all_after, first_read, no_shorter}
 
 -- ---- a turn in which the board was left as it was found
 
@@ -37,9 +37,6 @@ turn_reads again p q found left turn =
 
 pub found_read : (p q : Known) (found left : BoardState) → IsTurn p q found left → WasRead p.read q.read found
 found_read p q found left turn = first_read p.read q.read found left turn.read
-
-pub left_read : (p q : Known) (found left : BoardState) → IsTurn p q found left → WasRead p.read q.read left
-left_read p q found left turn = second_read p.read q.read found left turn.read
 
 pub look_answers : {X E : Type 0} (P : BoardState → X → Type 0) (p q : Known) (found : BoardState) (r : Result X E) → IsLookTurn p q found → IfOk r (P found)
     → IfOk r (λ x. (b : BoardState) × WasRead p.read q.read b × Unit {0} × P b x)

@@ -1,15 +1,12 @@
 -- What putting or dropping a user or a role at a ground answers, and what it leaves.
-use Rattle.std.specs.Prelude.{◌≡◌, ◌<◌, ◌+◌, ℕ, List, [], ◌∷◌, ◌++◌, length, Option, Some}
+use Rattle.std.specs.Prelude.{◌≡◌, ◌<◌, ℕ, List, ◌∷◌, length, Option, Some}
 use Rattle.sg_history.specs.declared.book.Waiting.{Waiting}
 use Rattle.sg_history.specs.declared.entries.Entry.{Entry}
 use Rattle.sg_history.specs.Board.{BoardState, board_book}
 use Rattle.doc_board.specs.declared.outcome.Outcome.{Outcome}
 use Rattle.doc_board.specs.declared.outcome.Outcome.TheVariants as outcome
-use Rattle.doc_board.specs.State.{State}
-use Rattle.write_path.specs.Proposals.{IsAsBefore, IsRoomed}
+use Rattle.write_path.specs.Proposals.{IsRoomed}
 use Rattle.write_path.specs.Reads.{Reads, WasRead, HasLength}
-
--- ---- at any ground
 
 -- the entry is the one that is own since; it stands at its sequence in the book of a board that was read in between, and `at` is the length of the log of one before, which has the recorded length; and one more had room for it
 pub record IsCommandStored (before after : List BoardState) (own_before own_after : List Waiting) (recorded : Option ℕ) (e : Entry) (sequence at : ℕ) : Type 0 where
@@ -45,21 +42,3 @@ IsCommanded before after own_before own_after recorded e other = ⊥
 pub record Commands (before after : List BoardState) (lowest_before lowest_after : ℕ) (own_before own_after : List Waiting) (recorded : Option ℕ) (e : Entry) (answer : Outcome) : Type 0 where
   pub reads : Reads before after lowest_before lowest_after
   pub commanded : IsCommanded before after own_before own_after recorded e answer
-
--- ---- at a board with one owner
-
--- the log has the entry besides, at this sequence, which is its end; what waits and the rooms are as before
-pub record IsGrownBy (before after : State) (e : Entry) (sequence at : ℕ) : Type 0 where
-  pub next : sequence ≡ length before.log + 1
-  pub front : at ≡ length before.log
-  pub log : after.log ≡ before.log ++ e ∷ []
-  pub pending : after.pending ≡ before.pending
-  pub rooms : after.rooms ≡ before.rooms
-
--- what the board is after the answer: with the command's entry where that was stored, else as before
-abbrev pub IsBoardCommanded : State → State → Entry → Outcome → Type 0
-IsBoardCommanded before after e (outcome.Stored sequence at) = IsGrownBy before after e sequence at
-IsBoardCommanded before after e (outcome.Full503 at places) = IsAsBefore before after × (at ≡ length before.log)
-IsBoardCommanded before after e (outcome.LogFull509 at entries bytes) = IsAsBefore before after × (at ≡ length before.log)
-IsBoardCommanded before after e outcome.Memory507 = IsAsBefore before after
-IsBoardCommanded before after e other = ⊥

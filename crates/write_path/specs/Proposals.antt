@@ -1,5 +1,5 @@
 -- What proposing a revision to a ground answers, and what it leaves.
-use Rattle.std.specs.Prelude.{◌≡◌, ◌+◌, ℕ, Bool, List, [], ◌∷◌, ◌++◌, length, Option, Some, None}
+use Rattle.std.specs.Prelude.{◌≡◌, ◌+◌, ℕ, Bool, List, ◌∷◌, length, Option, Some, None}
 use Rattle.sg_history.specs.declared.book.Waiting.{Waiting}
 use Rattle.sg_history.specs.declared.entries.Entry.TheVariants as entry
 use Rattle.sg_history.specs.declared.entries.Write.{Write}
@@ -8,13 +8,9 @@ use Rattle.repl_messages.specs.declared.revision.Revision.{Revision}
 use Rattle.sync_syntax.specs.declared.tree.Program.{Program}
 use Rattle.doc_board.specs.declared.outcome.Outcome.{Outcome}
 use Rattle.doc_board.specs.declared.outcome.Outcome.TheVariants as outcome
-use Rattle.doc_board.specs.Boards.{board_of}
 use Rattle.doc_board.specs.JudgedWrites.{IsJudgedWrite}
 use Rattle.doc_board.specs.Outcomes.{IsOutcome, IsBadField, IsTooLarge, IsWriteOf, IsByLimits, bytes_of}
-use Rattle.doc_board.specs.State.{State}
 use Rattle.write_path.specs.Reads.{Reads, WasRead, HasLength}
-
--- ---- at any ground
 
 -- the answer is that of a board that was read in between, whose log has the recorded length
 pub record IsAnswered (before after : List BoardState) (recorded : Option ℕ) (program : Program) (strict : Bool) (by : Option (List ℕ)) (r : Revision) (answer : Outcome) : Type 0 where
@@ -86,34 +82,3 @@ abbrev pub recorded_after : Option ℕ → Outcome → Option ℕ
 recorded_after None answer = None
 recorded_after (Some n) (outcome.Stored sequence at) = Some (n + 1)
 recorded_after (Some n) answer = Some n
-
--- ---- at a board with one owner
-
--- the log, what waits and the rooms are as before
-pub record IsAsBefore (before after : State) : Type 0 where
-  pub log : after.log ≡ before.log
-  pub pending : after.pending ≡ before.pending
-  pub rooms : after.rooms ≡ before.rooms
-
--- the log has the write of the revision besides, at this sequence, which is its end; what waits and the rooms are as before
-pub record IsGrown (before after : State) (program : Program) (by : Option (List ℕ)) (r : Revision) (sequence : ℕ) : Type 0 where
-  pub write : Write
-  pub next : sequence ≡ length before.log + 1
-  pub log : after.log ≡ before.log ++ entry.Write write ∷ []
-  pub pending : after.pending ≡ before.pending
-  pub rooms : after.rooms ≡ before.rooms
-  pub is_write : IsWriteOf program by r (board_of before) write
-
--- what the board is after the answer: with the write where the revision was stored, else as before
-abbrev pub IsBoardAfter : State → State → Program → Option (List ℕ) → Revision → Outcome → Type 0
-IsBoardAfter before after program by r (outcome.Bad400 field) = IsAsBefore before after
-IsBoardAfter before after program by r (outcome.TooLarge413 bytes) = IsAsBefore before after
-IsBoardAfter before after program by r (outcome.UserGone401 at) = IsAsBefore before after
-IsBoardAfter before after program by r (outcome.Known at) = IsAsBefore before after
-IsBoardAfter before after program by r (outcome.BadHistory400 at) = IsAsBefore before after
-IsBoardAfter before after program by r (outcome.Conflict409 at leaf) = IsAsBefore before after
-IsBoardAfter before after program by r (outcome.Denied403 at rule) = IsAsBefore before after
-IsBoardAfter before after program by r (outcome.Stored sequence at) = IsGrown before after program by r sequence
-IsBoardAfter before after program by r (outcome.Full503 at places) = IsAsBefore before after
-IsBoardAfter before after program by r (outcome.LogFull509 at entries bytes) = IsAsBefore before after
-IsBoardAfter before after program by r outcome.Memory507 = IsAsBefore before after

@@ -2,15 +2,14 @@
 
 ghost use Rattle.std.specs.Prelude.{◌≡◌, IfOk};
 ghost use Rattle.sg_history.specs.Board.{BoardState};
-ghost use Rattle.write_path.specs.Asks.{AskedAt};
-ghost use Rattle.write_path.specs.Bodies.{BodiesAt};
-ghost use Rattle.write_path.specs.Feed.{FeedAt};
+ghost use Rattle.board_steps.specs.Asks.{AskedAt};
+ghost use Rattle.board_steps.specs.Bodies.{BodiesAt};
+ghost use Rattle.board_steps.specs.Feed.{FeedAt};
 ghost use Rattle.write_path.specs.Shared.{IsLookTurn, Rests};
 
-use crate::ask::asked_at;
-use crate::feed::feed_at;
 use crate::shelf::Shelf;
 use crate::turns::{enter, leave_as_found};
+use board_steps::{asked_at, feed_at};
 use repl_messages::{Asked, Bodies, Fed, Offer};
 use seq_gate::{Gate, Pass};
 use sg_history::{Key, Name, Options, Row};

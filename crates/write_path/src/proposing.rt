@@ -5,20 +5,18 @@ ghost use Rattle.std.specs.Prelude.{◌≡◌, ◌≤◌, ◌<◌, ◌∷◌, []
 ghost use Rattle.std.specs.Option.{option_copied};
 ghost use Rattle.json_doc.specs.Reading.{IsDocument};
 ghost use Rattle.json_doc.specs.View.{node_tree};
-ghost use Rattle.repl_messages.specs.declared.revision.Revision.{Revision as RevisionValue};
 ghost use Rattle.sync_syntax.specs.declared.tree.Program.{Program};
 ghost use Rattle.doc_board.specs.Boards.{board_of};
 ghost use Rattle.doc_board.specs.Outcomes.{IsWellFormed, bytes_of};
 ghost use Rattle.doc_board.specs.State.{State};
 ghost use Rattle.write_path.specs.Shared.{IsLookTurn, Rests};
-ghost use Rattle.write_path.specs.Turns.{IsAcceptedFor, IsCommitted, IsDecidedAt, IsJudgedAt, IsOvertakenAt, IsProposedInTurns};
+ghost use Rattle.write_path.specs.Turns.{IsAcceptedFor, IsCommitted, IsOvertakenAt, IsProposedInTurns};
+ghost use Rattle.board_steps.specs.Tried.{IsDecidedAt, IsJudgedAt};
 
-use crate::accepted::{Accepted, Judged, accepted_of};
-use crate::refused::no_room_outcome;
-use crate::retry::{Ready, Retried};
 use crate::shelf::Shelf;
 use crate::storing::room_in_turn;
 use crate::turns::{draw, draw_in_turn, enter, leave, leave_as_found};
+use board_steps::{Accepted, Judged, Ready, Retried, accepted_of, no_room_outcome};
 use doc_board::{Outcome, Room};
 use json_doc::Doc;
 use repl_messages::Revision;

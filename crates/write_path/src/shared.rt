@@ -5,10 +5,10 @@ ghost use Rattle.std.specs.Option.{option_copied};
 ghost use Rattle.sg_history.specs.Board.{BoardState};
 ghost use Rattle.sg_history.specs.Journal.{IsEntry};
 ghost use Rattle.principals.specs.Script.{entry_of};
-ghost use Rattle.write_path.specs.Asks.{AskedAt};
-ghost use Rattle.write_path.specs.Bodies.{BodiesAt};
+ghost use Rattle.board_steps.specs.Asks.{AskedAt};
+ghost use Rattle.board_steps.specs.Bodies.{BodiesAt};
 ghost use Rattle.write_path.specs.Commands.{Commands};
-ghost use Rattle.write_path.specs.Feed.{FeedAt};
+ghost use Rattle.board_steps.specs.Feed.{FeedAt};
 ghost use Rattle.write_path.specs.Origins.{Spends, Stays};
 ghost use Rattle.write_path.specs.Proposals.{Stores, recorded_after};
 ghost use Rattle.write_path.specs.Reads.{HasLength, Reads, WasRead};
@@ -16,10 +16,10 @@ ghost use Rattle.write_path.specs.Shared.{MayDrawInTurn, Rests, needs_no_turn, s
 
 use crate::ground::Ground;
 use crate::looking::{ask_in_turn, bodies_in_turn, feed_in_turn};
-use crate::propose::document_of;
 use crate::proposing::propose_in_turns;
 use crate::shelf::Shelf;
 use crate::storing::command_in_turns;
+use board_steps::document_of;
 use doc_board::Outcome;
 use principals::Command;
 use repl_messages::{Asked, Bodies, Fed, Offer, Revision};

@@ -15,20 +15,16 @@ ghost use Rattle.doc_board.specs.Outcomes.{IsByLimits, IsOutcome, IsWellFormed, 
 ghost use Rattle.doc_board.specs.Rooms.{is_outstanding, room_for};
 ghost use Rattle.doc_board.specs.State.{State, book_on};
 ghost use Rattle.doc_board.specs.Steps.{history_on, stored_at, swapped_to, with_entry};
-ghost use Rattle.write_path.specs.Bodies.{BodiesAt};
-ghost use Rattle.write_path.specs.Commands.{IsBoardCommanded};
-ghost use Rattle.write_path.specs.Proposals.{IsAsBefore, IsBoardAfter};
-ghost use Rattle.write_path.specs.Retry.{FitsReady, IsHeldReady};
+ghost use Rattle.board_steps.specs.Bodies.{BodiesAt};
+ghost use Rattle.board_steps.specs.After.{IsBoardCommanded, IsAsBefore, IsBoardAfter};
+ghost use Rattle.board_steps.specs.Retry.{FitsReady, IsHeldReady};
 ghost use Rattle.write_path.specs.Shelf.{shelf_state};
-ghost use Rattle.write_path.specs.Turns.{IsJudgedAt, IsTried, WasAccepted};
+ghost use Rattle.board_steps.specs.Tried.{IsJudgedAt, IsTried, WasAccepted};
 
-use crate::accepted::{Accepted, Judged};
-use crate::bodies::bodies_at;
-use crate::command::command_to;
-use crate::fresh::commit_fresh;
-use crate::propose::{extension_of, propose_to};
-use crate::retry::{Ready, Retried, store_at_fresh};
-use crate::trying::store_or_retry;
+use board_steps::{
+    Accepted, Judged, Ready, Retried, bodies_at, command_to, commit_fresh, extension_of,
+    propose_to, store_at_fresh, store_or_retry,
+};
 use doc_board::{Board, Candidate, NoRoom, Outcome, Room};
 use principals::Command;
 use repl_messages::{Bodies, Revision};

@@ -13,9 +13,9 @@ ghost use Rattle.write_path.specs.Commands.{Commands};
 ghost use Rattle.write_path.specs.Shared.{Rests};
 ghost use Rattle.write_path.specs.Turns.{IsRoomedTurn, IsStoreTurn};
 
-use crate::refused::no_room_outcome;
 use crate::shelf::Shelf;
 use crate::turns::{draw, enter, leave, leave_as_found};
+use board_steps::no_room_outcome;
 use doc_board::{NoRoom, Outcome, Room};
 use principals::Command;
 use seq_gate::{Gate, Pass};

@@ -4,8 +4,8 @@ use Rattle.doc_board.specs.declared.outcome.Outcome.{Outcome}
 use Rattle.doc_board.specs.Answers.{recorded_with}
 use Rattle.doc_board.specs.Boards.{board_of, board_tree}
 use Rattle.doc_board.specs.State.{State}
-use Rattle.write_path.specs.declared.accepted.Judged.{Judged}
-use Rattle.write_path.specs.Turns.{IsJudgedAt}
+use Rattle.board_steps.specs.declared.accepted.Judged.{Judged}
+use Rattle.board_steps.specs.Tried.{IsJudgedAt}
 use Rattle.write_path.proofs.ProposalTurns.{decided_at}
 use Rattle.write_path.proofs.proposing.decide.Goals as goal
 

@@ -4,7 +4,7 @@ use Rattle.sg_history.specs.Board.{BoardState}
 use Rattle.seq_gate.specs.Views.{PassView}
 use Rattle.seq_gate.specs.declared.known.Known.{Known}
 use Rattle.repl_messages.specs.declared.offers.Asked.{Asked}
-use Rattle.write_path.specs.Asks.{AskedAt}
+use Rattle.board_steps.specs.Asks.{AskedAt}
 use Rattle.write_path.specs.Reads.{HasLength, Reads, WasRead}
 use Rattle.write_path.specs.Shared.{Shared, knows_of}
 use Rattle.write_path.proofs.Sharing.{look_answers, turn_reads}

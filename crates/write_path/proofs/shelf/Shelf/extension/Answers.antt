@@ -1,7 +1,7 @@
 use Rattle.std.proofs.Common.{subst}
 use Rattle.std.specs.Option.{option_copied}
 use Rattle.write_path.specs.Shelf.{Shelved}
-use Rattle.write_path.specs.Turns.{IsJudgedAt}
+use Rattle.board_steps.specs.Tried.{IsJudgedAt}
 use Rattle.write_path.proofs.shelf.Shelf.extension.Goals as goal
 
 pub returns-clause-judged : goal.returns-clause-judged

@@ -2,7 +2,7 @@ use Rattle.std.proofs.Common.{subst}
 use Rattle.std.specs.Prelude.{IfOk}
 use Rattle.doc_board.specs.Boards.{board_of}
 use Rattle.doc_board.specs.State.{State}
-use Rattle.write_path.specs.Asks.{AskedAt}
+use Rattle.board_steps.specs.Asks.{AskedAt}
 use Rattle.write_path.proofs.OneRead.{one_read, answers_it}
 use Rattle.write_path.proofs.solo.SoloGroundGround.ask.Goals as goal
 

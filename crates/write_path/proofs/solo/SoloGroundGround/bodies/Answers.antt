@@ -3,11 +3,11 @@ use Rattle.sg_history.specs.Board.{BoardState, IsAfterAll}
 use Rattle.sg_history.specs.declared.entries.Entry.{Entry}
 use Rattle.doc_board.specs.Boards.{board_of}
 use Rattle.doc_board.specs.State.{State}
-use Rattle.write_path.specs.Bodies.{BodiesAt}
+use Rattle.board_steps.specs.Bodies.{BodiesAt}
 use Rattle.write_path.specs.Own.{EndsWith}
 use Rattle.write_path.specs.Reads.{Reads}
 use Rattle.write_path.proofs.OneRead.{one_read, answers_it}
-use Rattle.write_path.proofs.Proposed.{same_board}
+use Rattle.board_steps.proofs.SameBoards.{same_board}
 use Rattle.write_path.proofs.solo.SoloGroundGround.bodies.Goals as goal
 
 pub invariant_of-self : goal.invariant_of-self

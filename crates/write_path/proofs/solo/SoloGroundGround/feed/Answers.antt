@@ -3,7 +3,7 @@ use Rattle.std.specs.Prelude.{IfOk}
 use Rattle.sg_history.specs.declared.entries.Entry.{Entry}
 use Rattle.doc_board.specs.Boards.{board_of}
 use Rattle.doc_board.specs.State.{State}
-use Rattle.write_path.specs.Feed.{FeedAt}
+use Rattle.board_steps.specs.Feed.{FeedAt}
 use Rattle.write_path.proofs.OneRead.{one_read, answers_it}
 use Rattle.write_path.proofs.solo.SoloGroundGround.feed.Goals as goal
 

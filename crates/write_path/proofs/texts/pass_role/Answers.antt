@@ -1,5 +1,0 @@
-use Rattle.write_path.proofs.NameTexts.{with_equals}
-use Rattle.write_path.proofs.texts.pass_role.Goals as goal
-
-pub returns : goal.returns
-returns c = with_equals c.args.grant.now.user c.args.grant.now.role c.pass_name.ensures c.pass_name-2.ensures
