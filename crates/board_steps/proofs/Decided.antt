@@ -13,9 +13,9 @@ use Rattle.rev_tree.specs.Extension.{extends_tree, verdict_of}
 use Rattle.rev_tree.specs.Tree.{winner_of}
 use Rattle.rev_tree.specs.Writes.{AreAccepted}
 use Rattle.sync_syntax.specs.declared.tree.Program.{Program}
+use Rattle.sync_values.specs.declared.fault.Stop.TheVariants as stop
 use Rattle.sync_meaning.specs.declared.effects.Effects.{Effects}
 use Rattle.sync_meaning.specs.Laws.{AreEffects}
-use Rattle.sync_meaning.specs.declared.fault.Stop.TheVariants as stop
 use Rattle.doc_board.specs.declared.outcome.Outcome.{Outcome}
 use Rattle.doc_board.specs.declared.outcome.Outcome.TheVariants as outcome
 use Rattle.doc_board.specs.declared.snapshot.Snapshot.{Snapshot}

@@ -12,9 +12,9 @@ use Rattle.repl_messages.specs.declared.revision.Revision.{Revision}
 use Rattle.rev_tree.specs.Documents.{deletes}
 use Rattle.sync_syntax.specs.declared.tree.Named.{Named}
 use Rattle.sync_syntax.specs.declared.tree.Program.{Program}
+use Rattle.sync_values.specs.declared.fault.Stop.TheVariants as stop
+use Rattle.sync_values.specs.Found.{Found}
 use Rattle.sync_meaning.specs.declared.effects.Effects.{Effects}
-use Rattle.sync_meaning.specs.declared.fault.Stop.TheVariants as stop
-use Rattle.sync_meaning.specs.Acts.{Found}
 use Rattle.sync_meaning.specs.Laws.{AreEffects, EffectsAreLawful, OldIsNotAsked}
 use Rattle.sync_meaning.specs.Meaning.{meaning}
 use Rattle.sync_eval.specs.declared.verdict.Verdict.{Verdict}

@@ -7,9 +7,9 @@ use Rattle.rev_tree.specs.Documents.{deletes}
 use Rattle.rev_tree.specs.declared.extend.Extended.{Extended}
 use Rattle.rev_tree.specs.declared.extend.Extended.TheVariants as extended
 use Rattle.sync_syntax.specs.declared.tree.Program.{Program}
+use Rattle.sync_values.specs.declared.fault.Stop.TheVariants as stop
+use Rattle.sync_values.specs.Found.{Found}
 use Rattle.sync_meaning.specs.declared.effects.Effects.{Effects}
-use Rattle.sync_meaning.specs.declared.fault.Stop.TheVariants as stop
-use Rattle.sync_meaning.specs.Acts.{Found}
 use Rattle.sync_meaning.specs.Meaning.{meaning}
 use Rattle.sync_eval.specs.declared.verdict.Verdict.{Verdict}
 use Rattle.sync_eval.specs.declared.verdict.Verdict.TheVariants.{Accept, Deny, Memory}

@@ -15,8 +15,8 @@ use Rattle.rev_tree.specs.Writes.{tree_of}
 use Rattle.rev_tree.specs.declared.tree.Node.{Node}
 use Rattle.repl_messages.specs.declared.revision.Revision.{Revision}
 use Rattle.sync_syntax.specs.declared.tree.Program.{Program}
+use Rattle.sync_values.specs.Found.{Found}
 use Rattle.sync_meaning.specs.declared.effects.Effects.{Effects}
-use Rattle.sync_meaning.specs.Acts.{Found}
 use Rattle.doc_board.specs.Boards.{board_last, board_top, board_tree}
 use Rattle.doc_board.specs.JudgedWrites.{IsJudgedWrite, IsNextWrite}
 use Rattle.doc_board.specs.Judging.{IsSaidOf, body_or_empty, board_base}

@@ -20,9 +20,9 @@ use Rattle.json_doc.specs.Reading.{ReadsAs, IsDocument, tree_of}
 use Rattle.json_doc.specs.System.{with_system}
 use Rattle.repl_messages.specs.declared.revision.Revision.{Revision}
 use Rattle.sync_syntax.specs.declared.tree.Program.{Program}
+use Rattle.sync_values.specs.Found.{Found}
 use Rattle.sync_meaning.specs.declared.effects.Effects.{Effects}
 use Rattle.sync_meaning.specs.declared.state.Context.{Context}
-use Rattle.sync_meaning.specs.Acts.{Found}
 use Rattle.sync_meaning.specs.Meaning.{meaning}
 use Rattle.doc_board.specs.Contexts.{AreNamed, IsContext}
 use Rattle.doc_board.specs.Judging.{IsTreeOf, IsOldTree, IsSaid, board_base, body_or_empty}

@@ -10,9 +10,9 @@ use Rattle.json_doc.specs.System.{with_system}
 use Rattle.rev_tree.specs.Documents.{base_in}
 use Rattle.repl_messages.specs.declared.revision.Revision.{Revision}
 use Rattle.sync_syntax.specs.declared.tree.Program.{Program}
+use Rattle.sync_values.specs.Found.{Found}
 use Rattle.sync_meaning.specs.declared.effects.Effects.{Effects}
 use Rattle.sync_meaning.specs.declared.state.Context.{Context}
-use Rattle.sync_meaning.specs.Acts.{Found}
 use Rattle.sync_meaning.specs.Meaning.{meaning}
 use Rattle.doc_board.specs.Boards.{board_last}
 use Rattle.doc_board.specs.Contexts.{IsContext}

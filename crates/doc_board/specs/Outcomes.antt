@@ -13,8 +13,8 @@ use Rattle.repl_messages.specs.declared.request.Field.{Field}
 use Rattle.repl_messages.specs.declared.request.Field.TheVariants as field
 use Rattle.repl_messages.specs.declared.revision.Revision.{Revision}
 use Rattle.sync_syntax.specs.declared.tree.Program.{Program}
+use Rattle.sync_values.specs.declared.fault.Stop.TheVariants.{Deny}
 use Rattle.sync_meaning.specs.declared.effects.Effects.{Effects}
-use Rattle.sync_meaning.specs.declared.fault.Stop.TheVariants.{Deny}
 use Rattle.doc_board.specs.declared.outcome.Outcome.{Outcome}
 use Rattle.doc_board.specs.declared.outcome.Outcome.TheVariants as outcome
 use Rattle.doc_board.specs.declared.candidate.NoRoom.TheVariants as no_room

@@ -4,7 +4,7 @@ use Rattle.std.specs.List.{flat_map}
 use Rattle.sg_names.specs.Hex.{hex_text}
 use Rattle.sg_history.specs.History.{History}
 use Rattle.sg_history.specs.Journal.{journal_text}
-use Rattle.sync_meaning.specs.Texts.{rule_text}
+use Rattle.sync_values.specs.Texts.{rule_text}
 use Rattle.doc_board.specs.declared.outcome.Outcome.{Outcome}
 use Rattle.doc_board.specs.declared.outcome.Outcome.TheVariants as outcome
 use Rattle.session_core.specs.declared.look.Look.{Look}

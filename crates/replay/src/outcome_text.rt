@@ -1,7 +1,7 @@
 //! The transcript's lines of a script.
 
 ghost use Rattle.std.specs.Prelude.{◌≡◌, ◌++◌, OnOk, codes, decimal};
-ghost use Rattle.sync_meaning.specs.Texts.{rule_text};
+ghost use Rattle.sync_values.specs.Texts.{rule_text};
 ghost use Rattle.replay.specs.Transcript as transcript;
 
 use doc_board::{Outcome, Rule};

@@ -24,7 +24,7 @@ use Rattle.repl_messages.specs.Answers.{answers_payload}
 use Rattle.repl_messages.specs.Errors.{ok_payload, error_payload}
 use Rattle.repl_messages.specs.Looks.{front_of}
 use Rattle.repl_messages.specs.Wanted.{wanted_rows, reply_items}
-use Rattle.sync_meaning.specs.Texts.{rule_text}
+use Rattle.sync_values.specs.Texts.{rule_text}
 use Rattle.doc_board.specs.declared.outcome.Outcome.{Outcome}
 use Rattle.doc_board.specs.declared.outcome.Outcome.TheVariants as outcome
 use Rattle.session_core.specs.declared.act.Act.{Act}

@@ -15,7 +15,7 @@ use Rattle.repl_messages.specs.declared.looks.Body.TheVariants as bodies
 use Rattle.repl_messages.specs.Changes.{changes_payload}
 use Rattle.repl_messages.specs.Rev.{rev_payload, norev_payload}
 use Rattle.repl_messages.specs.Errors.{ok_payload, error_payload}
-use Rattle.sync_meaning.specs.Texts.{rule_text}
+use Rattle.sync_values.specs.Texts.{rule_text}
 use Rattle.doc_board.specs.declared.outcome.Outcome.{Outcome}
 use Rattle.doc_board.specs.declared.outcome.Outcome.TheVariants as outcome
 use Rattle.session_core.specs.declared.act.Act.{Act}

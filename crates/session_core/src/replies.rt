@@ -3,7 +3,7 @@
 ghost use Rattle.std.specs.Prelude.{◌≡◌, ◌≢◌, ◌++◌, ◌∷◌, [], IfOk, OnOk, if◌then◌else◌};
 ghost use Rattle.repl_messages.specs.Answers.{answers_payload};
 ghost use Rattle.repl_messages.specs.declared.error.ErrorKind.TheVariants as errors;
-ghost use Rattle.sync_meaning.specs.Texts.{rule_text};
+ghost use Rattle.sync_values.specs.Texts.{rule_text};
 ghost use Rattle.session_core.specs.Acts.{error_of, reply_act, refusal_act, acceptance_act, outcome_act, offer_act};
 
 use crate::act::Act;

@@ -7,16 +7,17 @@ use Rattle.sync_syntax.specs.declared.tree.Expr.TheOpen.{Expr-F, Suffix-F}
 use Rattle.sync_syntax.specs.declared.tree.Operator.{Operator}
 use Rattle.sync_syntax.specs.declared.tree.Prefix.{Prefix}
 use Rattle.sync_syntax.specs.declared.tree.Suffix.{out-Suffix}
-use Rattle.sync_meaning.specs.declared.callee.Target.{Target}
-use Rattle.sync_meaning.specs.declared.callee.Target.TheVariants as t
+use Rattle.sync_values.specs.declared.callee.Target.{Target}
+use Rattle.sync_values.specs.declared.callee.Target.TheVariants as t
+use Rattle.sync_values.specs.declared.value.Value.TheVariants as v
+use Rattle.sync_values.specs.Found.{Found}
+use Rattle.sync_values.specs.Values.{bounded}
 use Rattle.sync_meaning.specs.declared.scope.Scope.{Scope}
 use Rattle.sync_meaning.specs.declared.state.State.{State}
-use Rattle.sync_meaning.specs.declared.value.Value.TheVariants as v
 use Rattle.sync_meaning.specs.declared.variables.Literal.{Literal}
 use Rattle.sync_meaning.specs.declared.variables.Slot.{Slot}
-use Rattle.sync_meaning.specs.Acts.{Found, Act, and_then, pure, Does}
+use Rattle.sync_meaning.specs.Acts.{Act, and_then, pure, Does}
 use Rattle.sync_meaning.specs.Expressions as spec
-use Rattle.sync_meaning.specs.Values.{bounded}
 use Rattle.sync_code.specs.declared.code.Code.{Code}
 use Rattle.sync_code.specs.declared.code.Code as codes
 use Rattle.sync_code.specs.declared.code.Code.TheVariants as c

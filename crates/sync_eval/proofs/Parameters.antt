@@ -1,7 +1,7 @@
 -- The parameters of a program are written by its code.
 use Rattle.std.proofs.Common.{◌≡◌, ℕ, List, Option, Some, None, refl, sym, ap, ◌∙◌}
 use Rattle.sync_syntax.specs.declared.tree.Named.{Named}
-use Rattle.sync_meaning.specs.declared.value.Value.{Value}
+use Rattle.sync_values.specs.declared.value.Value.{Value}
 use Rattle.sync_meaning.specs.declared.variables.Slot.{Slot}
 use Rattle.sync_meaning.specs.declared.variables.Variable.{Variable}
 use Rattle.sync_meaning.specs.Meaning.{with_second}

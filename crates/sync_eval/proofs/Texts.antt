@@ -7,11 +7,11 @@ use Rattle.sg_names.proofs.Cuts.{cut_same}
 use Rattle.sg_names.proofs.Decimals.{lacks-decimal}
 use Rattle.sg_names.specs.Grammar.{lacks}
 use Rattle.sync_tokens.specs.declared.place.Place.{Place}
-use Rattle.sync_meaning.specs.declared.fault.FaultKind.TheVariants as faults
-use Rattle.sync_meaning.specs.declared.fault.RuleKind.{RuleKind}
-use Rattle.sync_meaning.specs.declared.fault.RuleKind.TheVariants as rules
-use Rattle.sync_meaning.specs.declared.fault.Rule.{Rule}
-use Rattle.sync_meaning.specs.Texts.{rule_name, place_text, said, rule_text}
+use Rattle.sync_values.specs.declared.fault.FaultKind.TheVariants as faults
+use Rattle.sync_values.specs.declared.fault.RuleKind.{RuleKind}
+use Rattle.sync_values.specs.declared.fault.RuleKind.TheVariants as rules
+use Rattle.sync_values.specs.declared.fault.Rule.{Rule}
+use Rattle.sync_values.specs.Texts.{rule_name, place_text, said, rule_text}
 use Rattle.sync_eval.specs.Verdicts.{RulesHaveTextsOfTheirOwn}
 
 -- a kind without the text that was thrown

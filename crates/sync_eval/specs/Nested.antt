@@ -2,10 +2,11 @@
 use Rattle.std.specs.Prelude.{ℕ, Bool, IsTrue}
 use Rattle.std.specs.declared.alloc.Global.{Global}
 use denote.Ref.{Bor, MutBor}
-use Rattle.sync_meaning.specs.declared.callee.Target.{Target}
+use Rattle.sync_values.specs.declared.callee.Target.{Target}
+use Rattle.sync_values.specs.Found.{Found}
 use Rattle.sync_meaning.specs.declared.scope.Scope.{Scope}
 use Rattle.sync_meaning.specs.declared.state.State.{State}
-use Rattle.sync_meaning.specs.Acts.{Found, Act, Does}
+use Rattle.sync_meaning.specs.Acts.{Act, Does}
 use Rattle.sync_meaning.specs.Expressions.{evaluated}
 use Rattle.sync_code.specs.declared.code.Code.{Code}
 use Rattle.sync_code.specs.Code.{Fits, fits, source}

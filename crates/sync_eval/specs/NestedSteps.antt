@@ -2,9 +2,9 @@
 use Rattle.std.specs.Prelude.{ℕ}
 use Rattle.std.specs.declared.alloc.Global.{Global}
 use denote.Ref.{Bor, MutBor}
+use Rattle.sync_values.specs.Found.{Found}
 use Rattle.sync_meaning.specs.declared.completion.Completion.{Completion}
 use Rattle.sync_meaning.specs.declared.state.State.{State}
-use Rattle.sync_meaning.specs.Acts.{Found}
 use Rattle.sync_meaning.specs.Statements.{run}
 use Rattle.sync_code.specs.declared.code.Step.{Step}
 use Rattle.sync_code.specs.Steps.{step_fits, step_source}

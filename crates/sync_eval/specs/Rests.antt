@@ -4,17 +4,18 @@ use Rattle.sync_tokens.specs.declared.place.Place.{Place}
 use Rattle.sync_syntax.specs.declared.tree.Expr.{Expr}
 use Rattle.sync_syntax.specs.declared.tree.Named.{Named}
 use Rattle.sync_syntax.specs.declared.tree.Statement.{Statement}
-use Rattle.sync_meaning.specs.declared.callee.Builtin.{Builtin}
-use Rattle.sync_meaning.specs.declared.callee.Builtin.TheVariants as b
-use Rattle.sync_meaning.specs.declared.callee.Target.{Target}
-use Rattle.sync_meaning.specs.declared.callee.Target.TheVariants as t
+use Rattle.sync_values.specs.declared.callee.Builtin.{Builtin}
+use Rattle.sync_values.specs.declared.callee.Builtin.TheVariants as b
+use Rattle.sync_values.specs.declared.callee.Target.{Target}
+use Rattle.sync_values.specs.declared.callee.Target.TheVariants as t
+use Rattle.sync_values.specs.declared.value.Value.{Value}
+use Rattle.sync_values.specs.Found.{Found}
+use Rattle.sync_values.specs.Values.{added, calculated, indexed, truth}
 use Rattle.sync_meaning.specs.declared.completion.Completion.{Completion}
 use Rattle.sync_meaning.specs.declared.scope.Scope.{Scope}
-use Rattle.sync_meaning.specs.declared.value.Value.{Value}
-use Rattle.sync_meaning.specs.Acts.{Found, Act, ◌>>=◌, ◌>>◌, pure, lift}
+use Rattle.sync_meaning.specs.Acts.{Act, ◌>>=◌, ◌>>◌, pure, lift}
 use Rattle.sync_meaning.specs.Expressions.{value_to}
 use Rattle.sync_meaning.specs.Statements.{assign, store, run}
-use Rattle.sync_meaning.specs.Values.{added, calculated, indexed, truth}
 
 -- the functions by which rules deny, which stand behind the others that are built in
 abbrev pub rules : List (List ℕ × Builtin)

@@ -1,11 +1,11 @@
 -- Verdicts over what a program means.
 use Rattle.std.specs.Prelude.{◌≡◌, ◌<◌, ◌^◌, Result, Ok, Err}
 use Rattle.sync_tokens.specs.declared.place.Place.{Place}
+use Rattle.sync_values.specs.declared.fault.Rule.{Rule}
+use Rattle.sync_values.specs.declared.fault.Stop.{Stop}
+use Rattle.sync_values.specs.declared.fault.Stop.TheVariants as stop
+use Rattle.sync_values.specs.Texts.{rule_text}
 use Rattle.sync_meaning.specs.declared.effects.Effects.{Effects}
-use Rattle.sync_meaning.specs.declared.fault.Rule.{Rule}
-use Rattle.sync_meaning.specs.declared.fault.Stop.{Stop}
-use Rattle.sync_meaning.specs.declared.fault.Stop.TheVariants as stop
-use Rattle.sync_meaning.specs.Texts.{rule_text}
 use Rattle.sync_eval.specs.declared.verdict.Verdict.{Verdict}
 use Rattle.sync_eval.specs.declared.verdict.Verdict.TheVariants.{Accept, Deny, Memory}
 

@@ -2,8 +2,8 @@
 //! parameter, so that each is proved by itself.
 
 ghost use Rattle.std.specs.Prelude.{◌≡◌, ◌&&◌, ◌++◌, ◌∷◌, [], Ok, IsTrue, OnOk};
+ghost use Rattle.sync_values.specs.declared.value.Value as Value;
 ghost use Rattle.sync_meaning.specs.declared.scope.Scope.{Scope};
-ghost use Rattle.sync_meaning.specs.declared.value.Value as Value;
 ghost use Rattle.sync_meaning.specs.Acts.{Does};
 ghost use Rattle.sync_meaning.specs.Expressions as spec;
 ghost use Rattle.sync_meaning.specs.Expressions.{evaluated};

@@ -2,9 +2,10 @@
 
 ghost use Rattle.std.specs.Prelude.{◌≡◌, [], option_map, Ok, Err, IfErr, IfOk, OnOk};
 ghost use Rattle.json_doc.specs.View.{node_tree};
-ghost use Rattle.sync_meaning.specs.Acts.{Does, Gives};
+ghost use Rattle.sync_values.specs.Found.{Gives};
+ghost use Rattle.sync_values.specs.Values as values;
+ghost use Rattle.sync_meaning.specs.Acts.{Does};
 ghost use Rattle.sync_meaning.specs.Meaning as spec;
-ghost use Rattle.sync_meaning.specs.Values as values;
 ghost use Rattle.sync_meaning.specs.Variables.{written};
 
 use crate::statement::{Statements, run};

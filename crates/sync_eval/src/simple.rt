@@ -1,11 +1,11 @@
 //! The parts of statements that hold no statement.
 
 ghost use Rattle.std.specs.Prelude.{◌≡◌, ◌≢◌, ◌-ℤ◌, ◌&&◌, option_map};
-ghost use Rattle.sync_meaning.specs.declared.fault.Stop as Stop;
+ghost use Rattle.sync_values.specs.declared.fault.Stop as Stop;
+ghost use Rattle.sync_values.specs.Values as values;
 ghost use Rattle.sync_meaning.specs.Acts.{Does};
 ghost use Rattle.sync_meaning.specs.Expressions.{value_to};
 ghost use Rattle.sync_meaning.specs.Statements as spec;
-ghost use Rattle.sync_meaning.specs.Values as values;
 ghost use Rattle.sync_code.specs.Code.{source, source_or_none, fits, fits_or_none, slot_fits};
 ghost use Rattle.sync_eval.specs.Nested.{DoesWhere};
 ghost use Rattle.sync_eval.specs.Rests as rests;

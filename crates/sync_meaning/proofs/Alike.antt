@@ -10,24 +10,24 @@ use Rattle.sync_syntax.specs.declared.tree.Operator.{Operator}
 use Rattle.sync_syntax.specs.declared.tree.Operator.TheVariants as op
 use Rattle.sync_syntax.specs.declared.tree.Prefix.{Prefix}
 use Rattle.sync_syntax.specs.declared.tree.Prefix.TheVariants as prefix
-use Rattle.sync_meaning.specs.declared.callee.Builtin.{Builtin}
-use Rattle.sync_meaning.specs.declared.callee.Builtin.TheVariants as b
-use Rattle.sync_meaning.specs.declared.callee.Method.{Method}
-use Rattle.sync_meaning.specs.declared.callee.Method.TheVariants as m
-use Rattle.sync_meaning.specs.declared.callee.Target.{Target}
-use Rattle.sync_meaning.specs.declared.callee.Target.TheVariants as t
+use Rattle.sync_values.specs.declared.callee.Builtin.{Builtin}
+use Rattle.sync_values.specs.declared.callee.Builtin.TheVariants as b
+use Rattle.sync_values.specs.declared.callee.Method.{Method}
+use Rattle.sync_values.specs.declared.callee.Method.TheVariants as m
+use Rattle.sync_values.specs.declared.callee.Target.{Target}
+use Rattle.sync_values.specs.declared.callee.Target.TheVariants as t
+use Rattle.sync_values.specs.declared.fault.FaultKind.TheVariants.{Size, BadName, Range}
+use Rattle.sync_values.specs.declared.fault.RuleKind.{RuleKind}
+use Rattle.sync_values.specs.declared.fault.RuleKind.TheVariants as rules
+use Rattle.sync_values.specs.declared.fault.Stop.{Stop}
+use Rattle.sync_values.specs.declared.value.Value.{Value, out-Value}
+use Rattle.sync_values.specs.declared.value.Value.TheOpen.{Value-F}
+use Rattle.sync_values.specs.declared.value.Value.TheVariants as v
+use Rattle.sync_values.specs.Found.{Found, fails, type_fault, denial}
+use Rattle.sync_values.specs.Values.{Layer, found_then, truth_at, truth, bounded, joined, added_at, added, integer_at, integer_in, calculated, negated, compared_at, compared, is_nothing, is_alike, same, loosely_equal, cannot_equal, strictly_equal, truth_value, not_that, ordered, combined, prefixed, member_at, member, indexed_at, indexed, listed, index_at, index_of, concat_at, concat, begins_at, begins_with, can_be_sought, by_method}
 use Rattle.sync_meaning.specs.declared.effects.Effects.{Effects}
-use Rattle.sync_meaning.specs.declared.fault.FaultKind.TheVariants.{Size, BadName, Range}
-use Rattle.sync_meaning.specs.declared.fault.RuleKind.{RuleKind}
-use Rattle.sync_meaning.specs.declared.fault.RuleKind.TheVariants as rules
-use Rattle.sync_meaning.specs.declared.fault.Stop.{Stop}
 use Rattle.sync_meaning.specs.declared.state.State.{State}
-use Rattle.sync_meaning.specs.declared.value.Value.{Value, out-Value}
-use Rattle.sync_meaning.specs.declared.value.Value.TheOpen.{Value-F}
-use Rattle.sync_meaning.specs.declared.value.Value.TheVariants as v
-use Rattle.sync_meaning.specs.Acts.{Found, fails, type_fault, denial}
-use Rattle.sync_meaning.specs.Values.{Layer, found_then, truth_at, truth, bounded, joined, added_at, added, integer_at, integer_in, calculated, negated, compared_at, compared, is_nothing, is_alike, same, loosely_equal, cannot_equal, strictly_equal, truth_value, not_that, ordered, combined, prefixed, member_at, member, indexed_at, indexed, listed, index_at, index_of, concat_at, concat, begins_at, begins_with, can_be_sought}
-use Rattle.sync_meaning.specs.Builtins.{texts_or, texts_in, argument_at, one, named_from, named, names_in, itself, bare_role, grantee_of, users_in, roles_in, channels_in, grantees_in, all_channels, within, effect_count, add_channel, add_grant, add_role, for_each, add_channels, add_grants_to, add_grants, add_roles_to, add_roles, with_effects, unless_passing, passes_user, passes_role, passes_access, passes_admin, channel, access, role, require_user, require_role, require_access, require_admin, built_in, by_method}
+use Rattle.sync_meaning.specs.Builtins.{texts_or, texts_in, argument_at, one, named_from, named, names_in, itself, bare_role, grantee_of, users_in, roles_in, channels_in, grantees_in, all_channels, within, effect_count, add_channel, add_grant, add_role, for_each, add_channels, add_grants_to, add_grants, add_roles_to, add_roles, with_effects, unless_passing, passes_user, passes_role, passes_access, passes_admin, channel, access, role, require_user, require_role, require_access, require_admin, built_in}
 use Rattle.sync_meaning.specs.Expressions.{as_value}
 use Rattle.sync_meaning.specs.Statements.{items_at, items_in, one_more, forbidden_in, thrown_by, thrown}
 use Rattle.sync_meaning.specs.Laws.{placeless_stop, placeless}

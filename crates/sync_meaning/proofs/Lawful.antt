@@ -14,21 +14,22 @@ use Rattle.sg_names.specs.declared.grants.Grantee.{Grantee}
 use Rattle.sg_names.specs.declared.role_grants.RoleGrant.{RoleGrant}
 use Rattle.sync_tokens.specs.declared.place.Place.{Place}
 use Rattle.sync_syntax.specs.declared.tree.Program.{Program}
-use Rattle.sync_meaning.specs.declared.callee.Builtin.{Builtin}
-use Rattle.sync_meaning.specs.declared.callee.Builtin.TheVariants as b
+use Rattle.sync_values.specs.declared.callee.Builtin.{Builtin}
+use Rattle.sync_values.specs.declared.callee.Builtin.TheVariants as b
+use Rattle.sync_values.specs.declared.fault.FaultKind.TheVariants.{BadName, Size}
+use Rattle.sync_values.specs.declared.fault.RuleKind.{RuleKind}
+use Rattle.sync_values.specs.declared.fault.RuleKind.TheVariants as rules
+use Rattle.sync_values.specs.declared.fault.Stop.{Stop}
+use Rattle.sync_values.specs.declared.value.Value.{Value}
+use Rattle.sync_values.specs.declared.value.Value.TheVariants as v
+use Rattle.sync_values.specs.Found.{Found, denial, fails, type_fault}
+use Rattle.sync_values.specs.Values.{found_then, is_list}
 use Rattle.sync_meaning.specs.declared.completion.Completion.{Completion}
 use Rattle.sync_meaning.specs.declared.effects.Effects.{Effects}
-use Rattle.sync_meaning.specs.declared.fault.FaultKind.TheVariants.{BadName, Size}
-use Rattle.sync_meaning.specs.declared.fault.RuleKind.{RuleKind}
-use Rattle.sync_meaning.specs.declared.fault.RuleKind.TheVariants as rules
-use Rattle.sync_meaning.specs.declared.fault.Stop.{Stop}
 use Rattle.sync_meaning.specs.declared.scope.Scope.{Scope}
 use Rattle.sync_meaning.specs.declared.state.Context.{Context}
 use Rattle.sync_meaning.specs.declared.state.State.{State}
-use Rattle.sync_meaning.specs.declared.value.Value.{Value}
-use Rattle.sync_meaning.specs.declared.value.Value.TheVariants as v
-use Rattle.sync_meaning.specs.Acts.{Found, Act, and_then, in_state, ◌>>=◌, lift, denial, fails, type_fault, visits, out_of_visits}
-use Rattle.sync_meaning.specs.Values.{found_then, is_list}
+use Rattle.sync_meaning.specs.Acts.{Act, and_then, in_state, ◌>>=◌, lift, visits, out_of_visits}
 use Rattle.sync_meaning.specs.Variables.{top}
 use Rattle.sync_meaning.specs.Builtins.{named_from, named, texts_in, itself, bare_role, grantee_of, users_in, roles_in, channels_in, grantees_in, all_channels, put, effect_count, within, add_channel, add_grant, add_role, for_each, add_channels, add_grants_to, add_grants, add_roles_to, add_roles, with_effects, unless_passing, passes_user, passes_role, passes_access, passes_admin, channel, access, role, require_user, require_role, require_access, require_admin, built_in}
 use Rattle.sync_meaning.specs.Expressions.{read}

@@ -18,19 +18,20 @@ use Rattle.sync_syntax.specs.declared.tree.Statement.{Statement, out-Statement}
 use Rattle.sync_syntax.specs.declared.tree.Statement.TheOpen.{Statement-F}
 use Rattle.sync_syntax.specs.declared.tree.Suffix.{Suffix, out-Suffix}
 use Rattle.sync_syntax.specs.declared.tree.Writes.TheVariants as writes
-use Rattle.sync_meaning.specs.declared.callee.Builtin.{Builtin}
-use Rattle.sync_meaning.specs.declared.callee.Builtin.TheVariants.{IsArray}
-use Rattle.sync_meaning.specs.declared.callee.Target.{Target}
-use Rattle.sync_meaning.specs.declared.callee.Target.TheVariants as t
+use Rattle.sync_values.specs.declared.callee.Builtin.{Builtin}
+use Rattle.sync_values.specs.declared.callee.Builtin.TheVariants.{IsArray}
+use Rattle.sync_values.specs.declared.callee.Target.{Target}
+use Rattle.sync_values.specs.declared.callee.Target.TheVariants as t
+use Rattle.sync_values.specs.declared.value.Value.{Value}
+use Rattle.sync_values.specs.declared.value.Value.TheVariants as v
+use Rattle.sync_values.specs.Found.{Found, type_fault}
+use Rattle.sync_values.specs.Values.{truth, combined, prefixed, member, indexed, listed, same_truth, added, by_method}
 use Rattle.sync_meaning.specs.declared.completion.Completion.{Completion}
 use Rattle.sync_meaning.specs.declared.completion.Completion.TheVariants.{Normal, Break, Continue, Return}
 use Rattle.sync_meaning.specs.declared.scope.Scope.{Scope}
-use Rattle.sync_meaning.specs.declared.value.Value.{Value}
-use Rattle.sync_meaning.specs.declared.value.Value.TheVariants as v
-use Rattle.sync_meaning.specs.Acts.{Found, Act, ◌>>=◌, pure, lift, type_fault, visits, out_of_visits}
-use Rattle.sync_meaning.specs.Values.{truth, combined, prefixed, member, indexed, listed, same_truth, added}
+use Rattle.sync_meaning.specs.Acts.{Act, ◌>>=◌, pure, lift, visits, out_of_visits}
 use Rattle.sync_meaning.specs.Variables.{new_number, declared, started, behind}
-use Rattle.sync_meaning.specs.Builtins.{built_in, by_method}
+use Rattle.sync_meaning.specs.Builtins.{built_in}
 use Rattle.sync_meaning.specs.Expressions.{place_of, called_by, method_of, is_called, calls_is_array, without_first, node_count, as_value, read, name, literal, call_by, member_or_method, Layer, SuffixLayer, value, values, values_from, members, members_from, list, object, prefix, decided, operated, operation, operations, chain, choice, call, index, suffix_at, suffix, suffixes, postfix, postfix_value, node_at, node, callee_at, callee, opened, evaluated, value_to}
 use Rattle.sync_meaning.specs.Statements as s
 use Rattle.sync_meaning.specs.Statements.{store, assign, one_more, count, jump, thrown, items_in, place_of_simple, StatementLayer, after_normal, after_round, run}

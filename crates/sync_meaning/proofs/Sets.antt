@@ -5,10 +5,10 @@ use Rattle.std.specs.List.{list_all, list_any}
 use Rattle.std.specs.Str.{bytes_eq}
 use Rattle.std.proofs.lemmas.Bool.{false≢true}
 use Rattle.sync_tokens.specs.declared.place.Place.{Place}
+use Rattle.sync_values.specs.declared.fault.FaultKind.TheVariants.{Size}
+use Rattle.sync_values.specs.Found.{Found, fails}
+use Rattle.sync_values.specs.Values.{found_then}
 use Rattle.sync_meaning.specs.declared.effects.Effects.{Effects}
-use Rattle.sync_meaning.specs.declared.fault.FaultKind.TheVariants.{Size}
-use Rattle.sync_meaning.specs.Acts.{Found, fails}
-use Rattle.sync_meaning.specs.Values.{found_then}
 use Rattle.sync_meaning.specs.Builtins.{is_in, effect_count, within, for_each}
 use Rattle.sync_meaning.specs.Arguments.{AreSame}
 

@@ -6,9 +6,9 @@ use Rattle.std.specs.Str.{bytes_eq}
 use Rattle.std.proofs.lemmas.Bool.{cases_Bool}
 use Rattle.std.proofs.lemmas.Bool.Decides.{Decides-eqb}
 use Rattle.std.proofs.lemmas.Slice.Eq.{bytes_eq-Decides}
+use Rattle.sync_values.specs.declared.value.Value.{Value}
+use Rattle.sync_values.specs.declared.value.Value.TheVariants as v
 use Rattle.sync_meaning.specs.declared.variables.Variable.{Variable}
-use Rattle.sync_meaning.specs.declared.value.Value.{Value}
-use Rattle.sync_meaning.specs.declared.value.Value.TheVariants as v
 use Rattle.sync_meaning.specs.Slots.{is_variable, place_of, held, is_written, each_once, replaced}
 use Rattle.sync_meaning.specs.Variables.{variable, value_in, written}
 

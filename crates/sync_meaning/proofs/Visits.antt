@@ -2,19 +2,20 @@
 use Rattle.std.proofs.Common.{◌≡◌, ℕ, ◌+◌, ◌-◌, ◌*◌, nat_lt, Bool, true, false, List, [], ◌∷◌, Ok, Err, ◌⊎◌, inl, inr, refl, subst, ap, ◌∙◌, ltb-false, le-ltb, arith}
 use Rattle.sync_tokens.specs.declared.place.Place.{Place}
 use Rattle.sync_syntax.specs.declared.tree.Program.{Program}
-use Rattle.sync_meaning.specs.declared.callee.Builtin.{Builtin}
-use Rattle.sync_meaning.specs.declared.callee.Builtin.TheVariants as b
+use Rattle.sync_values.specs.declared.callee.Builtin.{Builtin}
+use Rattle.sync_values.specs.declared.callee.Builtin.TheVariants as b
+use Rattle.sync_values.specs.declared.fault.RuleKind.{RuleKind}
+use Rattle.sync_values.specs.declared.fault.RuleKind.TheVariants as rules
+use Rattle.sync_values.specs.declared.value.Value.{Value}
+use Rattle.sync_values.specs.declared.value.Value.TheVariants as v
+use Rattle.sync_values.specs.Found.{Found, type_fault}
+use Rattle.sync_values.specs.Values.{found_then, is_list}
 use Rattle.sync_meaning.specs.declared.completion.Completion.{Completion}
 use Rattle.sync_meaning.specs.declared.effects.Effects.{Effects}
-use Rattle.sync_meaning.specs.declared.fault.RuleKind.{RuleKind}
-use Rattle.sync_meaning.specs.declared.fault.RuleKind.TheVariants as rules
 use Rattle.sync_meaning.specs.declared.scope.Scope.{Scope}
 use Rattle.sync_meaning.specs.declared.state.Context.{Context}
 use Rattle.sync_meaning.specs.declared.state.State.{State}
-use Rattle.sync_meaning.specs.declared.value.Value.{Value}
-use Rattle.sync_meaning.specs.declared.value.Value.TheVariants as v
-use Rattle.sync_meaning.specs.Acts.{Found, Act, and_then, in_state, ◌>>=◌, lift, type_fault, visits, out_of_visits}
-use Rattle.sync_meaning.specs.Values.{found_then, is_list}
+use Rattle.sync_meaning.specs.Acts.{Act, and_then, in_state, ◌>>=◌, lift, visits, out_of_visits}
 use Rattle.sync_meaning.specs.Builtins.{built_in, channel, access, role, require_user, require_role, require_access, require_admin, all_channels, users_in, roles_in, channels_in, grantees_in, add_channels, add_grants, add_roles, with_effects, unless_passing, passes_user, passes_role, passes_access, passes_admin}
 use Rattle.sync_meaning.specs.Expressions.{read}
 use Rattle.sync_meaning.specs.Statements.{store, run}

@@ -1,17 +1,10 @@
 -- What evaluating does: it gives a value and leaves a state, or something stops it.
-use Rattle.std.specs.Prelude.{◌≡◌, ◌≢◌, ℕ, ◌-◌, nat_lt, if◌then◌else◌, Result, Ok, Err}
+use Rattle.std.specs.Prelude.{◌≡◌, ◌≢◌, ℕ, ◌-◌, nat_lt, if◌then◌else◌, Ok, Err}
 use Rattle.sync_tokens.specs.declared.place.Place.{Place}
-use Rattle.sync_meaning.specs.declared.fault.FaultKind.{FaultKind}
-use Rattle.sync_meaning.specs.declared.fault.FaultKind.TheVariants.{TypeFault}
-use Rattle.sync_meaning.specs.declared.fault.RuleKind.{RuleKind}
-use Rattle.sync_meaning.specs.declared.fault.RuleKind.TheVariants.{Fault, Fuel}
-use Rattle.sync_meaning.specs.declared.fault.Stop.{Stop}
-use Rattle.sync_meaning.specs.declared.fault.Stop.TheVariants.{Deny, Memory}
+use Rattle.sync_values.specs.declared.fault.RuleKind.TheVariants.{Fuel}
+use Rattle.sync_values.specs.declared.fault.Stop.TheVariants.{Memory}
+use Rattle.sync_values.specs.Found.{Found, denial}
 use Rattle.sync_meaning.specs.declared.state.State.{State}
-
--- what is found, or what stops it
-abbrev pub Found : Type 0 → Type 0
-Found A = Result A Stop
 
 -- what is found in a state, and the state after
 abbrev pub Act : Type 0 → Type 0
@@ -44,23 +37,7 @@ in_state (Err e) s = Err e
 abbrev pub lift : {A : Type 0} → Found A → Act A
 lift r = λ s. in_state r s
 
--- ---- what stops a run
-
--- a rule denies at this place
-abbrev pub denial : RuleKind → Place → Stop
-denial kind p = Deny (record { kind = kind; place = p })
-
--- a fault of this kind at this place
-abbrev pub fault : FaultKind → Place → Stop
-fault kind p = denial (Fault kind) p
-
--- nothing is found, for a fault
-abbrev pub fails : {A : Type 0} → FaultKind → Place → Found A
-fails kind p = Err (fault kind p)
-
--- a value of another kind was wanted
-abbrev pub type_fault : {A : Type 0} → Place → Found A
-type_fault p = fails TypeFault p
+-- ---- visits
 
 -- no visit is left
 abbrev pub out_of_visits : {A : Type 0} → Place → Act A
@@ -76,12 +53,7 @@ visit p = visits 1 p
 
 -- ---- what a function that evaluates ensures: what the meaning says, unless memory fails
 
--- the result is this outcome, or memory failed
-abbrev pub Gives : {A : Type 0} → Found A → Found A → Type 0
-Gives outcome (Ok a) = outcome ≡ Ok a
-Gives outcome (Err e) = e ≢ Memory → outcome ≡ Err e
-
--- the same in a state, with the state after
+-- the result is this outcome with the state after, or memory failed
 abbrev pub Does : {A : Type 0} → Found (A × State) → Found A → State → Type 0
 Does outcome (Ok a) new = outcome ≡ Ok (a, new)
 Does outcome (Err e) new = e ≢ Memory → outcome ≡ Err e

@@ -10,13 +10,13 @@ use Rattle.sg_names.specs.ItemList.{rises}
 use Rattle.sg_names.specs.declared.grants.Grant.{Grant}
 use Rattle.sg_names.specs.declared.role_grants.RoleGrant.{RoleGrant}
 use Rattle.sync_tokens.specs.declared.place.Place.{Place}
+use Rattle.sync_values.specs.declared.fault.Stop.TheVariants.{Memory}
+use Rattle.sync_values.specs.Found.{Found}
+use Rattle.sync_values.specs.Values.{found_then}
 use Rattle.sync_meaning.specs.declared.arguments.Kind.{Kind}
 use Rattle.sync_meaning.specs.declared.arguments.Kind.TheVariants as kind
 use Rattle.sync_meaning.specs.declared.effects.Effects.{Effects}
-use Rattle.sync_meaning.specs.declared.fault.Stop.TheVariants.{Memory}
-use Rattle.sync_meaning.specs.Acts.{Found}
 use Rattle.sync_meaning.specs.Builtins.{itself, bare_role, grantee_of, is_in, one, for_each, add_channel, add_grant, add_role}
-use Rattle.sync_meaning.specs.Values.{found_then}
 
 -- the texts that are borrowed
 abbrev pub texts : List (Bor (List ℕ)) → List (List ℕ)

@@ -11,21 +11,20 @@ use Rattle.sg_names.specs.RoleGrants.{role_grant_cmp}
 use Rattle.sg_names.specs.declared.grants.Grantee.{Grantee}
 use Rattle.sg_names.specs.declared.grants.Grantee.TheVariants as grantee
 use Rattle.sync_tokens.specs.declared.place.Place.{Place}
-use Rattle.sync_meaning.specs.declared.callee.Builtin.{Builtin}
-use Rattle.sync_meaning.specs.declared.callee.Builtin.TheVariants as b
-use Rattle.sync_meaning.specs.declared.callee.Method.{Method}
-use Rattle.sync_meaning.specs.declared.callee.Method.TheVariants as m
-use Rattle.sync_meaning.specs.declared.fault.FaultKind.TheVariants.{Argument, BadName, Size}
-use Rattle.sync_meaning.specs.declared.fault.RuleKind.{RuleKind}
-use Rattle.sync_meaning.specs.declared.fault.RuleKind.TheVariants as rules
+use Rattle.sync_values.specs.declared.callee.Builtin.{Builtin}
+use Rattle.sync_values.specs.declared.callee.Builtin.TheVariants as b
+use Rattle.sync_values.specs.declared.fault.FaultKind.TheVariants.{Argument, BadName, Size}
+use Rattle.sync_values.specs.declared.fault.RuleKind.{RuleKind}
+use Rattle.sync_values.specs.declared.fault.RuleKind.TheVariants as rules
+use Rattle.sync_values.specs.declared.value.Value.{Value, out-Value}
+use Rattle.sync_values.specs.declared.value.Value.TheOpen.{Value-F}
+use Rattle.sync_values.specs.declared.value.Value.TheVariants as v
+use Rattle.sync_values.specs.Found.{Found, denial, fails, type_fault}
+use Rattle.sync_values.specs.Values.{Layer, found_then, is_list}
 use Rattle.sync_meaning.specs.declared.state.Context.{Context}
 use Rattle.sync_meaning.specs.declared.effects.Effects.{Effects}
 use Rattle.sync_meaning.specs.declared.state.State.{State}
-use Rattle.sync_meaning.specs.declared.value.Value.{Value, out-Value}
-use Rattle.sync_meaning.specs.declared.value.Value.TheOpen.{Value-F}
-use Rattle.sync_meaning.specs.declared.value.Value.TheVariants as v
-use Rattle.sync_meaning.specs.Acts.{Found, Act, pure, lift, denial, fails, type_fault}
-use Rattle.sync_meaning.specs.Values.{Layer, found_then, index_of, concat, begins_with, is_list}
+use Rattle.sync_meaning.specs.Acts.{Act, pure, lift}
 
 -- ---- arguments
 
@@ -271,10 +270,3 @@ built_in p b.RequireAccess (x ∷ []) = require_access p x
 built_in p b.RequireAdmin [] = require_admin p
 built_in p b.IsArray (x ∷ []) = pure (v.Bool (is_list x))
 built_in p _ _ = lift (type_fault p)
-
--- what a method gives; another count of arguments is a fault here
-abbrev pub by_method : Place → Method → Value → List Value → Found Value
-by_method p m.IndexOf x (y ∷ []) = index_of p x y
-by_method p m.Concat x (y ∷ []) = concat p x y
-by_method p m.StartsWith x (y ∷ []) = begins_with p x y
-by_method p _ x _ = type_fault p

@@ -8,19 +8,20 @@ use Rattle.sync_syntax.specs.declared.tree.Prefix.{Prefix}
 use Rattle.sync_syntax.specs.declared.tree.Expr.{Expr, out-Expr, fold-Expr}
 use Rattle.sync_syntax.specs.declared.tree.Expr.TheOpen.{Expr-F, Suffix-F}
 use Rattle.sync_syntax.specs.declared.tree.Suffix.{Suffix, out-Suffix}
-use Rattle.sync_meaning.specs.declared.callee.Builtin.{Builtin}
-use Rattle.sync_meaning.specs.declared.callee.Builtin.TheVariants as b
-use Rattle.sync_meaning.specs.declared.callee.Method.{Method}
-use Rattle.sync_meaning.specs.declared.callee.Method.TheVariants as m
-use Rattle.sync_meaning.specs.declared.callee.Target.{Target}
-use Rattle.sync_meaning.specs.declared.callee.Target.TheVariants as t
+use Rattle.sync_values.specs.declared.callee.Builtin.{Builtin}
+use Rattle.sync_values.specs.declared.callee.Builtin.TheVariants as b
+use Rattle.sync_values.specs.declared.callee.Method.{Method}
+use Rattle.sync_values.specs.declared.callee.Method.TheVariants as m
+use Rattle.sync_values.specs.declared.callee.Target.{Target}
+use Rattle.sync_values.specs.declared.callee.Target.TheVariants as t
+use Rattle.sync_values.specs.declared.value.Value.{Value}
+use Rattle.sync_values.specs.declared.value.Value.TheVariants as v
+use Rattle.sync_values.specs.Found.{Found, type_fault}
+use Rattle.sync_values.specs.Values.{bounded, same_truth, truth, combined, prefixed, member, indexed, listed, by_method}
 use Rattle.sync_meaning.specs.declared.scope.Scope.{Scope}
-use Rattle.sync_meaning.specs.declared.value.Value.{Value}
-use Rattle.sync_meaning.specs.declared.value.Value.TheVariants as v
-use Rattle.sync_meaning.specs.Acts.{Found, Act, ◌>>=◌, ◌>>◌, pure, lift, type_fault, visit, visits, out_of_visits}
-use Rattle.sync_meaning.specs.Values.{bounded, same_truth, truth, combined, prefixed, member, indexed, listed}
+use Rattle.sync_meaning.specs.Acts.{Act, ◌>>=◌, ◌>>◌, pure, lift, visit, visits, out_of_visits}
 use Rattle.sync_meaning.specs.Variables.{number_of, value_in}
-use Rattle.sync_meaning.specs.Builtins.{built_in, by_method}
+use Rattle.sync_meaning.specs.Builtins.{built_in}
 
 -- an expression as it is seen from outside
 abbrev pub Layer : Type 0

@@ -7,12 +7,12 @@ use Rattle.sg_names.specs.RoleGrants.{is_role_grants}
 use Rattle.sync_tokens.specs.Places.{start}
 use Rattle.sync_tokens.specs.declared.place.Place.{Place}
 use Rattle.sync_syntax.specs.declared.tree.Program.{Program}
+use Rattle.sync_values.specs.declared.fault.RuleKind.TheVariants.{Fuel}
+use Rattle.sync_values.specs.declared.fault.Stop.{Stop}
+use Rattle.sync_values.specs.declared.fault.Stop.TheVariants.{Deny, Memory}
+use Rattle.sync_values.specs.Found.{Found, denial}
 use Rattle.sync_meaning.specs.declared.effects.Effects.{Effects}
-use Rattle.sync_meaning.specs.declared.fault.RuleKind.TheVariants.{Fuel}
-use Rattle.sync_meaning.specs.declared.fault.Stop.{Stop}
-use Rattle.sync_meaning.specs.declared.fault.Stop.TheVariants.{Deny, Memory}
 use Rattle.sync_meaning.specs.declared.state.Context.{Context}
-use Rattle.sync_meaning.specs.Acts.{Found, denial}
 use Rattle.sync_meaning.specs.Builtins.{effect_count}
 use Rattle.sync_meaning.specs.Meaning.{meaning_within, meaning}
 use Rattle.sync_syntax.specs.Moved.{moved}

@@ -1,9 +1,5 @@
 pub mod Acts
 pub mod Leaves
-pub mod Orders
-pub mod Units
-pub mod Values
-pub mod Rising
 pub mod Variables
 pub mod Slots
 pub mod Builtins
@@ -12,7 +8,4 @@ pub mod Gathered
 pub mod Expressions
 pub mod Statements
 pub mod Meaning
-pub mod Texts
-pub mod Kept
 pub mod Laws
-pub mod formers

@@ -3,15 +3,16 @@ use Rattle.std.specs.Prelude.{ℕ, ◌+◌, ◌*◌, List, [], Option, Some, Non
 use Rattle.json_doc.specs.Tree.{Tree}
 use Rattle.sync_syntax.specs.declared.tree.Named.{Named}
 use Rattle.sync_syntax.specs.declared.tree.Program.{Program}
+use Rattle.sync_values.specs.declared.value.Value.{Value}
+use Rattle.sync_values.specs.declared.value.Value.TheVariants as v
+use Rattle.sync_values.specs.Found.{Found}
+use Rattle.sync_values.specs.Values.{value_of, found_then}
 use Rattle.sync_meaning.specs.declared.completion.Completion.{Completion}
 use Rattle.sync_meaning.specs.declared.state.Context.{Context}
 use Rattle.sync_meaning.specs.declared.effects.Effects.{Effects}
 use Rattle.sync_meaning.specs.declared.state.State.{State}
 use Rattle.sync_meaning.specs.declared.variables.Variable.{Variable}
-use Rattle.sync_meaning.specs.declared.value.Value.{Value}
-use Rattle.sync_meaning.specs.declared.value.Value.TheVariants as v
-use Rattle.sync_meaning.specs.Acts.{Found, Act}
-use Rattle.sync_meaning.specs.Values.{value_of, found_then}
+use Rattle.sync_meaning.specs.Acts.{Act}
 use Rattle.sync_meaning.specs.Variables.{top, written}
 use Rattle.sync_meaning.specs.Statements.{run, block}
 

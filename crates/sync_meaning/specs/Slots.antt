@@ -1,9 +1,9 @@
 -- Which variable this is, and at which place it stands among those that were written, each of which stands once.
 use Rattle.std.specs.Prelude.{ℕ, zero, suc, ◌+◌, ◌==◌, Bool, true, false, not, ◌&&◌, ◌||◌, if◌then◌else◌, List, [], ◌∷◌, Option, None, Some}
 use Rattle.std.specs.Str.{bytes_eq}
+use Rattle.sync_values.specs.declared.value.Value.{Value}
+use Rattle.sync_values.specs.declared.value.Value.TheVariants as v
 use Rattle.sync_meaning.specs.declared.variables.Variable.{Variable}
-use Rattle.sync_meaning.specs.declared.value.Value.{Value}
-use Rattle.sync_meaning.specs.declared.value.Value.TheVariants as v
 
 -- whether this is the variable of a name and a number
 abbrev pub is_variable : List ℕ → ℕ → Variable → Bool

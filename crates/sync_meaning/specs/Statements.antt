@@ -13,17 +13,18 @@ use Rattle.sync_syntax.specs.declared.tree.Start.TheVariants as starts
 use Rattle.sync_syntax.specs.declared.tree.Statement.{Statement, out-Statement}
 use Rattle.sync_syntax.specs.declared.tree.Statement.TheOpen.{Statement-F}
 use Rattle.sync_syntax.specs.declared.tree.Writes.TheVariants as writes
+use Rattle.sync_values.specs.declared.fault.FaultKind.TheVariants.{Thrown}
+use Rattle.sync_values.specs.declared.fault.RuleKind.TheVariants.{Forbidden}
+use Rattle.sync_values.specs.declared.fault.Stop.{Stop}
+use Rattle.sync_values.specs.declared.value.Value.{Value, out-Value}
+use Rattle.sync_values.specs.declared.value.Value.TheOpen.{Value-F}
+use Rattle.sync_values.specs.declared.value.Value.TheVariants as v
+use Rattle.sync_values.specs.Found.{Found, denial, fault, type_fault}
+use Rattle.sync_values.specs.Values.{Layer, found_then, last_named, truth, added, integer_in, bounded, calculated}
 use Rattle.sync_meaning.specs.declared.completion.Completion.{Completion}
 use Rattle.sync_meaning.specs.declared.completion.Completion.TheVariants.{Normal, Break, Continue, Return}
-use Rattle.sync_meaning.specs.declared.fault.FaultKind.TheVariants.{Thrown}
-use Rattle.sync_meaning.specs.declared.fault.RuleKind.TheVariants.{Forbidden}
-use Rattle.sync_meaning.specs.declared.fault.Stop.{Stop}
 use Rattle.sync_meaning.specs.declared.scope.Scope.{Scope}
-use Rattle.sync_meaning.specs.declared.value.Value.{Value, out-Value}
-use Rattle.sync_meaning.specs.declared.value.Value.TheOpen.{Value-F}
-use Rattle.sync_meaning.specs.declared.value.Value.TheVariants as v
-use Rattle.sync_meaning.specs.Acts.{Found, Act, ◌>>=◌, ◌>>◌, pure, lift, denial, fault, type_fault, visit, out_of_visits}
-use Rattle.sync_meaning.specs.Values.{Layer, found_then, last_named, truth, added, integer_in, bounded, calculated}
+use Rattle.sync_meaning.specs.Acts.{Act, ◌>>=◌, ◌>>◌, pure, lift, visit, out_of_visits}
 use Rattle.sync_meaning.specs.Variables.{number_of, new_number, declared, started, behind, written}
 use Rattle.sync_meaning.specs.Builtins.{text_in}
 use Rattle.sync_meaning.specs.Expressions.{value_to, read}

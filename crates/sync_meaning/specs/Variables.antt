@@ -8,12 +8,12 @@ use Rattle.sync_syntax.specs.declared.tree.Start.{Start}
 use Rattle.sync_syntax.specs.declared.tree.Start.TheVariants as starts
 use Rattle.sync_syntax.specs.declared.tree.Statement.{Statement, fold-Statement}
 use Rattle.sync_syntax.specs.declared.tree.Statement.TheOpen.{Statement-F}
+use Rattle.sync_values.specs.declared.value.Value.{Value}
+use Rattle.sync_values.specs.declared.value.Value.TheVariants as v
+use Rattle.sync_values.specs.Values.{last_named}
 use Rattle.sync_meaning.specs.declared.scope.Scope.{Scope}
 use Rattle.sync_meaning.specs.declared.variables.Variable.{Variable}
-use Rattle.sync_meaning.specs.declared.value.Value.{Value}
-use Rattle.sync_meaning.specs.declared.value.Value.TheVariants as v
 use Rattle.sync_meaning.specs.Slots.{is_variable}
-use Rattle.sync_meaning.specs.Values.{last_named}
 
 -- ---- which variables of `let` and `const` are seen. This is by the text alone, whatever runs.
 

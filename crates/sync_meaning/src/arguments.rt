@@ -5,18 +5,17 @@ ghost use Rattle.std.specs.Ordering.{nat_cmp};
 ghost use Rattle.std.specs.Cmp.Lexicographic.{slice_cmp};
 ghost use Rattle.sg_names.specs.Grammar.{is_name, is_channel_name};
 ghost use Rattle.sg_names.specs.Grants.{is_grantee};
-ghost use Rattle.sync_meaning.specs.Acts.{Gives};
+ghost use Rattle.sync_values.specs.Found.{Gives};
 ghost use Rattle.sync_meaning.specs.Arguments as names;
 ghost use Rattle.sync_meaning.specs.Arguments.{texts, AreSame, AreSorted, GivesTexts, GivesNames};
 ghost use Rattle.sync_meaning.specs.Builtins as spec;
 
 use crate::Memory;
-use crate::fault::{FaultKind, Stop};
-use crate::value::Value;
 use sg_names::{ChannelName, Grantee, Name, TextFault, grammar};
 use std::alloc::Global;
 use std::cmp::Ordering;
 use sync_tokens::Place;
+use sync_values::{FaultKind, Stop, Value};
 
 /// What the texts of an argument are to name.
 #[derive(Clone, Copy, Debug, PartialEq, Eq)]

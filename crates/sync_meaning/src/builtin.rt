@@ -1,21 +1,19 @@
 //! The functions that are built in.
 
 ghost use Rattle.std.specs.Prelude.{◌≡◌, codes};
-ghost use Rattle.sync_meaning.specs.Acts.{Does, Gives};
+ghost use Rattle.sync_values.specs.Found.{Gives};
+ghost use Rattle.sync_values.specs.Values.{found_then};
+ghost use Rattle.sync_meaning.specs.Acts.{Does};
 ghost use Rattle.sync_meaning.specs.Arguments as names;
 ghost use Rattle.sync_meaning.specs.Arguments.{texts, AreSorted};
 ghost use Rattle.sync_meaning.specs.Builtins as spec;
-ghost use Rattle.sync_meaning.specs.Values.{found_then};
 
 use crate::arguments::{Kind, all_channels, has_name, names_in};
-use crate::callee::Builtin;
-use crate::fault::{FaultKind, Rule, RuleKind, Stop};
-use crate::methods::is_list;
 use crate::state::{Context, State};
-use crate::value::Value;
 use sg_names::{ChannelName, Name};
 use std::alloc::Global;
 use sync_tokens::Place;
+use sync_values::{Builtin, FaultKind, Rule, RuleKind, Stop, Value, is_list};
 
 /// Whether one of these names is among those. Allocates nothing.
 fn shares_name(all: &[Name], names: &[&str]) -> bool

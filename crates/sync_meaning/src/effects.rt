@@ -4,20 +4,20 @@ ghost use Rattle.std.specs.Prelude.{◌≡◌, ◌≤◌, [], true, length, inse
 ghost use Rattle.std.specs.Cmp.{IsTotalOrder};
 ghost use Rattle.std.specs.declared.cmp.Ordering as ordering;
 ghost use Rattle.sg_names.specs.ItemList.{rises};
-ghost use Rattle.sync_meaning.specs.Acts.{Gives};
+ghost use Rattle.sync_values.specs.Found.{Gives};
 ghost use Rattle.sync_meaning.specs.Arguments as names;
 ghost use Rattle.sync_meaning.specs.Arguments.{texts};
 ghost use Rattle.sync_meaning.specs.Leaves.{Leaves};
 ghost use Rattle.sync_meaning.specs.Builtins as spec;
 
 use crate::arguments::{channel_of, grantee_of, name_of};
-use crate::fault::{FaultKind, Stop};
 use sg_names::{ChannelName, Channels, Grant, Grants, List, RoleGrant, RoleGrants};
 use std::alloc::{AllocError, Global};
 use std::cmp::Ordering;
 use std::marker::Model;
 use std::mem;
 use sync_tokens::Place;
+use sync_values::{FaultKind, Stop};
 
 /// How many effects there may be.
 const MAX_EFFECTS: usize = 1000;

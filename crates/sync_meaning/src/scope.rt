@@ -5,11 +5,11 @@ ghost use Rattle.sync_syntax.specs.declared.tree.Declares.TheVariants as declare
 ghost use Rattle.sync_meaning.specs.Variables as spec;
 
 use crate::Memory;
-use crate::by_name::last_named;
 use json_doc::DocText;
 use sqlite_items::Items;
 use std::alloc::{AllocError, Global};
 use sync_syntax::tree::Declares;
+use sync_values::last_named;
 
 /// The variables of `let` and `const` that are seen at a place, each with its number, and the
 /// number of the next one.

@@ -8,12 +8,11 @@ ghost use Rattle.sync_meaning.specs.Variables as variables;
 
 use crate::Memory;
 use crate::effects::Gathered;
-use crate::fault::{Rule, RuleKind, Stop};
-use crate::value::Value;
 use crate::variables::{Slot, Variables};
 use sg_names::{Channels, Name, Names};
 use std::alloc::Global;
 use sync_tokens::Place;
+use sync_values::{Rule, RuleKind, Stop, Value};
 
 /// Who writes: a user with its roles and channels, or where there is none the administrator.
 #[derive(Drop)]

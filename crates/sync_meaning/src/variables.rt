@@ -1,17 +1,16 @@
 //! What the variables hold.
 
 ghost use Rattle.std.specs.Prelude.{◌≡◌, ◌<◌, ◌≤◌, [], ◌∷◌, ◌++◌, length, slice_get, IsTrue, IfOk, IfSome, OnErr, OnOk};
-ghost use Rattle.sync_meaning.specs.declared.value.Value.{Value};
+ghost use Rattle.sync_values.specs.declared.value.Value.{Value};
 ghost use Rattle.sync_meaning.specs.Slots.{each_once, held, is_variable, place_of, replaced};
 ghost use Rattle.sync_meaning.specs.Variables as spec;
 
 use crate::Memory;
-use crate::text::Text;
-use crate::value::Value;
 use json_doc::DocText;
 use sqlite_items::at;
 use std::alloc::Global;
 use std::marker::Model;
+use sync_values::{Text, Value};
 
 /// A variable where it is used: its name, its number and its slot. The function's own variables,
 /// which are the parameters and those of `var`, have the number 0, and each `let` and `const` has
@@ -67,7 +66,7 @@ pub struct Variables {
 impl Model for Variables {
     ghost use Rattle.std.specs.Prelude.{List, IsTrue};
     ghost use Rattle.std.specs.Coded.{codes};
-    ghost use Rattle.sync_meaning.specs.contracts.value.Value as values;
+    ghost use Rattle.sync_values.specs.contracts.value.Value as values;
     ghost use Rattle.sync_meaning.specs.declared.variables.Variable.{Variable};
     ghost use Rattle.sync_meaning.specs.Slots.{each_once};
 

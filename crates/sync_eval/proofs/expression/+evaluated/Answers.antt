@@ -1,7 +1,7 @@
 use Rattle.std.proofs.Common.{◌≡◌, ◌∙◌, ap, sym, arith, Err}
+use Rattle.sync_values.specs.declared.fault.RuleKind.TheVariants.{Fuel}
+use Rattle.sync_values.specs.Found.{denial}
 use Rattle.sync_meaning.specs.Expressions.{evaluated}
-use Rattle.sync_meaning.specs.declared.fault.RuleKind.TheVariants.{Fuel}
-use Rattle.sync_meaning.specs.Acts.{denial}
 use Rattle.sync_code.specs.Code.{source}
 use Rattle.sync_eval.proofs.Depths.{deeper}
 use Rattle.sync_eval.proofs.expression.+evaluated.Goals as goal

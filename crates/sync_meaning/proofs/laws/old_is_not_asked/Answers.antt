@@ -1,9 +1,9 @@
 use Rattle.std.proofs.Common.{◌≡◌, ◌∙◌, ℕ, [], Option, None, sym, ap}
 use Rattle.json_doc.specs.Tree.{Tree}
 use Rattle.sync_syntax.specs.declared.tree.Program.{Program}
+use Rattle.sync_values.specs.Values.{found_then, value_of}
 use Rattle.sync_meaning.specs.declared.state.Context.{Context}
 use Rattle.sync_meaning.specs.Meaning.{body, depth_for, gathered, meaning_within, no_effects, parameters, value_before, with_second}
-use Rattle.sync_meaning.specs.Values.{found_then, value_of}
 use Rattle.sync_meaning.specs.Variables.{written}
 use Rattle.sync_meaning.proofs.laws.old_is_not_asked.Goals as goal
 
