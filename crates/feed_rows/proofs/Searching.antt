@@ -13,7 +13,7 @@ use Rattle.std.proofs.lemmas.Map.Text.{is_eq-slice_cmp}
 use Rattle.sg_names.specs.ItemList.{rises}
 use Rattle.grant_history.specs.declared.periods.Period.{Period}
 use Rattle.grant_history.specs.Periods.{AreInOrder, ArePeriodsApart, EndsBeforeLater, HavePlaces, period_has, period_order, periods_have}
-use Rattle.grant_history.specs.Spells.{ends_after, EndsBefore}
+use Rattle.grant_tracks.specs.Spells.{ends_after, EndsBefore}
 use Rattle.feed_rows.specs.Lasting.{Lasts, begun_by, is_begun}
 
 or_is : (a b : Bool) → b ≡ false → (a || b) ≡ a

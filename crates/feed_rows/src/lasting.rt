@@ -2,7 +2,7 @@
 
 ghost use Rattle.std.specs.Prelude.{◌≡◌, ◌≤◌, ◌<◌, ℕ, Bool, true, false, not, length, slice_index_or, unwrap_or};
 ghost use Rattle.grant_history.specs.Periods.{AreInOrder, periods_have};
-ghost use Rattle.grant_history.specs.Spells.{ends_after};
+ghost use Rattle.grant_tracks.specs.Spells.{ends_after};
 ghost use Rattle.feed_rows.specs.Lasting.{AreToSearch, Lasts};
 ghost use Rattle.feed_rows.specs.Lasting as lasting;
 

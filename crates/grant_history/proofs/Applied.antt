@@ -20,7 +20,7 @@ use Rattle.grant_history.specs.declared.facts.Fact.{Fact}
 use Rattle.grant_history.specs.declared.history.GrantHistory.{GrantHistory}
 use Rattle.grant_history.specs.declared.ledger.Ledger.{Ledger}
 use Rattle.grant_history.specs.Facts.{document_facts}
-use Rattle.grant_history.specs.Holdings.{has_at}
+use Rattle.grant_history.specs.Store.{has_at}
 use Rattle.grant_history.specs.Sources.{is_held}
 use Rattle.grant_history.specs.Ledger.{facts_of_write, write_facts, IsLedger, Took}
 use Rattle.grant_history.specs.LedgerAt.{LedgerAt, IsNextApplied}

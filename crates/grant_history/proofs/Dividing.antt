@@ -7,15 +7,15 @@ use Rattle.std.specs.Cmp.Lexicographic.{bytes_decides}
 use Rattle.std.proofs.lemmas.Bool.{false≢true, true≢false}
 use Rattle.sg_history.specs.History.{among}
 use Rattle.sg_history.specs.Principals.{everyone}
-use Rattle.grant_history.specs.declared.facts.What.{What}
-use Rattle.grant_history.specs.declared.facts.What.TheVariants as what
-use Rattle.grant_history.specs.declared.held.Held.{Held}
+use Rattle.grant_tracks.specs.declared.things.What.{What}
+use Rattle.grant_tracks.specs.declared.things.What.TheVariants as what
+use Rattle.grant_tracks.specs.declared.held.Held.{Held}
 use Rattle.grant_history.specs.declared.periods.Period.{Period}
-use Rattle.grant_history.specs.declared.spells.Spell.{Spell}
-use Rattle.grant_history.specs.Tracks.{held_at}
-use Rattle.grant_history.specs.Holdings.{Holders, held_in}
-use Rattle.grant_history.specs.Reads.{is_channel, channel_among, channel_by, gives_channel, by_roles, list_channel}
-use Rattle.grant_history.specs.Spells.{spell_has, spells_have, IsBeforeAll, AreApart}
+use Rattle.grant_tracks.specs.declared.spells.Spell.{Spell}
+use Rattle.grant_tracks.specs.Tracks.{held_at}
+use Rattle.grant_tracks.specs.Holdings.{Holders, held_in}
+use Rattle.grant_tracks.specs.Reads.{is_channel, channel_among, channel_by, gives_channel, by_roles, list_channel}
+use Rattle.grant_tracks.specs.Spells.{spell_has, spells_have, IsBeforeAll, AreApart}
 use Rattle.grant_history.specs.Periods.{period_has, periods_have, EndsBeforeLater, ArePeriodsApart, HavePlaces, ever_among, ever_by, ever_gives, ever_by_roles, may_have, period_of, period_order, Adds, AreOf, AreSoFar, AreInOrder, AreAllPeriods}
 use Rattle.grant_history.specs.Sorted.{AreSorted}
 use Rattle.sg_names.specs.ItemList.{rises}
@@ -25,8 +25,8 @@ use Rattle.std.specs.declared.cmp.Ordering.{Ordering}
 use Rattle.std.specs.declared.cmp.Ordering.TheVariants.{Less, Equal, Greater}
 use Rattle.std.proofs.lemmas.Cmp.{nat_list_cmp_total}
 use Rattle.std.proofs.lemmas.Map.Text.{is_eq-slice_cmp}
-use Rattle.grant_history.proofs.Same.{text_itself}
-use Rattle.grant_history.specs.Things.{Things}
+use Rattle.grant_tracks.proofs.Same.{text_itself}
+use Rattle.grant_tracks.specs.Things.{Things}
 
 among_append : (xs : List (List ℕ)) (y x : List ℕ) → among (xs ++ y ∷ []) x ≡ (among xs x || bytes_eq y x)
 among_append [] y x = by (bytes_eq y x)

@@ -1,19 +1,20 @@
 -- spells in which roles give channels, as they are gathered
-use Rattle.std.proofs.Common.{◌≡◌, ℕ, refl, sym, ◌∙◌, ap, Bool, true, false, ◌&&◌, ◌||◌, List, [], ◌∷◌, ◌++◌, Option, Some, None, Bor, if◌then◌else◌}
+use Rattle.std.proofs.Common.{◌≡◌, ℕ, refl, sym, ◌∙◌, ap, Bool, true, false, ◌&&◌, ◌||◌, List, [], ◌∷◌, ◌++◌, Option, Some, None, Bor, if◌then◌else◌, ◌+◌, ◌-◌}
 use Rattle.std.specs.BTreeMap.{get_by_text}
 use Rattle.std.specs.List.{list_any}
 use Rattle.std.specs.Str.{bytes_eq}
 use Rattle.std.specs.Cmp.Lexicographic.{bytes_decides}
 use Rattle.grant_history.specs.declared.gifts.GiftList.{GiftList}
 use Rattle.grant_history.specs.declared.givers.Giver.{Giver}
-use Rattle.grant_history.specs.declared.held.Held.{Held}
-use Rattle.grant_history.specs.declared.track.Track.{Track}
-use Rattle.grant_history.specs.declared.spells.Spell.{Spell}
+use Rattle.grant_tracks.specs.declared.held.Held.{Held}
+use Rattle.grant_tracks.specs.declared.track.Track.{Track}
+use Rattle.grant_tracks.specs.declared.spells.Spell.{Spell}
 use Rattle.grant_history.specs.Gifts.{Gifts, gifts_have, held_gives, list_has}
-use Rattle.grant_history.specs.Reads.{is_channel, channel_among}
-use Rattle.grant_history.specs.Tracks.{held_at}
-use Rattle.grant_history.specs.Spells.{spell_has, spells_have}
-use Rattle.grant_history.specs.Ways.{track_has}
+use Rattle.grant_tracks.specs.Reads.{is_channel, channel_among}
+use Rattle.grant_tracks.specs.Tracks.{held_at}
+use Rattle.grant_tracks.specs.Spells.{spell_has, spells_have}
+use Rattle.grant_tracks.specs.Ways.{track_has}
+use Rattle.grant_tracks.proofs.Gathered.{any_end}
 
 turned : (a b : Bool) → (a || b) ≡ (b || a)
 turned true true = refl
@@ -74,3 +75,15 @@ all_given g exists x k has (h ∷ hs) is =
     by false true true false m = refl
     by false true false h m = refl
     by false false b h m = refl
+
+-- one that is kept of a role, and one that is no role
+pub given_more : (f : Giver → Bool) (old new : List Giver) (g : Giver) (held gives : Bool) → new ≡ old ++ g ∷ [] → f g ≡ (held && gives) → list_any f new ≡ (list_any f old || (held && gives))
+given_more f old new g held gives is same = ap (λ (l : List Giver). list_any f l) is ∙ any_end f old g ∙ ap (λ (b : Bool). list_any f old || b) same
+
+pub given_same : (f : Giver → Bool) (old new : List Giver) (held gives : Bool) → new ≡ old → false ≡ gives → list_any f new ≡ (list_any f old || (held && gives))
+given_same f old new held gives is none = ap (λ (l : List Giver). list_any f l) is ∙ by (list_any f old) held ∙ ap (λ (b : Bool). list_any f old || (held && b)) none
+  where
+    by : (a h : Bool) → a ≡ (a || (h && false))
+    by true h = refl
+    by false true = refl
+    by false false = refl

@@ -13,11 +13,12 @@ use Rattle.sg_history.specs.declared.entries.Write.{Write}
 use Rattle.sg_history.specs.History.{among, as_write, document_of, documents}
 use Rattle.sg_history.specs.Current.{Current, current}
 use Rattle.sg_history.specs.Principals.{PrincipalState, same_grantee, exists, names_role, names_channel, grants_channel, is_granted, gives_role, is_given, user_at}
-use Rattle.grant_history.specs.declared.facts.What.TheVariants as what
+use Rattle.grant_tracks.specs.declared.things.What.TheVariants as what
 use Rattle.grant_history.specs.declared.facts.Fact.{Fact}
 use Rattle.grant_history.specs.Facts.{same_fact, times, fact, channel_facts, role_facts, put_facts, grant_facts, gift_facts, document_facts}
 use Rattle.grant_history.specs.Sources.{principal_of, with_document, documents_once, given_by, is_held}
 use Rattle.grant_history.proofs.Same.{grantee_itself}
+use Rattle.grant_tracks.proofs.Once.{any_same}
 
 positive_sum : (a b : ℕ) → nat_lt 0 (a + b) ≡ (nat_lt 0 a || nat_lt 0 b)
 positive_sum a b = grind arith
@@ -56,10 +57,6 @@ any_map p h q same (x ∷ xs) = ap (λ (b : Bool). b || list_any p (map h xs)) (
 any_never : {X Y : Type 0} (p : Y → Bool) (h : X → Y) → ((x : X) → p (h x) ≡ false) → (xs : List X) → list_any p (map h xs) ≡ false
 any_never p h never [] = refl
 any_never p h never (x ∷ xs) = ap (λ (b : Bool). b || list_any p (map h xs)) (never x) ∙ any_never p h never xs
-
-pub any_same : {X : Type 0} (p q : X → Bool) → ((x : X) → p x ≡ q x) → (xs : List X) → list_any p xs ≡ list_any q xs
-any_same p q same [] = refl
-any_same p q same (x ∷ xs) = ap (λ (b : Bool). b || list_any p xs) (same x) ∙ ap (λ (b : Bool). q x || b) (any_same p q same xs)
 
 -- what documents give
 given_any : (es : List Entry) (docs : List (List ℕ)) (f : Fact) → nat_lt 0 (given_by es docs f) ≡ list_any (λ d. nat_lt 0 (times (document_facts (current es d)) f)) docs

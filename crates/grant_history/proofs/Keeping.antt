@@ -1,5 +1,5 @@
 -- what is kept once a source gives other facts
-use Rattle.std.proofs.Common.{◌≡◌, ◌≤◌, ◌+◌, ◌-◌, ℕ, le-leb, refl, sym, ◌∙◌, ap, subst, arith, Bool, true, false, ◌&&◌, ◌||◌, if◌then◌else◌, nat_lt, List, [], ◌∷◌, length, Option, Some, None, String}
+use Rattle.std.proofs.Common.{◌≡◌, ◌≤◌, ◌+◌, ◌-◌, ℕ, refl, sym, ◌∙◌, ap, subst, arith, Bool, true, false, if◌then◌else◌, nat_lt, List, [], ◌∷◌, length, Option, Some, None, String}
 use Rattle.std.specs.BTreeMap.{get_by_text, is_at}
 use Rattle.std.specs.Map.{lookup}
 use Rattle.std.specs.Prelude.{string_bytes}
@@ -14,24 +14,19 @@ use Rattle.sg_history.specs.declared.entries.Write.{Write}
 use Rattle.sg_history.specs.History.{as_write}
 use Rattle.sg_history.specs.Current.{current}
 use Rattle.sg_history.specs.Principals.{PrincipalState, Put, as_put, same_grantee}
-use Rattle.grant_history.specs.declared.facts.What.{What}
 use Rattle.grant_history.specs.declared.facts.Fact.{Fact}
-use Rattle.grant_history.specs.declared.held.Held.{Held}
-use Rattle.grant_history.specs.declared.track.Track.{Track}
 use Rattle.grant_history.specs.declared.store.Store.{Store}
 use Rattle.grant_history.specs.declared.ledger.Ledger.{Ledger}
 use Rattle.grant_history.specs.declared.ledger.SourceFacts.{SourceFacts}
-use Rattle.grant_history.specs.Dated.{Dated}
-use Rattle.grant_history.specs.Tracks.{IsTrack, held_at, held_last}
-use Rattle.grant_history.specs.Facts.{same_what, times, put_facts, document_facts}
-use Rattle.grant_history.specs.Holdings.{count_in, held_in, AreUpTo, Holders, count_by_list, held_by_list, count_of, held_of, AreAllUpTo, count_to, held_to, count_at, has_at, IsStore}
+use Rattle.grant_tracks.specs.Dated.{Dated}
+use Rattle.grant_history.specs.Facts.{times, put_facts, document_facts}
+use Rattle.grant_history.specs.Store.{count_to, held_to, count_at, has_at, IsStore}
 use Rattle.grant_history.specs.Sources.{principal_of, sources}
 use Rattle.grant_history.specs.Ledger.{Source, document, user, role, holder, same_source, given, Lists, facts_of_list, facts_in, facts_from, IsLedger, IsStep, Took}
-use Rattle.grant_history.proofs.Holding.{later_all}
-use Rattle.grant_history.proofs.Ordered.{none_left}
-use Rattle.grant_history.proofs.Same.{grantees, texts_swap}
+use Rattle.grant_tracks.proofs.HeldBy.{later_all, settled_holders}
+use Rattle.grant_history.proofs.Same.{grantees}
+use Rattle.grant_tracks.proofs.Same.{texts_swap}
 use Rattle.grant_history.proofs.Steps.{current_same, unwritten, principal_same, principal_put, idle_step, put_step, write_step, apart}
-use Rattle.grant_history.specs.Things.{Things}
 
 -- a place made for a name changes nothing
 pub placed_empty : (old new : Lists) (name : List ℕ) (v : SourceFacts) → v.facts.items ≡ [] → get_by_text old name ≡ None
@@ -57,40 +52,6 @@ as_it_was lists name other facts same = by (bytes_eq name other) refl
     by : (b : Bool) → bytes_eq name other ≡ b → (if b then facts else facts_in lists other) ≡ facts_in lists other
     by true at = same ∙ ap (λ (n : List ℕ). facts_in lists n) ((bytes_decides name other).0 at)
     by false at = refl
-
--- at the place up to which a track says anything it says what there is now
-settled_track : (t : Track) (n : ℕ) → IsTrack t n → held_at t n ≡ nat_lt 0 t.count
-settled_track t n is =
-    ap (λ (b : Bool). b || held_last t n) (none_left t.closed.items n is.ended)
-    ∙ ap (λ (b : Bool). b && (nat_lt 0 t.count || nat_lt n t.until)) (le-leb t.opened n is.opened)
-    ∙ by (nat_lt 0 t.count) refl
-  where
-    by : (b : Bool) → nat_lt 0 t.count ≡ b → (b || nat_lt n t.until) ≡ b
-    by true h = refl
-    by false h = let le : t.until ≤ n = is.until (grind (arith, h)) in grind (arith, le)
-
-settled_list : (list : List Held) (n : ℕ) (w : What) → AreUpTo list n → held_in list w n ≡ nat_lt 0 (count_in list w)
-settled_list [] n w up = grind arith
-settled_list (h ∷ hs) n w up =
-    ap (λ (b : Bool). if same_what h.what w then b else held_in hs w n) (settled_track h.track n up.0)
-    ∙ ap (λ (b : Bool). if same_what h.what w then nat_lt 0 h.track.count else b) (settled_list hs n w up.2)
-    ∙ by (same_what h.what w)
-  where
-    by : (b : Bool) → (if b then nat_lt 0 h.track.count else nat_lt 0 (count_in hs w)) ≡ nat_lt 0 (if b then h.track.count else count_in hs w)
-    by true = refl
-    by false = refl
-
-settled_holders : (holders : Holders) (n : ℕ) (name : List ℕ) (w : What) → AreAllUpTo holders n → held_of holders (name, w) n ≡ nat_lt 0 (count_of holders (name, w))
-settled_holders holders n name w up = by (get_by_text holders name) refl
-  where
-    by : (o : Option Things) → get_by_text holders name ≡ o → held_by_list (get_by_text holders name) w n ≡ nat_lt 0 (count_by_list (get_by_text holders name) w)
-    by None is = ap (λ (o : Option Things). held_by_list o w n) is ∙ none ∙ ap (λ (o : Option Things). nat_lt 0 (count_by_list o w)) (sym is)
-      where
-        none : false ≡ nat_lt 0 0
-        none = refl
-    by (Some list) is =
-        ap (λ (o : Option Things). held_by_list o w n) is ∙ settled_list list.items n w (up name list is).0
-        ∙ ap (λ (o : Option Things). nat_lt 0 (count_by_list o w)) (sym is)
 
 pub settled : (store : Store) (n : ℕ) (f : Fact) → IsStore store n → has_at store f n ≡ nat_lt 0 (count_at store f)
 settled store n f is = by f.of

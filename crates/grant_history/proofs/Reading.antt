@@ -9,21 +9,23 @@ use Rattle.sg_names.specs.declared.grants.Grantee.{Grantee}
 use Rattle.sg_names.specs.declared.grants.Grantee.TheVariants.{User, Role}
 use Rattle.sg_history.specs.declared.entries.Entry.{Entry}
 use Rattle.sg_history.specs.Principals.{PrincipalState, Put, as_put, same_grantee, principal_after, role_named, role_put, roles_put, exists, names_role, names_channel, everyone, user_at, role_at, is_granted, is_given, has_role, role_has_channel, has_channel}
-use Rattle.grant_history.proofs.Members.{IsIn, both_ways, passing, passes_in, in_left, in_right}
-use Rattle.grant_history.specs.declared.facts.What.{What}
-use Rattle.grant_history.specs.declared.facts.What.TheVariants as what
+use Rattle.grant_history.proofs.Members.{IsIn, passing, passes_in, in_left, in_right}
+use Rattle.grant_tracks.proofs.Same.{both_ways, whats, what_itself, text_itself, texts_swap}
+use Rattle.grant_tracks.specs.declared.things.What.{What}
+use Rattle.grant_tracks.specs.declared.things.What.TheVariants as what
 use Rattle.grant_history.specs.declared.facts.Fact.{Fact}
-use Rattle.grant_history.specs.declared.held.Held.{Held}
+use Rattle.grant_tracks.specs.declared.held.Held.{Held}
 use Rattle.grant_history.specs.declared.store.Store.{Store}
-use Rattle.grant_history.specs.Tracks.{held_at}
-use Rattle.grant_history.specs.Facts.{same_what, fact}
-use Rattle.grant_history.specs.Holdings.{held_in, held_by_list, held_of, has_at, IsStore}
+use Rattle.grant_tracks.specs.Tracks.{held_at}
+use Rattle.grant_tracks.specs.What.{same_what}
+use Rattle.grant_history.specs.Facts.{fact}
+use Rattle.grant_tracks.specs.Holdings.{held_in, held_by_list, held_of}
+use Rattle.grant_history.specs.Store.{has_at, IsStore}
 use Rattle.grant_history.specs.Sources.{is_held}
-use Rattle.grant_history.specs.Reads.{channel_among, channel_by, role_channel, gives_channel, by_roles, list_channel, user_channel, is_existing, role_among, list_role, user_role}
-use Rattle.grant_history.proofs.Same.{whats, what_itself, text_itself, texts_swap}
-use Rattle.grant_history.proofs.Once.{once_of, any_of, channel_any}
+use Rattle.grant_tracks.specs.Reads.{channel_among, channel_by, role_channel, gives_channel, by_roles, list_channel, user_channel, is_existing, role_among, list_role, user_role}
+use Rattle.grant_tracks.proofs.Once.{once_of, any_of, channel_any}
 use Rattle.grant_history.proofs.Has.{channel_held, role_held, exists_held}
-use Rattle.grant_history.specs.Things.{Things}
+use Rattle.grant_tracks.specs.Things.{Things}
 
 and_swap : (a b : Bool) → (a && b) ≡ (b && a)
 and_swap true true = refl

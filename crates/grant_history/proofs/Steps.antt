@@ -11,13 +11,15 @@ use Rattle.sg_history.specs.declared.entries.Write.{Write}
 use Rattle.sg_history.specs.History.{among, as_write, of_document, write_to}
 use Rattle.sg_history.specs.Current.{Sequenced, Current, sequenced_or, with_rev_or, last_write, write_of_rev, write_or, current, current_after, current_by}
 use Rattle.sg_history.specs.Principals.{PrincipalState, Put, as_put, same_grantee, principal_after, user_at, role_at}
-use Rattle.grant_history.specs.declared.facts.What.{What}
-use Rattle.grant_history.specs.declared.facts.What.TheVariants as what
+use Rattle.grant_tracks.specs.declared.things.What.{What}
+use Rattle.grant_tracks.specs.declared.things.What.TheVariants as what
 use Rattle.grant_history.specs.declared.facts.Fact.{Fact}
-use Rattle.grant_history.specs.Facts.{same_what, same_fact, times, fact, channel_facts, role_facts, put_facts, document_facts}
+use Rattle.grant_tracks.specs.What.{same_what}
+use Rattle.grant_history.specs.Facts.{same_fact, times, fact, channel_facts, role_facts, put_facts, document_facts}
 use Rattle.grant_history.specs.Ledger.{Lists, facts_in, facts_of_list}
 use Rattle.grant_history.specs.Sources.{principal_of, with_document, documents_once, given_by, sources}
-use Rattle.grant_history.proofs.Same.{texts_swap, grantees}
+use Rattle.grant_tracks.proofs.Same.{texts_swap}
+use Rattle.grant_history.proofs.Same.{grantees}
 
 pub times_append : (xs ys : List Fact) (f : Fact) → times (xs ++ ys) f ≡ times xs f + times ys f
 times_append [] ys f = omega arith

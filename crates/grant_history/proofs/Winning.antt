@@ -20,10 +20,10 @@ use Rattle.grant_history.specs.declared.ledger.Ledger.{Ledger}
 use Rattle.grant_history.specs.declared.periods.Period.{Period}
 use Rattle.grant_history.specs.declared.store.Store.{Store}
 use Rattle.grant_history.specs.Facts.{document_facts}
-use Rattle.grant_history.specs.Holdings.{has_at}
+use Rattle.grant_history.specs.Store.{has_at}
 use Rattle.grant_history.specs.Ledger.{document, facts_of_write, IsStep, Took}
 use Rattle.grant_history.specs.Periods.{AreAllPeriods, ArePeriods}
-use Rattle.grant_history.specs.Reads.{user_channel}
+use Rattle.grant_tracks.specs.Reads.{user_channel}
 use Rattle.grant_history.specs.LedgerAt.{LedgerAt, StoreAt}
 use Rattle.grant_history.specs.Winners.{AreWinners, winning_at, winning_by, winning_in}
 use Rattle.grant_history.proofs.Applied.{advanced, held_on, past_count, past_next, winning_low, winning_within, document_read}

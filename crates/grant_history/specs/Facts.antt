@@ -1,27 +1,15 @@
--- What a user or a role may have, and what puts and documents give.
-use Rattle.std.specs.Prelude.{ℕ, ◌+◌, Bool, true, false, ◌&&◌, List, [], ◌∷◌, ◌++◌, map, Option, Some, None, if◌then◌else◌}
-use Rattle.std.specs.Str.{bytes_eq}
+-- What a user or a role has, and what puts and documents give.
+use Rattle.std.specs.Prelude.{ℕ, ◌+◌, Bool, ◌&&◌, List, [], ◌∷◌, ◌++◌, map, Option, Some, None, if◌then◌else◌}
 use Rattle.sg_names.specs.declared.grants.Grantee.{Grantee}
 use Rattle.sg_names.specs.declared.grants.Grantee.TheVariants.{User}
 use Rattle.sg_names.specs.declared.grants.Grant.{Grant}
 use Rattle.sg_names.specs.declared.role_grants.RoleGrant.{RoleGrant}
 use Rattle.sg_history.specs.Current.{Current}
 use Rattle.sg_history.specs.Principals.{PrincipalState, same_grantee}
-use Rattle.grant_history.specs.declared.facts.What.{What}
-use Rattle.grant_history.specs.declared.facts.What.TheVariants as what
+use Rattle.grant_tracks.specs.declared.things.What.{What}
+use Rattle.grant_tracks.specs.declared.things.What.TheVariants as what
+use Rattle.grant_tracks.specs.What.{same_what}
 use Rattle.grant_history.specs.declared.facts.Fact.{Fact}
-
--- whether both are the same
-abbrev pub same_what : What → What → Bool
-same_what what.Exists what.Exists = true
-same_what what.Exists (what.Channel d) = false
-same_what what.Exists (what.Role s) = false
-same_what (what.Channel c) what.Exists = false
-same_what (what.Channel c) (what.Channel d) = bytes_eq c d
-same_what (what.Channel c) (what.Role s) = false
-same_what (what.Role r) what.Exists = false
-same_what (what.Role r) (what.Channel d) = false
-same_what (what.Role r) (what.Role s) = bytes_eq r s
 
 abbrev pub same_fact : Fact → Fact → Bool
 same_fact a b = same_grantee a.of b.of && same_what a.what b.what

@@ -1,20 +1,16 @@
 -- When roles give channels, by the names of these.
-use Rattle.std.specs.Prelude.{ℕ, Bool, false, ◌&&◌, ◌||◌, List, String, Option, None, Some}
+use Rattle.std.specs.Prelude.{ℕ, Bool, false, ◌&&◌, List, String, Option, None, Some}
 use Rattle.std.specs.Borrow.{Bor}
 use Rattle.std.specs.BTreeMap.{BTreeMap, get_by_text}
 use Rattle.std.specs.Global.{Global}
-use Rattle.std.specs.Str.{bytes_eq}
-use Rattle.sg_history.specs.Principals.{everyone}
-use Rattle.grant_history.specs.declared.facts.What.TheVariants as what
 use Rattle.grant_history.specs.declared.gifts.GiftList.{GiftList}
 use Rattle.grant_history.specs.declared.givers.Giver.{Giver}
-use Rattle.grant_history.specs.declared.held.Held.{Held}
-use Rattle.grant_history.specs.declared.track.Track.{Track}
-use Rattle.grant_history.specs.Holdings.{held_in}
-use Rattle.grant_history.specs.Reads.{is_channel, channel_among}
-use Rattle.grant_history.specs.Tracks.{held_at}
-use Rattle.grant_history.specs.Spells.{spells_have}
-use Rattle.grant_history.specs.Ways.{track_has}
+use Rattle.grant_tracks.specs.declared.held.Held.{Held}
+use Rattle.grant_tracks.specs.declared.track.Track.{Track}
+use Rattle.grant_tracks.specs.Reads.{has_by, is_channel}
+use Rattle.grant_tracks.specs.Tracks.{held_at}
+use Rattle.grant_tracks.specs.Spells.{spells_have}
+use Rattle.grant_tracks.specs.Ways.{track_has}
 
 abbrev pub Gifts : Type 0
 Gifts = BTreeMap (String Global) GiftList
@@ -32,10 +28,6 @@ gifts_have gifts x k = list_has (get_by_text gifts x) k
 abbrev pub held_gives : Giver → Option (Bor Track) → List ℕ → ℕ → Held → Bool
 held_gives g exists x k h = is_channel h.what x && (held_at g.track.now k && (track_has exists k && held_at h.track k))
 
--- whether a user that has or had these things has a channel at a place, given whether a role gives it there
-abbrev pub has_by : List Held → List ℕ → ℕ → Bool → Bool
-has_by list x k given = held_in list what.Exists k && (given || (channel_among list k x || (bytes_eq everyone x || false)))
-
--- the same, by what its roles give
+-- whether a user that has or had these things has a channel at a place, by what its roles give
 abbrev pub has_at_by : Gifts → List Held → List ℕ → ℕ → Bool
 has_at_by gifts list x k = has_by list x k (gifts_have gifts x k)

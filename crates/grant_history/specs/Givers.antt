@@ -1,8 +1,8 @@
 -- The roles of a user, each with what is kept of it.
 use Rattle.std.specs.Prelude.{ℕ, Bool, ◌&&◌, List, Some}
 use Rattle.grant_history.specs.declared.givers.Giver.{Giver}
-use Rattle.grant_history.specs.Tracks.{held_at}
-use Rattle.grant_history.specs.Reads.{channel_by}
+use Rattle.grant_tracks.specs.Tracks.{held_at}
+use Rattle.grant_tracks.specs.Reads.{channel_by}
 
 -- whether a role gives a channel at a place
 abbrev pub giver_has : Giver → ℕ → List ℕ → Bool

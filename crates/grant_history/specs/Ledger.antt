@@ -16,7 +16,7 @@ use Rattle.grant_history.specs.declared.ledger.SourceFacts.{SourceFacts}
 use Rattle.grant_history.specs.declared.ledger.Source as code
 use Rattle.grant_history.specs.declared.ledger.Source.TheVariants as kind
 use Rattle.grant_history.specs.Facts.{times, put_facts, grant_facts, gift_facts, document_facts}
-use Rattle.grant_history.specs.Holdings.{count_at, has_at, IsStore}
+use Rattle.grant_history.specs.Store.{count_at, has_at, IsStore}
 use Rattle.grant_history.specs.Sources.{sources, is_held}
 
 -- what gives something: a document, or the last put of a user or a role

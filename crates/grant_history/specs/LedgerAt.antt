@@ -7,7 +7,7 @@ use Rattle.log_index.specs.Index.{Indexes}
 use Rattle.grant_history.specs.declared.facts.Fact.{Fact}
 use Rattle.grant_history.specs.declared.ledger.Ledger.{Ledger}
 use Rattle.grant_history.specs.declared.store.Store.{Store}
-use Rattle.grant_history.specs.Holdings.{has_at}
+use Rattle.grant_history.specs.Store.{has_at}
 use Rattle.grant_history.specs.Sources.{is_held}
 use Rattle.grant_history.specs.Ledger.{IsLedger}
 

@@ -10,16 +10,16 @@ use Rattle.std.specs.Borrow.{Bor}
 use Rattle.std.specs.BTreeMap.{get_by_text}
 use Rattle.sg_history.specs.History.{among}
 use Rattle.sg_history.specs.Principals.{everyone}
-use Rattle.grant_history.specs.declared.facts.What.{What}
-use Rattle.grant_history.specs.declared.facts.What.TheVariants as what
-use Rattle.grant_history.specs.declared.held.Held.{Held}
+use Rattle.grant_tracks.specs.declared.things.What.{What}
+use Rattle.grant_tracks.specs.declared.things.What.TheVariants as what
+use Rattle.grant_tracks.specs.declared.held.Held.{Held}
 use Rattle.grant_history.specs.declared.periods.Period.{Period}
-use Rattle.grant_history.specs.Holdings.{Holders}
-use Rattle.grant_history.specs.Reads.{is_channel}
-use Rattle.grant_history.specs.Spells.{ends_after, spells_have, EndsBefore, AreApart}
-use Rattle.grant_history.specs.declared.spells.Spell.{Spell}
+use Rattle.grant_tracks.specs.Holdings.{Holders}
+use Rattle.grant_tracks.specs.Reads.{is_channel}
+use Rattle.grant_tracks.specs.Spells.{ends_after, spells_have, EndsBefore, AreApart}
+use Rattle.grant_tracks.specs.declared.spells.Spell.{Spell}
 use Rattle.std.specs.Prelude.{nat_le}
-use Rattle.grant_history.specs.Things.{Things}
+use Rattle.grant_tracks.specs.Things.{Things}
 
 -- whether a period has a place
 abbrev pub period_has : ℕ → Period → Bool

@@ -5,13 +5,11 @@ ghost use Rattle.std.specs.Str.{bytes_eq};
 ghost use Rattle.sg_history.specs.History.{among};
 ghost use Rattle.sg_history.specs.Principals as principals;
 ghost use Rattle.grant_history.specs.Periods.{ever_among, ever_by, ever_by_roles, ever_gives, may_have, names_of};
-ghost use Rattle.grant_history.specs.Reads.{is_channel};
+ghost use Rattle.grant_tracks.specs.Reads.{is_channel};
 ghost use Rattle.grant_history.specs.Sorted.{AreSorted};
 ghost use Rattle.std.specs.BTreeMap.{get_by_text};
 
-use crate::facts::What;
-use crate::held::Held;
-use crate::holders::Holders;
+use grant_tracks::{Held, Holders, What};
 use log_views::in_order;
 use sg_history::{ChannelName, Name};
 use sg_outside::Memory;

@@ -4,21 +4,16 @@ ghost use Rattle.std.specs.Prelude.{◌≡◌, ◌&&◌, ◌||◌, ◌++◌, ℕ
 ghost use Rattle.std.specs.BTreeMap.{get_by_text};
 ghost use Rattle.std.specs.List.{list_any};
 ghost use Rattle.std.specs.Str.{bytes_eq};
-ghost use Rattle.grant_history.specs.Events.{is_open};
+ghost use Rattle.grant_tracks.specs.Events.{is_open};
 ghost use Rattle.grant_history.specs.Gifts.{gifts_have, held_gives};
 ghost use Rattle.grant_history.specs.Givers.{giver_has};
-ghost use Rattle.grant_history.specs.Spells.{spells_have};
-ghost use Rattle.grant_history.specs.Ways.{ways_have};
+ghost use Rattle.grant_tracks.specs.Spells.{spells_have};
+ghost use Rattle.grant_tracks.specs.Ways.{ways_have};
 
-use crate::by_name;
-use crate::events::Events;
-use crate::facts::What;
 use crate::givers::Giver;
-use crate::held::Held;
-use crate::spells::Spell;
-use crate::sweeps::spells_of;
-use crate::track::Track;
-use crate::ways::{ChannelTracks, Ways, way_by};
+use grant_tracks::{
+    ChannelTracks, Events, Held, Spell, Track, Ways, What, by_name, spells_of, way_by,
+};
 use sg_history::ChannelName;
 use sg_outside::Memory;
 use std::alloc::Global;

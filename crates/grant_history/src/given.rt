@@ -4,11 +4,12 @@ ghost use Rattle.std.specs.Prelude.{◌≡◌, ◌++◌, [], Some, IfOk, OnOk};
 ghost use Rattle.std.specs.Option.{option_copied};
 ghost use Rattle.sg_history.specs.Puts as puts;
 ghost use Rattle.sg_names.specs.declared.grants.Grantee.TheVariants as grantees;
-ghost use Rattle.grant_history.specs.declared.facts.What.TheVariants as what;
+ghost use Rattle.grant_tracks.specs.declared.things.What.TheVariants as what;
 ghost use Rattle.grant_history.specs.Facts.{fact, channel_facts, role_facts, put_facts, grant_facts, gift_facts};
 ghost use Rattle.grant_history.specs.Ledger.{write_facts};
 
-use crate::facts::{Fact, What};
+use crate::facts::Fact;
+use grant_tracks::What;
 use sg_history::{
     ChannelName, Entry, Given, Grant, Grantee, Name, Principal, Put, RoleGrant, Write,
 };

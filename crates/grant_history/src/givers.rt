@@ -4,14 +4,11 @@ ghost use Rattle.std.specs.Prelude.{◌≡◌, ◌&&◌, ◌||◌, ℕ, List, If
 ghost use Rattle.std.specs.List.{list_any};
 ghost use Rattle.std.specs.Option.{option_copied};
 ghost use Rattle.grant_history.specs.Givers.{giver_has};
-ghost use Rattle.grant_history.specs.Reads.{channel_by};
-ghost use Rattle.grant_history.specs.Reads as reads;
-ghost use Rattle.grant_history.specs.Tracks.{held_at};
+ghost use Rattle.grant_tracks.specs.Reads.{channel_by};
+ghost use Rattle.grant_tracks.specs.Reads as reads;
+ghost use Rattle.grant_tracks.specs.Tracks.{held_at};
 
-use crate::facts::What;
-use crate::held::{Held, Holding};
-use crate::holders::Holders;
-use crate::track::Track;
+use grant_tracks::{Held, Holders, Holding, Track, What};
 use sg_outside::Memory;
 use std::alloc::Global;
 

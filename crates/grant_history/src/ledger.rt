@@ -3,18 +3,18 @@
 ghost use Rattle.std.specs.Prelude.{◌≡◌, ◌<◌, ◌≤◌, ◌+◌, ◌-◌, true, false, None, is_some, ℕ, List, [], length, OnOk, OnErr, if◌then◌else◌};
 ghost use Rattle.std.specs.BTreeMap.{get_by_text};
 ghost use Rattle.std.specs.Str.{bytes_eq};
-ghost use Rattle.grant_history.specs.Dated.{Dated};
+ghost use Rattle.grant_tracks.specs.Dated.{Dated};
 ghost use Rattle.grant_history.specs.Facts.{times};
-ghost use Rattle.grant_history.specs.Holdings.{count_at, has_at, IsStore};
+ghost use Rattle.grant_history.specs.Store.{count_at, has_at, IsStore};
 ghost use Rattle.grant_history.specs.Ledger.{facts_in, source_in, holder, IsLedger, IsStep, Took};
 ghost use Rattle.grant_history.specs.LedgerAt.{IsBefore};
 ghost use Rattle.sg_history.specs.History.{as_write};
 ghost use Rattle.sg_history.specs.Puts as puts;
 
-use crate::by_name;
 use crate::facts::Fact;
 use crate::given::of_put;
 use crate::store::Store;
+use grant_tracks::by_name;
 use sg_history::{DocId, Entry, Name, Principal};
 use sg_outside::Memory;
 use std::alloc::Global;

@@ -1,21 +1,20 @@
 //! What all users and roles have or had.
 
 ghost use Rattle.std.specs.Prelude.{◌≡◌, ◌<◌, ◌≤◌, ◌+◌, ◌-◌, ℕ, List, false, IfOk, OnOk, OnErr};
-ghost use Rattle.grant_history.specs.Dated.{Dated};
+ghost use Rattle.grant_tracks.specs.Dated.{Dated};
 ghost use Rattle.std.specs.BTreeMap.{get_by_text};
 ghost use Rattle.sg_history.specs.History.{among};
 ghost use Rattle.sg_names.specs.declared.grants.Grantee.TheVariants.{User};
-ghost use Rattle.grant_history.specs.declared.facts.What.TheVariants as what;
+ghost use Rattle.grant_tracks.specs.declared.things.What.TheVariants as what;
 ghost use Rattle.grant_history.specs.Periods.{AreAllPeriods};
 ghost use Rattle.grant_history.specs.Sorted.{AreSorted};
-ghost use Rattle.grant_history.specs.Reads.{user_channel, user_role};
+ghost use Rattle.grant_tracks.specs.Reads.{user_channel, user_role};
 ghost use Rattle.grant_history.specs.Facts.{fact, times};
-ghost use Rattle.grant_history.specs.Holdings.{count_at, has_at, IsStore, more_at, less_at};
+ghost use Rattle.grant_history.specs.Store.{count_at, has_at, IsStore, more_at, less_at};
 
-use crate::facts::{Fact, What};
-use crate::holders::{self, Holders};
+use crate::facts::Fact;
 use crate::periods::{Period, periods_of};
-use crate::reads::{channels_of, roles_of};
+use grant_tracks::{Holders, What, channels_of, holders, roles_of};
 use sg_history::{ChannelName, Grantee, Name};
 use sg_outside::Memory;
 use std::alloc::{AllocError, Global};

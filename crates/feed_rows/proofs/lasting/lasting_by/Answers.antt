@@ -1,5 +1,5 @@
 use Rattle.std.proofs.Common.{◌≡◌, true, false, arith}
-use Rattle.grant_history.specs.Spells.{ends_after}
+use Rattle.grant_tracks.specs.Spells.{ends_after}
 use Rattle.feed_rows.proofs.Searching.{lasts_ended, lasts_open}
 use Rattle.feed_rows.proofs.lasting.lasting_by.Goals as goal
 

@@ -1,7 +1,7 @@
 use Rattle.std.proofs.Common.{◌∙◌, arith}
-use Rattle.grant_history.specs.declared.held.Held.{Held}
+use Rattle.grant_tracks.specs.declared.held.Held.{Held}
 use Rattle.grant_history.specs.Periods.{ever_gives}
-use Rattle.grant_history.proofs.Gathered.{any_over, any_left}
+use Rattle.grant_tracks.proofs.Gathered.{any_over, any_left}
 use Rattle.grant_history.proofs.channels.add_by_roles.Goals as goal
 
 pub loop-held-preserved : goal.loop-held-preserved

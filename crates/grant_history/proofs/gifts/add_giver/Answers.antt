@@ -1,12 +1,12 @@
 use Rattle.std.proofs.Common.{◌∙◌, ◌||◌, ◌&&◌, ap, Bool, List}
-use Rattle.grant_history.specs.declared.facts.What.TheVariants as what
-use Rattle.grant_history.specs.declared.held.Held.{Held}
+use Rattle.grant_tracks.specs.declared.things.What.TheVariants as what
+use Rattle.grant_tracks.specs.declared.held.Held.{Held}
 use Rattle.grant_history.specs.Gifts.{gifts_have}
-use Rattle.grant_history.specs.Holdings.{held_in}
-use Rattle.grant_history.specs.Reads.{channel_among}
-use Rattle.grant_history.specs.Tracks.{held_at}
+use Rattle.grant_tracks.specs.Holdings.{held_in}
+use Rattle.grant_tracks.specs.Reads.{channel_among}
+use Rattle.grant_tracks.specs.Tracks.{held_at}
 use Rattle.grant_history.proofs.Gifting.{all_given}
-use Rattle.grant_history.proofs.Tracked.{on_ok}
+use Rattle.grant_tracks.proofs.Tracked.{on_ok}
 use Rattle.grant_history.proofs.gifts.add_giver.Goals as goal
 
 pub returns : goal.returns

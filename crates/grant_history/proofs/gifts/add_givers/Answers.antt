@@ -1,6 +1,6 @@
 use Rattle.std.proofs.Common.{◌∙◌, arith}
 use Rattle.grant_history.specs.Givers.{giver_has}
-use Rattle.grant_history.proofs.Gathered.{any_over, any_left}
+use Rattle.grant_tracks.proofs.Gathered.{any_over, any_left}
 use Rattle.grant_history.proofs.gifts.add_givers.Goals as goal
 
 pub loop-giver-preserved : goal.loop-giver-preserved

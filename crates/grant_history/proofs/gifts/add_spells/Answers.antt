@@ -3,7 +3,7 @@ use Rattle.std.specs.BTreeMap.{get_by_text}
 use Rattle.std.specs.Str.{bytes_eq}
 use Rattle.std.proofs.lemmas.Map.Text.{text_keys}
 use Rattle.grant_history.proofs.Gifting.{one_more, list_more}
-use Rattle.grant_history.proofs.Tracked.{on_ok}
+use Rattle.grant_tracks.proofs.Tracked.{on_ok}
 use Rattle.grant_history.proofs.gifts.add_spells.Goals as goal
 
 pub returns-in-Some : goal.returns-in-Some

@@ -1,6 +1,6 @@
 use Rattle.std.proofs.Common.{None}
 use Rattle.grant_history.proofs.Gifting.{one_more, list_first}
-use Rattle.grant_history.proofs.Tracked.{on_ok}
+use Rattle.grant_tracks.proofs.Tracked.{on_ok}
 use Rattle.grant_history.proofs.gifts.begin.Goals as goal
 
 pub returns : goal.returns

@@ -1,9 +1,9 @@
 use Rattle.std.proofs.Common.{◌∙◌, ap, arith, ℕ, List, [], ◌∷◌, ◌++◌}
 use Rattle.sg_history.specs.Puts.{grantee_in}
 use Rattle.grant_history.specs.declared.facts.Fact.{Fact}
-use Rattle.grant_history.specs.declared.facts.What.TheVariants as what
+use Rattle.grant_tracks.specs.declared.things.What.TheVariants as what
 use Rattle.grant_history.specs.Facts.{fact}
-use Rattle.grant_history.proofs.Gathered.{map_over, map_end}
+use Rattle.grant_tracks.proofs.Gathered.{map_over, map_end}
 use Rattle.grant_history.proofs.given.add_channels.Goals as goal
 
 pub loop-channel-preserved : goal.loop-channel-preserved

@@ -2,9 +2,9 @@ use Rattle.std.proofs.Common.{◌∙◌, ap, arith, [], ◌∷◌, ◌++◌}
 use Rattle.sg_names.specs.declared.grants.Grantee.TheVariants.{User}
 use Rattle.sg_names.specs.declared.role_grants.RoleGrant.{RoleGrant}
 use Rattle.grant_history.specs.declared.facts.Fact.{Fact}
-use Rattle.grant_history.specs.declared.facts.What.TheVariants as what
+use Rattle.grant_tracks.specs.declared.things.What.TheVariants as what
 use Rattle.grant_history.specs.Facts.{fact}
-use Rattle.grant_history.proofs.Gathered.{map_over, map_end}
+use Rattle.grant_tracks.proofs.Gathered.{map_over, map_end}
 use Rattle.grant_history.proofs.given.add_gifts.Goals as goal
 
 pub loop-gift-preserved : goal.loop-gift-preserved

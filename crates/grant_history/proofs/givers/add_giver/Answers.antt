@@ -1,9 +1,9 @@
 use Rattle.std.proofs.Common.{refl, Bool, ◌&&◌, ap}
 use Rattle.grant_history.specs.declared.givers.Giver.{Giver}
 use Rattle.grant_history.specs.Givers.{giver_has}
-use Rattle.grant_history.specs.Reads.{gives_channel}
-use Rattle.grant_history.specs.Tracks.{held_at}
-use Rattle.grant_history.proofs.Cutting.{given_more, given_same}
+use Rattle.grant_tracks.specs.Reads.{gives_channel}
+use Rattle.grant_tracks.specs.Tracks.{held_at}
+use Rattle.grant_history.proofs.Gifting.{given_more, given_same}
 use Rattle.grant_history.proofs.givers.add_giver.Goals as goal
 
 pub returns-in-None : goal.returns-in-None

@@ -1,9 +1,9 @@
 use Rattle.std.proofs.Common.{◌∙◌, ◌&&◌, arith}
-use Rattle.grant_history.specs.declared.held.Held.{Held}
+use Rattle.grant_tracks.specs.declared.held.Held.{Held}
 use Rattle.grant_history.specs.Givers.{giver_has}
-use Rattle.grant_history.specs.Reads.{gives_channel}
-use Rattle.grant_history.specs.Tracks.{held_at}
-use Rattle.grant_history.proofs.Cutting.{moves_over, none_over}
+use Rattle.grant_tracks.specs.Reads.{gives_channel}
+use Rattle.grant_tracks.specs.Tracks.{held_at}
+use Rattle.grant_tracks.proofs.Cutting.{moves_over, none_over}
 use Rattle.grant_history.proofs.givers.givers_of.Goals as goal
 
 pub loop-held-preserved : goal.loop-held-preserved

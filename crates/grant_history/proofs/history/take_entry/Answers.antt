@@ -6,7 +6,7 @@ use Rattle.sg_history.specs.Principals.{as_put}
 use Rattle.grant_history.specs.declared.facts.Fact.{Fact}
 use Rattle.grant_history.specs.Facts.{document_facts}
 use Rattle.grant_history.specs.Ledger.{document, IsStep}
-use Rattle.grant_history.proofs.Tracked.{on_ok, on_err}
+use Rattle.grant_tracks.proofs.Tracked.{on_ok, on_err}
 use Rattle.grant_history.proofs.Keeping.{write_is_step}
 use Rattle.grant_history.proofs.Applied.{no_write, next_place, taken, left}
 use Rattle.grant_history.proofs.history.take_entry.Goals as goal

@@ -5,9 +5,9 @@ use Rattle.std.proofs.lemmas.Map.Text.{text_keys}
 use Rattle.grant_history.specs.declared.facts.Fact.{Fact}
 use Rattle.grant_history.specs.Facts.{times}
 use Rattle.grant_history.specs.Ledger.{facts_of_list, facts_in}
-use Rattle.grant_history.proofs.Holding.{recounted_at}
+use Rattle.grant_history.proofs.Storing.{recounted_at}
 use Rattle.grant_history.proofs.Keeping.{begun_empty, swapped, as_it_was}
-use Rattle.grant_history.proofs.Tracked.{on_ok, on_err}
+use Rattle.grant_tracks.proofs.Tracked.{on_ok, on_err}
 use Rattle.grant_history.proofs.ledger.begin.Goals as goal
 
 pub exchange-requires-clause-given : goal.exchange-requires-clause-given

@@ -2,7 +2,7 @@ use Rattle.std.proofs.Common.{◌≡◌, ◌∙◌, ap, List, arith}
 use Rattle.grant_history.specs.declared.facts.Fact.{Fact}
 use Rattle.grant_history.specs.Facts.{times}
 use Rattle.grant_history.specs.declared.ledger.SourceFacts.{SourceFacts}
-use Rattle.grant_history.proofs.Holding.{chained, recounted_at}
+use Rattle.grant_history.proofs.Storing.{chained, recounted_at}
 use Rattle.grant_history.proofs.ledger.exchange.Goals as goal
 
 pub take_all-requires-clause-up_to : goal.take_all-requires-clause-up_to

@@ -1,7 +1,7 @@
 use Rattle.std.proofs.Common.{ap}
 use Rattle.grant_history.specs.Ledger.{facts_of_list}
 use Rattle.grant_history.proofs.Keeping.{placed_empty}
-use Rattle.grant_history.proofs.Tracked.{either, on_ok, on_err}
+use Rattle.grant_tracks.proofs.Tracked.{either, on_ok, on_err}
 use Rattle.grant_history.proofs.ledger.make_list.Goals as goal
 
 pub returns-clause-lists : goal.returns-clause-lists

@@ -5,12 +5,12 @@ use Rattle.std.proofs.lemmas.Map.Text.{text_keys}
 use Rattle.grant_history.specs.declared.facts.Fact.{Fact}
 use Rattle.grant_history.specs.declared.ledger.SourceFacts.{SourceFacts}
 use Rattle.grant_history.specs.Facts.{times}
-use Rattle.grant_history.specs.Holdings.{count_at}
+use Rattle.grant_history.specs.Store.{count_at}
 use Rattle.grant_history.specs.Ledger.{facts_of_list, facts_in}
-use Rattle.grant_history.proofs.Holding.{recounted_at}
+use Rattle.grant_history.proofs.Storing.{recounted_at}
 use Rattle.grant_history.proofs.Keeping.{swapped, as_it_was}
 use Rattle.grant_history.proofs.Steps.{still_none}
-use Rattle.grant_history.proofs.Tracked.{on_ok, on_err}
+use Rattle.grant_tracks.proofs.Tracked.{on_ok, on_err}
 use Rattle.grant_history.proofs.ledger.replace.Goals as goal
 
 pub returns-in-Some-clause-lists : goal.returns-in-Some-clause-lists

@@ -2,7 +2,7 @@ use Rattle.std.proofs.Common.{◌∙◌, ap, arith, [], ◌∷◌, ◌++◌, get
 use Rattle.std.proofs.lemmas.List.{get_or_default}
 use Rattle.grant_history.specs.declared.periods.Period.{Period}
 use Rattle.grant_history.specs.Periods.{period_of}
-use Rattle.grant_history.proofs.Gathered.{map_over, map_end}
+use Rattle.grant_tracks.proofs.Gathered.{map_over, map_end}
 use Rattle.grant_history.proofs.periods.add_spells.Goals as goal
 
 pub loop-spell-preserved : goal.loop-spell-preserved

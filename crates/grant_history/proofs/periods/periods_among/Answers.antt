@@ -3,13 +3,13 @@ use Rattle.std.specs.Str.{bytes_eq}
 use Rattle.std.specs.List.{list_any}
 use Rattle.std.proofs.lemmas.Result.{IfOk-weaker}
 use Rattle.sg_history.specs.Principals.{everyone}
-use Rattle.grant_history.specs.declared.facts.What.TheVariants as what
+use Rattle.grant_tracks.specs.declared.things.What.TheVariants as what
 use Rattle.grant_history.specs.declared.givers.Giver.{Giver}
-use Rattle.grant_history.specs.declared.held.Held.{Held}
+use Rattle.grant_tracks.specs.declared.held.Held.{Held}
 use Rattle.grant_history.specs.Givers.{giver_has}
-use Rattle.grant_history.specs.Holdings.{held_in}
+use Rattle.grant_tracks.specs.Holdings.{held_in}
 use Rattle.grant_history.specs.Periods.{names_of}
-use Rattle.grant_history.specs.Reads.{by_roles, channel_among}
+use Rattle.grant_tracks.specs.Reads.{by_roles, channel_among}
 use Rattle.grant_history.proofs.Dividing.{all_so_far}
 use Rattle.grant_history.proofs.periods.periods_among.Goals as goal
 

@@ -2,8 +2,8 @@ use Rattle.std.proofs.Common.{◌≡◌, sym, ap, subst, arith, Option, Some, No
 use Rattle.std.specs.BTreeMap.{get_by_text}
 use Rattle.std.proofs.lemmas.Result.{IfOk-weaker}
 use Rattle.std.proofs.lemmas.Map.Text.{text_keys}
-use Rattle.grant_history.specs.Things.{Things}
-use Rattle.grant_history.specs.Reads.{user_channel}
+use Rattle.grant_tracks.specs.Things.{Things}
+use Rattle.grant_tracks.specs.Reads.{user_channel}
 use Rattle.grant_history.specs.Periods.{AreAllPeriods}
 use Rattle.grant_history.proofs.Dividing.{no_periods}
 use Rattle.grant_history.proofs.periods.periods_of.Goals as goal

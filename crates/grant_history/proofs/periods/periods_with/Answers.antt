@@ -1,6 +1,6 @@
 use Rattle.std.proofs.Common.{◌∙◌, ap, List, ℕ, Bor}
 use Rattle.sg_history.specs.History.{among}
-use Rattle.grant_history.specs.declared.held.Held.{Held}
+use Rattle.grant_tracks.specs.declared.held.Held.{Held}
 use Rattle.grant_history.specs.Periods.{may_have, names_of}
 use Rattle.grant_history.proofs.periods.periods_with.Goals as goal
 

@@ -1,6 +1,6 @@
 use Rattle.std.proofs.Common.{◌∙◌, ap, Bool}
 use Rattle.std.proofs.lemmas.Result.{IfOk-weaker}
-use Rattle.grant_history.specs.Gifts.{has_by}
+use Rattle.grant_tracks.specs.Reads.{has_by}
 use Rattle.grant_history.proofs.periods.spells_with.Goals as goal
 
 pub returns-clause-says : goal.returns-clause-says

@@ -3,7 +3,7 @@ use Rattle.std.specs.Prelude.{slice_get}
 use Rattle.std.proofs.lemmas.Option.{slice_get-get_or}
 use Rattle.sg_history.specs.declared.entries.Entry.{Entry}
 use Rattle.sg_history.specs.History.{as_write, past}
-use Rattle.grant_history.proofs.Tracked.{on_ok}
+use Rattle.grant_tracks.proofs.Tracked.{on_ok}
 use Rattle.grant_history.proofs.Applied.{no_write}
 use Rattle.grant_history.proofs.Winning.{winner_of_write, place_at, write_step_at, kept_after}
 use Rattle.grant_history.proofs.whole.take_at.Goals as goal

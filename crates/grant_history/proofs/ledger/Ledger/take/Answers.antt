@@ -1,9 +1,9 @@
 use Rattle.std.proofs.Common.{◌≡◌, ◌<◌, ◌∙◌, sym, ap, subst, ℕ, List}
 use Rattle.grant_history.specs.declared.facts.Fact.{Fact}
 use Rattle.grant_history.specs.declared.ledger.Ledger.{Ledger}
-use Rattle.grant_history.specs.Holdings.{has_at}
+use Rattle.grant_history.specs.Store.{has_at}
 use Rattle.grant_history.specs.Ledger.{Source, document, user, role, source_in, IsStep}
-use Rattle.grant_history.proofs.Tracked.{on_both, on_both_err, on_ok, on_err, either}
+use Rattle.grant_tracks.proofs.Tracked.{on_both, on_both_err, on_ok, on_err, either}
 use Rattle.grant_history.proofs.Keeping.{took, kept_on, of_documents, of_users, of_roles, same_documents, same_users, same_roles, asked_up_to, asked_given}
 use Rattle.grant_history.proofs.ledger.Ledger.take.Goals as goal
 

@@ -4,7 +4,7 @@ use Rattle.sg_history.specs.Principals.{as_put}
 use Rattle.sg_history.specs.Puts.{put_in, grantee_in}
 use Rattle.grant_history.specs.declared.facts.Fact.{Fact}
 use Rattle.grant_history.specs.Ledger.{Source, holder, IsStep}
-use Rattle.grant_history.proofs.Tracked.{on_ok}
+use Rattle.grant_tracks.proofs.Tracked.{on_ok}
 use Rattle.grant_history.proofs.Keeping.{put_is_step, idle_took}
 use Rattle.grant_history.proofs.ledger.Ledger.take_put.Goals as goal
 

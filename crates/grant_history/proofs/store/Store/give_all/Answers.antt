@@ -2,9 +2,9 @@ use Rattle.std.proofs.Common.{ℕ, ◌+◌, ◌∙◌, sym, ap, arith, List, [],
 use Rattle.std.proofs.lemmas.List.{take_more, take_all}
 use Rattle.grant_history.specs.declared.facts.Fact.{Fact}
 use Rattle.grant_history.specs.Facts.{times, same_fact}
-use Rattle.grant_history.specs.Holdings.{count_at}
-use Rattle.grant_history.proofs.Holding.{chained, recounted_at, more_step, same_store}
-use Rattle.grant_history.proofs.Tracked.{any_err}
+use Rattle.grant_history.specs.Store.{count_at}
+use Rattle.grant_history.proofs.Storing.{chained, recounted_at, more_step, same_store}
+use Rattle.grant_tracks.proofs.Tracked.{any_err}
 use Rattle.grant_history.proofs.Steps.{times_append}
 use Rattle.grant_history.proofs.store.Store.give_all.Goals as goal
 

@@ -1,7 +1,7 @@
 use Rattle.std.proofs.Common.{◌+◌, take}
-use Rattle.grant_history.specs.Dated.{Dated}
+use Rattle.grant_tracks.specs.Dated.{Dated}
 use Rattle.grant_history.specs.Facts.{times}
-use Rattle.grant_history.specs.Holdings.{count_at, has_at, IsStore}
+use Rattle.grant_history.specs.Store.{count_at, has_at, IsStore}
 use Rattle.grant_history.proofs.store.Store.give_all.Given as goal
 
 -- those so far are given once more

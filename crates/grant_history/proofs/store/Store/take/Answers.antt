@@ -1,9 +1,10 @@
 use Rattle.std.proofs.Common.{ℕ, ◌-◌, ◌<◌, ◌≡◌, ◌∙◌, sym, ap, subst, refl, List}
 use Rattle.sg_names.specs.declared.grants.Grantee.{Grantee}
 use Rattle.sg_names.specs.declared.grants.Grantee.TheVariants.{User, Role}
-use Rattle.grant_history.specs.declared.facts.What.{What}
-use Rattle.grant_history.specs.Holdings.{count_of, less_of, count_to, count_at, less_at}
-use Rattle.grant_history.proofs.Holding.{users_dated, roles_dated, in_users, in_roles, not_users, not_roles}
+use Rattle.grant_tracks.specs.declared.things.What.{What}
+use Rattle.grant_tracks.specs.Holdings.{count_of, less_of}
+use Rattle.grant_history.specs.Store.{count_to, count_at, less_at}
+use Rattle.grant_history.proofs.Storing.{users_dated, roles_dated, in_users, in_roles, not_users, not_roles}
 use Rattle.grant_history.proofs.store.Store.take.Goals as goal
 
 pub take-requires : goal.take-requires

@@ -2,8 +2,8 @@ use Rattle.std.proofs.Common.{ℕ, ◌+◌, ◌≡◌, ◌∙◌, sym, ap, refl,
 use Rattle.std.proofs.lemmas.List.{drop_more}
 use Rattle.grant_history.specs.declared.facts.Fact.{Fact}
 use Rattle.grant_history.specs.Facts.{times, same_fact}
-use Rattle.grant_history.specs.Holdings.{count_at}
-use Rattle.grant_history.proofs.Holding.{chained, less_step}
+use Rattle.grant_history.specs.Store.{count_at}
+use Rattle.grant_history.proofs.Storing.{chained, less_step}
 use Rattle.grant_history.proofs.Same.{fact_itself}
 use Rattle.grant_history.proofs.store.Store.take_all.Goals as goal
 

@@ -1,8 +1,8 @@
 use Rattle.std.proofs.Common.{◌≡◌, ◌+◌, drop}
 use Rattle.grant_history.specs.declared.facts.Fact.{Fact}
-use Rattle.grant_history.specs.Dated.{Dated}
+use Rattle.grant_tracks.specs.Dated.{Dated}
 use Rattle.grant_history.specs.Facts.{times}
-use Rattle.grant_history.specs.Holdings.{count_at, has_at, IsStore}
+use Rattle.grant_history.specs.Store.{count_at, has_at, IsStore}
 use Rattle.grant_history.proofs.store.Store.take_all.Given as goal
 
 -- what is left is given still

@@ -1,8 +1,0 @@
-use Rattle.std.proofs.Common.{◌∙◌, ap}
-use Rattle.grant_history.specs.Things.{Things}
-use Rattle.grant_history.specs.HeldLists.{place_of}
-use Rattle.grant_history.proofs.held.Holding.place_near.Goals as goal
-
-pub returns : goal.returns
-returns c =
-    c.find.ensures ∙ c.self.invariant.0 c.args.what.now ∙ ap (λ (t : Things). place_of t.items c.args.what.now) c.self.view_is

@@ -1,9 +1,0 @@
-use Rattle.std.proofs.Common.{ℕ}
-use Rattle.grant_history.specs.declared.track.Span.{Span}
-use Rattle.grant_history.specs.Tracks.{has_place}
-use Rattle.grant_history.proofs.Cutting.{CoversBefore}
-use Rattle.grant_history.proofs.track.add_spans.Given as goal
-
--- where the spans that are left change nothing, nothing changes
-abbrev pub invariant-loop-span : goal.invariant-loop-span
-invariant-loop-span l = CoversBefore (λ (s : Span) (k : ℕ). has_place k s) l.spans l.span-index l.initial.cuts.items l.cuts.items

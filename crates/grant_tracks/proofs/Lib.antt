@@ -1,0 +1,11 @@
+pub mod Same
+pub mod Gathered
+pub mod Ordered
+pub mod Blocked
+pub mod Tracked
+pub mod Picking
+pub mod HeldBy
+pub mod Once
+pub mod Sweeping
+pub mod Counting
+pub mod Cutting
