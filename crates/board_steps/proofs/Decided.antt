@@ -36,7 +36,7 @@ use Rattle.board_steps.specs.Retry.{IsReady, IsTurnedDown}
 use Rattle.board_steps.specs.Shape.{IsWritten}
 use Rattle.board_steps.specs.Verdicts.{IsBasis, IsDenied, IsDeniedOn, IsExtension, IsExtensionAt, IsSaidOn, IsSnapshot, IsStoppedBy}
 use Rattle.board_steps.proofs.Entries.{extends_new, extends_on}
-use Rattle.board_steps.proofs.Judged.{said_on}
+use Rattle.board_steps.proofs.JudgedBy.{said_on}
 
 -- what the law of ancestors says
 abbrev pub FewExtend : Type 0

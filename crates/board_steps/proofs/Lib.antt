@@ -6,7 +6,7 @@ pub mod BodyLaws
 pub mod Braces
 pub mod Decided
 pub mod Entries
-pub mod Judged
+pub mod JudgedBy
 pub mod NameTexts
 pub mod Rooms
 pub mod RowsSay

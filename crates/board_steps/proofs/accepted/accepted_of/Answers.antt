@@ -9,7 +9,7 @@ use Rattle.board_steps.specs.declared.accepted.Accepted.{Accepted}
 use Rattle.board_steps.specs.Accepted.{ArePartsOf, IsAcceptedOn}
 use Rattle.board_steps.specs.Verdicts.{IsDeniedOn, IsSaidOn}
 use Rattle.board_steps.proofs.Decided.{memory_denied}
-use Rattle.board_steps.proofs.Judged.{accepted_effects}
+use Rattle.board_steps.proofs.JudgedBy.{accepted_effects}
 use Rattle.board_steps.proofs.accepted.accepted_of.Goals as goal
 
 pub returns-in-Ok-clause-from : goal.returns-in-Ok-clause-from

@@ -1,7 +1,7 @@
 use Rattle.std.proofs.Common.{◌∙◌, ap, List, ℕ}
 use Rattle.json_doc.specs.System.{with_system}
 use Rattle.json_doc.specs.View.{node_tree}
-use Rattle.board_steps.proofs.Judged.{said_by_document, same_document}
+use Rattle.board_steps.proofs.JudgedBy.{said_by_document, same_document}
 use Rattle.board_steps.proofs.judging.said_of.Goals as goal
 
 pub returns-in-Ok : goal.returns-in-Ok

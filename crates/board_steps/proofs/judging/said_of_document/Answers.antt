@@ -4,7 +4,7 @@ use Rattle.json_doc.specs.Tree.{Tree}
 use Rattle.json_doc.specs.View.{node_tree}
 use Rattle.sync_meaning.specs.Meaning.{meaning}
 use Rattle.board_steps.specs.Verdicts.{IsSaidOfDocument}
-use Rattle.board_steps.proofs.Judged.{verdict_is, said_without_old, trees_behind}
+use Rattle.board_steps.proofs.JudgedBy.{verdict_is, said_without_old, trees_behind}
 use Rattle.board_steps.proofs.judging.said_of_document.Goals as goal
 
 pub returns-in-Ok : goal.returns-in-Ok
