@@ -1,6 +1,6 @@
 -- What was answered of a history is said of each that extends it.
-use Rattle.std.proofs.Common.{◌≡◌, ◌≤◌, ℕ, List, length, map, take, reverse, sym, ◌∙◌, ap, subst, le_refl}
-use Rattle.std.proofs.lemmas.List.{take-append-le}
+use Rattle.std.proofs.Common.{◌≡◌, ◌≤◌, ℕ, List, [], ◌++◌, append_assoc, length, map, take, reverse, sym, ◌∙◌, ap, subst, le_refl}
+use Rattle.std.proofs.lemmas.List.{append-nil, take-append-le}
 use Rattle.std.proofs.Math.Seq.{take-length}
 use Rattle.std.proofs.Math.Path.{fun_ext}
 use Rattle.sg_names.specs.declared.key.Key.{Key}
@@ -21,6 +21,13 @@ use Rattle.repl_messages.specs.declared.looks.Fed.TheVariants as fed
 use Rattle.repl_messages.specs.Looks.{IsFed, AreBodies, body_of}
 use Rattle.board_steps.specs.Feed.{FeedAt}
 use Rattle.board_steps.specs.Bodies.{BodiesAt}
+
+-- a history extends itself, and what one extends that it extends
+pub later_itself : (h : List Entry) → Extends h h
+later_itself h = ([], sym (append-nil h))
+
+pub later_than_later : (first second third : List Entry) → Extends first second → Extends second third → Extends first third
+later_than_later first second third a b = (a.0 ++ b.0, b.1 ∙ ap (λ (s : List Entry). s ++ b.0) a.1 ∙ append_assoc first a.0 b.0)
 
 -- the entries up to the earlier one's length are the earlier one's
 same_past : (earlier later : List Entry) (front : ℕ) → Extends earlier later → front ≡ length earlier → past later front ≡ past earlier front

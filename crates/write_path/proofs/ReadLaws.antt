@@ -1,17 +1,10 @@
 -- What follows for each board that was read.
 use Rattle.std.proofs.Common.{◌≡◌, ◌≤◌, le_refl, le_trans, ℕ, List, [], ◌∷◌, ◌++◌, length, refl, sym, ◌∙◌, ap, subst, inl, inr, append_assoc}
-use Rattle.std.proofs.lemmas.List.{append_cancel_right, append-nil}
+use Rattle.std.proofs.lemmas.List.{append_cancel_right}
 use Rattle.sg_history.specs.declared.entries.Entry.{Entry}
 use Rattle.sg_history.specs.Board.{BoardState, board_book, IsAfterAll}
 use Rattle.sg_history.specs.Book.{Later, book_of}
-use Rattle.sg_history.specs.History.{Extends}
 use Rattle.write_path.specs.Reads.{IsLaterThanAll, IsOneOf, AreAfter, AreBetween, Reads, WasRead}
-
-pub later_itself : (h : List Entry) → Extends h h
-later_itself h = ([], sym (append-nil h))
-
-pub later_than_later : (first second third : List Entry) → Extends first second → Extends second third → Extends first third
-later_than_later first second third a b = (a.0 ++ b.0, b.1 ∙ ap (λ (s : List Entry). s ++ b.0) a.1 ∙ append_assoc first a.0 b.0)
 
 -- a history that is later than these is later than the last ones of them
 later_than_rest : (added before : List BoardState) (h : List Entry) → IsLaterThanAll (added ++ before) h → IsLaterThanAll before h

@@ -1,5 +1,4 @@
-use Rattle.write_path.proofs.ReadLaws.{later_itself, later_than_later}
-use Rattle.board_steps.proofs.Said.{fed_later, bodies_later}
+use Rattle.board_steps.proofs.Said.{bodies_later, fed_later, later_itself, later_than_later}
 use Rattle.board_steps.proofs.laws.later.Goals as goal
 
 pub returns-clause-reflexive : goal.returns-clause-reflexive
