@@ -5,6 +5,7 @@ ghost use Rattle.std.specs.Prelude.{◌≡◌, ◌≤◌, ◌<◌, ◌∷◌, []
 ghost use Rattle.std.specs.Option.{option_copied};
 ghost use Rattle.json_doc.specs.Reading.{IsDocument};
 ghost use Rattle.json_doc.specs.View.{node_tree};
+ghost use Rattle.repl_messages.specs.declared.revision.Revision.{Revision as RevisionValue};
 ghost use Rattle.sync_syntax.specs.declared.tree.Program.{Program};
 ghost use Rattle.doc_board.specs.Boards.{board_of};
 ghost use Rattle.doc_board.specs.Outcomes.{IsWellFormed, bytes_of};
