@@ -46,7 +46,7 @@ use Rattle.board_steps.proofs.Alone.{fresh_on}
 use Rattle.write_path.proofs.Proposed.{Again}
 use Rattle.board_steps.proofs.SameBoards.{same_board}
 use Rattle.write_path.proofs.RoomTimes.{put_back, times_less, times_outstanding}
-use Rattle.board_steps.proofs.Triable.{LaterBoards, fits_room, may_be_stored}
+use Rattle.board_steps.proofs.Triable.{LaterBoards, fits_room, last_ready, may_be_stored}
 use Rattle.write_path.proofs.Turning.{Rising, may_leave_stored, may_store, room_out, stored_own, stored_rests, stored_turn, times_one, unused_own, weaker}
 
 -- what the laws of boards say of the write that is stored

@@ -21,7 +21,7 @@ use Rattle.board_steps.specs.After.{IsAsBefore, IsBoardAfter}
 use Rattle.write_path.specs.Reads.{Reads, WasRead}
 use Rattle.write_path.specs.Own.{own_before, own_after}
 use Rattle.write_path.proofs.Grown.{Extended, after_entry, at_before, at_end}
-use Rattle.board_steps.proofs.SameBoards.{small_body}
+use Rattle.board_steps.proofs.SameBoards.{same_board, small_body}
 use Rattle.write_path.proofs.OneRead.{same_book}
 
 abbrev pub Again : Type 0
