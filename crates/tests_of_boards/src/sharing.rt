@@ -163,7 +163,7 @@ struct Device {
     role: Name,
 }
 
-fn device(alloc: Global) -> Result<Device, Fail> {
+fn device_of(alloc: Global) -> Result<Device, Fail> {
     let role = Name::parse(alloc, "r")?;
     let wire = MemWire::new(alloc, inputs(alloc)?);
     match setup(alloc) {
@@ -207,7 +207,7 @@ fn served<R: Wait + Sync>(
 }
 
 fn revoked<R: Wait + Sync>(rt: &R, alloc: Global) -> Result<(End, bool, bool), Fail> {
-    let device = device(alloc)?;
+    let device = device_of(alloc)?;
     let (gate, pass) = match opened(alloc, FIVE) {
         Ok(opened) => opened,
         Err(fail) => {
@@ -233,7 +233,7 @@ struct Job {
     user: Name,
 }
 
-fn job(alloc: Global, doc: &str, user: &str) -> Result<Job, Fail> {
+fn job_of(alloc: Global, doc: &str, user: &str) -> Result<Job, Fail> {
     let user = Name::parse(alloc, user)?;
     let doc = DocId::parse(alloc, doc)?;
     let rev = RevId::parse(alloc, "1-a")?;
@@ -250,8 +250,8 @@ fn job(alloc: Global, doc: &str, user: &str) -> Result<Job, Fail> {
 }
 
 fn jobs(alloc: Global) -> Result<(Job, Job), Fail> {
-    let first = job(alloc, "d1", "ann")?;
-    match job(alloc, "d2", "bob") {
+    let first = job_of(alloc, "d1", "ann")?;
+    match job_of(alloc, "d2", "bob") {
         Ok(second) => Ok((first, second)),
         Err(fail) => {
             drop(first);
