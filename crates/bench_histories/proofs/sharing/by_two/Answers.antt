@@ -1,8 +1,0 @@
-use denote.Param.Send.{sendable}
-use Rattle.std.proofs.Crossing.{crosses}
-use Rattle.sync_resolve.proofs.Crossing.{resolved_send, resolved_sync}
-use Rattle.write_path.proofs.Crossing.{shelf_send}
-use Rattle.bench_histories.proofs.sharing.by_two.Goals as goal
-
-pub join-first-requires-send-F : goal.join-first-requires-send-F
-join-first-requires-send-F g c κs within = search (shelf_send, resolved_send, resolved_sync, crosses, sendable) depth 60 fits 20000
