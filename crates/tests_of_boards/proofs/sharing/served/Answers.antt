@@ -1,0 +1,6 @@
+use denote.Param.Send.{sendable}
+use Rattle.write_path.proofs.Crossing.{shelf_send}
+use Rattle.tests_of_boards.proofs.sharing.served.Goals as goal
+
+pub split-other-requires-send-B : goal.split-other-requires-send-B
+split-other-requires-send-B g c κs = search (shelf_send, sendable) depth 20
