@@ -1,25 +1,21 @@
-//! Grounds that share a gate: a session between whose looks a grant ends, and grounds in two threads.
+//! Grounds that share a gate: a session between whose looks a grant ends.
 
-ghost use Rattle.std.specs.Prelude.{◌≡◌, ◌≤◌, ◌+◌, ◌^◌, [], length, IfOk};
-ghost use Rattle.std.specs.Thread.{IsSync};
-ghost use Rattle.seq_gate.specs.Passes.{share};
+ghost use Rattle.std.specs.Prelude.{◌≡◌, ◌≤◌, ◌^◌, [], length, IfOk};
 ghost use Rattle.write_path.specs.Shared.{Rests};
 
 use crate::programs::open as open_program;
 use doc_board::Board;
 use doc_board::laws::recorded;
-use repl_messages::{Revision, Version};
-use seq_gate::{Gate, Pass, close, open};
+use repl_messages::Version;
+use seq_gate::{Gate, Pass, open};
 use session_core::{Look, Purpose};
 use session_run::{End, Ended, Setup, serve_session};
-use sg_history::{DocId, Name, RevId, Revs, read_journal};
+use sg_history::{Name, read_journal};
 use sg_outside::{Bytes, Gave, Got, Input, MemWire, Wire};
 use std::alloc::{AllocError, Global};
 use std::sync::{Arc, Wait};
 use std::test::Fail;
-use std::thread;
-use std::thread::Threads;
-use write_path::{Command, Ground, Outcome, Resolved, SharedGround, Shelf};
+use write_path::{Command, Ground, SharedGround, Shelf};
 
 /// Entries 1 to 5: ann has A by a role, and d1 is put into A by the fourth.
 const FIVE: &[u8] = b"sgjournal 1\n\
@@ -67,7 +63,6 @@ fn shelf_of(alloc: Global, journal: &[u8]) -> Result<Shelf, Fail>
 fn opened(alloc: Global, journal: &[u8]) -> Result<(Gate<Shelf>, Pass<Shelf>), Fail>
     ensures here { IfOk result (λ r. r.1.gate ≡ r.0) }
     ensures rests { IfOk result (λ r. Rests r.1.knows) }
-    ensures whole { IfOk result (λ r. share r.1.knows ≡ 2 ^ 62) }
     ensures left { IfOk result (λ r. r.1.knows.left ≡ 2 ^ 62) }
 {
     Ok(open(alloc, shelf_of(alloc, journal)?)?)
@@ -223,165 +218,5 @@ fn revoked<R: Wait + Sync>(rt: &R, alloc: Global) -> Result<(End, bool, bool), F
 #[test]
 fn a_grant_that_ends_between_two_looks(rt: HostRuntime) -> Result<(), Fail> {
     assert!(rt; revoked(&rt, rt.alloc())? == (End::Closed, true, true));
-    Ok(())
-}
-
-/// What a thread does: it proposes a first revision of a document, and drops a user.
-#[derive(Drop)]
-struct Job {
-    revision: Revision,
-    user: Name,
-}
-
-fn job_of(alloc: Global, doc: &str, user: &str) -> Result<Job, Fail> {
-    let user = Name::parse(alloc, user)?;
-    let doc = DocId::parse(alloc, doc)?;
-    let rev = RevId::parse(alloc, "1-a")?;
-    let body = Bytes::from_slice(alloc, b"{}")?;
-    let revision = Revision {
-        doc,
-        rev,
-        ancestors: Revs::new(alloc),
-        deleted: false,
-        noconflicts: false,
-        body,
-    };
-    Ok(Job { revision, user })
-}
-
-fn jobs(alloc: Global) -> Result<(Job, Job), Fail> {
-    let first = job_of(alloc, "d1", "ann")?;
-    match job_of(alloc, "d2", "bob") {
-        Ok(second) => Ok((first, second)),
-        Err(fail) => {
-            drop(first);
-            Err(fail)
-        }
-    }
-}
-
-fn is_stored(outcome: &Outcome) -> bool {
-    matches!(outcome, Outcome::Stored { .. })
-}
-
-/// Proposes a revision to a ground, and drops a user there. Whether both were stored, and the pass.
-fn work<R: Wait + Sync>(
-    alloc: Global,
-    ground: SharedGround<'_, R>,
-    program: &Resolved,
-    job: Job,
-) -> (Pass<Shelf>, bool)
-    requires draws { 4 ≤ ground.knows.left }
-    ensures gate { result.0.gate ≡ ground.entry.gate }
-    ensures rests { Rests result.0.knows }
-    ensures share { share result.0.knows ≡ share ground.entry.knows }
-{
-    let mut ground = ground;
-    let Job { revision, user } = job;
-    let _ = user.as_str();
-    let proposed = ground.propose(alloc, program, None, false, revision);
-    let dropped = ground.command(Command::DropUser(user));
-    let stored = is_stored(&proposed) && is_stored(&dropped);
-    drop(proposed);
-    drop(dropped);
-    (ground.into_inner(), stored)
-}
-
-/// What two threads have done, each at a ground of its own: their passes, and whether all was stored.
-type Worked = ((Pass<Shelf>, bool), (Pass<Shelf>, bool));
-
-/// Runs both jobs, each in a thread of its own.
-fn by_two<R: Threads + Wait + Sync>(
-    rt: &R,
-    alloc: Global,
-    one: SharedGround<'_, R>,
-    two: SharedGround<'_, R>,
-    program: &Resolved,
-    jobs: (Job, Job),
-) -> Worked
-    requires one { 4 ≤ one.knows.left }
-    requires two { 4 ≤ two.knows.left }
-    ensures first { (result.0.0.gate ≡ one.entry.gate) × Rests result.0.0.knows
-        × (share result.0.0.knows ≡ share one.entry.knows) }
-    ensures second { (result.1.0.gate ≡ two.entry.gate) × Rests result.1.0.knows
-        × (share result.1.0.knows ≡ share two.entry.knows) }
-{
-    let (first, second) = jobs;
-    thread::join(
-        rt,
-        || -> (Pass<Shelf>, bool)
-            requires { IsSync R.row × (4 ≤ one.knows.left) }
-            ensures { (result.0.gate ≡ one.entry.gate) × Rests result.0.knows
-                × (share result.0.knows ≡ share one.entry.knows) }
-        { work(alloc, one, program, first) },
-        || -> (Pass<Shelf>, bool)
-            requires { IsSync R.row × (4 ≤ two.knows.left) }
-            ensures { (result.0.gate ≡ two.entry.gate) × Rests result.0.knows
-                × (share result.0.knows ≡ share two.entry.knows) }
-        { work(alloc, two, program, second) },
-    )
-}
-
-/// The length of the log that a gate is closed with, once both passes are joined.
-fn closed(gate: Gate<Shelf>, one: Pass<Shelf>, two: Pass<Shelf>) -> u64
-    requires one { (one.gate ≡ gate) × Rests one.knows }
-    requires two { (two.gate ≡ gate) × Rests two.knows }
-    requires whole { share one.knows + share two.knows ≡ 2 ^ 62 }
-{
-    let mut one = one;
-    one.join(&gate, two);
-    let shelf = close(gate, one);
-    let front = shelf.board().front();
-    drop(shelf);
-    front
-}
-
-/// Runs both jobs at grounds of one gate; then joins the passes, and closes the gate. The front then, and whether all was stored.
-fn in_threads<R: Threads + Wait + Sync>(
-    rt: &R,
-    alloc: Global,
-    gate: Gate<Shelf>,
-    pass: Pass<Shelf>,
-    program: &Resolved,
-    jobs: (Job, Job),
-) -> (u64, bool)
-    requires here { pass.gate ≡ gate }
-    requires rests { Rests pass.knows }
-    requires whole { share pass.knows ≡ 2 ^ 62 }
-    requires left { 2 ^ 34 ≤ pass.knows.left }
-{
-    let mut pass = pass;
-    let other = pass.split(&gate);
-    let one = SharedGround::new(rt, &gate, pass);
-    let two = SharedGround::new(rt, &gate, other);
-    let ((one, stored), (two, others)) = by_two(rt, alloc, one, two, program, jobs);
-    (closed(gate, one, two), stored && others)
-}
-
-fn with_program<R: Threads + Wait + Sync>(
-    rt: &R,
-    alloc: Global,
-    program: &Resolved,
-) -> Result<(u64, bool), Fail> {
-    let jobs = jobs(alloc)?;
-    match opened(alloc, b"sgjournal 1\n") {
-        Ok((gate, pass)) => Ok(in_threads(rt, alloc, gate, pass, program, jobs)),
-        Err(fail) => {
-            drop(jobs);
-            Err(fail)
-        }
-    }
-}
-
-fn both_work<R: Threads + Wait + Sync>(rt: &R, alloc: Global) -> Result<(u64, bool), Fail> {
-    let program = open_program(alloc)?;
-    let worked = with_program(rt, alloc, &program);
-    drop(program);
-    worked
-}
-
-#[test]
-fn two_grounds_in_two_threads(rt: HostRuntime) -> Result<(), Fail> {
-    assert!(rt; both_work(&rt, rt.alloc())? == (4, true));
     Ok(())
 }

@@ -1,6 +1,0 @@
-use denote.Param.Send.{sendable}
-use Rattle.write_path.proofs.Crossing.{shelf_send}
-use Rattle.tests_of_boards.proofs.sharing.in_threads.Goals as goal
-
-pub split-other-requires-send-B : goal.split-other-requires-send-B
-split-other-requires-send-B g c κs = search (shelf_send, sendable) depth 20
