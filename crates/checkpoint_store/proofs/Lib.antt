@@ -1,0 +1,4 @@
+pub mod Stored
+pub mod Setting
+pub mod Pairs
+pub mod Rising

@@ -1,0 +1,4 @@
+pub mod SideMaps
+pub mod Checkpoints
+pub mod Answers
+pub mod Stored
