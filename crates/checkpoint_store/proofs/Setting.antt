@@ -4,7 +4,7 @@ use Rattle.std.specs.Prelude.{nat_eq, nat_lt, is_some, if◌then◌else◌}
 use Rattle.std.specs.Option.{option_map, unwrap_or}
 use Rattle.std.specs.Str.{bytes_eq}
 use Rattle.std.specs.Cmp.Lexicographic.{bytes_decides}
-use Rattle.std.proofs.lemmas.Bool.{true≢false, eqb-false, leb-false, le-ltb, lt-ltb}
+use Rattle.std.proofs.lemmas.Bool.{true≢false, eqb-false, leb-false, le-ltb}
 use Rattle.std.proofs.lemmas.Option.{same_Some}
 use Rattle.sg_history.specs.Board.{SideEntry, SideValue, side_at, Follows, SideFollows}
 use Rattle.checkpoint_store.specs.declared.answers.SetAnswer.{SetAnswer}
@@ -55,11 +55,6 @@ refuses side text rev body (Conflict409 current) unset is = record { answer = λ
 refuses side text rev body (TooLarge413 bytes) unset is = record { answer = λ there. is; put = tt; same = refl }
 refuses side text rev body Full503 unset is = record { answer = λ there. is; put = tt; same = refl }
 refuses side text rev body Memory unset is = record { answer = λ there. is; put = tt; same = refl }
-
-pub too_large : (side : List SideEntry) (text : List ℕ) (rev : ℕ) (body : List ℕ) (bytes : ℕ) → bytes ≡ length body → 4096 < bytes → Sets side text rev body (TooLarge413 bytes) side
-too_large side text rev body bytes is more =
-    refuses side text rev body (TooLarge413 bytes) (λ next set. not_set (TooLarge413 bytes) next refl set)
-    (ap TooLarge413 is ∙ sym (ap (λ (b : Bool). if b then TooLarge413 (length body) else answer_of (number_at side text) (length side) rev) (lt-ltb 4096 (length body) (subst (λ (n : ℕ). 4096 < n) is more))))
 
 -- what is answered by a key is what is answered by its text
 pub by_text : (side : List SideEntry) (key text : List ℕ) (rev : ℕ) (body : List ℕ) (r : SetAnswer) → key ≡ text → length body ≤ 4096
