@@ -1,6 +1,6 @@
 //! The door, at which the lines of devices come.
 
-ghost use Rattle.std.specs.Prelude.{◌≡◌, ◌≤◌, ℕ, Option};
+ghost use Rattle.std.specs.Prelude.{◌≤◌, ℕ, Option};
 ghost use Rattle.sg_outside.specs.Sink.{Counts};
 ghost use Rattle.sg_lines.specs.Door.{DoorRecord, CountsMet, OpensIfRecorded, AcceptsIfRecorded, IsWithin, IsFresh, BacksIfRecorded};
 

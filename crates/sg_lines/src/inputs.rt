@@ -2,7 +2,7 @@
 
 ghost use Rattle.std.specs.Prelude.{◌≡◌, ◌≢◌, ◌≤◌, ◌-◌, ◌∷◌, [], ℕ, ◌+◌, ◌<◌, min, length, take, drop, IsTrue, IsFalse};
 ghost use Rattle.sg_lines.specs.Link.{CountsTook, Fits, read_of, read_after};
-ghost use Rattle.sg_lines.specs.Inputs.{read_of_rest, rest_of, left_of_rest, left_at, read_from, left_of, next_read, after_read};
+ghost use Rattle.sg_lines.specs.Inputs.{read_of_rest, rest_of, left_at, read_from, left_of, next_read, after_read};
 
 use crate::line_log::LineLog;
 use crate::link::Took;

@@ -1,6 +1,6 @@
 //! A link, which gives and takes bytes.
 
-ghost use Rattle.std.specs.Prelude.{◌≡◌, ◌≤◌, ℕ, Option, length};
+ghost use Rattle.std.specs.Prelude.{◌≤◌, ℕ, Option, length};
 ghost use Rattle.sg_outside.specs.Sink.{Counts};
 ghost use Rattle.sg_outside.specs.Wire.{LinkRecord};
 ghost use Rattle.sg_lines.specs.Link.{CountsTook, Fits, read_of, ReadsIfRecorded, WritesIfRecorded};
