@@ -1,0 +1,12 @@
+pub mod Pairs
+pub mod Reading
+pub mod Lining
+pub mod Bounding
+pub mod Threading
+pub mod Playing
+pub mod Growing
+pub mod Orders
+pub mod Alone
+pub mod Sessions
+pub mod Devices
+pub mod Crossing

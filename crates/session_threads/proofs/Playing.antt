@@ -1,0 +1,478 @@
+-- passes that were taken in, and what a history is that a gate was closed with behind a script and sessions
+use Rattle.std.proofs.Common.{◌≡◌, ◌≤◌, ◌<◌, ◌+◌, ◌*◌, ◌^◌, ◌∙◌, ◌⊎◌, ℕ, suc, zero, Bool, true, false, List, [], ◌∷◌, ◌++◌, append-nil, length, map, reverse, take, slice_get, nat_eq, nat_lt, not, Option, None, Some, inl, inr, refl, sym, ap, subst, arith, le_refl, if◌then◌else◌}
+use Rattle.std.proofs.lemmas.Bool.{eqb-true, ltb-false}
+use Rattle.std.proofs.lemmas.List.{reverse-append}
+use Rattle.std.specs.Arc.{arc_value}
+use Rattle.atomic_table.specs.Seated.{TableId}
+use Rattle.sg_history.specs.declared.book.Waiting.{Waiting}
+use Rattle.sg_history.specs.declared.entries.Entry.{Entry}
+use Rattle.sg_history.specs.declared.entries.Entry.TheVariants as entry
+use Rattle.sg_history.specs.declared.entries.Write.{Write}
+use Rattle.sg_history.specs.declared.room.RoomFor.{RoomFor}
+use Rattle.sg_history.specs.Board.{After, BoardState, IsAfterAll, board_book}
+use Rattle.sg_history.specs.Book.{book_of, entry_or, waiting_at}
+use Rattle.sg_history.specs.History.{Extends}
+use Rattle.seq_gate.specs.Counts.{numbers, once, times, total, used}
+use Rattle.seq_gate.specs.Passes.{first_known, joined, owed, share, split_off}
+use Rattle.seq_gate.specs.Views.{PassView}
+use Rattle.seq_gate.specs.declared.known.Known.{Known}
+use Rattle.principals.specs.declared.admin_line.AdminLine.{AdminLine}
+use Rattle.gateway_config.specs.declared.config.Config.{Config}
+use Rattle.gateway_config.specs.declared.config.ConfigRole.{ConfigRole}
+use Rattle.gateway_config.specs.declared.config.ConfigUser.{ConfigUser}
+use Rattle.sync_syntax.specs.declared.tree.Program.{Program}
+use Rattle.doc_board.specs.Boards.{board_of, bytes_stored, bytes_waiting, bytes_asked}
+use Rattle.doc_board.specs.JudgedWrites.{IsJudgedWrite}
+use Rattle.doc_board.specs.State.{State}
+use Rattle.write_path.specs.Reads.{IsLaterThanAll}
+use Rattle.write_path.specs.Shared.{Rests}
+use Rattle.session_run.specs.declared.ended.Ended.{Ended}
+use Rattle.session_run.specs.declared.serve.Setup.{Setup}
+use Rattle.session_run.specs.Answered.{Moment}
+use Rattle.session_run.specs.Judged.{AreJudged}
+use Rattle.session_mux.specs.Sent.{Records}
+use Rattle.session_run.specs.Served.{IsSession}
+use Rattle.session_run.specs.Turns.{steps_of, undone}
+use Rattle.sg_outside.specs.Wire.{Traffic}
+use Rattle.sg_outside.specs.declared.sink.Gave.{Gave}
+use Rattle.sg_outside.specs.declared.wire.Got.{Got}
+use Rattle.session_threads.specs.declared.played.LineOutcome.{LineOutcome}
+use Rattle.session_threads.specs.Bounds.{AreBoundedLines}
+use Rattle.session_threads.specs.Lines.{AreLinesAt, sequences_of}
+use Rattle.session_threads.specs.Opening.{AreOf, IsOpening, IsRoleEntry, IsUserEntry}
+use Rattle.session_threads.specs.Pairs.{AllPairs}
+use Rattle.session_threads.specs.Played.{Device, IsPlayed, IsSessionOf, Leaves}
+use Rattle.session_threads.specs.Runs.{AreClosed, AreThreaded, Begun, Gone, IsGone, IsReadyFor, joined_all, moment_at}
+use Rattle.session_threads.proofs.Reading.{Newest, WasReadLaws, later_one, was_one}
+use Rattle.session_threads.proofs.Lining.{AllJudgedIn, IsJudgedIn, JudgedLater, all_judged, judged_in, lines_at, lines_own}
+use Rattle.session_threads.proofs.Bounding.{bounded_lines, bounded_parts, bounded_steps}
+
+-- ---- counting
+
+numbers-append : (ws vs : List Waiting) → numbers (ws ++ vs) ≡ numbers ws ++ numbers vs
+numbers-append [] vs = refl
+numbers-append (w ∷ ws) vs = ap (λ (ns : List ℕ). w.number ∷ ns) (numbers-append ws vs)
+
+times-append : (k : ℕ) (ns ms : List ℕ) → times k (ns ++ ms) ≡ times k ns + times k ms
+times-append k [] ms = omega arith
+times-append k (n ∷ ns) ms = let more = times-append k ns ms in omega (arith, more)
+
+times-reverse : (k : ℕ) (ns : List ℕ) → times k (reverse ns) ≡ times k ns
+times-reverse k [] = refl
+times-reverse k (n ∷ ns) =
+    ap (times k) (reverse-append (n ∷ []) ns) ∙ times-append k (reverse ns) (n ∷ []) ∙ (let r = times-reverse k ns in omega (arith, r))
+
+numbers_mapped : (ws : List Waiting) → map (λ (w : Waiting). w.number) ws ≡ numbers ws
+numbers_mapped [] = refl
+numbers_mapped (w ∷ ws) = ap (λ (ns : List ℕ). w.number ∷ ns) (numbers_mapped ws)
+
+-- one of the entries has a number that stands among theirs
+eq_number : (n k : ℕ) → nat_eq n k ≡ true → n ≡ k
+eq_number n k is = eqb-true n k is
+
+pub found : (h : List Entry) (program : Program) (k : ℕ) (ws : List Waiting) → 0 < times k (numbers ws) → AllJudgedIn h program ws → (w : Waiting) × (w.number ≡ k) × IsJudgedIn h program w
+found h program k [] some all = absurd (omega (arith, some))
+found h program k (w ∷ ws) some all = at_first (nat_eq w.number k) refl (λ more. found h program k ws more all.1)
+  where
+    at_first : (b : Bool) → nat_eq w.number k ≡ b → (0 < times k (numbers ws) → (v : Waiting) × (v.number ≡ k) × IsJudgedIn h program v) → (v : Waiting) × (v.number ≡ k) × IsJudgedIn h program v
+    at_first true is others = (w, eq_number w.number k is, all.0)
+    at_first false is others = others (let none : 0 < once false + times k (numbers ws) = subst (λ (b : Bool). 0 < once b + times k (numbers ws)) is some in omega (arith, none))
+
+-- ---- passes that were taken in
+
+later_parts : (xs ys : List BoardState) (h : List Entry) → IsLaterThanAll (xs ++ ys) h → IsLaterThanAll xs h × IsLaterThanAll ys h
+later_parts [] ys h all = (tt, all)
+later_parts (x ∷ xs) ys h all = let rest = later_parts xs ys h all.1 in ((all.0, rest.0), rest.1)
+
+after_parts : (xs ys : List BoardState) (b : BoardState) → IsAfterAll (xs ++ ys) b → IsAfterAll xs b × IsAfterAll ys b
+after_parts [] ys b all = (tt, all)
+after_parts (x ∷ xs) ys b all = let rest = after_parts xs ys b all.1 in ((all.0, rest.0), rest.1)
+
+abbrev pub AllLater : List Entry → List Gone → Type 0
+AllLater h [] = Unit {0}
+AllLater h (g ∷ gone) = IsLaterThanAll g.knows.read h × AllLater h gone
+
+abbrev pub AllAfter : BoardState → List Gone → Type 0
+AllAfter b [] = Unit {0}
+AllAfter b (g ∷ gone) = IsAfterAll g.knows.read b × AllAfter b gone
+
+abbrev pub AllRest : List Gone → Type 0
+AllRest [] = Unit {0}
+AllRest (g ∷ gone) = Rests g.knows × AllRest gone
+
+abbrev pub AllShare : List Gone → Type 0
+AllShare [] = Unit {0}
+AllShare (g ∷ gone) = (share g.knows ≡ 2 ^ 32) × AllShare gone
+
+abbrev pub IsAmong : Gone → List Gone → Type 0
+IsAmong g [] = ⊥
+IsAmong g (first ∷ gone) = (first ≡ g) ⊎ IsAmong g gone
+
+abbrev knows_of : List Gone → List Known
+knows_of gone = map (λ (g : Gone). g.knows) gone
+
+all_later : (h : List Entry) (p : Known) (gone : List Gone) → IsLaterThanAll (joined_all p (knows_of gone)).read h → IsLaterThanAll p.read h × AllLater h gone
+all_later h p [] all = (all, tt)
+all_later h p (g ∷ gone) all =
+    let rest = all_later h (joined p g.knows) gone all in
+    let parts = later_parts p.read g.knows.read h rest.0 in
+    (parts.0, (parts.1, rest.1))
+
+all_after : (b : BoardState) (p : Known) (gone : List Gone) → IsAfterAll (joined_all p (knows_of gone)).read b → IsAfterAll p.read b × AllAfter b gone
+all_after b p [] all = (all, tt)
+all_after b p (g ∷ gone) all =
+    let rest = all_after b (joined p g.knows) gone all in
+    let parts = after_parts p.read g.knows.read b rest.0 in
+    (parts.0, (parts.1, rest.1))
+
+all_opening : (p : Known) (gone : List Gone) → (joined_all p (knows_of gone)).opening ≡ p.opening
+all_opening p [] = refl
+all_opening p (g ∷ gone) = all_opening (joined p g.knows) gone
+
+all_times : (k : ℕ) (p : Known) (gone : List Gone) → times k (numbers (joined_all p (knows_of gone)).own) ≡ times k (numbers p.own) + total (λ (g : Gone). times k (numbers g.knows.own)) gone
+all_times k p [] = omega arith
+all_times k p (g ∷ gone) =
+    let rest = all_times k (joined p g.knows) gone in
+    let both = ap (times k) (numbers-append p.own g.knows.own) ∙ times-append k (numbers p.own) (numbers g.knows.own) in
+    omega (arith, rest, both)
+
+all_own : (h : List Entry) (program : Program) (p : Known) (gone : List Gone) → AllJudgedIn h program p.own → ((g : Gone) → IsAmong g gone → AllJudgedIn h program g.knows.own) → AllJudgedIn h program (joined_all p (knows_of gone)).own
+all_own h program p [] mine all = mine
+all_own h program p (g ∷ gone) mine all =
+    all_own h program (joined p g.knows) gone (all_judged h program p.own g.knows.own mine (all g (inl refl))) (λ other among. all other (inr among))
+
+-- that the passes rest, and have all draws
+pub all_held : (p : Known) (gone : List Gone) → p.held ≡ [] → AllRest gone → (joined_all p (knows_of gone)).held ≡ []
+all_held p [] mine all = mine
+all_held p (g ∷ gone) mine all = all_held (joined p g.knows) gone (ap (λ (ns : List ℕ). ns ++ g.knows.held) mine ∙ all.0.held) all.1
+
+pub all_rooms : (p : Known) (gone : List Gone) → p.rooms ≡ [] → AllRest gone → (joined_all p (knows_of gone)).rooms ≡ []
+all_rooms p [] mine all = mine
+all_rooms p (g ∷ gone) mine all = all_rooms (joined p g.knows) gone (ap (λ (rs : List RoomFor). rs ++ g.knows.rooms) mine ∙ all.0.rooms) all.1
+
+pub all_share : (p : Known) (gone : List Gone) → AllShare gone → share (joined_all p (knows_of gone)) ≡ share p + 2 ^ 32 * length gone
+all_share p [] all = omega arith
+all_share p (g ∷ gone) all = let rest = all_share (joined p g.knows) gone all.1 in omega (arith, rest, all.0)
+
+-- what each session left
+module _ (before : Known) (fresh : share before ≡ 2 ^ 32) where
+  pub gone_rest : (begun : List Begun) (gone : List Gone) → AllPairs (IsGone before) begun gone → AllRest gone
+  gone_rest [] [] all = tt
+  gone_rest (b ∷ begun) (g ∷ gone) all = (all.0.rests, gone_rest begun gone all.1)
+  gone_rest [] (g ∷ gone) all = absurd all
+  gone_rest (b ∷ begun) [] all = absurd all
+
+  pub gone_share : (begun : List Begun) (gone : List Gone) → AllPairs (IsGone before) begun gone → AllShare gone
+  gone_share [] [] all = tt
+  gone_share (b ∷ begun) (g ∷ gone) all = (all.0.share_is ∙ fresh, gone_share begun gone all.1)
+  gone_share [] (g ∷ gone) all = absurd all
+  gone_share (b ∷ begun) [] all = absurd all
+
+  pub gone_length : (begun : List Begun) (gone : List Gone) → AllPairs (IsGone before) begun gone → length gone ≡ length begun
+  gone_length [] [] all = refl
+  gone_length (b ∷ begun) (g ∷ gone) all = ap (λ (n : ℕ). suc n) (gone_length begun gone all.1)
+  gone_length [] (g ∷ gone) all = absurd all
+  gone_length (b ∷ begun) [] all = absurd all
+
+-- once all passes were taken in, one has all draws, and holds nothing
+module _ (gate : TableId) (first : Known) (program : Program) (strict : Bool) (lines : List AdminLine) (begun : List Begun) (pass : PassView) (outcomes : List LineOutcome) (leaves : List Leaves)
+    (is : AreThreaded gate first program strict lines begun pass outcomes leaves) where
+  fresh : share (split_off first) ≡ 2 ^ 32
+  fresh = omega arith
+
+  pub whole_again : share first ≡ 2 ^ 62 → share pass.knows ≡ 2 ^ 62
+  whole_again all =
+      let same = gone_length (split_off first) fresh begun is.gone is.sessions in
+      let sum = all_share (joined is.rest is.script.knows) is.gone (gone_share (split_off first) fresh begun is.gone is.sessions) in
+      let script = is.script_done.share_is in
+      let left = is.less.left in
+      let made = is.less.made in
+      ap share is.joined_are ∙ omega (arith, same, sum, script, left, made, all)
+
+  pub none_held : Rests first → pass.knows.held ≡ []
+  none_held rests =
+      ap (λ (k : Known). k.held) is.joined_are
+      ∙ all_held (joined is.rest is.script.knows) is.gone (ap (λ (ns : List ℕ). ns ++ is.script.knows.held) (is.less.rests rests).held ∙ is.script_done.rests.held) (gone_rest (split_off first) fresh begun is.gone is.sessions)
+
+  pub none_roomed : Rests first → pass.knows.rooms ≡ []
+  none_roomed rests =
+      ap (λ (k : Known). k.rooms) is.joined_are
+      ∙ all_rooms (joined is.rest is.script.knows) is.gone (ap (λ (rs : List RoomFor). rs ++ is.script.knows.rooms) (is.less.rests rests).rooms ∙ is.script_done.rests.rooms) (gone_rest (split_off first) fresh begun is.gone is.sessions)
+
+-- ---- an opening has no write
+
+abbrev NoWrites : List Entry → Type 0
+NoWrites [] = Unit {0}
+NoWrites (e ∷ es) = ((w : Write) → e ≡ entry.Write w → ⊥) × NoWrites es
+
+roles_none : (roles : List ConfigRole) (es : List Entry) → AreOf IsRoleEntry roles es → NoWrites es
+roles_none [] [] are = tt
+roles_none (r ∷ roles) (e ∷ es) are = (λ w is. put_role (sym are.0.entry ∙ is), roles_none roles es are.1)
+  where
+    put_role : {w : Write} {name : List ℕ} {channels : List (List ℕ)} → entry.PutRole name channels ≡ entry.Write w → ⊥
+    put_role is = absurd cc
+roles_none [] (e ∷ es) are = absurd are
+roles_none (r ∷ roles) [] are = absurd are
+
+users_none : (users : List ConfigUser) (es : List Entry) → AreOf IsUserEntry users es → NoWrites es
+users_none [] [] are = tt
+users_none (u ∷ users) (e ∷ es) are = (λ w is. put_user (sym are.0.entry ∙ is), users_none users es are.1)
+  where
+    put_user : {w : Write} {name : List ℕ} {channels roles : List (List ℕ)} → entry.PutUser name channels roles ≡ entry.Write w → ⊥
+    put_user is = absurd cc
+users_none [] (e ∷ es) are = absurd are
+users_none (u ∷ users) [] are = absurd are
+
+both_none : (es fs : List Entry) → NoWrites es → NoWrites fs → NoWrites (es ++ fs)
+both_none [] fs a b = b
+both_none (e ∷ es) fs a b = (a.0, both_none es fs a.1 b)
+
+taken_none : (n : ℕ) (es : List Entry) → NoWrites es → NoWrites (take n es)
+taken_none zero es none = tt
+taken_none (suc n) [] none = tt
+taken_none (suc n) (e ∷ es) none = (none.0, taken_none n es none.1)
+
+none_at : (es : List Entry) (place : ℕ) (w : Write) → NoWrites es → slice_get es place ≡ Some (entry.Write w) → ⊥
+none_at [] place w none is = absurd cc
+none_at (e ∷ es) zero w none is = none.0 w (some_is is)
+  where
+    some_is : Some e ≡ Some (entry.Write w) → e ≡ entry.Write w
+    some_is is = ap (λ (o : Option Entry). entry_in o) is
+      where
+        entry_in : Option Entry → Entry
+        entry_in None = e
+        entry_in (Some x) = x
+none_at (e ∷ es) (suc place) w none is = none_at es place w none.1 is
+
+opening_none : (roles : List ConfigRole) (users : List ConfigUser) (opening : List Entry) → IsOpening roles users opening → NoWrites opening
+opening_none roles users opening is =
+    subst NoWrites (sym is.entries) (taken_none 3999999 (is.roles ++ is.users) (both_none is.roles is.users (roles_none roles is.roles is.are_roles) (users_none users is.users is.are_users)))
+
+-- before its end stands what stood there
+before_end : (es more : List Entry) (place : ℕ) → place < length es → slice_get (es ++ more) place ≡ slice_get es place
+before_end [] more place low = absurd (omega (arith, low))
+before_end (e ∷ es) more zero low = refl
+before_end (e ∷ es) more (suc place) low = before_end es more place (omega (arith, low))
+
+in_opening : (opening h : List Entry) (k : ℕ) (w : Write) → Extends opening h → NoWrites opening → k ≤ length opening → book_of h k ≡ Some (entry.Write w) → ⊥
+in_opening opening h zero w on none low is = absurd cc
+in_opening opening h (suc place) w (more, on) none low is =
+    none_at opening place w none (sym (before_end opening more place (omega (arith, low))) ∙ ap (λ (es : List Entry). slice_get es place) (sym on) ∙ is)
+
+-- ---- the whole
+
+-- what the laws of sessions say
+pub record SessionLaws : Type 0 where
+  pub own : (setup : Setup) (start final : Moment) (ended : Ended) (results : List Got) (sent : List (List ℕ)) (failed : List Gave)
+      → IsSession setup start final ended results sent failed
+      → (added : List Waiting) × (final.own ≡ added ++ start.own) × (map (λ (w : Waiting). w.number) added ≡ reverse ended.stored) × AreJudged (arc_value setup.program) setup.user start.read final.read added
+
+-- the entries of a session stand in the history, judged
+session_judged : JudgedLater → (h : List Entry) (program : Program) (user : List ℕ) (before after : List BoardState) → IsLaterThanAll after h → (ws : List Waiting) → AreJudged program user before after ws → AllJudgedIn h program ws
+session_judged on h program user before after all [] are = tt
+session_judged on h program user before after all (w ∷ ws) (one, are) = (
+  record {
+    there = subst (λ (e : Entry). book_of h w.number ≡ Some e) (sym one.entry_is) judged.there;
+    judged = λ x is. judged.judged x (sym one.entry_is ∙ is);
+  },
+  session_judged on h program user before after all ws are,
+)
+  where
+    judged : IsJudgedIn h program (record { number = w.number; entry = entry.Write one.write })
+    judged = judged_in on h program one.holding w.number one.write (later_one after one.holding h (was_one before after one.holding one.holding_read) all) one.there one.judged_write
+
+module _ (reads : WasReadLaws) (on : JudgedLater) (sessions : SessionLaws)
+    (opened board : BoardState) (program : Program) (strict : Bool) (lines : List AdminLine) (devices : List Device) (begun : List Begun) (outcomes : List LineOutcome) (leaves : List Leaves)
+    (is : AreClosed (first_known opened) program strict lines begun board outcomes leaves) (ready : AllPairs (λ (d : Device) (b : Begun). IsReadyFor program strict d b.setup b.traffic b.faults) devices begun)
+    (later_log : IsLaterThanAll is.pass.knows.read board.log) (none : opened.bytes ≡ 0) where
+  abbrev first : Known
+  first = first_known opened
+
+  abbrev split : Known
+  split = split_off first
+
+  abbrev h : List Entry
+  h = board.log
+
+  abbrev threaded : AreThreaded is.gate first program strict lines begun is.pass outcomes leaves
+  threaded = is.threaded
+
+  abbrev rest_and_script : Known
+  rest_and_script = joined threaded.rest threaded.script.knows
+
+  later : IsLaterThanAll rest_and_script.read h × AllLater h threaded.gone
+  later = all_later h rest_and_script threaded.gone (subst (λ (p : Known). IsLaterThanAll p.read h) threaded.joined_are later_log)
+
+  after : IsAfterAll rest_and_script.read board × AllAfter board threaded.gone
+  after = all_after board rest_and_script threaded.gone (subst (λ (p : Known). IsAfterAll p.read board) threaded.joined_are is.closes.read)
+
+  script_later : IsLaterThanAll threaded.script.knows.read h
+  script_later = (later_parts threaded.rest.read threaded.script.knows.read h later.0).1
+
+  script_after : IsAfterAll threaded.script.knows.read board
+  script_after = (after_parts threaded.rest.read threaded.script.knows.read board after.0).1
+
+  begins : After opened board
+  begins = (subst (λ (read : List BoardState). IsAfterAll read board) threaded.less.read (after_parts threaded.rest.read threaded.script.knows.read board after.0).0).0
+
+  newest : Newest (moment_at split) opened
+  newest = record { older = []; read = refl; later = tt; low = le_refl (length opened.log) }
+
+  script : AreLinesAt h program strict [] (length opened.log) lines outcomes
+  script = lines_at reads on h program strict (moment_at split) (moment_at threaded.script.knows) [] (length opened.log) lines outcomes opened script_later newest tt (le_refl (length opened.log)) threaded.script_done.run
+
+  pub bounded : AreBoundedLines h outcomes
+  bounded = bounded_lines opened board none is.closes.pending is.closes.rooms reads program strict (moment_at split) (moment_at threaded.script.knows) lines outcomes (inl refl) script_after threaded.script_done.run
+
+  session_of : (d : Device) (b : Begun) (g : Gone) → IsReadyFor program strict d b.setup b.traffic b.faults → IsGone split b g → IsLaterThanAll g.knows.read h → IsAfterAll g.knows.read board → IsSessionOf h program strict d g.leaves
+  session_of d b g r done all behind =
+      let session = done.served.session in
+      let now_after : IsAfterAll session.now.read board = (after_parts session.reads.reads.added session.now.read board (subst (λ (read : List BoardState). IsAfterAll read board) session.reads.reads.read behind)).1 in
+      record {
+        setup = b.setup;
+        is_setup = r.is_setup;
+        start = moment_at split;
+        final = moment_at g.knows;
+        served = record {
+          results = done.served.results;
+          sent = done.served.sent;
+          failed = done.served.failed;
+          session = session;
+          records = subst (λ (t : Option Traffic). Records t done.served.results done.served.sent done.served.failed g.leaves.traffic) r.traffic_is done.served.records;
+        };
+        later = all;
+        fault = λ failed. subst (λ (n : ℕ). n < g.leaves.faults) r.faults_is (done.fault failed);
+        bounded = bounded_parts h (undone session.halted) (steps_of session.turns)
+            (bounded_steps opened board none is.closes.pending is.closes.rooms reads (moment_at split) session.now b.setup.user (arc_value b.setup.program) b.setup.strict (undone session.halted ++ steps_of session.turns) (inl refl) now_after session.answered);
+      }
+
+  sessions_of : (ds : List Device) (bs : List Begun) (gs : List Gone) → AllPairs (λ (d : Device) (b : Begun). IsReadyFor program strict d b.setup b.traffic b.faults) ds bs → AllPairs (IsGone split) bs gs → AllLater h gs → AllAfter board gs
+      → AllPairs (IsSessionOf h program strict) ds (map (λ (g : Gone). g.leaves) gs)
+  sessions_of [] [] [] r d l a = tt
+  sessions_of (d ∷ ds) (b ∷ bs) (g ∷ gs) r done l a = (session_of d b g r.0 done.0 l.0 a.0, sessions_of ds bs gs r.1 done.1 l.1 a.1)
+  sessions_of [] (b ∷ bs) gs r done l a = absurd r
+  sessions_of (d ∷ ds) [] gs r done l a = absurd r
+  sessions_of [] [] (g ∷ gs) r done l a = absurd done
+  sessions_of (d ∷ ds) (b ∷ bs) [] r done l a = absurd done
+
+  pub all_sessions : AllPairs (IsSessionOf h program strict) devices leaves
+  all_sessions = subst (λ (ls : List Leaves). AllPairs (IsSessionOf h program strict) devices ls) (sym threaded.leaves_are) (sessions_of devices begun threaded.gone ready threaded.sessions later.1 after.1)
+
+  -- ---- what is stored, each once
+
+  script_own : (added : List Waiting) × (threaded.script.knows.own ≡ added ++ []) × (numbers added ≡ reverse (sequences_of outcomes)) × AllJudgedIn h program added
+  script_own = lines_own on h program strict (moment_at split) (moment_at threaded.script.knows) lines outcomes script_later threaded.script_done.run
+
+  -- what a session has of its own stands at the numbers that it lists, judged
+  record Stored (g : Gone) : Type 0 where
+    pub judged : AllJudgedIn h program g.knows.own
+    pub count : (k : ℕ) → times k (numbers g.knows.own) ≡ times k g.leaves.ended.stored
+
+  stored_by : (d : Device) (b : Begun) (g : Gone) → IsReadyFor program strict d b.setup b.traffic b.faults → IsGone split b g → IsLaterThanAll g.knows.read h → Stored g
+  stored_by d b g r done all =
+      let mine = sessions.own b.setup (moment_at split) (moment_at g.knows) g.leaves.ended done.served.results done.served.sent done.served.failed done.served.session in
+      let own : g.knows.own ≡ mine.0 = mine.1 ∙ append-nil mine.0 in record {
+        judged = subst (λ (ws : List Waiting). AllJudgedIn h program ws) (sym own)
+            (subst (λ (p : Program). AllJudgedIn h p mine.0) r.is_setup.judged_by (session_judged on h (arc_value b.setup.program) b.setup.user split.read g.knows.read all mine.0 mine.3));
+        count = λ k. ap (λ (ws : List Waiting). times k (numbers ws)) own ∙ ap (times k) (sym (numbers_mapped mine.0) ∙ mine.2) ∙ times-reverse k g.leaves.ended.stored;
+      }
+
+  abbrev AllStored : List Gone → Type 0
+  AllStored [] = Unit {0}
+  AllStored (g ∷ gs) = Stored g × AllStored gs
+
+  all_stored : (ds : List Device) (bs : List Begun) (gs : List Gone) → AllPairs (λ (d : Device) (b : Begun). IsReadyFor program strict d b.setup b.traffic b.faults) ds bs → AllPairs (IsGone split) bs gs → AllLater h gs → AllStored gs
+  all_stored [] [] [] r done l = tt
+  all_stored (d ∷ ds) (b ∷ bs) (g ∷ gs) r done l = (stored_by d b g r.0 done.0 l.0, all_stored ds bs gs r.1 done.1 l.1)
+  all_stored [] (b ∷ bs) gs r done l = absurd r
+  all_stored (d ∷ ds) [] gs r done l = absurd r
+  all_stored [] [] (g ∷ gs) r done l = absurd done
+  all_stored (d ∷ ds) (b ∷ bs) [] r done l = absurd done
+
+  stored : AllStored threaded.gone
+  stored = all_stored devices begun threaded.gone ready threaded.sessions later.1
+
+  totals : (k : ℕ) (gs : List Gone) → AllStored gs → total (λ (g : Gone). times k (numbers g.knows.own)) gs ≡ total (λ (l : Leaves). times k l.ended.stored) (map (λ (g : Gone). g.leaves) gs)
+  totals k [] all = refl
+  totals k (g ∷ gs) all = let rest = totals k gs all.1 in omega (arith, rest, all.0.count k)
+
+  rest_own : threaded.rest.own ≡ []
+  rest_own = threaded.less.own
+
+  script_count : (k : ℕ) → times k (numbers rest_and_script.own) ≡ times k (sequences_of outcomes)
+  script_count k =
+      ap (λ (ws : List Waiting). times k (numbers (ws ++ threaded.script.knows.own))) rest_own
+      ∙ ap (λ (ws : List Waiting). times k (numbers ws)) (script_own.1 ∙ append-nil script_own.0)
+      ∙ ap (times k) script_own.2 ∙ times-reverse k (sequences_of outcomes)
+
+  own_count : (k : ℕ) → times k (numbers is.pass.knows.own) ≡ times k (sequences_of outcomes) + total (λ (l : Leaves). times k l.ended.stored) leaves
+  own_count k =
+      let all = ap (λ (p : Known). times k (numbers p.own)) threaded.joined_are ∙ all_times k rest_and_script threaded.gone in
+      let gone = totals k threaded.gone stored ∙ ap (λ (ls : List Leaves). total (λ (l : Leaves). times k l.ended.stored) ls) (sym threaded.leaves_are) in
+      let lines = script_count k in omega (arith, all, gone, lines)
+
+  opening_is : is.pass.knows.opening ≡ length opened.log
+  opening_is = ap (λ (p : Known). p.opening) threaded.joined_are ∙ all_opening rest_and_script threaded.gone ∙ threaded.less.opening
+
+  pub once_each : (k : ℕ) → times k (sequences_of outcomes) + total (λ (l : Leaves). times k l.ended.stored) leaves ≡ owed (length opened.log) board k
+  once_each k = sym (own_count k) ∙ is.closes.owners k ∙ ap (λ (n : ℕ). owed n board k) opening_is
+
+  -- ---- all writes were judged
+
+  among_stored : (g : Gone) (gs : List Gone) → AllStored gs → IsAmong g gs → AllJudgedIn h program g.knows.own
+  among_stored g [] all among = absurd among
+  among_stored g (x ∷ gs) all (inl same) = subst (λ (y : Gone). AllJudgedIn h program y.knows.own) same all.0.judged
+  among_stored g (x ∷ gs) all (inr among) = among_stored g gs all.1 among
+
+  script_judged : AllJudgedIn h program rest_and_script.own
+  script_judged =
+      subst (λ (ws : List Waiting). AllJudgedIn h program (ws ++ threaded.script.knows.own)) (sym rest_own)
+      (subst (λ (ws : List Waiting). AllJudgedIn h program ws) (sym (script_own.1 ∙ append-nil script_own.0)) script_own.3)
+
+  own_judged : AllJudgedIn h program is.pass.knows.own
+  own_judged = subst (λ (p : Known). AllJudgedIn h program p.own) (sym threaded.joined_are) (all_own h program rest_and_script threaded.gone script_judged (λ g among. among_stored g threaded.gone stored among))
+
+  same_entry : (k : ℕ) (w : Write) (v : Waiting) → v.number ≡ k → IsJudgedIn h program v → book_of h k ≡ Some (entry.Write w) → v.entry ≡ entry.Write w
+  same_entry k w v at judged there = same_some (sym judged.there ∙ ap (λ (n : ℕ). book_of h n) at ∙ there)
+    where
+      entry_in : Option Entry → Entry
+      entry_in None = v.entry
+      entry_in (Some e) = e
+
+      same_some : Some v.entry ≡ Some (entry.Write w) → v.entry ≡ entry.Write w
+      same_some same = ap entry_in same
+
+  book_is : (k : ℕ) (w : Write) → book_of h k ≡ Some (entry.Write w) → board_book board k ≡ Some (entry.Write w)
+  book_is k w there = ap (λ (ws : List Waiting). entry_or (book_of h k) (waiting_at ws k)) is.closes.pending ∙ ap (λ (o : Option Entry). entry_or o None) there
+
+  pub all_judged_writes : (roles : List ConfigRole) (users : List ConfigUser) → IsOpening roles users opened.log → (k : ℕ) (w : Write) → book_of h k ≡ Some (entry.Write w) → IsJudgedWrite program (book_of h) k w
+  all_judged_writes roles users opening k w there = by (nat_lt (length opened.log) k) refl
+    where
+      by : (past : Bool) → nat_lt (length opened.log) k ≡ past → IsJudgedWrite program (book_of h) k w
+      by false low = absurd (in_opening opened.log h k w begins.log (opening_none roles users opened.log opening) (ltb-false (length opened.log) k low) there)
+      by true past =
+          let one : 0 < times k (numbers is.pass.knows.own) =
+          omega (arith, is.closes.owners k ∙ ap (λ (n : ℕ). owed n board k) opening_is ∙ ap (λ (b : Bool). if b then used (board_book board k) else 0) past ∙ ap (λ (o : Option Entry). used o) (book_is k w there)) in
+          let it = found h program k is.pass.knows.own one own_judged in
+          subst (λ (n : ℕ). IsJudgedWrite program (book_of h) n w) it.1 (it.2.judged w (same_entry k w it.0 it.1 it.2 there))
+
+  -- all of it, by the configuration
+  pub played : (config : Config) → program ≡ arc_value config.program → strict ≡ not config.conflicts → IsOpening config.roles config.users opened.log → IsPlayed config lines devices board outcomes leaves
+  played config by_program by_conflicts opening = record {
+    pending = is.closes.pending;
+    rooms = is.closes.rooms;
+    opening = opened.log;
+    is_opening = opening;
+    begins = begins.log;
+    script = subst (λ (p : Program). AreLinesAt h p (not config.conflicts) [] (length opened.log) lines outcomes) by_program
+        (subst (λ (b : Bool). AreLinesAt h program b [] (length opened.log) lines outcomes) by_conflicts script);
+    sessions = subst (λ (p : Program). AllPairs (IsSessionOf h p (not config.conflicts)) devices leaves) by_program
+        (subst (λ (b : Bool). AllPairs (IsSessionOf h program b) devices leaves) by_conflicts all_sessions);
+    once = once_each;
+    judged = λ k w there. subst (λ (p : Program). IsJudgedWrite p (book_of h) k w) by_program (all_judged_writes config.roles config.users opening k w there);
+    bounded = bounded;
+  }
+
+-- a board at which nothing waits and no room is out, and whose log has no body, has none
+pub no_bytes : (s : State) → s.pending ≡ [] → s.rooms ≡ [] → bytes_stored s.log ≡ 0 → (board_of s).bytes ≡ 0
+no_bytes s pending rooms none = omega (arith, none, ap (λ (ws : List Waiting). bytes_waiting ws) pending, ap (λ (rs : List RoomFor). bytes_asked rs) rooms)

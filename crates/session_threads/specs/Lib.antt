@@ -1,0 +1,9 @@
+pub mod Pairs
+pub mod OwnRevisions
+pub mod Opening
+pub mod Lines
+pub mod Bounds
+pub mod Played
+pub mod Opened
+pub mod Runs
+pub mod Devices
