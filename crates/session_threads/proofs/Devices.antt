@@ -1,5 +1,5 @@
 -- a device at the looks of sessions
-use Rattle.std.proofs.Common.{◌≡◌, ◌≤◌, ◌⊎◌, ℕ, Bool, List, [], ◌∷◌, ◌++◌, IsTrue, length, sym, ◌∙◌, subst, append-nil, arith, inl, inr, ap}
+use Rattle.std.proofs.Common.{◌≡◌, ◌≤◌, ℕ, Bool, List, [], ◌∷◌, ◌++◌, IsTrue, length, sym, ◌∙◌, subst, append-nil, inl, inr}
 use Rattle.std.specs.Arc.{arc_value}
 use Rattle.sg_history.specs.declared.entries.Entry.{Entry}
 use Rattle.sg_history.specs.declared.row.Options.{Options}

@@ -1,4 +1,4 @@
-use Rattle.std.proofs.Common.{◌≡◌, ◌≤◌, ◌+◌, ◌*◌, ◌++◌, None, length, vec_capacity}
+use Rattle.std.proofs.Common.{◌≡◌, ◌≤◌, ◌+◌, ◌*◌, ◌++◌, length, vec_capacity}
 use Rattle.principals.specs.Script.{AreLines}
 use Rattle.session_run.specs.Answered.{moment}
 use Rattle.session_threads.specs.Runs.{AreLinesRun}

@@ -1,6 +1,5 @@
-use Rattle.std.proofs.Common.{rules, ◌≡◌, ◌++◌, ◌∷◌, [], ◌∙◌, List, append-nil, length, refl, sym, ap, subst, arith}
-use Rattle.std.proofs.lemmas.List.{append_assoc, length-append, length_push, nil_from_length}
-use Rattle.session_threads.specs.Pairs.{AllPairs}
+use Rattle.std.proofs.Common.{rules, ◌++◌, ◌∷◌, [], ◌∙◌, length, sym, ap, arith}
+use Rattle.std.proofs.lemmas.List.{append_assoc, length-append, length_push}
 use Rattle.session_threads.proofs.Pairs.{pairs_more}
 use Rattle.session_threads.proofs.Threading.{less_more, less_none}
 use Rattle.session_threads.proofs.ready.jobs_of.Goals as goal

@@ -1,8 +1,8 @@
-use Rattle.std.proofs.Common.{rules, ◌≡◌, ◌++◌, ◌∷◌, [], ◌∙◌, List, append-nil, length, map, refl, sym, ap, subst, arith}
-use Rattle.std.proofs.lemmas.List.{append_assoc, nil_from_length}
+use Rattle.std.proofs.Common.{rules, ◌≡◌, ◌++◌, ◌∷◌, [], ◌∙◌, List, length, map, refl, sym, ap, subst, arith}
+use Rattle.std.proofs.lemmas.List.{append_assoc}
 use Rattle.seq_gate.specs.Passes.{joined}
 use Rattle.seq_gate.specs.declared.known.Known.{Known}
-use Rattle.session_threads.specs.Pairs.{AllOf, AllPairs}
+use Rattle.session_threads.specs.Pairs.{AllOf}
 use Rattle.session_threads.specs.Runs.{joined_all}
 use Rattle.session_threads.proofs.Pairs.{map_more, pairs_more}
 use Rattle.session_threads.proofs.Threading.{joined_more}

@@ -2,7 +2,7 @@ use mir.Syntax.{named}
 use denote.Exit.{no}
 use denote.Param.{param}
 use denote.Param.Send.{arg_send, param_send, sendable}
-use Rattle.std.proofs.Common.{◌≡◌, ◌∙◌, arith, refl}
+use Rattle.std.proofs.Common.{◌∙◌, arith, refl}
 use Rattle.seq_gate.specs.Passes.{split_off}
 use Rattle.write_path.proofs.Crossing.{shelf_send}
 use Rattle.session_threads.specs.declared.played.PlayedSession.{PlayedSession}
