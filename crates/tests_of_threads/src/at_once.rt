@@ -1,5 +1,7 @@
 //! Two sessions of which each ends once the other was answered.
 
+ghost use Rattle.sg_outside.specs.Wire.{CountsGot};
+
 use crate::played::{OPEN, played};
 use session_run::End;
 use session_threads::PlayedSession;
@@ -31,7 +33,9 @@ struct Gated<'g, R: Wait + Sync> {
     waits: u64,
 }
 
-fn frame(alloc: Global, bytes: &[u8]) -> Got {
+fn frame(alloc: Global, bytes: &[u8]) -> Got
+    ensures { CountsGot 0 result 0 }
+{
     match Bytes::from_slice(alloc, bytes) {
         Ok(bytes) => Got::Frame(bytes),
         Err(_) => Got::Memory,
