@@ -1,21 +1,24 @@
-//! Grounds that share a gate: a session between whose looks a grant ends.
+//! Grounds that share a gate: a session between whose looks a grant ends, and grounds in two threads.
 
-ghost use Rattle.std.specs.Prelude.{◌≡◌, ◌≤◌, ◌^◌, [], length, IfOk};
-ghost use Rattle.write_path.specs.Shared.{Rests};
+ghost use Rattle.std.specs.Prelude.{◌≡◌, ◌≤◌, ◌+◌, ◌^◌, [], length, IfOk};
+ghost use Rattle.seq_gate.specs.Passes.{share};
+ghost use Rattle.write_path.specs.Shared.{Rests, shared_origin};
 
 use crate::programs::open as open_program;
 use doc_board::Board;
 use doc_board::laws::recorded;
-use repl_messages::Version;
-use seq_gate::{Gate, Pass, open};
+use repl_messages::{Revision, Version};
+use seq_gate::{Gate, Pass, close, open};
 use session_core::{Look, Purpose};
 use session_run::{End, Ended, Setup, serve_session};
-use sg_history::{Name, read_journal};
+use sg_history::{DocId, Name, RevId, Revs, read_journal};
 use sg_outside::{Bytes, Gave, Got, Input, MemWire, Wire};
 use std::alloc::{AllocError, Global};
 use std::sync::{Arc, Wait};
 use std::test::Fail;
-use write_path::{Command, Ground, SharedGround, Shelf};
+use std::thread;
+use std::thread::Threads;
+use write_path::{Command, Ground, Outcome, Resolved, SharedGround, Shelf};
 
 /// Entries 1 to 5: ann has A by a role, and d1 is put into A by the fourth.
 const FIVE: &[u8] = b"sgjournal 1\n\
@@ -63,6 +66,7 @@ fn shelf_of(alloc: Global, journal: &[u8]) -> Result<Shelf, Fail>
 fn opened(alloc: Global, journal: &[u8]) -> Result<(Gate<Shelf>, Pass<Shelf>), Fail>
     ensures here { IfOk result (λ r. r.1.gate ≡ r.0) }
     ensures rests { IfOk result (λ r. Rests r.1.knows) }
+    ensures whole { IfOk result (λ r. share r.1.knows ≡ 2 ^ 62) }
     ensures left { IfOk result (λ r. r.1.knows.left ≡ 2 ^ 62) }
 {
     Ok(open(alloc, shelf_of(alloc, journal)?)?)
@@ -218,5 +222,177 @@ fn revoked<R: Wait + Sync>(rt: &R, alloc: Global) -> Result<(End, bool, bool), F
 #[test]
 fn a_grant_that_ends_between_two_looks(rt: HostRuntime) -> Result<(), Fail> {
     assert!(rt; revoked(&rt, rt.alloc())? == (End::Closed, true, true));
+    Ok(())
+}
+
+/// A first revision of a document.
+fn revision_of(alloc: Global, doc: &str) -> Option<Revision> {
+    let doc = DocId::parse(alloc, doc).ok()?;
+    let rev = RevId::parse(alloc, "1-a").ok()?;
+    let body = Bytes::from_slice(alloc, b"{}").ok()?;
+    Some(Revision {
+        doc,
+        rev,
+        ancestors: Revs::new(alloc),
+        deleted: false,
+        noconflicts: false,
+        body,
+    })
+}
+
+fn is_stored(outcome: &Outcome) -> bool {
+    matches!(outcome, Outcome::Stored { .. })
+}
+
+/// Proposes a first revision of a document to a ground. Whether it was stored.
+fn proposes<G: Ground>(alloc: Global, ground: &mut G, program: &Resolved, doc: &str) -> bool
+    requires draws { 2 ≤ G.left ground.old }
+    ensures left { G.left ground.old ≤ G.left ground.new + 2 }
+    ensures origin { G.origin ground.new ≡ G.origin ground.old }
+{
+    match revision_of(alloc, doc) {
+        Some(revision) => is_stored(&ground.propose(alloc, program, None, false, revision)),
+        None => false,
+    }
+}
+
+/// Drops a user at a ground. Whether that was stored.
+fn drops<G: Ground>(alloc: Global, ground: &mut G, user: &str) -> bool
+    requires draws { 2 ≤ G.left ground.old }
+    ensures origin { G.origin ground.new ≡ G.origin ground.old }
+{
+    match Name::parse(alloc, user) {
+        Ok(user) => {
+            let _ = user.as_str();
+            is_stored(&ground.command(Command::DropUser(user)))
+        }
+        Err(_) => false,
+    }
+}
+
+/// What a thread does with what it owns.
+trait Job: Send + Drop {
+    type Done: Send + Drop;
+
+    ghost relates: { Self → Self.Done → Type 0 };
+
+    fn run(self) -> Self::Done
+    where
+        Self: Sized,
+        ensures { relates self result };
+}
+
+/// Does both jobs, each in a thread of its own.
+fn by_two<J: Job>(rt: &impl Threads, one: J, two: J) -> (J::Done, J::Done)
+    ensures first { J.relates one result.0 }
+    ensures second { J.relates two result.1 }
+{
+    thread::join(
+        rt,
+        || -> J::Done
+            ensures { J.relates one result }
+        { one.run() },
+        || -> J::Done
+            ensures { J.relates two result }
+        { two.run() },
+    )
+}
+
+/// A ground at which a first revision is to be proposed, of d1 or of d2, and a user to be dropped, ann or bob.
+#[derive(Drop)]
+struct Work<'g, 'p, R: Wait + Sync> {
+    alloc: Global,
+    ground: SharedGround<'g, R>,
+    program: &'p Resolved,
+    second: bool,
+    ghost draws: { 4 ≤ ground.knows.left },
+}
+
+/// The ground afterwards, and whether both were stored.
+#[derive(Drop)]
+struct Worked<'g, R: Wait + Sync> {
+    ground: SharedGround<'g, R>,
+    stored: bool,
+}
+
+impl<'g, 'p, R: Wait + Sync> Job for Work<'g, 'p, R> {
+    type Done = Worked<'g, R>;
+
+    ghost relates = { λ j d. shared_origin d.ground ≡ shared_origin j.ground };
+
+    fn run(self) -> Worked<'g, R> {
+        let Work {
+            alloc,
+            ground,
+            program,
+            second,
+        } = self;
+        let (doc, user) = if second { ("d2", "bob") } else { ("d1", "ann") };
+        let mut ground = ground;
+        let proposed = proposes(alloc, &mut ground, program, doc);
+        let dropped = drops(alloc, &mut ground, user);
+        Worked {
+            ground,
+            stored: proposed && dropped,
+        }
+    }
+}
+
+/// The length of the log that a gate is closed with, once both passes are joined.
+fn closed(gate: Gate<Shelf>, one: Pass<Shelf>, two: Pass<Shelf>) -> u64
+    requires one { (one.gate ≡ gate) × Rests one.knows }
+    requires two { (two.gate ≡ gate) × Rests two.knows }
+    requires whole { share one.knows + share two.knows ≡ 2 ^ 62 }
+{
+    let mut one = one;
+    one.join(&gate, two);
+    let shelf = close(gate, one);
+    let front = shelf.board().front();
+    drop(shelf);
+    front
+}
+
+/// Does both works at grounds of one gate; then joins the passes, and closes the gate. The front then, and whether all was stored.
+fn in_threads<R: Threads + Wait + Sync>(
+    rt: &R,
+    alloc: Global,
+    gate: Gate<Shelf>,
+    pass: Pass<Shelf>,
+    program: &Resolved,
+) -> (u64, bool)
+    requires here { pass.gate ≡ gate }
+    requires rests { Rests pass.knows }
+    requires whole { share pass.knows ≡ 2 ^ 62 }
+    requires left { 2 ^ 34 ≤ pass.knows.left }
+{
+    let mut pass = pass;
+    let other = pass.split(&gate);
+    let one = Work {
+        alloc,
+        ground: SharedGround::new(rt, &gate, pass),
+        program,
+        second: false,
+    };
+    let two = Work {
+        alloc,
+        ground: SharedGround::new(rt, &gate, other),
+        program,
+        second: true,
+    };
+    let (one, two) = by_two(rt, one, two);
+    let stored = one.stored && two.stored;
+    let (one, two) = (one.ground.into_inner(), two.ground.into_inner());
+    (closed(gate, one, two), stored)
+}
+
+fn both_work<R: Threads + Wait + Sync>(rt: &R, alloc: Global) -> Result<(u64, bool), Fail> {
+    let program = open_program(alloc)?;
+    let (gate, pass) = opened(alloc, b"sgjournal 1\n")?;
+    Ok(in_threads(rt, alloc, gate, pass, &program))
+}
+
+#[test]
+fn two_grounds_in_two_threads(rt: HostRuntime) -> Result<(), Fail> {
+    assert!(rt; both_work(&rt, rt.alloc())? == (4, true));
     Ok(())
 }
