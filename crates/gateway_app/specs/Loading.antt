@@ -10,7 +10,6 @@ use Rattle.gateway_config.specs.declared.fault.ConfigFault.{ConfigFault}
 use Rattle.gateway_config.specs.declared.fault.ConfigFault.TheVariants as config
 use Rattle.principals.specs.declared.admin_line.AdminLine.{AdminLine}
 use Rattle.record_file.specs.declared.record.Recorded.{Recorded}
-use Rattle.replay.specs.Replay.{IsReplay}
 use Rattle.gateway_app.specs.declared.replay_command.LoadedInputs.{LoadedInputs}
 use Rattle.feed_command.specs.declared.status.Status.{Status}
 use Rattle.feed_command.specs.declared.status.Status.TheVariants as status
@@ -57,12 +56,12 @@ IsRefused number (read.Bad bad) (status.BadInput file place why) = (file ≡ num
 IsRefused number read.Memory status.Memory = Unit {0}
 IsRefused number fault other = ⊥
 
--- a transcript was printed of a replay of these, with the count of the sink's faults and what it took
-abbrev pub PrintsReplay : Status → Inputs → ℕ → ℕ → Option (List ℕ) → Option (List ℕ) → Type 0
-PrintsReplay status.Ok i faults faults' before after = (text : List ℕ) × IsReplay i.config i.lines i.records text × Took before after text
-PrintsReplay status.WriteFault i faults faults' before after =
-    (faults < faults') × (text : List ℕ) × IsReplay i.config i.lines i.records text × TookPart before after text
-PrintsReplay status.Memory i faults faults' before after = after ≡ before
-PrintsReplay status.BadWords i faults faults' before after = ⊥
-PrintsReplay (status.BadInput file place why) i faults faults' before after = ⊥
-PrintsReplay status.ReadFault i faults faults' before after = ⊥
+-- a text was printed that is the transcript of a replay of these, of this kind, with the count of the sink's faults and what it took
+abbrev pub PrintsReplay : (Config → List AdminLine → List Recorded → List ℕ → Type 0) → Status → Inputs → ℕ → ℕ → Option (List ℕ) → Option (List ℕ) → Type 0
+PrintsReplay Is status.Ok i faults faults' before after = (text : List ℕ) × Is i.config i.lines i.records text × Took before after text
+PrintsReplay Is status.WriteFault i faults faults' before after =
+    (faults < faults') × (text : List ℕ) × Is i.config i.lines i.records text × TookPart before after text
+PrintsReplay Is status.Memory i faults faults' before after = after ≡ before
+PrintsReplay Is status.BadWords i faults faults' before after = ⊥
+PrintsReplay Is (status.BadInput file place why) i faults faults' before after = ⊥
+PrintsReplay Is status.ReadFault i faults faults' before after = ⊥

@@ -8,6 +8,6 @@ pub record ReplayWords : Type 0 where
   pub sessions : List (List ℕ)
 
 -- the words are `replay` and these, in this order, with one to 1,000 recorded sessions
-abbrev pub IsReplay : List (List ℕ) → ReplayWords → Type 0
-IsReplay words r =
+abbrev pub IsReplayWords : List (List ℕ) → ReplayWords → Type 0
+IsReplayWords words r =
     (words ≡ codes "replay" ∷ r.config ∷ r.admin ∷ r.sessions) × (1 ≤ length r.sessions) × (length r.sessions ≤ 1000)

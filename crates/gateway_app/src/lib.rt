@@ -7,3 +7,4 @@ mod words;
 
 pub use commands::run;
 pub use feed_command::Status;
+pub use replay_command::run_in_turn;

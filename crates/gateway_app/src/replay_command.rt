@@ -1,22 +1,28 @@
 //! The command `replay`: prints the transcript of a script and recorded sessions over a configuration.
 
-ghost use Rattle.std.specs.Prelude.{◌≡◌, ◌≢◌, ℕ, List, IfOk, IsErrAnd, map, string_bytes};
+ghost use Rattle.std.specs.Prelude.{◌≡◌, ◌≢◌, ◌↔◌, ℕ, List, IfOk, IsErrAnd, map, string_bytes};
 ghost use Rattle.principals.specs.Script.{AreLines};
 ghost use Rattle.gateway_app.specs.Inputs.{Contents, HaveContents, HaveFiles, LacksFile, LacksOne};
 ghost use Rattle.gateway_app.specs.Loading.{AreInputsRead, AreSessionsRead, IsConfigRead, IsRefused, IsScriptRead, IsSessionRead, PrintsReplay, config_status, inputs_of};
 ghost use Rattle.gateway_app.specs.Replays.{EndsReplay, EndsWithout};
 ghost use Rattle.gateway_app.specs.Request.{replay_of};
+ghost use Rattle.gateway_app.specs.Words.{IsReplayWords, ReplayWords};
+ghost use Rattle.replay.specs.Replay.{IsReplay};
+ghost use Rattle.replay_in_turn.specs.Replay as in_turn;
 ghost use Rattle.feed_command.specs.Run.{Counted, EndsAbsent, EndsLoaded, HasFile, HasNoFile, Silent};
 
-use crate::words::ReplayRequest;
+use crate::words::{ReplayRequest, read_replay};
 use feed_command::{Status, load, print};
 use gateway_config::{Config, ConfigFault, read_config};
 use principals::{AdminLines, read_admin};
 use record_file::{Recorded, read_record};
 use replay::replay;
+use replay_in_turn::replay_in_turn;
 use sg_history::{BadLine, ReadLog, Why};
 use sg_outside::{Files, Sink};
 use std::alloc::Global;
+use std::sync::Wait;
+use std::thread::Threads;
 
 /// The refusal of the file that has this number among the command's words.
 fn refused(file: u64, fault: ReadLog) -> Status
@@ -171,9 +177,14 @@ fn load_inputs<F: Files>(
 }
 
 /// Replays what the files hold, and prints the transcript.
-fn print_replay<O: Sink>(alloc: Global, inputs: LoadedInputs, out: &mut O) -> Status
+fn print_replay<R: Threads + Wait + Sync, O: Sink>(
+    rt: &R,
+    alloc: Global,
+    inputs: LoadedInputs,
+    out: &mut O,
+) -> Status
     requires { AreLines inputs.lines }
-    ensures { PrintsReplay result (inputs_of inputs)
+    ensures { PrintsReplay IsReplay result (inputs_of inputs)
         (O.faults out.old) (O.faults out.new) (O.taken out.old) (O.taken out.new) }
 {
     let LoadedInputs {
@@ -181,14 +192,36 @@ fn print_replay<O: Sink>(alloc: Global, inputs: LoadedInputs, out: &mut O) -> St
         lines,
         sessions,
     } = inputs;
-    match replay(alloc, config, lines, sessions) {
+    let text = replay(rt, alloc, &config, lines, sessions);
+    drop(config);
+    match text {
+        Ok(text) => print(text.as_slice(), out),
+        Err(_) => Status::Memory,
+    }
+}
+
+/// The same of a replay in which each waits for the one before.
+fn print_in_turn<O: Sink>(alloc: Global, inputs: LoadedInputs, out: &mut O) -> Status
+    requires { AreLines inputs.lines }
+    ensures { PrintsReplay in_turn.IsReplay result (inputs_of inputs)
+        (O.faults out.old) (O.faults out.new) (O.taken out.old) (O.taken out.new) }
+{
+    let LoadedInputs {
+        config,
+        lines,
+        sessions,
+    } = inputs;
+    let text = replay_in_turn(alloc, &config, lines, sessions);
+    drop(config);
+    match text {
         Ok(text) => print(text.as_slice(), out),
         Err(_) => Status::Memory,
     }
 }
 
 /// Runs `replay`.
-pub(crate) fn run_replay<F: Files, O: Sink>(
+pub(crate) fn run_replay<R: Threads + Wait + Sync, F: Files, O: Sink>(
+    rt: &R,
     alloc: Global,
     request: &ReplayRequest<'_>,
     files: &mut F,
@@ -196,7 +229,7 @@ pub(crate) fn run_replay<F: Files, O: Sink>(
 ) -> Status
     ensures ends { (contents : Contents)
         → HaveContents (F.recorded files.old) (replay_of request.now) contents
-        → EndsReplay result contents (O.taken out.old) (O.taken out.new) }
+        → EndsReplay IsReplay result contents (O.taken out.old) (O.taken out.new) }
     ensures absent { LacksOne (F.recorded files.old) (replay_of request.now) → EndsWithout result }
     ensures words { result ≢ Status.BadWords }
     ensures counted { Counted result (F.faults files.old) (F.faults files.new)
@@ -205,7 +238,58 @@ pub(crate) fn run_replay<F: Files, O: Sink>(
     ensures kept { F.recorded files.new ≡ F.recorded files.old }
 {
     match load_inputs(alloc, files, request) {
-        Ok(inputs) => print_replay(alloc, inputs, out),
+        Ok(inputs) => print_replay(rt, alloc, inputs, out),
         Err(status) => status,
     }
+}
+
+/// Runs `replay` in turn.
+fn run_requested_in_turn<F: Files, O: Sink>(
+    alloc: Global,
+    request: &ReplayRequest<'_>,
+    files: &mut F,
+    out: &mut O,
+) -> Status
+    ensures ends { (contents : Contents)
+        → HaveContents (F.recorded files.old) (replay_of request.now) contents
+        → EndsReplay in_turn.IsReplay result contents (O.taken out.old) (O.taken out.new) }
+    ensures absent { LacksOne (F.recorded files.old) (replay_of request.now) → EndsWithout result }
+    ensures words { result ≢ Status.BadWords }
+    ensures counted { Counted result (F.faults files.old) (F.faults files.new)
+        (O.faults out.old) (O.faults out.new) }
+    ensures silent { Silent result (O.taken out.old) (O.taken out.new) }
+    ensures kept { F.recorded files.new ≡ F.recorded files.old }
+{
+    match load_inputs(alloc, files, request) {
+        Ok(inputs) => print_in_turn(alloc, inputs, out),
+        Err(status) => status,
+    }
+}
+
+/// Runs `replay` with the script before all sessions, and these one after another: the words are those after the program's name. What it
+/// prints is one text alone, which tables of worked cases are compared with.
+pub fn run_in_turn<F: Files, O: Sink>(
+    alloc: Global,
+    words: &[String],
+    files: &mut F,
+    out: &mut O,
+) -> Status
+    ensures words { (result ≡ Status.BadWords)
+        ↔ ((r : ReplayWords) → ¬ IsReplayWords (map (λ w. string_bytes w) words.now) r) }
+    ensures untouched { result ≡ Status.BadWords → (files.new ≡ files.old) × (out.new ≡ out.old) }
+    ensures replays { (r : ReplayWords) (contents : Contents)
+        → IsReplayWords (map (λ w. string_bytes w) words.now) r
+        → HaveContents (F.recorded files.old) r contents
+        → EndsReplay in_turn.IsReplay result contents (O.taken out.old) (O.taken out.new) }
+    ensures lacking { (r : ReplayWords) → IsReplayWords (map (λ w. string_bytes w) words.now) r
+        → LacksOne (F.recorded files.old) r → EndsWithout result }
+    ensures counted { Counted result (F.faults files.old) (F.faults files.new)
+        (O.faults out.old) (O.faults out.new) }
+    ensures silent { Silent result (O.taken out.old) (O.taken out.new) }
+    ensures kept { F.recorded files.new ≡ F.recorded files.old }
+{
+    let Some(request) = read_replay(words) else {
+        return Status::BadWords;
+    };
+    run_requested_in_turn(alloc, &request, files, out)
 }

@@ -2,7 +2,7 @@
 
 ghost use Rattle.std.specs.Prelude.{◌≡◌, IfSome, IfNone, map, string_bytes};
 ghost use Rattle.gateway_app.specs.Request.{replay_of};
-ghost use Rattle.gateway_app.specs.Words.{IsReplay, ReplayWords};
+ghost use Rattle.gateway_app.specs.Words.{IsReplayWords, ReplayWords};
 
 /// What `replay` is asked for: the paths of a configuration, of a script, and of recorded sessions.
 #[derive(Drop)]
@@ -18,9 +18,9 @@ const MOST_SESSIONS: usize = 1000;
 /// Reads the words: `replay`, and the paths of the configuration, the script, and one recorded session or more.
 pub fn read_replay(words: &[String]) -> Option<ReplayRequest<'_>>
     ensures some { IfSome result
-        (λ r. IsReplay (map (λ w. string_bytes w) words.now) (replay_of r)) }
+        (λ r. IsReplayWords (map (λ w. string_bytes w) words.now) (replay_of r)) }
     ensures none { IfNone result ((w : ReplayWords)
-        → ¬ IsReplay (map (λ w. string_bytes w) words.now) w) }
+        → ¬ IsReplayWords (map (λ w. string_bytes w) words.now) w) }
 {
     let [command, config, admin, sessions @ ..] = words else {
         return None;

@@ -12,7 +12,7 @@ fn main(rt: HostRuntime) -> ExitCode {
         Ok(words) => {
             let mut files = RealFiles::new(&rt);
             let mut out = StdoutSink::new(&rt);
-            run(rt.alloc(), words.as_slice(), &mut files, &mut out)
+            run(&rt, rt.alloc(), words.as_slice(), &mut files, &mut out)
         }
         Err(status) => status,
     };

@@ -1,9 +1,2 @@
-pub mod Alone
-pub mod Devices
-pub mod FinalLog
-pub mod Growing
-pub mod Lines
-pub mod Orders
-pub mod Resumes
-pub mod Runs
-pub mod Served
+pub mod Printing
+pub mod Replaying

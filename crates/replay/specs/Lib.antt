@@ -1,7 +1,2 @@
-pub mod Devices
-pub mod Opening
 pub mod Replay
-pub mod Script
-pub mod Sessions
-pub mod Shape
-pub mod Transcript
+pub mod Runs

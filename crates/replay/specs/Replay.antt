@@ -1,37 +1,52 @@
 -- What a replay is.
-use Rattle.std.specs.Prelude.{◌≡◌, ◌++◌, ℕ, List, length, not, Some}
-use Rattle.std.specs.Arc.{arc_value}
-use Rattle.sg_history.specs.declared.book.Waiting.{Waiting}
-use Rattle.sg_history.specs.declared.entries.Entry.{Entry}
+use Rattle.std.specs.Prelude.{◌≡◌, ℕ, List, [], ◌∷◌, Some, map}
+use Rattle.sg_outside.specs.Wire.{Traffic}
+use Rattle.sg_outside.specs.MemWire.{traffic}
 use Rattle.sg_history.specs.History.{History}
+use Rattle.sg_history.specs.Board.{BoardState}
 use Rattle.principals.specs.declared.admin_line.AdminLine.{AdminLine}
 use Rattle.record_file.specs.declared.record.Recorded.{Recorded}
+use Rattle.record_file.specs.Record.{results_of}
 use Rattle.gateway_config.specs.declared.config.Config.{Config}
-use Rattle.doc_board.specs.declared.outcome.Outcome.{Outcome}
-use Rattle.write_path.specs.Own.{in_order}
-use Rattle.session_run.specs.Answered.{Moment}
-use Rattle.replay.specs.Opening.{IsOpening}
-use Rattle.replay.specs.Script.{AreLinesRun}
-use Rattle.replay.specs.Sessions.{AreRuns}
-use Rattle.replay.specs.Transcript.{Run, transcript}
+use Rattle.session_run.specs.declared.ended.End.TheVariants.{WireFault}
+use Rattle.session_threads.specs.declared.played.LineOutcome.{LineOutcome}
+use Rattle.session_threads.specs.Pairs.{AllOf}
+use Rattle.session_threads.specs.Played.{Device, IsPlayed, Leaves}
+use Rattle.transcripts.specs.Transcript.{Run, transcript}
+use Rattle.replay.specs.Runs.{outcome_of}
 
--- The text is the transcript of one history, which begins with the configuration's roles and users. The lines of the script were run
--- one after another at the boards of the history that they made, under the configuration's program, and then the recorded sessions were
--- served one after another. All boards that were read are earlier than the history's, which has, behind the entries of the script, what
--- the sessions stored, and nothing else.
+-- the device of a recorded session: its wire gives what was recorded, and has not failed
+abbrev pub device_of : Recorded → Device
+device_of recorded = record {
+  user = recorded.user;
+  version = recorded.version;
+  traffic = Some (traffic (results_of recorded.items) 0 [] []);
+  faults = 0;
+}
+
+-- what is printed of a session: whose it was, what its wire sent, and how it ended
+pub record IsRunOf (recorded : Recorded) (left : Leaves) (run : Run) : Type 0 where
+  pub user : run.user ≡ recorded.user
+  pub ended : run.ended ≡ left.ended
+  pub after : Traffic
+  pub traffic : left.traffic ≡ Some after
+  pub sent : run.sent ≡ after.sent
+
+abbrev pub AreRunsOf : List Recorded → List Leaves → List Run → Type 0
+AreRunsOf [] [] [] = Unit {0}
+AreRunsOf (recorded ∷ records) (one ∷ left) (run ∷ runs) = IsRunOf recorded one run × AreRunsOf records left runs
+AreRunsOf records left runs = ⊥
+
+-- The text is the transcript of a script and the recorded sessions that ran at the same time over one history: the outcome of each line, each
+-- session, and the history that they left. No wire is said to have failed.
 pub record IsReplay (config : Config) (lines : List AdminLine) (records : List Recorded) (text : List ℕ) : Type 0 where
-  pub opening : List Entry
-  pub is_opening : IsOpening config.roles config.users opening
-  pub outcomes : List Outcome
-  pub scripted : List Entry
-  pub script : AreLinesRun (arc_value config.program) (not config.conflicts) opening lines outcomes scripted
-  pub start : Moment
-  pub final : Moment
-  pub begins : start.recorded ≡ Some (length scripted)
+  pub board : BoardState
+  pub outcomes : List LineOutcome
+  pub left : List Leaves
+  pub played : IsPlayed config lines (map device_of records) board outcomes left
+  pub faultless : AllOf (λ (one : Leaves). one.ended.end ≡ WireFault → ⊥) left
   pub runs : List Run
+  pub are_runs : AreRunsOf records left runs
   pub history : History
-  pub sessions : AreRuns history.entries (arc_value config.program) (not config.conflicts) start records runs final
-  pub added : List Waiting
-  pub own : final.own ≡ added ++ start.own
-  pub stored : history.entries ≡ scripted ++ in_order added
-  pub printed : text ≡ transcript outcomes runs history
+  pub log : history.entries ≡ board.log
+  pub printed : text ≡ transcript (map outcome_of outcomes) runs history

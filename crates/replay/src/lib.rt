@@ -1,13 +1,9 @@
-//! Replays: a configuration, an administrator's script and recorded sessions become one history, and a transcript says the outcome
-//! of each line and what each session was sent.
+//! Replays: a configuration, an administrator's script and recorded sessions run at the same time over one history, and a transcript
+//! says the outcome of each line, what each session was sent, and the history that they left.
 #![tactic(auto)]
 
-pub mod laws;
-mod opening;
-mod outcome_text;
-mod script;
-mod session;
-mod session_text;
+mod given;
+mod text;
 mod whole;
 
 pub use whole::replay;

@@ -1,159 +1,76 @@
 //! The whole of a replay.
 
-ghost use Rattle.std.specs.Prelude.{◌≡◌, ◌++◌, IfOk, OnOk, codes};
-ghost use Rattle.sg_history.specs.History.{history};
-ghost use Rattle.sg_history.specs.Journal.{journal_text};
+ghost use Rattle.std.specs.Prelude.{◌≡◌, ◌≤◌, IfOk, List, length, map};
 ghost use Rattle.principals.specs.Script.{AreLines};
-ghost use Rattle.replay.specs.Opening.{IsOpening};
-ghost use Rattle.replay.specs.Replay.{IsReplay};
-ghost use Rattle.replay.specs.Shape.{AreServed, HasOwnLog, IsReplayBy, IsScripted};
-ghost use Rattle.std.specs.Arc.{arc_value};
+ghost use Rattle.record_file.specs.declared.record.Recorded.{Recorded};
+ghost use Rattle.replay.specs.Replay.{IsReplay, device_of};
 
-use crate::opening::open;
-use crate::script::run_script;
-use crate::session::run_sessions;
-use doc_board::Board;
-use gateway_config::{Config, ConfigRoles, ConfigUsers};
+use crate::given::{empty_shelf, sessions_of, users_of};
+use crate::text::printed;
+use gateway_config::Config;
 use principals::AdminLines;
 use record_file::Recorded;
-use sg_history::{Log, write_journal};
-use sg_outside::{Bytes, Memory};
-use std::alloc::Global;
-use std::sync::Arc;
-use write_path::{Resolved, Shelf, SoloGround};
+use session_threads::{Sessions, run_sessions};
+use sg_history::Name;
+use sg_outside::{Bytes, MemWire, Memory, Wire};
+use std::alloc::{AllocError, Global};
+use std::sync::Wait;
+use std::thread::Threads;
 
-/// A ground whose history is that of a configuration's roles and users.
-fn opened(alloc: Global, roles: ConfigRoles, users: ConfigUsers) -> Result<SoloGround, Memory>
-    ensures opening { IfOk result (λ g. IsOpening roles users g.board.log) }
-    ensures own { IfOk result (λ g. HasOwnLog g) }
-{
-    let board = Board::new(alloc)?;
-    let mut ground = SoloGround::new(Shelf::new(board)?);
-    match open(&mut ground, roles, users) {
-        Ok(()) => Ok(ground),
-        Err(fault) => {
-            drop(ground);
-            Err(fault)
-        }
-    }
-}
-
-/// Puts the journal of a log's history at the end, behind its title.
-fn write_history(alloc: Global, log: &Log, out: &mut Bytes) -> Result<(), Memory>
-    ensures { OnOk result (out.new
-        ≡ out.old ++ codes "journal\n" ++ journal_text (history log.now)) }
-{
-    out.extend_from_slice(b"journal\n")?;
-    write_journal(alloc, log, out)
-}
-
-/// A ground at which a script was run behind the roles and users of a configuration; the outcomes are printed at the end.
-fn scripted(
+/// Runs them over a shelf of their own, and gives the transcript.
+fn replayed<R: Threads + Wait + Sync>(
+    rt: &R,
     alloc: Global,
-    program: &Resolved,
-    strict: bool,
-    roles: ConfigRoles,
-    users: ConfigUsers,
+    config: &Config,
     lines: AdminLines,
-    out: &mut Bytes,
-) -> Result<SoloGround, Memory>
-    requires { AreLines lines }
-    ensures { IfOk result
-        (λ g. IsScripted program.now strict roles users lines g out.old out.new) }
+    users: &[Name],
+    sessions: Sessions<MemWire>,
+) -> Result<Bytes, Memory>
+    requires lines { AreLines lines }
+    requires few_lines { length lines ≤ 1073741824 }
+    requires few_sessions { length sessions ≤ 1000 }
+    requires as_many { length users.now ≡ length sessions }
+    ensures { IfOk result (λ text. (records : List Recorded)
+        → map (λ s. record {
+          user = s.0;
+          version = s.1;
+          traffic = ⟦<MemWire as Wire>⟧.recorded s.2;
+          faults = ⟦<MemWire as Wire>⟧.faults s.2;
+        }) sessions ≡ map device_of records
+        → users.now ≡ map (λ (r : Recorded). r.user) records
+        → IsReplay config.now lines records text) }
 {
-    let mut ground = opened(alloc, roles, users)?;
-    match run_script(alloc, &mut ground, program, strict, lines, out) {
-        Ok(()) => Ok(ground),
-        Err(fault) => {
-            drop(ground);
-            Err(fault)
-        }
-    }
+    let shelf = empty_shelf(alloc)?;
+    let played = run_sessions(rt, alloc, shelf, config, lines, sessions)?;
+    let text = printed(alloc, users, &played);
+    drop(played);
+    text
 }
 
-/// Serves recorded sessions at a ground, and prints them and the journal of its history in the end.
-fn serve_all(
-    alloc: Global,
-    ground: SoloGround,
-    program: &Arc<Resolved>,
-    strict: bool,
-    sessions: Vec<Recorded>,
-    out: &mut Bytes,
-) -> Result<(), Memory>
-    ensures { OnOk result (AreServed (arc_value program.now) strict sessions.items ground
-        out.old out.new) }
-{
-    let ground = run_sessions(alloc, ground, program, strict, sessions, out)?;
-    let shelf = ground.into_inner();
-    let written = write_history(alloc, shelf.board().log(), out);
-    drop(shelf);
-    written
-}
+/// The most lines of a script, and the most sessions, that are run at once. No file holds so many lines, and no command takes so many files.
+const MOST_LINES: usize = 1_073_741_824;
 
-/// Prints the transcript of a replay by these parts of a configuration.
-fn write_transcript(
-    alloc: Global,
-    program: &Arc<Resolved>,
-    strict: bool,
-    roles: ConfigRoles,
-    users: ConfigUsers,
-    lines: AdminLines,
-    sessions: Vec<Recorded>,
-    out: &mut Bytes,
-) -> Result<(), Memory>
-    requires { AreLines lines }
-    ensures { OnOk result (IsReplayBy (arc_value program.now) strict roles users lines
-        sessions.items out.old out.new) }
-{
-    match scripted(alloc, program, strict, roles, users, lines, out) {
-        Ok(ground) => serve_all(alloc, ground, program, strict, sessions, out),
-        Err(fault) => {
-            drop(sessions);
-            Err(fault)
-        }
-    }
-}
+const MOST_SESSIONS: usize = 1_000;
 
-/// Replays a script and recorded sessions over the history that a configuration begins: the script line by line, as the
-/// administrator, and then the sessions one after another, all at one ground. Gives the transcript.
-pub fn replay(
+/// Replays a script and recorded sessions over the history that a configuration begins: the script, as the administrator, and all
+/// sessions at the same time, each in a thread of its own. Gives the transcript. It may wait, for turns. Where there are more lines or
+/// sessions than are run at once, that is as a want of memory.
+pub fn replay<R: Threads + Wait + Sync>(
+    rt: &R,
     alloc: Global,
-    config: Config,
+    config: &Config,
     lines: AdminLines,
     sessions: Vec<Recorded>,
 ) -> Result<Bytes, Memory>
     requires { AreLines lines }
-    ensures { IfOk result (λ text. IsReplay config lines sessions.items text) }
+    ensures { IfOk result (λ text. IsReplay config.now lines sessions.items text) }
 {
-    let mut out = match Bytes::from_slice(alloc, b"admin\n") {
-        Ok(title) => title,
-        Err(fault) => {
-            drop(config);
-            drop(lines);
-            drop(sessions);
-            return Err(fault);
-        }
-    };
-    let Config {
-        database,
-        bind,
-        accepts: _accepts,
-        conflicts,
-        program,
-        roles,
-        users,
-    } = config;
-    drop(database);
-    drop(bind);
-    let written = write_transcript(
-        alloc, &program, !conflicts, roles, users, lines, sessions, &mut out,
-    );
-    drop(program);
-    match written {
-        Ok(()) => Ok(out),
-        Err(fault) => {
-            drop(out);
-            Err(fault)
-        }
+    if lines.as_slice().len() > MOST_LINES || sessions.len() > MOST_SESSIONS {
+        drop(lines);
+        drop(sessions);
+        return Err(AllocError);
     }
+    let users = users_of(alloc, sessions.as_slice())?;
+    let sessions = sessions_of(alloc, sessions)?;
+    replayed(rt, alloc, config, lines, users.as_slice(), sessions)
 }

@@ -1,5 +1,0 @@
-use Rattle.replay.proofs.Devices.{device_in}
-use Rattle.replay.proofs.laws.device.Goals as goal
-
-pub returns : goal.returns
-returns c = device_in c.device.ensures c.sessions.ensures.fronts c.answers.ensures.within

@@ -1,0 +1,5 @@
+pub mod Devices
+pub mod Replay
+pub mod Script
+pub mod Sessions
+pub mod Shape
