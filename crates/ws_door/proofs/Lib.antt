@@ -1,2 +1,4 @@
 pub mod Readings
 pub mod Walks
+pub mod Chains
+pub mod Endings

@@ -1,15 +1,18 @@
 -- What one more result of reading does to the reading of a head.
-use Rattle.std.proofs.Common.{◌≡◌, ℕ, ◌+◌, ◌<◌, ◌==◌, Bool, true, false, IsTrue, List, [], ◌∷◌, ◌++◌, length, Option, Some, None, Result, Ok, Err, refl, sym, ap, ◌∙◌, subst, append_assoc, append-nil, arith, add-zero}
+use Rattle.std.proofs.Common.{◌≡◌, ℕ, ◌+◌, ◌==◌, ◌&&◌, Bool, true, false, IsTrue, List, [], ◌∷◌, ◌++◌, Option, Some, None, Result, Ok, Err, refl, sym, ap, ◌∙◌, append_assoc, append-nil}
 use Rattle.std.specs.Prelude.{count_by, cond}
 use Rattle.std.proofs.lemmas.List.Concat.{flat_map-append}
+use Rattle.std.proofs.lemmas.Bool.{and_from}
+use Rattle.std.proofs.lemmas.List.Folds.{list_all-append}
 use Rattle.std.proofs.lemmas.List.Sums.{sum_by-append}
+use Rattle.std.specs.List.{list_all}
 use Rattle.sg_outside.specs.Wire.{LineRead, LinkRecord}
 use Rattle.sg_lines.specs.Link.{read_after, ReadsIfRecorded}
 use Rattle.ws_door.specs.declared.heads.HeadFault.{HeadFault}
 use Rattle.ws_door.specs.declared.heads.HeadFault.TheVariants as fault
 use Rattle.ws_door.specs.declared.head_reader.HeadReader.{HeadReader}
-use Rattle.ws_door.specs.Heads.{is_whole, bytes_of, is_idle, bytes_in, idle_in, ending, last_ending, head_behind, head_in, EndsWith, ReadsHead, ReadsHeadIfRecorded}
-use Rattle.ws_door.specs.HeadReader.{answer_of, Adds, ReadsOn, Reaches, Follows}
+use Rattle.ws_door.specs.Heads.{is_whole, bytes_of, is_idle, is_single, bytes_in, idle_in, ending, last_ending, head_behind, head_in, EndsWith, ReadsHeadIfRecorded}
+use Rattle.ws_door.specs.HeadReader.{HasRoom, answer_of, Continues, ReadsOn, Follows}
 
 read_none : (mid to : Option LinkRecord) (read : LineRead) → mid ≡ None → ReadsIfRecorded mid read to → to ≡ None
 read_none None to read e h = h
@@ -45,6 +48,10 @@ one_more_bytes results read = flat_map-append bytes_of results (read ∷ []) ∙
 one_more_idle : (results : List LineRead) (read : LineRead) → idle_in (results ++ read ∷ []) ≡ idle_in results + count_by is_idle (read ∷ [])
 one_more_idle results read = sum_by-append (λ r. cond (is_idle r) 1 0) results (read ∷ [])
 
+one_more_single : (results : List LineRead) (read : LineRead) → IsTrue (list_all is_single results) → IsTrue (is_single read) → IsTrue (list_all is_single (results ++ read ∷ []))
+one_more_single results read before here =
+    list_all-append is_single results (read ∷ []) ∙ and_from (list_all is_single results) (is_single read && true) before (and_from (is_single read) true here refl)
+
 -- where the ending is that of these bytes and idle results, it is that of the results
 same_ending : (head : HeadReader) (results : List LineRead) (read : LineRead) (answer : Option (Result (List ℕ) HeadFault))
     → head.bytes.items ≡ bytes_in results → head.idle ≡ idle_in results → answer ≡ ending head.bytes.items head.idle read
@@ -60,6 +67,7 @@ begins (Some from) head bytes idle = (
     read = ap (λ (r : List LineRead). Some (record from { read = r })) (sym (append-nil from.read));
     bytes = bytes;
     idle = idle;
+    single = refl;
     goes_on = λ later. refl;
   },
 )
@@ -74,9 +82,15 @@ follows_on (Some from) mid to before after whole is f r =
         read = read_further from mid to f.0 r.0 f.1.read r.1;
         bytes = r.2.bytes ∙ ap (λ b. b ++ bytes_of r.0) f.1.bytes ∙ sym (one_more_bytes f.0 r.0);
         idle = r.2.idle ∙ ap (λ i. i + count_by is_idle (r.0 ∷ [])) f.1.idle ∙ sym (one_more_idle f.0 r.0);
+        single = one_more_single f.0 r.0 f.1.single r.3;
         goes_on = goes_further f.0 r.0 f.1.goes_on same;
       },
     )
+
+-- where reading goes on there is still room
+pub room_left : (before after : HeadReader) (whole : Bool) → whole ≡ false → Continues before (Ok whole) after → HasRoom after
+room_left before after true is continues = cc
+room_left before after false is continues = continues.0
 
 ends_so : (from : LinkRecord) (mid to : Option LinkRecord) (before after : HeadReader) (answer : Result Bool HeadFault) (end : Result (List ℕ) HeadFault)
     → Follows (Some from) before mid → ReadsOn mid before answer to after → answer_of answer after.bytes.items ≡ Some end
@@ -85,7 +99,7 @@ ends_so from mid to before after answer end f r e =
     let same = same_ending before f.0 r.0 (Some end) f.1.bytes f.1.idle (sym e ∙ r.2.ending_is) in (
       record from { read = from.read ++ (f.0 ++ r.0 ∷ []) },
       read_further from mid to f.0 r.0 f.1.read r.1,
-      (f.0 ++ r.0 ∷ [], ends_here f.0 r.0 end f.1.goes_on same, refl),
+      (f.0 ++ r.0 ∷ [], ends_here f.0 r.0 end f.1.goes_on same, one_more_single f.0 r.0 f.1.single r.3, refl),
     )
 
 no_memory_there : (b : Bool) (bytes : List ℕ) → ◌≡◌ {A = Option (Result (List ℕ) HeadFault)} (Some (Err fault.Memory)) (cond b (Some (Ok bytes)) None) → ⊥

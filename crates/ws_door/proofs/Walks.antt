@@ -1,7 +1,6 @@
 -- Walks over items, and what a cut of a text says.
 use Rattle.std.proofs.Common.{◌≡◌, ℕ, Bool, true, false, not, IsTrue, List, [], ◌∷◌, ◌++◌, Option, Some, None, refl, sym, ap, ◌∙◌, eqb, ◌&&◌, rules, Bor}
 use Rattle.std.specs.Prelude.{option_map, cond, IfSome, IfNone}
-use Rattle.std.specs.List.{list_all}
 use Rattle.sg_names.specs.Grammar.{lacks}
 use Rattle.ws_door.specs.Items.{parted_at, or_else, first_given}
 

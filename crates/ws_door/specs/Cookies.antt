@@ -1,5 +1,5 @@
 -- the session that a cookie header carries
-use Rattle.std.specs.Prelude.{ℕ, Bool, true, false, List, [], ◌∷◌, Option, Some, None, if◌then◌else◌, codes}
+use Rattle.std.specs.Prelude.{ℕ, List, Option, Some, None, if◌then◌else◌, codes}
 use Rattle.std.specs.Str.{bytes_eq}
 use Rattle.sg_history.specs.Pieces.{pieces}
 use Rattle.ws_door.specs.Items.{trim_spaces, parted_at, first_given}

@@ -1,12 +1,13 @@
 -- a head, as far as it was read; only proofs need this
-use Rattle.std.specs.Prelude.{◌≡◌, ℕ, ◌+◌, ◌<◌, ◌≤◌, Bool, true, false, List, [], ◌∷◌, ◌++◌, length, count_by, vec_capacity, Option, Some, None, Result, Ok, Err}
+use Rattle.std.specs.Prelude.{◌≡◌, ℕ, ◌+◌, ◌<◌, ◌≤◌, Bool, true, false, List, [], ◌∷◌, ◌++◌, length, count_by, vec_capacity, IsTrue, Option, Some, None, Result, Ok, Err}
+use Rattle.std.specs.List.{list_all}
 use Rattle.sg_outside.specs.Wire.{LineRead, LinkRecord}
 use Rattle.sg_lines.specs.Link.{ReadsIfRecorded}
 use Rattle.ws_door.specs.declared.heads.HeadFault.{HeadFault}
 use Rattle.ws_door.specs.declared.head_reader.ByteRead.{ByteRead}
 use Rattle.ws_door.specs.declared.head_reader.ByteRead.TheVariants as byte
 use Rattle.ws_door.specs.declared.head_reader.HeadReader.{HeadReader}
-use Rattle.ws_door.specs.Heads.{bytes_of, is_idle, ending, head_in, head_behind, bytes_in, idle_in}
+use Rattle.ws_door.specs.Heads.{bytes_of, is_idle, is_single, ending, head_in, head_behind, bytes_in, idle_in}
 
 -- the result of reading one byte
 abbrev pub line_read : ByteRead → LineRead
@@ -43,13 +44,14 @@ pub record Adds (before : HeadReader) (read : LineRead) (answer : Result Bool He
 
 -- one result was read and added
 abbrev pub ReadsOn : Option LinkRecord → HeadReader → Result Bool HeadFault → Option LinkRecord → HeadReader → Type 0
-ReadsOn from before answer to after = (read : LineRead) × ReadsIfRecorded from read to × Adds before read answer after
+ReadsOn from before answer to after = (read : LineRead) × ReadsIfRecorded from read to × Adds before read answer after × IsTrue (is_single read)
 
 -- what was read since the link had recorded this, and led to this head
 pub record Reaches (from : LinkRecord) (head : HeadReader) (to : Option LinkRecord) (results : List LineRead) : Type 0 where
   pub read : to ≡ Some (record from { read = from.read ++ results })
   pub bytes : head.bytes.items ≡ bytes_in results
   pub idle : head.idle ≡ idle_in results
+  pub single : IsTrue (list_all is_single results)
   pub goes_on : (later : List LineRead) → head_in (results ++ later) ≡ head_behind results later
 
 -- the same where the link records

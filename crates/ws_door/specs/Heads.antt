@@ -1,6 +1,6 @@
 -- how the head of a request is read from a link, as a function of what reading gave
-use Rattle.std.specs.Prelude.{◌≡◌, ℕ, ◌+◌, ◌==◌, ◌||◌, Bool, true, false, List, [], ◌∷◌, ◌++◌, length, count_by, Option, Some, None, Result, Ok, Err, if◌then◌else◌, codes}
-use Rattle.std.specs.List.{flat_map, ends_with}
+use Rattle.std.specs.Prelude.{◌≡◌, ℕ, ◌+◌, ◌==◌, ◌||◌, Bool, true, false, List, [], ◌∷◌, ◌++◌, length, count_by, Option, Some, None, Result, Ok, Err, if◌then◌else◌, codes, IsTrue}
+use Rattle.std.specs.List.{flat_map, list_all, ends_with}
 use Rattle.sg_outside.specs.Wire.{LineRead, LinkRecord}
 use Rattle.ws_door.specs.declared.heads.HeadFault.{HeadFault}
 use Rattle.ws_door.specs.declared.heads.HeadFault.TheVariants as fault
@@ -25,6 +25,13 @@ is_idle (LineRead.Bytes bytes) = false
 is_idle LineRead.Idle = true
 is_idle LineRead.End = false
 is_idle LineRead.Failed = false
+
+-- no more than one byte was read
+abbrev pub is_single : LineRead → Bool
+is_single (LineRead.Bytes bytes) = length bytes == 1
+is_single LineRead.Idle = true
+is_single LineRead.End = true
+is_single LineRead.Failed = true
 
 -- all bytes that these results gave, and how many of them were idle
 abbrev pub bytes_in : List LineRead → List ℕ
@@ -55,9 +62,17 @@ head_behind before (result ∷ later) = last_ending (ending (bytes_in before) (i
 abbrev pub head_in : List LineRead → Option (Result (List ℕ) HeadFault)
 head_in results = head_behind [] results
 
--- these results and no more were read, and nothing was written
+-- reading goes on after each of these results but the last, and this is how it ends with that
+pub record Ends (results : List LineRead) (answer : Result (List ℕ) HeadFault) : Type 0 where
+  pub before : List LineRead
+  pub last : LineRead
+  pub are : results ≡ before ++ last ∷ []
+  pub so : ending (bytes_in before) (idle_in before) last ≡ Some answer
+  pub goes_on : (front back : List LineRead) (result : LineRead) → before ≡ front ++ result ∷ back → ending (bytes_in front) (idle_in front) result ≡ None
+
+-- these results and no more were read, one byte at a time, and nothing was written
 abbrev pub EndsWith : LinkRecord → Result (List ℕ) HeadFault → LinkRecord → Type 0
-EndsWith before answer after = (results : List LineRead) × (head_in results ≡ Some answer) × (after ≡ record before { read = before.read ++ results })
+EndsWith before answer after = (results : List LineRead) × (head_in results ≡ Some answer) × IsTrue (list_all is_single results) × (after ≡ record before { read = before.read ++ results })
 
 -- the same; out of memory nothing was read
 abbrev pub ReadsHead : LinkRecord → Result (List ℕ) HeadFault → LinkRecord → Type 0

@@ -1,6 +1,5 @@
 -- the items of a header's value
-use Rattle.std.specs.Prelude.{ℕ, ◌==◌, Bool, true, false, List, [], ◌∷◌, reverse, Option, Some, None, option_map, if◌then◌else◌}
-use Rattle.std.specs.Str.{bytes_eq}
+use Rattle.std.specs.Prelude.{ℕ, ◌==◌, List, [], ◌∷◌, reverse, Option, Some, None, option_map, if◌then◌else◌}
 
 -- the bytes from the first that is no space
 abbrev pub skip_spaces : List ℕ → List ℕ

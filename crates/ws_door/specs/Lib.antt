@@ -5,3 +5,5 @@ pub mod Cookies
 pub mod Accept
 pub mod Requests
 pub mod Shown
+pub mod Upgrades
+pub mod Greetings

@@ -1,9 +1,9 @@
 //! A head, as far as it was read.
 
-ghost use Rattle.std.specs.Prelude.{◌≡◌, ◌+◌, ◌<◌, ◌≤◌, [], length, IfOk, IfErr, IsTrue, IsErr, ◌++◌};
+ghost use Rattle.std.specs.Prelude.{◌≡◌, ◌<◌, ◌≤◌, IfOk, IfErr, IsTrue};
 ghost use Rattle.sg_lines.specs.Link.{ReadsIfRecorded};
-ghost use Rattle.ws_door.specs.Heads.{is_whole, ends_empty_line};
-ghost use Rattle.ws_door.specs.HeadReader.{line_read, answer_of, ReadsOn, Continues, Adds, HasRoom, IsAtFirst};
+ghost use Rattle.ws_door.specs.Heads.{ends_empty_line, is_whole, is_single};
+ghost use Rattle.ws_door.specs.HeadReader.{line_read, ReadsOn, Adds, HasRoom, IsAtFirst};
 
 use crate::heads::HeadFault;
 use sg_lines::{Link, Took};
@@ -35,6 +35,7 @@ pub(crate) struct HeadReader {
 fn read_byte<L: Link>(link: &mut L) -> ByteRead
     ensures recorded { ReadsIfRecorded (L.recorded link.old) (line_read result)
         (L.recorded link.new) }
+    ensures single { IsTrue (is_single (line_read result)) }
     ensures counted { L.faults link.old ≤ L.faults link.new }
     ensures fault { result ≡ ByteRead.Failed → L.faults link.old < L.faults link.new }
 {
@@ -98,7 +99,8 @@ impl HeadReader {
     /// Reads once more; gives whether the head is whole.
     pub(crate) fn read_on<L: Link>(&mut self, link: &mut L) -> Result<bool, HeadFault>
         requires { HasRoom self.old }
-        ensures read { ReadsOn (L.recorded link.old) self.old result (L.recorded link.new) self.new }
+        ensures read { ReadsOn (L.recorded link.old) self.old result (L.recorded link.new)
+            self.new }
         ensures counted { L.faults link.old ≤ L.faults link.new }
         ensures fault { result ≡ Err HeadFault.LinkFault → L.faults link.old < L.faults link.new }
     {
