@@ -1,27 +1,26 @@
 -- how the parts of a run make the whole
 use Rattle.std.proofs.Common.{◌≡◌, ℕ, ◌≤◌, List, Option, length, sym, subst, arith, Err, inl, inr}
 use Rattle.sg_outside.specs.Files.{largest_file}
-use Rattle.sg_names.specs.declared.key.Key.{Key}
 use Rattle.sg_history.specs.BadLine.{IsBadJournal}
 use Rattle.sg_history.specs.History.{History}
 use Rattle.sg_history.specs.Journal.{Spells}
 use Rattle.feed_command.specs.declared.status.Status.{Status}
 use Rattle.feed_command.specs.declared.status.Status.TheVariants as status
 use Rattle.feed_command.specs.FeedText.{feed_text}
-use Rattle.feed_command.specs.Words.{FeedWords}
+use Rattle.feed_command.specs.FeedWords.{FeedWords}
 use Rattle.feed_command.specs.Run.{Ends, EndsFeed, IsLoaded, Prints}
 
 -- what was printed is the feed of the journal's history
-pub printed : (s : Status) (h : History) (journal user : List ℕ) (since : Key) (faults faults' : ℕ) (before after : Option (List ℕ)) → Spells journal h → Prints s (feed_text h user since) faults faults' before after → EndsFeed s journal user since faults faults' before after
-printed status.Ok h journal user since faults faults' before after spelled p = (h, spelled, p)
-printed status.BadWords h journal user since faults faults' before after spelled p = p
-printed (status.BadInput file place why) h journal user since faults faults' before after spelled p = absurd p
-printed status.ReadFault h journal user since faults faults' before after spelled p = p
-printed status.WriteFault h journal user since faults faults' before after spelled p = (h, spelled, p.1, p.0)
-printed status.Memory h journal user since faults faults' before after spelled p = p
+pub printed : (s : Status) (h : History) (journal : List ℕ) (f : FeedWords) (faults faults' : ℕ) (before after : Option (List ℕ)) → Spells journal h → Prints s (feed_text h f.user f.since f.options) faults faults' before after → EndsFeed s journal f faults faults' before after
+printed status.Ok h journal f faults faults' before after spelled p = (h, spelled, p)
+printed status.BadWords h journal f faults faults' before after spelled p = p
+printed (status.BadInput file place why) h journal f faults faults' before after spelled p = absurd p
+printed status.ReadFault h journal f faults faults' before after spelled p = p
+printed status.WriteFault h journal f faults faults' before after spelled p = (h, spelled, p.1, p.0)
+printed status.Memory h journal f faults faults' before after spelled p = p
 
 -- what was found of the journal that was loaded is so of the bytes that the files record
-pub with_bytes : (s : Status) (f : FeedWords) (bytes journal : List ℕ) (faults faults' : ℕ) (before after : Option (List ℕ)) → (length bytes ≤ largest_file) × (journal ≡ bytes) → EndsFeed s journal f.user f.since faults faults' before after → Ends s f bytes before after
+pub with_bytes : (s : Status) (f : FeedWords) (bytes journal : List ℕ) (faults faults' : ℕ) (before after : Option (List ℕ)) → (length bytes ≤ largest_file) × (journal ≡ bytes) → EndsFeed s journal f faults faults' before after → Ends s f bytes before after
 with_bytes status.Ok f bytes journal faults faults' before after loaded e =
     let P : List ℕ → Type 0 = λ b. Spells b e.0 in
     (e.0, (loaded.0, subst P loaded.1 e.1), e.2)

@@ -1,2 +1,3 @@
+pub mod CommandLines
 pub mod Endings
-pub mod FourWords
+pub mod Reading

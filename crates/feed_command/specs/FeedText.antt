@@ -1,5 +1,5 @@
 -- what `feed` prints
-use Rattle.std.specs.Prelude.{ℕ, List, [], ◌∷◌, ◌++◌, reverse, None, true, false, decimal}
+use Rattle.std.specs.Prelude.{ℕ, List, [], ◌∷◌, ◌++◌, reverse, decimal}
 use Rattle.std.specs.List.{flat_map}
 use Rattle.sg_names.specs.declared.key.Key.{Key}
 use Rattle.sg_names.specs.Key.{key_text}
@@ -13,10 +13,6 @@ use Rattle.sg_history.specs.Feed.{feed}
 abbrev pub row_text : Row → List ℕ
 row_text row = key_text row.key ++ 9 ∷ row.doc ++ 9 ∷ rev_text row.rev ++ 9 ∷ decimal row.bits ++ 10 ∷ []
 
--- no filter, deleted documents and revocations too
-abbrev pub whole_feed : Options
-whole_feed = record { filter = None; active_only = false; revocations = true }
-
--- the printed feed of a user over a whole history, after a since key
-abbrev pub feed_text : History → List ℕ → Key → List ℕ
-feed_text h user since = flat_map (λ row. row_text row) (feed (reverse h.entries) user since whole_feed)
+-- the printed feed of a user over a whole history, after a since key, with these options
+abbrev pub feed_text : History → List ℕ → Key → Options → List ℕ
+feed_text h user since options = flat_map (λ row. row_text row) (feed (reverse h.entries) user since options)

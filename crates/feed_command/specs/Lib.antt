@@ -1,5 +1,9 @@
+pub mod CommandLines
 pub mod Exit
+pub mod FeedRequest
 pub mod FeedText
-pub mod Request
+pub mod FeedWords
+pub mod Matches
+pub mod ReplayRequest
+pub mod ReplayWords
 pub mod Run
-pub mod Words

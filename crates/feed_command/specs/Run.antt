@@ -1,7 +1,6 @@
 -- what a run of `feed` answers and does
 use Rattle.std.specs.Prelude.{◌≡◌, ◌⊎◌, ℕ, ◌≤◌, ◌<◌, List, ◌++◌, length, Option, Some, None, Result, Ok, Err}
 use Rattle.sg_outside.specs.Files.{largest_file}
-use Rattle.sg_names.specs.declared.key.Key.{Key}
 use Rattle.sg_history.specs.BadLine.{IsBadJournal}
 use Rattle.sg_history.specs.History.{History}
 use Rattle.sg_history.specs.Journal.{Spells}
@@ -10,7 +9,7 @@ use Rattle.sg_history.specs.declared.fault.Why.TheVariants.{Long}
 use Rattle.feed_command.specs.declared.status.Status.{Status}
 use Rattle.feed_command.specs.declared.status.Status.TheVariants as status
 use Rattle.feed_command.specs.FeedText.{feed_text}
-use Rattle.feed_command.specs.Words.{FeedWords}
+use Rattle.feed_command.specs.FeedWords.{FeedWords}
 
 -- files that record what they hold have these bytes under the name
 abbrev pub HasFile : Option (List ℕ → Option (List ℕ)) → List ℕ → List ℕ → Type 0
@@ -19,6 +18,15 @@ HasFile recorded name bytes = (files : List ℕ → Option (List ℕ)) × (recor
 -- files that record what they hold have none under the name
 abbrev pub HasNoFile : Option (List ℕ → Option (List ℕ)) → List ℕ → Type 0
 HasNoFile recorded name = (files : List ℕ → Option (List ℕ)) × (recorded ≡ Some files) × (files name ≡ None)
+
+-- the two statuses that a run may end with where no command takes the words
+abbrev pub IsRefusal : Status → Type 0
+IsRefusal status.BadWords = Unit {0}
+IsRefusal status.Memory = Unit {0}
+IsRefusal status.Ok = ⊥
+IsRefusal (status.BadInput file place why) = ⊥
+IsRefusal status.ReadFault = ⊥
+IsRefusal status.WriteFault = ⊥
 
 -- the bytes are no more than a file may have, and are the journal of this history
 abbrev pub IsInput : List ℕ → History → Type 0
@@ -50,12 +58,12 @@ EndsAbsent status.WriteFault = ⊥
 
 -- each status with what it says of the journal's bytes and of the sink
 abbrev pub Ends : Status → FeedWords → List ℕ → Option (List ℕ) → Option (List ℕ) → Type 0
-Ends status.Ok f bytes before after = (h : History) × IsInput bytes h × Took before after (feed_text h f.user f.since)
+Ends status.Ok f bytes before after = (h : History) × IsInput bytes h × Took before after (feed_text h f.user f.since f.options)
 Ends status.BadWords f bytes before after = ⊥
 Ends (status.BadInput file place why) f bytes before after =
     (file ≡ 1) × IsBadInput bytes place why × ((h : History) → ¬ IsInput bytes h)
 Ends status.ReadFault f bytes before after = Unit {0}
-Ends status.WriteFault f bytes before after = (h : History) × IsInput bytes h × TookPart before after (feed_text h f.user f.since)
+Ends status.WriteFault f bytes before after = (h : History) × IsInput bytes h × TookPart before after (feed_text h f.user f.since f.options)
 Ends status.Memory f bytes before after = Unit {0}
 
 -- a fault that is answered was counted
@@ -76,7 +84,7 @@ Silent (status.BadInput file place why) before after = after ≡ before
 Silent status.ReadFault before after = after ≡ before
 Silent status.Memory before after = after ≡ before
 
--- a file that was loaded whole, or how the run ends without it, where its bytes are recorded; it has this number among the command's words
+-- a file that was loaded whole, or how the run ends without it, where its bytes are recorded; it has this number among the command's files
 abbrev pub IsLoaded : ℕ → List ℕ → Result (List ℕ) Status → Type 0
 IsLoaded number bytes (Ok loaded) = (length bytes ≤ largest_file) × (loaded ≡ bytes)
 IsLoaded number bytes (Err status.Ok) = ⊥
@@ -106,13 +114,13 @@ Prints status.WriteFault text faults faults' before after = (faults < faults') �
 Prints status.Memory text faults faults' before after = after ≡ before
 
 -- how a run may end with the journal in hand, with the count of the sink's faults and what the sink took
-abbrev pub EndsFeed : Status → List ℕ → List ℕ → Key → ℕ → ℕ → Option (List ℕ) → Option (List ℕ) → Type 0
-EndsFeed status.Ok journal user since faults faults' before after =
-    (h : History) × Spells journal h × Took before after (feed_text h user since)
-EndsFeed status.BadWords journal user since faults faults' before after = ⊥
-EndsFeed (status.BadInput file place why) journal user since faults faults' before after =
+abbrev pub EndsFeed : Status → List ℕ → FeedWords → ℕ → ℕ → Option (List ℕ) → Option (List ℕ) → Type 0
+EndsFeed status.Ok journal f faults faults' before after =
+    (h : History) × Spells journal h × Took before after (feed_text h f.user f.since f.options)
+EndsFeed status.BadWords journal f faults faults' before after = ⊥
+EndsFeed (status.BadInput file place why) journal f faults faults' before after =
     (file ≡ 1) × IsBadJournal journal (record { place = place; why = why }) × ((h : History) → ¬ Spells journal h) × (after ≡ before)
-EndsFeed status.ReadFault journal user since faults faults' before after = ⊥
-EndsFeed status.WriteFault journal user since faults faults' before after =
-    (h : History) × Spells journal h × TookPart before after (feed_text h user since) × (faults < faults')
-EndsFeed status.Memory journal user since faults faults' before after = after ≡ before
+EndsFeed status.ReadFault journal f faults faults' before after = ⊥
+EndsFeed status.WriteFault journal f faults faults' before after =
+    (h : History) × Spells journal h × TookPart before after (feed_text h f.user f.since f.options) × (faults < faults')
+EndsFeed status.Memory journal f faults faults' before after = after ≡ before

@@ -1,25 +1,28 @@
 //! The command by its words.
 
-ghost use Rattle.std.specs.Prelude.{◌≡◌, ◌↔◌, ℕ, List, map, string_bytes};
-ghost use Rattle.feed_command.specs.Run.{Counted, Ends, EndsAbsent, HasFile, HasNoFile, Silent};
-ghost use Rattle.feed_command.specs.Words.{FeedWords, IsFeed};
+ghost use Rattle.std.specs.Prelude.{◌≡◌, ℕ, List, map, string_bytes};
+ghost use Rattle.feed_command.specs.Run.{Counted, Ends, EndsAbsent, HasFile, HasNoFile, IsRefusal, Silent};
+ghost use Rattle.feed_command.specs.FeedWords.{FeedWords, IsFeedWords};
 
 use crate::feed::run_feed;
+use crate::feed_words::read_feed;
 use crate::status::Status;
-use crate::words::{WordsFault, read_feed};
+use crate::words_fault::WordsFault;
 use sg_outside::{Files, Sink};
 use std::alloc::Global;
 
 /// Runs `feed`: the words are those after the program's name.
 pub fn run<F: Files, O: Sink>(alloc: Global, words: &[String], files: &mut F, out: &mut O) -> Status
-    ensures words { (result ≡ Status.BadWords)
-        ↔ ((f : FeedWords) → ¬ IsFeed (map (λ w. string_bytes w) words.now) f) }
+    ensures words { result ≡ Status.BadWords
+        → (f : FeedWords) → ¬ IsFeedWords (map (λ w. string_bytes w) words.now) f }
+    ensures outside { ((f : FeedWords) → ¬ IsFeedWords (map (λ w. string_bytes w) words.now) f)
+        → IsRefusal result × (files.new ≡ files.old) × (out.new ≡ out.old) }
     ensures untouched { result ≡ Status.BadWords → (files.new ≡ files.old) × (out.new ≡ out.old) }
     ensures ends { (f : FeedWords) (bytes : List ℕ)
-        → IsFeed (map (λ w. string_bytes w) words.now) f
+        → IsFeedWords (map (λ w. string_bytes w) words.now) f
         → HasFile (F.recorded files.old) f.journal bytes
         → Ends result f bytes (O.taken out.old) (O.taken out.new) }
-    ensures absent { (f : FeedWords) → IsFeed (map (λ w. string_bytes w) words.now) f
+    ensures absent { (f : FeedWords) → IsFeedWords (map (λ w. string_bytes w) words.now) f
         → HasNoFile (F.recorded files.old) f.journal → EndsAbsent result }
     ensures counted { Counted result (F.faults files.old) (F.faults files.new)
         (O.faults out.old) (O.faults out.new) }

@@ -3,35 +3,35 @@
 ghost use Rattle.std.specs.Prelude.{◌≡◌, ◌≢◌, ℕ, List, IfOk};
 ghost use Rattle.sg_history.specs.History.{history};
 ghost use Rattle.feed_command.specs.FeedText.{feed_text};
-ghost use Rattle.feed_command.specs.Request.{words_of};
+ghost use Rattle.feed_command.specs.FeedRequest.{feed_of};
 ghost use Rattle.feed_command.specs.Run.{Counted, Ends, EndsAbsent, EndsFeed, HasFile, HasNoFile, Prints, Silent};
 
+use crate::feed_words::FeedRequest;
 use crate::files::load;
 use crate::status::Status;
 use crate::text::print_rows;
-use crate::words::FeedRequest;
 use feed_rows::rows;
 use sg_history::{BadLine, Key, Log, Name, Options, ReadLog, take_journal};
 use sg_outside::{Bytes, Files, Gave, Memory, Sink};
 use std::alloc::Global;
 
-/// The number of the journal among the command's words.
+/// The number of the journal among the command's files.
 const JOURNAL: u64 = 1;
 
-/// The printed feed of a log, over its whole length, with revocations.
-fn feed_of(alloc: Global, log: &Log, user: &Name, since: &Key) -> Result<Bytes, Memory>
-    ensures { IfOk result (λ text. text ≡ feed_text (history log.now) user.now since.now) }
+/// The printed feed of a log, over its whole length.
+fn feed_of_log(
+    alloc: Global,
+    log: &Log,
+    user: &Name,
+    since: &Key,
+    options: &Options,
+) -> Result<Bytes, Memory>
+    ensures { IfOk result
+        (λ text. text ≡ feed_text (history log.now) user.now since.now options.now) }
 {
-    let options = Options {
-        filter: None,
-        active_only: false,
-        revocations: true,
-    };
-    let found = rows(alloc, log, log.entries.len() as u64, user, since, &options);
-    drop(options);
-    let rows = found?;
-    let text = print_rows(alloc, rows.as_slice());
-    drop(rows);
+    let found = rows(alloc, log, log.entries.len() as u64, user, since, options)?;
+    let text = print_rows(alloc, found.as_slice());
+    drop(found);
     text
 }
 
@@ -48,11 +48,12 @@ pub fn print<O: Sink>(text: &[u8], out: &mut O) -> Status
 }
 
 /// Prints the feed of a log.
-fn print_log<O: Sink>(alloc: Global, log: &Log, user: &Name, since: &Key, out: &mut O) -> Status
-    ensures { Prints result (feed_text (history log.now) user.now since.now)
+fn print_log<O: Sink>(alloc: Global, log: &Log, request: &FeedRequest<'_>, out: &mut O) -> Status
+    ensures { Prints result (feed_text (history log.now) request.now.user request.now.since
+        request.now.options)
         (O.faults out.old) (O.faults out.new) (O.taken out.old) (O.taken out.new) }
 {
-    match feed_of(alloc, log, user, since) {
+    match feed_of_log(alloc, log, &request.user, &request.since, &request.options) {
         Ok(text) => print(text.as_slice(), out),
         Err(_) => Status::Memory,
     }
@@ -62,16 +63,15 @@ fn print_log<O: Sink>(alloc: Global, log: &Log, user: &Name, since: &Key, out: &
 fn print_feed<O: Sink>(
     alloc: Global,
     journal: Bytes,
-    user: &Name,
-    since: &Key,
+    request: &FeedRequest<'_>,
     out: &mut O,
 ) -> Status
-    ensures { EndsFeed result journal user.now since.now
+    ensures { EndsFeed result journal (feed_of request.now)
         (O.faults out.old) (O.faults out.new) (O.taken out.old) (O.taken out.new) }
 {
     match take_journal(alloc, journal) {
         Ok(log) => {
-            let status = print_log(alloc, &log, user, since, out);
+            let status = print_log(alloc, &log, request, out);
             drop(log);
             status
         }
@@ -92,7 +92,7 @@ pub(crate) fn run_feed<F: Files, O: Sink>(
     out: &mut O,
 ) -> Status
     ensures ends { (bytes : List ℕ) → HasFile (F.recorded files.old) request.now.journal.now bytes
-        → Ends result (words_of request.now) bytes (O.taken out.old) (O.taken out.new) }
+        → Ends result (feed_of request.now) bytes (O.taken out.old) (O.taken out.new) }
     ensures absent { HasNoFile (F.recorded files.old) request.now.journal.now → EndsAbsent result }
     ensures words { result ≢ Status.BadWords }
     ensures counted { Counted result (F.faults files.old) (F.faults files.new)
@@ -101,7 +101,7 @@ pub(crate) fn run_feed<F: Files, O: Sink>(
     ensures kept { F.recorded files.new ≡ F.recorded files.old }
 {
     match load(alloc, files, request.journal, JOURNAL) {
-        Ok(journal) => print_feed(alloc, journal, &request.user, &request.since, out),
+        Ok(journal) => print_feed(alloc, journal, request, out),
         Err(status) => status,
     }
 }

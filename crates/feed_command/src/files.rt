@@ -8,7 +8,7 @@ use sg_history::Why;
 use sg_outside::{Bytes, Files, Loaded};
 use std::alloc::Global;
 
-/// The bytes of the file that has this number among the command's words, or how the run ends without them.
+/// The bytes of the file that has this number among the command's files, or how the run ends without them.
 pub fn load<F: Files>(alloc: Global, files: &mut F, path: &str, file: u64) -> Result<Bytes, Status>
     ensures recorded { (bytes : List ℕ) → HasFile (F.recorded files.old) path.now bytes
         → IsLoaded file bytes result }

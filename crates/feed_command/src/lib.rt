@@ -2,16 +2,23 @@
 //! the words and the status.
 #![tactic(auto)]
 
+mod channel_list;
 mod command;
+mod command_lines;
 mod feed;
+mod feed_words;
 mod files;
+mod matches;
 mod program;
+mod replay_words;
 mod status;
 mod text;
-mod words;
+mod words_fault;
 
 pub use command::run;
 pub use feed::print;
 pub use files::load;
 pub use program::{end, words_of};
+pub use replay_words::{ReplayRequest, read_replay};
 pub use status::Status;
+pub use words_fault::WordsFault;

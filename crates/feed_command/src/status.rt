@@ -8,7 +8,7 @@ pub enum Status {
     Ok,
     /// The words are in no command's form.
     BadWords,
-    /// A file is outside its grammar: its number among the command's words, the line of the fault, and why.
+    /// A file is outside its grammar: its number among the command's files, the line of the fault, and why.
     BadInput { file: u64, place: u64, why: Why },
     /// A file could not be read.
     ReadFault,

@@ -1,7 +1,10 @@
 use Rattle.std.proofs.Common.{sym, subst, refl, ap, Err}
 use Rattle.feed_command.specs.Run.{Ends, HasFile}
-use Rattle.feed_command.specs.Words.{FeedWords}
+use Rattle.feed_command.specs.FeedWords.{FeedWords}
 use Rattle.feed_command.proofs.command.run.Goals as goal
+
+pub returns-in-Ok-clause-outside : goal.returns-in-Ok-clause-outside
+returns-in-Ok-clause-outside g c = λ none. absurd (none _ c.in-Ok.ensures.ok)
 
 pub returns-in-Ok-clause-ends : goal.returns-in-Ok-clause-ends
 returns-in-Ok-clause-ends g c = λ f bytes read.
@@ -9,7 +12,7 @@ returns-in-Ok-clause-ends g c = λ f bytes read.
     subst P (sym (c.in-Ok.ensures.only f read)) (c.run_feed.ensures.ends bytes)
 
 pub returns-in-Err-BadWords-clause-words : goal.returns-in-Err-BadWords-clause-words
-returns-in-Err-BadWords-clause-words g c = (λ _. c.in-Err-BadWords.ensures.bad (ap Err c.in-Err-BadWords.field-0-is), λ _. refl)
+returns-in-Err-BadWords-clause-words g c = λ _. c.in-Err-BadWords.ensures.bad (ap Err c.in-Err-BadWords.field-0-is)
 
 pub returns-in-Err-BadWords-clause-ends : goal.returns-in-Err-BadWords-clause-ends
 returns-in-Err-BadWords-clause-ends g c = λ f bytes read. absurd (c.in-Err-BadWords.ensures.bad (ap Err c.in-Err-BadWords.field-0-is) f read)
