@@ -1,3 +1,5 @@
 pub mod CommandLines
 pub mod Endings
+pub mod PlainForms
+pub mod PlainWords
 pub mod Reading

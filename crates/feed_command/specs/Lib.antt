@@ -4,6 +4,7 @@ pub mod FeedRequest
 pub mod FeedText
 pub mod FeedWords
 pub mod Matches
+pub mod PlainWords
 pub mod ReplayRequest
 pub mod ReplayWords
 pub mod Run

@@ -8,6 +8,7 @@ mod command_lines;
 mod feed;
 mod feed_words;
 mod files;
+pub mod laws;
 mod matches;
 mod program;
 mod replay_words;
