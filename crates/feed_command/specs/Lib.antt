@@ -1,8 +1,10 @@
 pub mod CommandLines
 pub mod Exit
+pub mod FeedLoads
 pub mod FeedRequest
 pub mod FeedText
 pub mod FeedWords
+pub mod Loads
 pub mod Matches
 pub mod PlainWords
 pub mod ReplayRequest

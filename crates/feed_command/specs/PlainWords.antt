@@ -1,6 +1,5 @@
 -- the plainest words of `feed`
 use Rattle.std.specs.Prelude.{◌≡◌, ◌==◌, ◌↔◌, ◌++◌, ℕ, Bool, true, false, not, List, [], ◌∷◌, codes, None, Some, IsTrue}
-use Rattle.sg_names.specs.declared.key.Key.{Key}
 use Rattle.sg_names.specs.Key.{ReadsKey}
 use Rattle.sg_names.specs.Grammar.{is_name}
 use Rattle.sg_history.specs.declared.row.Options.{Options}

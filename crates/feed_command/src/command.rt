@@ -2,6 +2,7 @@
 
 ghost use Rattle.std.specs.Prelude.{◌≡◌, ℕ, List, map, string_bytes};
 ghost use Rattle.feed_command.specs.Run.{Counted, Ends, EndsAbsent, HasFile, HasNoFile, IsRefusal, Silent};
+ghost use Rattle.feed_command.specs.FeedLoads.{LoadsJournal};
 ghost use Rattle.feed_command.specs.FeedWords.{FeedWords, IsFeedWords};
 
 use crate::feed::run_feed;
@@ -24,6 +25,8 @@ pub fn run<F: Files, O: Sink>(alloc: Global, words: &[String], files: &mut F, ou
         → Ends result f bytes (O.taken out.old) (O.taken out.new) }
     ensures absent { (f : FeedWords) → IsFeedWords (map (λ w. string_bytes w) words.now) f
         → HasNoFile (F.recorded files.old) f.journal → EndsAbsent result }
+    ensures loads { (f : FeedWords) → IsFeedWords (map (λ w. string_bytes w) words.now) f
+        → LoadsJournal (F.recorded files.old) f.journal (F.loads files.old) (F.loads files.new) result }
     ensures counted { Counted result (F.faults files.old) (F.faults files.new)
         (O.faults out.old) (O.faults out.new) }
     ensures silent { Silent result (O.taken out.old) (O.taken out.new) }

@@ -3,6 +3,7 @@
 ghost use Rattle.std.specs.Prelude.{◌≡◌, ◌≢◌, ℕ, List, IfOk};
 ghost use Rattle.sg_history.specs.History.{history};
 ghost use Rattle.feed_command.specs.FeedText.{feed_text};
+ghost use Rattle.feed_command.specs.FeedLoads.{LoadsJournal};
 ghost use Rattle.feed_command.specs.FeedRequest.{feed_of};
 ghost use Rattle.feed_command.specs.Run.{Counted, Ends, EndsAbsent, EndsFeed, HasFile, HasNoFile, Prints, Silent};
 
@@ -94,6 +95,8 @@ pub(crate) fn run_feed<F: Files, O: Sink>(
     ensures ends { (bytes : List ℕ) → HasFile (F.recorded files.old) request.now.journal.now bytes
         → Ends result (feed_of request.now) bytes (O.taken out.old) (O.taken out.new) }
     ensures absent { HasNoFile (F.recorded files.old) request.now.journal.now → EndsAbsent result }
+    ensures loads { LoadsJournal (F.recorded files.old) request.now.journal.now
+        (F.loads files.old) (F.loads files.new) result }
     ensures words { result ≢ Status.BadWords }
     ensures counted { Counted result (F.faults files.old) (F.faults files.new)
         (O.faults out.old) (O.faults out.new) }

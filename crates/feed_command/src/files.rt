@@ -1,6 +1,7 @@
 //! Files that are loaded whole.
 
-ghost use Rattle.std.specs.Prelude.{◌≡◌, ℕ, List, IsErrAnd};
+ghost use Rattle.std.specs.Prelude.{◌≡◌, ◌++◌, ◌∷◌, [], ℕ, List, IsErrAnd};
+ghost use Rattle.feed_command.specs.Loads.{IsLoadAnswer, NeedsFile};
 ghost use Rattle.feed_command.specs.Run.{EndsAbsent, EndsLoaded, HasFile, HasNoFile, IsLoaded};
 
 use crate::status::Status;
@@ -13,6 +14,10 @@ pub fn load<F: Files>(alloc: Global, files: &mut F, path: &str, file: u64) -> Re
     ensures recorded { (bytes : List ℕ) → HasFile (F.recorded files.old) path.now bytes
         → IsLoaded file bytes result }
     ensures absent { HasNoFile (F.recorded files.old) path.now → IsErrAnd result EndsAbsent }
+    ensures loads { (answer : Loaded) × (F.loads files.new
+        ≡ F.loads files.old ++ record { name = path.now; answer = answer } ∷ [])
+        × IsLoadAnswer file answer result
+        × NeedsFile (F.recorded files.old) path.now answer }
     ensures loaded { EndsLoaded result (F.faults files.old) (F.faults files.new) }
     ensures kept { F.recorded files.new ≡ F.recorded files.old }
 {

@@ -1,7 +1,9 @@
-//! A law of the words of `feed`: what the plainest of them ask for.
+//! Laws of the words.
 
-ghost use Rattle.std.specs.Prelude.{[], ◌∷◌, codes, true, false};
+ghost use Rattle.std.specs.Prelude.{[], ◌∷◌, ℕ, List, codes, true, false};
+ghost use Rattle.feed_command.specs.FeedWords.{FeedWords, IsFeedWords};
 ghost use Rattle.feed_command.specs.PlainWords.{AskFor, ListsAskForFilters, whole_feed};
+ghost use Rattle.feed_command.specs.ReplayWords.{IsReplayWords, ReplayWords};
 
 /// Three words that do not begin with `-` are the journal, the user and the since key; a flag or the option before them changes what it
 /// names alone.
@@ -12,4 +14,10 @@ pub fn plain_words()
     ensures no_revocations { AskFor (codes "--no-revocations" ∷ [])
         (record whole_feed { revocations = false }) }
     ensures channels { ListsAskForFilters }
+{}
+
+/// No words are those of both commands.
+pub fn one_command()
+    ensures { (words : List (List ℕ)) (f : FeedWords) (r : ReplayWords)
+        → IsFeedWords words f → ¬ IsReplayWords words r }
 {}

@@ -26,6 +26,8 @@ const MOST_SESSIONS: usize = 1000;
 fn read_values<'a>(alloc: Global, matches: &ArgMatches<'a>) -> Result<ReplayRequest<'a>, WordsFault>
     ensures ok { IfOk result
         (λ r. HasReplayValues (rows_of (found_of matches.now)) (replay_of r)) }
+    ensures only { IfOk result (λ r. (w : ReplayWords)
+        → HasReplayValues (rows_of (found_of matches.now)) w → w ≡ replay_of r) }
     ensures bad { result ≡ Err WordsFault.BadWords
         → (r : ReplayWords) → ¬ HasReplayValues (rows_of (found_of matches.now)) r }
 {
@@ -49,6 +51,8 @@ fn read_values<'a>(alloc: Global, matches: &ArgMatches<'a>) -> Result<ReplayRequ
 pub fn read_replay(alloc: Global, words: &[String]) -> Result<ReplayRequest<'_>, WordsFault>
     ensures ok { IfOk result
         (λ r. IsReplayWords (map (λ w. string_bytes w) words.now) (replay_of r)) }
+    ensures only { IfOk result (λ r. (w : ReplayWords)
+        → IsReplayWords (map (λ w. string_bytes w) words.now) w → w ≡ replay_of r) }
     ensures bad { result ≡ Err WordsFault.BadWords
         → (r : ReplayWords) → ¬ IsReplayWords (map (λ w. string_bytes w) words.now) r }
 {

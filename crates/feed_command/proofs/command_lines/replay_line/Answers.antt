@@ -1,7 +1,7 @@
 use Rattle.std.proofs.Common.{◌≡◌, ◌∙◌, ap₂, codes}
 use Rattle.std.proofs.lemmas.Result.{IfOk-weaker}
 use Rattle.clap.specs.Simple.{app_of, with_rule}
-use Rattle.feed_command.specs.CommandLines.{needed, plain_app, replay_app, several}
+use Rattle.feed_command.specs.CommandLines.{needed, plain_app, replay_app}
 use Rattle.feed_command.proofs.command_lines.replay_line.Goals as goal
 
 pub returns : goal.returns

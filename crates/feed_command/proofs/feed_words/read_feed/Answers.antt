@@ -1,10 +1,10 @@
 use Rattle.std.proofs.Common.{◌≡◌, ◌∙◌, ap, codes, false, map, string_bytes, subst, sym, true, List, ℕ}
 use Rattle.std.proofs.lemmas.Result.{IfOk-weaker}
-use Rattle.clap.specs.Words.{App, Row, app_of, found_of, is_simple_and_free, matches_of, rows_of}
+use Rattle.clap.specs.Words.{app_of, found_of, is_simple_and_free, rows_of}
 use Rattle.feed_command.specs.CommandLines.{feed_app}
 use Rattle.feed_command.specs.Matches.{begins_with}
 use Rattle.feed_command.specs.FeedRequest.{feed_of}
-use Rattle.feed_command.specs.FeedWords.{HasFeedValues, FeedWords}
+use Rattle.feed_command.specs.FeedWords.{HasFeedValues}
 use Rattle.feed_command.proofs.CommandLines.{feed_is_named, feed_is_simple}
 use Rattle.feed_command.proofs.Reading.{are_taken, not_taken, their_rows}
 use Rattle.feed_command.proofs.feed_words.read_feed.Goals as goal

@@ -1,10 +1,10 @@
 use Rattle.std.proofs.Common.{◌≡◌, ◌∙◌, ap, codes, false, map, string_bytes, subst, sym, true, List, ℕ}
 use Rattle.std.proofs.lemmas.Result.{IfOk-weaker}
-use Rattle.clap.specs.Words.{App, Row, app_of, found_of, is_simple_and_free, matches_of, rows_of}
+use Rattle.clap.specs.Words.{app_of, found_of, is_simple_and_free, rows_of}
 use Rattle.feed_command.specs.CommandLines.{replay_app}
 use Rattle.feed_command.specs.Matches.{begins_with}
 use Rattle.feed_command.specs.ReplayRequest.{replay_of}
-use Rattle.feed_command.specs.ReplayWords.{HasReplayValues, ReplayWords}
+use Rattle.feed_command.specs.ReplayWords.{HasReplayValues}
 use Rattle.feed_command.proofs.CommandLines.{replay_is_named, replay_is_simple}
 use Rattle.feed_command.proofs.Reading.{are_taken, not_taken, their_rows}
 use Rattle.feed_command.proofs.replay_words.read_replay.Goals as goal
@@ -31,3 +31,9 @@ returns-clause-bad c =
     let words : List (List ℕ) = map (λ w. string_bytes w) c.args.words.now in
     let rows = their_rows replay_app (app_of c.in_ok-command.command) words (rows_of (found_of c.in_ok-matches.matches)) c.in_ok-command.ensures c.in_ok-matches.ensures.rows in
     λ refused r is. c.read_values-request.ensures.bad refused r (subst (λ rows. HasReplayValues rows r) (sym rows) is.1)
+
+pub returns-clause-only : goal.returns-clause-only
+returns-clause-only c =
+    let words : List (List ℕ) = map (λ w. string_bytes w) c.args.words.now in
+    let rows = their_rows replay_app (app_of c.in_ok-command.command) words (rows_of (found_of c.in_ok-matches.matches)) c.in_ok-command.ensures c.in_ok-matches.ensures.rows in
+    IfOk-weaker c.read_values-request.result _ _ (λ r only w is. only w (subst (λ rows. HasReplayValues rows w) (sym rows) is.1)) c.read_values-request.ensures.only
