@@ -26,7 +26,8 @@ pub fn run<F: Files, O: Sink>(alloc: Global, words: &[String], files: &mut F, ou
     ensures absent { (f : FeedWords) → IsFeedWords (map (λ w. string_bytes w) words.now) f
         → HasNoFile (F.recorded files.old) f.journal → EndsAbsent result }
     ensures loads { (f : FeedWords) → IsFeedWords (map (λ w. string_bytes w) words.now) f
-        → LoadsJournal (F.recorded files.old) f.journal (F.loads files.old) (F.loads files.new) result }
+        → LoadsJournal (F.recorded files.old) f.journal (F.loads files.old) (F.loads files.new)
+        result }
     ensures counted { Counted result (F.faults files.old) (F.faults files.new)
         (O.faults out.old) (O.faults out.new) }
     ensures silent { Silent result (O.taken out.old) (O.taken out.new) }

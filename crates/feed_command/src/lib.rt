@@ -1,5 +1,5 @@
-//! The command `feed`; and what each command has besides: how it ends, how its files are loaded, and what its program does with
-//! the words and the status.
+//! The command `feed`; and what each command has besides: how its words are read, how it ends, how its files are loaded, and what
+//! its program does with the words and the status.
 #![tactic(auto)]
 
 mod channel_list;
