@@ -1,5 +1,5 @@
 -- what the plainest words of `feed` are read as
-use Rattle.std.proofs.Common.{◌≡◌, ◌∙◌, ◌↔◌, ◌++◌, ◌==◌, ℕ, Bool, true, false, not, refl, sym, ap, ap₂, subst, List, [], ◌∷◌, codes, Some, Option, IsTrue, is_some}
+use Rattle.std.proofs.Common.{◌≡◌, ◌∙◌, ◌↔◌, ◌++◌, ℕ, true, false, refl, sym, ap, ap₂, subst, List, [], ◌∷◌, codes, Some, IsTrue, is_some}
 use Rattle.std.specs.List.{fold}
 use Rattle.std.specs.Option.{option_map_or}
 use Rattle.clap.specs.Walk.{Held, Row, Text, Walk, arg_by_index, finished, nothing_held, settled, to_positional, value, walk, walk_from, walked}
