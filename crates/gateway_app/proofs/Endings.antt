@@ -1,5 +1,5 @@
 -- how the parts of a run make the whole
-use Rattle.std.proofs.Common.{ℕ, List, Option, Err}
+use Rattle.std.proofs.Common.{◌≡◌, ◌⊎◌, ℕ, List, Option, Err, refl, inl, inr}
 use Rattle.feed_command.specs.declared.status.Status.{Status}
 use Rattle.feed_command.specs.declared.status.Status.TheVariants as status
 use Rattle.gateway_config.specs.declared.config.Config.{Config}
@@ -28,3 +28,12 @@ module _ (Is : Config → List AdminLine → List Recorded → List ℕ → Type
   not_read status.ReadFault contents before after r = tt
   not_read status.WriteFault contents before after r = absurd r
   not_read status.Memory contents before after r = tt
+
+  -- what is printed ends in one of three ways
+  pub printed_status : (s : Status) (i : Inputs) (faults faults' : ℕ) (before after : Option (List ℕ)) → PrintsReplay Is s i faults faults' before after → (s ≡ status.Ok) ⊎ (s ≡ status.WriteFault) ⊎ (s ≡ status.Memory)
+  printed_status status.Ok i faults faults' before after p = inl refl
+  printed_status status.BadWords i faults faults' before after p = absurd p
+  printed_status (status.BadInput file place why) i faults faults' before after p = absurd p
+  printed_status status.ReadFault i faults faults' before after p = absurd p
+  printed_status status.WriteFault i faults faults' before after p = inr (inl refl)
+  printed_status status.Memory i faults faults' before after p = inr (inr refl)

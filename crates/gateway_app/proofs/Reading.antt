@@ -1,5 +1,5 @@
 -- how what was read of a replay's files makes the whole
-use Rattle.std.proofs.Common.{◌≡◌, ◌≤◌, ◌<◌, ◌+◌, ℕ, zero, suc, List, [], ◌∷◌, ◌++◌, Option, None, Some, Err, length, map, take, drop, get_or, refl, sym, ap, ◌∙◌, subst, arith, inl, inr}
+use Rattle.std.proofs.Common.{◌≡◌, ◌≤◌, ◌<◌, ◌+◌, ℕ, zero, suc, List, [], ◌∷◌, ◌++◌, Option, None, Some, Err, length, take, get_or, refl, sym, ap, ◌∙◌, subst, arith, inl, inr}
 use Rattle.std.proofs.lemmas.Option.{none-some}
 use Rattle.sg_outside.specs.Files.{largest_file}
 use Rattle.sg_history.specs.BadLine.{NamesLine}
@@ -21,9 +21,9 @@ use Rattle.record_file.specs.Record as record_file
 use Rattle.record_file.specs.Faults.{NamesBadLine, bad_line}
 use Rattle.feed_command.specs.declared.status.Status.{Status}
 use Rattle.feed_command.specs.declared.status.Status.TheVariants as status
-use Rattle.gateway_app.specs.Inputs.{AreSessionsIn, Contents, HaveFiles, IsBadAdmin, IsBadAmong, IsBadConfig, IsBadSession, IsConfigIn, IsScriptIn, IsSessionIn, LacksFile}
+use Rattle.gateway_app.specs.Inputs.{AreSessionsIn, Contents, HaveFiles, IsBadAdmin, IsBadAmong, IsBadConfig, IsBadSession, IsConfigIn, IsScriptIn, IsSessionIn}
 use Rattle.gateway_app.specs.Loading.{AreInputsRead, AreSessionsRead, IsConfigRead, IsRead, IsRefused, IsScriptRead, IsSessionRead, config_status}
-use Rattle.feed_command.specs.Run.{HasFile, HasNoFile, IsLoaded}
+use Rattle.feed_command.specs.Run.{HasFile, IsLoaded}
 
 -- ---- one file
 
@@ -133,17 +133,17 @@ refused_session number bytes loaded fault s same fits refused line bad =
 -- ---- the recorded sessions
 
 -- the bytes of the file at a place
-pub file_at : {X : Type 0} (recorded : Option (List ℕ → Option (List ℕ))) (name : X → List ℕ) (xs : List X) (contents : List (List ℕ)) (i : ℕ) (x : X) → HaveFiles recorded (map name xs) contents → i < length xs → x ≡ get_or xs i x → HasFile recorded (name x) (get_or contents i [])
-file_at recorded name [] contents i x have low at = absurd (omega (arith, low))
-file_at recorded name (y ∷ xs) [] i x have low at = absurd have
-file_at recorded name (y ∷ xs) (bytes ∷ contents) zero x have low at = subst (λ z. HasFile recorded (name z) bytes) (sym at) have.0
-file_at recorded name (y ∷ xs) (bytes ∷ contents) (suc i) x have low at = file_at recorded name xs contents i x have.1 (omega (arith, low)) at
+pub file_at : (recorded : Option (List ℕ → Option (List ℕ))) (names : List (List ℕ)) (contents : List (List ℕ)) (i : ℕ) (name : List ℕ) → HaveFiles recorded names contents → i < length names → name ≡ get_or names i name → HasFile recorded name (get_or contents i [])
+file_at recorded [] contents i name have low at = absurd (omega (arith, low))
+file_at recorded (n ∷ names) [] i name have low at = absurd have
+file_at recorded (n ∷ names) (bytes ∷ contents) zero name have low at = subst (λ (x : List ℕ). HasFile recorded x bytes) (sym at) have.0
+file_at recorded (n ∷ names) (bytes ∷ contents) (suc i) name have low at = file_at recorded names contents i name have.1 (omega (arith, low)) at
 
-pub as_many : {X : Type 0} (recorded : Option (List ℕ → Option (List ℕ))) (name : X → List ℕ) (xs : List X) (contents : List (List ℕ)) → HaveFiles recorded (map name xs) contents → length contents ≡ length xs
-as_many recorded name [] [] have = refl
-as_many recorded name [] (bytes ∷ contents) have = absurd have
-as_many recorded name (y ∷ xs) [] have = absurd have
-as_many recorded name (y ∷ xs) (bytes ∷ contents) have = omega (arith, as_many recorded name xs contents have.1)
+pub as_many : (recorded : Option (List ℕ → Option (List ℕ))) (names : List (List ℕ)) (contents : List (List ℕ)) → HaveFiles recorded names contents → length contents ≡ length names
+as_many recorded [] [] have = refl
+as_many recorded [] (bytes ∷ contents) have = absurd have
+as_many recorded (n ∷ names) [] have = absurd have
+as_many recorded (n ∷ names) (bytes ∷ contents) have = omega (arith, as_many recorded names contents have.1)
 
 -- one more that was read
 pub one_more : (contents : List (List ℕ)) (i : ℕ) (records : List Recorded) (r : Recorded) → i < length contents → AreSessionsIn (take i contents) records → IsSessionIn (get_or contents i []) r → AreSessionsIn (take (suc i) contents) (records ++ r ∷ [])
@@ -209,12 +209,3 @@ sessions_failed contents config lines (status.BadInput file place why) is spells
 sessions_failed contents config lines status.ReadFault is spells failed = tt
 sessions_failed contents config lines status.WriteFault is spells failed = absurd failed
 sessions_failed contents config lines status.Memory is spells failed = tt
-
--- ---- where there is no file
-
--- where the next file is there, one that lacks is behind it
-pub lacks_behind : {X : Type 0} (recorded : Option (List ℕ → Option (List ℕ))) (name : X → List ℕ) (xs : List X) (i : ℕ) (x : X) → i < length xs → x ≡ get_or xs i x → ¬ HasNoFile recorded (name x) → LacksFile recorded (map name (drop i xs)) → LacksFile recorded (map name (drop (suc i) xs))
-lacks_behind recorded name [] i x low at there lacks = absurd (omega (arith, low))
-lacks_behind recorded name (y ∷ xs) zero x low at there lacks =
-    elim lacks [ inl none ↦ absurd (there (subst (λ z. HasNoFile recorded (name z)) (sym at) none)) | inr behind ↦ behind ]
-lacks_behind recorded name (y ∷ xs) (suc i) x low at there lacks = lacks_behind recorded name xs i x (omega (arith, low)) at there lacks

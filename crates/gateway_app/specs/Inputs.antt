@@ -1,6 +1,6 @@
 -- The files of a replay: what they hold, and what is first wrong with them.
-use Rattle.std.specs.Prelude.{◌≡◌, ◌⊎◌, ◌≤◌, ◌<◌, ◌+◌, ℕ, List, [], ◌∷◌, length, Option, Some, None}
-use Rattle.sg_outside.specs.Files.{largest_file}
+use Rattle.std.specs.Prelude.{◌≡◌, ◌⊎◌, ◌≤◌, ◌<◌, ◌+◌, ℕ, zero, suc, List, [], ◌∷◌, ◌++◌, length, Option, Some, None}
+use Rattle.sg_outside.specs.Files.{Load, largest_file}
 use Rattle.sg_history.specs.declared.fault.Why.{Why}
 use Rattle.sg_history.specs.declared.fault.Why.TheVariants as whys
 use Rattle.gateway_config.specs.declared.config.Config.{Config}
@@ -12,8 +12,10 @@ use Rattle.principals.specs.Faults.{IsBadScript}
 use Rattle.record_file.specs.declared.record.Recorded.{Recorded}
 use Rattle.record_file.specs.Record as record_file
 use Rattle.record_file.specs.Faults.{bad_line}
-use Rattle.feed_command.specs.Run.{HasFile, HasNoFile}
-use Rattle.gateway_app.specs.Words.{ReplayWords}
+use Rattle.feed_command.specs.Run.{HasFile}
+use Rattle.feed_command.specs.declared.status.Status.{Status}
+use Rattle.feed_command.specs.Loads.{EndsLoads}
+use Rattle.feed_command.specs.ReplayWords.{ReplayWords}
 
 -- ---- the files
 
@@ -34,14 +36,9 @@ abbrev pub HaveContents : Option (List ℕ → Option (List ℕ)) → ReplayWord
 HaveContents recorded r contents =
     HasFile recorded r.config contents.config × HasFile recorded r.admin contents.admin × HaveFiles recorded r.sessions contents.sessions
 
--- files that record what they hold have none under one of these names
-abbrev pub LacksFile : Option (List ℕ → Option (List ℕ)) → List (List ℕ) → Type 0
-LacksFile recorded [] = ⊥
-LacksFile recorded (name ∷ names) = HasNoFile recorded name ⊎ LacksFile recorded names
-
--- the same of a replay's words
-abbrev pub LacksOne : Option (List ℕ → Option (List ℕ)) → ReplayWords → Type 0
-LacksOne recorded r = LacksFile recorded (r.config ∷ r.admin ∷ r.sessions)
+-- a replay's files in the order of the words
+abbrev pub paths_of : ReplayWords → List (List ℕ)
+paths_of r = r.config ∷ r.admin ∷ r.sessions
 
 -- ---- what they hold
 
@@ -107,3 +104,24 @@ IsFirstBad contents file place why =
     ⊎ (((config : Config) × IsConfigIn contents.config config)
     × (((file ≡ 2) × IsBadAdmin contents.admin place why)
     ⊎ (((lines : List AdminLine) × IsScriptIn contents.admin lines) × IsBadAmong 3 contents.sessions file place why)))
+
+-- ---- each of them by its number
+
+-- the file with this number among the words is a configuration, a script, or else a recorded session
+abbrev pub IsGoodFile : ℕ → List ℕ → Type 0
+IsGoodFile zero bytes = ⊥
+IsGoodFile (suc zero) bytes = (config : Config) × IsConfigIn bytes config
+IsGoodFile (suc (suc zero)) bytes = (lines : List AdminLine) × IsScriptIn bytes lines
+IsGoodFile (suc (suc (suc n))) bytes = (recorded : Recorded) × IsSessionIn bytes recorded
+
+-- and this is first wrong with it, at this place
+abbrev pub IsBadFileAt : ℕ → List ℕ → ℕ → Why → Type 0
+IsBadFileAt zero bytes place why = ⊥
+IsBadFileAt (suc zero) bytes place why = IsBadConfig bytes place why
+IsBadFileAt (suc (suc zero)) bytes place why = IsBadAdmin bytes place why
+IsBadFileAt (suc (suc (suc n))) bytes place why = IsBadSession bytes place why
+
+-- what a run loaded of a replay's files, and how it ended by them
+abbrev pub LoadsInputs : Option (List ℕ → Option (List ℕ)) → ReplayWords → List Load → List Load → Status → Type 0
+LoadsInputs recorded r before after s =
+    (done : List Load) × (after ≡ before ++ done) × EndsLoads recorded IsGoodFile IsBadFileAt 1 (paths_of r) done s

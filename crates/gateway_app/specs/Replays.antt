@@ -22,12 +22,3 @@ EndsReplay Is (status.BadInput file place why) contents before after = IsFirstBa
 EndsReplay Is status.ReadFault contents before after = Unit {0}
 EndsReplay Is status.WriteFault contents before after = (text : List ℕ) × IsTranscript Is contents text × TookPart before after text
 EndsReplay Is status.Memory contents before after = Unit {0}
-
--- the statuses that a run may end with where there is no file under one of the words: a file before it may be bad
-abbrev pub EndsWithout : Status → Type 0
-EndsWithout status.ReadFault = Unit {0}
-EndsWithout status.Memory = Unit {0}
-EndsWithout (status.BadInput file place why) = Unit {0}
-EndsWithout status.Ok = ⊥
-EndsWithout status.BadWords = ⊥
-EndsWithout status.WriteFault = ⊥

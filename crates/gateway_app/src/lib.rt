@@ -3,7 +3,6 @@
 
 mod commands;
 mod replay_command;
-mod words;
 
 pub use commands::run;
 pub use feed_command::Status;

@@ -1,18 +1,19 @@
 //! The command `replay`: prints the transcript of a script and recorded sessions over a configuration.
 
-ghost use Rattle.std.specs.Prelude.{◌≡◌, ◌≢◌, ◌↔◌, ℕ, List, IfOk, IsErrAnd, map, string_bytes};
+ghost use Rattle.std.specs.Prelude.{◌≡◌, ◌≢◌, ◌≤◌, ◌<◌, ◌++◌, ◌∷◌, [], ℕ, List, IfOk, get_or, length, map, string_bytes};
+ghost use Rattle.sg_outside.specs.Files.{Load};
 ghost use Rattle.principals.specs.Script.{AreLines};
-ghost use Rattle.gateway_app.specs.Inputs.{Contents, HaveContents, HaveFiles, LacksFile, LacksOne};
+ghost use Rattle.gateway_app.specs.Inputs.{Contents, HaveContents, HaveFiles, IsBadFileAt, IsGoodFile, LoadsInputs, paths_of};
 ghost use Rattle.gateway_app.specs.Loading.{AreInputsRead, AreSessionsRead, IsConfigRead, IsRefused, IsScriptRead, IsSessionRead, PrintsReplay, config_status, inputs_of};
-ghost use Rattle.gateway_app.specs.Replays.{EndsReplay, EndsWithout};
-ghost use Rattle.gateway_app.specs.Request.{replay_of};
-ghost use Rattle.gateway_app.specs.Words.{IsReplayWords, ReplayWords};
+ghost use Rattle.gateway_app.specs.Replays.{EndsReplay};
 ghost use Rattle.replay.specs.Replay.{IsReplay};
 ghost use Rattle.replay_in_turn.specs.Replay as in_turn;
-ghost use Rattle.feed_command.specs.Run.{Counted, EndsAbsent, EndsLoaded, HasFile, HasNoFile, Silent};
+ghost use Rattle.feed_command.specs.Loads.{LoadsOf};
+ghost use Rattle.feed_command.specs.ReplayRequest.{replay_of};
+ghost use Rattle.feed_command.specs.ReplayWords.{IsReplayWords, ReplayWords};
+ghost use Rattle.feed_command.specs.Run.{Counted, EndsLoaded, HasFile, IsRefusal, Silent};
 
-use crate::words::{ReplayRequest, read_replay};
-use feed_command::{Status, load, print};
+use feed_command::{ReplayRequest, Status, WordsFault, load, print, read_replay};
 use gateway_config::{Config, ConfigFault, read_config};
 use principals::{AdminLines, read_admin};
 use record_file::{Recorded, read_record};
@@ -52,7 +53,8 @@ fn config_refused(fault: ConfigFault) -> Status
 fn load_config<F: Files>(alloc: Global, files: &mut F, path: &str) -> Result<Config, Status>
     ensures recorded { (bytes : List ℕ) → HasFile (F.recorded files.old) path.now bytes
         → IsConfigRead bytes result }
-    ensures absent { HasNoFile (F.recorded files.old) path.now → IsErrAnd result EndsAbsent }
+    ensures loads { (done : List Load) × (F.loads files.new ≡ F.loads files.old ++ done)
+        × LoadsOf (F.recorded files.old) IsGoodFile IsBadFileAt 1 (path.now ∷ []) done result }
     ensures loaded { EndsLoaded result (F.faults files.old) (F.faults files.new) }
     ensures kept { F.recorded files.new ≡ F.recorded files.old }
 {
@@ -67,7 +69,8 @@ fn load_config<F: Files>(alloc: Global, files: &mut F, path: &str) -> Result<Con
 fn load_script<F: Files>(alloc: Global, files: &mut F, path: &str) -> Result<AdminLines, Status>
     ensures recorded { (bytes : List ℕ) → HasFile (F.recorded files.old) path.now bytes
         → IsScriptRead bytes result }
-    ensures absent { HasNoFile (F.recorded files.old) path.now → IsErrAnd result EndsAbsent }
+    ensures loads { (done : List Load) × (F.loads files.new ≡ F.loads files.old ++ done)
+        × LoadsOf (F.recorded files.old) IsGoodFile IsBadFileAt 2 (path.now ∷ []) done result }
     ensures lines { IfOk result (λ lines. AreLines lines) }
     ensures loaded { EndsLoaded result (F.faults files.old) (F.faults files.new) }
     ensures kept { F.recorded files.new ≡ F.recorded files.old }
@@ -86,9 +89,11 @@ fn load_session<F: Files>(
     path: &str,
     file: u64,
 ) -> Result<Recorded, Status>
+    requires behind { 3 ≤ file }
     ensures recorded { (bytes : List ℕ) → HasFile (F.recorded files.old) path.now bytes
         → IsSessionRead file bytes result }
-    ensures absent { HasNoFile (F.recorded files.old) path.now → IsErrAnd result EndsAbsent }
+    ensures loads { (done : List Load) × (F.loads files.new ≡ F.loads files.old ++ done)
+        × LoadsOf (F.recorded files.old) IsGoodFile IsBadFileAt file (path.now ∷ []) done result }
     ensures loaded { EndsLoaded result (F.faults files.old) (F.faults files.new) }
     ensures kept { F.recorded files.new ≡ F.recorded files.old }
 {
@@ -99,23 +104,33 @@ fn load_session<F: Files>(
     }
 }
 
+/// The path at a place.
+fn path_at<'a>(paths: &[&'a str], i: usize) -> &'a str
+    requires { i < length paths.now }
+    ensures { result.now ≡ get_or (map (λ p. p.now) paths.now) i result.now }
+{
+    paths[i]
+}
+
 /// The recorded sessions of files, of which the first is the third.
 fn load_sessions<F: Files>(
     alloc: Global,
     files: &mut F,
-    paths: &[String],
+    paths: &[&str],
 ) -> Result<Vec<Recorded>, Status>
     ensures recorded { (contents : List (List ℕ))
-        → HaveFiles (F.recorded files.old) (map (λ w. string_bytes w) paths.now) contents
+        → HaveFiles (F.recorded files.old) (map (λ p. p.now) paths.now) contents
         → AreSessionsRead contents result }
-    ensures absent { LacksFile (F.recorded files.old) (map (λ w. string_bytes w) paths.now)
-        → IsErrAnd result EndsWithout }
+    ensures loads { (done : List Load) × (F.loads files.new ≡ F.loads files.old ++ done)
+        × LoadsOf (F.recorded files.old) IsGoodFile IsBadFileAt 3 (map (λ p. p.now) paths.now)
+        done result }
     ensures loaded { EndsLoaded result (F.faults files.old) (F.faults files.new) }
     ensures kept { F.recorded files.new ≡ F.recorded files.old }
 {
     let mut sessions = Vec::new(alloc);
-    for (i, path) in paths.iter().enumerate() {
-        let recorded = match load_session(alloc, files, path.as_str(), i as u64 + 3) {
+    for i in 0..paths.len() {
+        let path = path_at(paths, i);
+        let recorded = match load_session(alloc, files, path, i as u64 + 3) {
             Ok(recorded) => recorded,
             Err(status) => {
                 drop(sessions);
@@ -148,8 +163,9 @@ fn load_inputs<F: Files>(
     ensures recorded { (contents : Contents)
         → HaveContents (F.recorded files.old) (replay_of request.now) contents
         → AreInputsRead contents result }
-    ensures absent { LacksOne (F.recorded files.old) (replay_of request.now)
-        → IsErrAnd result EndsWithout }
+    ensures loads { (done : List Load) × (F.loads files.new ≡ F.loads files.old ++ done)
+        × LoadsOf (F.recorded files.old) IsGoodFile IsBadFileAt 1
+        (paths_of (replay_of request.now)) done result }
     ensures lines { IfOk result (λ i. AreLines i.lines) }
     ensures loaded { EndsLoaded result (F.faults files.old) (F.faults files.new) }
     ensures kept { F.recorded files.new ≡ F.recorded files.old }
@@ -162,7 +178,7 @@ fn load_inputs<F: Files>(
             return Err(status);
         }
     };
-    match load_sessions(alloc, files, request.sessions) {
+    match load_sessions(alloc, files, request.sessions.as_slice()) {
         Ok(sessions) => Ok(LoadedInputs {
             config,
             lines,
@@ -230,7 +246,8 @@ pub(crate) fn run_replay<R: Threads + Wait + Sync, F: Files, O: Sink>(
     ensures ends { (contents : Contents)
         → HaveContents (F.recorded files.old) (replay_of request.now) contents
         → EndsReplay IsReplay result contents (O.taken out.old) (O.taken out.new) }
-    ensures absent { LacksOne (F.recorded files.old) (replay_of request.now) → EndsWithout result }
+    ensures loads { LoadsInputs (F.recorded files.old) (replay_of request.now) (F.loads files.old)
+        (F.loads files.new) result }
     ensures words { result ≢ Status.BadWords }
     ensures counted { Counted result (F.faults files.old) (F.faults files.new)
         (O.faults out.old) (O.faults out.new) }
@@ -253,7 +270,8 @@ fn run_requested_in_turn<F: Files, O: Sink>(
     ensures ends { (contents : Contents)
         → HaveContents (F.recorded files.old) (replay_of request.now) contents
         → EndsReplay in_turn.IsReplay result contents (O.taken out.old) (O.taken out.new) }
-    ensures absent { LacksOne (F.recorded files.old) (replay_of request.now) → EndsWithout result }
+    ensures loads { LoadsInputs (F.recorded files.old) (replay_of request.now) (F.loads files.old)
+        (F.loads files.new) result }
     ensures words { result ≢ Status.BadWords }
     ensures counted { Counted result (F.faults files.old) (F.faults files.new)
         (O.faults out.old) (O.faults out.new) }
@@ -274,22 +292,25 @@ pub fn run_in_turn<F: Files, O: Sink>(
     files: &mut F,
     out: &mut O,
 ) -> Status
-    ensures words { (result ≡ Status.BadWords)
-        ↔ ((r : ReplayWords) → ¬ IsReplayWords (map (λ w. string_bytes w) words.now) r) }
+    ensures words { result ≡ Status.BadWords
+        → (r : ReplayWords) → ¬ IsReplayWords (map (λ w. string_bytes w) words.now) r }
+    ensures outside { ((r : ReplayWords) → ¬ IsReplayWords (map (λ w. string_bytes w) words.now) r)
+        → IsRefusal result × (files.new ≡ files.old) × (out.new ≡ out.old) }
     ensures untouched { result ≡ Status.BadWords → (files.new ≡ files.old) × (out.new ≡ out.old) }
     ensures replays { (r : ReplayWords) (contents : Contents)
         → IsReplayWords (map (λ w. string_bytes w) words.now) r
         → HaveContents (F.recorded files.old) r contents
         → EndsReplay in_turn.IsReplay result contents (O.taken out.old) (O.taken out.new) }
-    ensures lacking { (r : ReplayWords) → IsReplayWords (map (λ w. string_bytes w) words.now) r
-        → LacksOne (F.recorded files.old) r → EndsWithout result }
+    ensures loads { (r : ReplayWords) → IsReplayWords (map (λ w. string_bytes w) words.now) r
+        → LoadsInputs (F.recorded files.old) r (F.loads files.old) (F.loads files.new) result }
     ensures counted { Counted result (F.faults files.old) (F.faults files.new)
         (O.faults out.old) (O.faults out.new) }
     ensures silent { Silent result (O.taken out.old) (O.taken out.new) }
     ensures kept { F.recorded files.new ≡ F.recorded files.old }
 {
-    let Some(request) = read_replay(words) else {
-        return Status::BadWords;
-    };
-    run_requested_in_turn(alloc, &request, files, out)
+    match read_replay(alloc, words) {
+        Ok(request) => run_requested_in_turn(alloc, &request, files, out),
+        Err(WordsFault::BadWords) => Status::BadWords,
+        Err(WordsFault::Memory) => Status::Memory,
+    }
 }

@@ -1,9 +1,18 @@
-use Rattle.gateway_app.specs.Request.{replay_of}
+use Rattle.feed_command.specs.ReplayRequest.{replay_of}
+use Rattle.feed_command.proofs.OneCommand.{not_both}
 use Rattle.gateway_app.proofs.commands.run.Goals as goal
 
-pub returns-in-Some-clause-words : goal.returns-in-Some-clause-words
-returns-in-Some-clause-words g c =
-    (λ e. absurd (c.run_replay.ensures.words e), λ none. absurd (none.1 (replay_of c.in-Some.request) c.in-Some.ensures.some))
+pub returns-in-Ok-clause-outside : goal.returns-in-Ok-clause-outside
+returns-in-Ok-clause-outside g c = λ no_feed none. absurd (none (replay_of c.in-Ok.request) c.in-Ok.ensures.ok)
 
-pub returns-clause-words : goal.returns-clause-words
-returns-clause-words g c = (λ e. (c.run.ensures.words.0 e, c.in_default.ensures.none), λ none. c.run.ensures.words.1 none.0)
+pub returns-in-Ok-clause-ends : goal.returns-in-Ok-clause-ends
+returns-in-Ok-clause-ends g c = λ f bytes is has. absurd (not_both _ is.0 c.in-Ok.ensures.ok.0)
+
+pub returns-in-Ok-clause-absent : goal.returns-in-Ok-clause-absent
+returns-in-Ok-clause-absent g c = λ f is none. absurd (not_both _ is.0 c.in-Ok.ensures.ok.0)
+
+pub returns-in-Ok-clause-feed_loads : goal.returns-in-Ok-clause-feed_loads
+returns-in-Ok-clause-feed_loads g c = λ f is. absurd (not_both _ is.0 c.in-Ok.ensures.ok.0)
+
+pub returns-in-Err-BadWords-clause-words : goal.returns-in-Err-BadWords-clause-words
+returns-in-Err-BadWords-clause-words g c = λ e. (c.run.ensures.words e, c.read_replay.ensures.bad search)

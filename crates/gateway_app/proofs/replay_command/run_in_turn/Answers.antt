@@ -1,6 +1,5 @@
-use Rattle.gateway_app.specs.Request.{replay_of}
+use Rattle.feed_command.specs.ReplayRequest.{replay_of}
 use Rattle.gateway_app.proofs.replay_command.run_in_turn.Goals as goal
 
-pub returns-clause-words : goal.returns-clause-words
-returns-clause-words g c =
-    (λ e. absurd (c.run_requested_in_turn.ensures.words e), λ none. absurd (none (replay_of c.in-Some.request) c.in-Some.ensures.some))
+pub returns-in-Ok-clause-outside : goal.returns-in-Ok-clause-outside
+returns-in-Ok-clause-outside g c = λ none. absurd (none (replay_of c.in-Ok.request) c.in-Ok.ensures.ok)

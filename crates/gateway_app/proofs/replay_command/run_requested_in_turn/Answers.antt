@@ -1,6 +1,11 @@
 use Rattle.replay_in_turn.specs.Replay.{IsReplay}
 use Rattle.gateway_app.specs.Loading.{inputs_of}
-use Rattle.gateway_app.proofs.Endings.{not_read, replayed}
+use Rattle.std.proofs.Common.{inl, inr}
+use Rattle.feed_command.specs.Loads.{AreAccepted, EndsLoads, IsStopped}
+use Rattle.feed_command.specs.ReplayRequest.{replay_of}
+use Rattle.gateway_app.specs.Inputs.{IsBadFileAt, IsGoodFile, paths_of}
+use Rattle.gateway_app.proofs.Endings.{not_read, printed_status, replayed}
+use Rattle.gateway_app.proofs.Loading.{only}
 use Rattle.gateway_app.proofs.replay_command.run_requested_in_turn.Goals as goal
 
 pub returns-in-Ok-clause-ends : goal.returns-in-Ok-clause-ends
@@ -10,3 +15,17 @@ returns-in-Ok-clause-ends g c = λ contents have.
 pub returns-in-Err-clause-ends : goal.returns-in-Err-clause-ends
 returns-in-Err-clause-ends g c = λ contents have.
     not_read IsReplay c.in-Err.status contents _ _ (c.in-Err.ensures.recorded contents have)
+
+pub returns-in-Ok-clause-loads : goal.returns-in-Ok-clause-loads
+returns-in-Ok-clause-loads g c =
+    let recorded = g.F.Files.recorded c.args.files.now in
+    let paths = paths_of (replay_of c.args.request.now) in
+    only (λ d. AreAccepted recorded IsGoodFile IsBadFileAt 1 paths d) (λ d. EndsLoads recorded IsGoodFile IsBadFileAt 1 paths d c.print_in_turn.result) _ _
+    (λ d are. inl (are, printed_status IsReplay c.print_in_turn.result (inputs_of c.in-Ok.inputs) _ _ _ _ c.print_in_turn.ensures)) c.in-Ok.ensures.loads
+
+pub returns-in-Err-clause-loads : goal.returns-in-Err-clause-loads
+returns-in-Err-clause-loads g c =
+    let recorded = g.F.Files.recorded c.args.files.now in
+    let paths = paths_of (replay_of c.args.request.now) in
+    only (λ d. IsStopped recorded IsGoodFile IsBadFileAt 1 paths d c.in-Err.status) (λ d. EndsLoads recorded IsGoodFile IsBadFileAt 1 paths d c.in-Err.status) _ _
+    (λ d stopped. inr stopped) c.in-Err.ensures.loads
