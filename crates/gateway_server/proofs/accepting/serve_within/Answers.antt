@@ -1,0 +1,6 @@
+use Rattle.std.proofs.Common.{arith}
+use Rattle.gateway_server.proofs.ServingSteps.{behind, served}
+use Rattle.gateway_server.proofs.accepting.serve_within.Goals as goal
+
+pub returns-clause-served : goal.returns-clause-served
+returns-clause-served g c = served (omega (arith, c.serve_all-stop.ensures.count, c.finish_all.ensures.out)) (behind c.serve_all-stop.ensures.served c.finish_all.ensures.served)
