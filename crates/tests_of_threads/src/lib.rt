@@ -4,6 +4,8 @@
 #[cfg(test)]
 mod at_once;
 #[cfg(test)]
+mod given_up;
+#[cfg(test)]
 mod one_document;
 #[cfg(test)]
 mod played;

@@ -11,10 +11,10 @@ use session_threads::{Played, Sessions, run_sessions};
 use sg_history::Name;
 use sg_outside::Wire;
 use std::alloc::Global;
-use std::sync::Wait;
+use std::sync::{Arc, Wait};
 use std::test::Fail;
 use std::thread::Threads;
-use write_path::Shelf;
+use write_path::{Resolved, Shelf};
 
 /// A configuration with the user ann, who has the channel A.
 pub const OPEN: &[u8] =
@@ -29,6 +29,12 @@ fn config_of(alloc: Global, text: &[u8]) -> Result<Config, Fail> {
         Ok(config) => Ok(config),
         Err(_) => Err(Fail::from("no configuration")),
     }
+}
+
+/// The program of a configuration.
+pub fn program_of(alloc: Global, text: &[u8]) -> Result<Arc<Resolved>, Fail> {
+    let config = config_of(alloc, text)?;
+    Ok(config.program.clone()?)
 }
 
 fn script_of(alloc: Global, text: &[u8]) -> Result<AdminLines, Fail>
