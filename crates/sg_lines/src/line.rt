@@ -8,7 +8,7 @@ use sg_outside::Wire;
 
 /// A link that becomes a socket, and that leaves a trace once it or its socket is shut.
 pub trait Line: Link {
-    type Socket: Wire;
+    type Socket: Wire + Send;
 
     type Trace: Send + Drop;
 
