@@ -34,14 +34,14 @@ use sync_resolve::Resolved;
 /// A ground that takes its turns at a gate, by a pass of its own. Between its calls it holds no number and no room. One that is dropped
 /// takes its pass along, and the gate is then never closed.
 #[derive(Drop)]
-pub struct SharedGround<'g, R: Wait + Sync> {
+pub struct SharedGround<'g, R: Wait> {
     rt: &'g R,
     gate: &'g Gate<Shelf>,
     // It is away only within a call.
     pass: Option<Pass<Shelf>>,
 }
 
-impl<'g, R: Wait + Sync> Model for SharedGround<'g, R> {
+impl<'g, R: Wait> Model for SharedGround<'g, R> {
     ghost use Rattle.write_path.specs.Shared.{Shared, IsPassOf, knows_of};
 
     ghost Value = { Shared };
@@ -51,7 +51,7 @@ impl<'g, R: Wait + Sync> Model for SharedGround<'g, R> {
     ghost invariant = { λ g. IsPassOf g.gate.now g.pass };
 }
 
-impl<'g, R: Wait + Sync> SharedGround<'g, R> {
+impl<'g, R: Wait> SharedGround<'g, R> {
     /// A ground that takes its turns by a pass which holds no number and no room. It keeps what the pass knows.
     pub fn new(rt: &'g R, gate: &'g Gate<Shelf>, pass: Pass<Shelf>) -> SharedGround<'g, R>
         requires here { pass.gate ≡ gate.now }
@@ -84,7 +84,7 @@ impl<'g, R: Wait + Sync> SharedGround<'g, R> {
     }
 }
 
-impl<'g, R: Wait + Sync> Ground for SharedGround<'g, R> {
+impl<'g, R: Wait> Ground for SharedGround<'g, R> {
     ghost use Rattle.std.specs.Prelude.{None};
     ghost use Rattle.write_path.specs.Shared.{shared_origin};
 
