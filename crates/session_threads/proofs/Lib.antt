@@ -3,6 +3,7 @@ pub mod Reading
 pub mod Lining
 pub mod Bounding
 pub mod Threading
+pub mod Closing
 pub mod Playing
 pub mod Growing
 pub mod Orders

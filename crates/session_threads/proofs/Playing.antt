@@ -1,7 +1,5 @@
 -- passes that were taken in, and what a history is that a gate was closed with behind a script and sessions
-use Rattle.std.proofs.Common.{◌≡◌, ◌≤◌, ◌<◌, ◌+◌, ◌*◌, ◌^◌, ◌∙◌, ◌⊎◌, ℕ, suc, zero, Bool, true, false, List, [], ◌∷◌, ◌++◌, append-nil, length, map, reverse, take, slice_get, nat_eq, nat_lt, not, Option, None, Some, inl, inr, refl, sym, ap, subst, arith, le_refl, if◌then◌else◌}
-use Rattle.std.proofs.lemmas.Bool.{eqb-true, ltb-false}
-use Rattle.std.proofs.lemmas.List.{reverse-append}
+use Rattle.std.proofs.Common.{◌≡◌, ◌<◌, ◌+◌, ◌*◌, ◌^◌, ◌∙◌, ◌⊎◌, ℕ, suc, Bool, List, [], ◌∷◌, ◌++◌, append-nil, length, map, reverse, not, Option, Some, inl, inr, refl, sym, ap, subst, arith, le_refl}
 use Rattle.std.specs.Arc.{arc_value}
 use Rattle.atomic_table.specs.Seated.{TableId}
 use Rattle.sg_history.specs.declared.book.Waiting.{Waiting}
@@ -9,10 +7,9 @@ use Rattle.sg_history.specs.declared.entries.Entry.{Entry}
 use Rattle.sg_history.specs.declared.entries.Entry.TheVariants as entry
 use Rattle.sg_history.specs.declared.entries.Write.{Write}
 use Rattle.sg_history.specs.declared.room.RoomFor.{RoomFor}
-use Rattle.sg_history.specs.Board.{After, BoardState, IsAfterAll, board_book}
-use Rattle.sg_history.specs.Book.{book_of, entry_or, waiting_at}
-use Rattle.sg_history.specs.History.{Extends}
-use Rattle.seq_gate.specs.Counts.{numbers, once, times, total, used}
+use Rattle.sg_history.specs.Board.{After, BoardState, IsAfterAll}
+use Rattle.sg_history.specs.Book.{book_of}
+use Rattle.seq_gate.specs.Counts.{numbers, once, times, total}
 use Rattle.seq_gate.specs.Passes.{first_known, joined, owed, share, split_off}
 use Rattle.seq_gate.specs.Views.{PassView}
 use Rattle.seq_gate.specs.declared.known.Known.{Known}
@@ -26,67 +23,22 @@ use Rattle.doc_board.specs.JudgedWrites.{IsJudgedWrite}
 use Rattle.doc_board.specs.State.{State}
 use Rattle.write_path.specs.Reads.{IsLaterThanAll}
 use Rattle.write_path.specs.Shared.{Rests}
-use Rattle.session_run.specs.declared.ended.Ended.{Ended}
-use Rattle.session_run.specs.declared.serve.Setup.{Setup}
-use Rattle.session_run.specs.Answered.{Moment}
-use Rattle.session_run.specs.Judged.{AreJudged}
-use Rattle.session_mux.specs.Sent.{Records}
-use Rattle.session_run.specs.Served.{IsSession}
-use Rattle.session_run.specs.Turns.{steps_of, undone}
 use Rattle.sg_outside.specs.Wire.{Traffic}
-use Rattle.sg_outside.specs.declared.sink.Gave.{Gave}
-use Rattle.sg_outside.specs.declared.wire.Got.{Got}
+use Rattle.session_run.specs.Served.{IsServed}
 use Rattle.session_threads.specs.declared.played.LineOutcome.{LineOutcome}
 use Rattle.session_threads.specs.Bounds.{AreBoundedLines}
 use Rattle.session_threads.specs.Lines.{AreLinesAt, sequences_of}
-use Rattle.session_threads.specs.Opening.{AreOf, IsOpening, IsRoleEntry, IsUserEntry}
+use Rattle.session_threads.specs.Opening.{IsOpening}
 use Rattle.session_threads.specs.Pairs.{AllPairs}
 use Rattle.session_threads.specs.Played.{Device, IsPlayed, IsSessionOf, Leaves}
 use Rattle.session_threads.specs.Runs.{AreClosed, AreThreaded, Begun, Gone, IsGone, IsReadyFor, joined_all, moment_at}
-use Rattle.session_threads.proofs.Reading.{Newest, WasReadLaws, later_one, was_one}
-use Rattle.session_threads.proofs.Lining.{AllJudgedIn, IsJudgedIn, JudgedLater, all_judged, judged_in, lines_at, lines_own}
-use Rattle.session_threads.proofs.Bounding.{bounded_lines, bounded_parts, bounded_steps}
-
--- ---- counting
-
-numbers-append : (ws vs : List Waiting) → numbers (ws ++ vs) ≡ numbers ws ++ numbers vs
-numbers-append [] vs = refl
-numbers-append (w ∷ ws) vs = ap (λ (ns : List ℕ). w.number ∷ ns) (numbers-append ws vs)
-
-times-append : (k : ℕ) (ns ms : List ℕ) → times k (ns ++ ms) ≡ times k ns + times k ms
-times-append k [] ms = omega arith
-times-append k (n ∷ ns) ms = let more = times-append k ns ms in omega (arith, more)
-
-times-reverse : (k : ℕ) (ns : List ℕ) → times k (reverse ns) ≡ times k ns
-times-reverse k [] = refl
-times-reverse k (n ∷ ns) =
-    ap (times k) (reverse-append (n ∷ []) ns) ∙ times-append k (reverse ns) (n ∷ []) ∙ (let r = times-reverse k ns in omega (arith, r))
-
-numbers_mapped : (ws : List Waiting) → map (λ (w : Waiting). w.number) ws ≡ numbers ws
-numbers_mapped [] = refl
-numbers_mapped (w ∷ ws) = ap (λ (ns : List ℕ). w.number ∷ ns) (numbers_mapped ws)
-
--- one of the entries has a number that stands among theirs
-eq_number : (n k : ℕ) → nat_eq n k ≡ true → n ≡ k
-eq_number n k is = eqb-true n k is
-
-pub found : (h : List Entry) (program : Program) (k : ℕ) (ws : List Waiting) → 0 < times k (numbers ws) → AllJudgedIn h program ws → (w : Waiting) × (w.number ≡ k) × IsJudgedIn h program w
-found h program k [] some all = absurd (omega (arith, some))
-found h program k (w ∷ ws) some all = at_first (nat_eq w.number k) refl (λ more. found h program k ws more all.1)
-  where
-    at_first : (b : Bool) → nat_eq w.number k ≡ b → (0 < times k (numbers ws) → (v : Waiting) × (v.number ≡ k) × IsJudgedIn h program v) → (v : Waiting) × (v.number ≡ k) × IsJudgedIn h program v
-    at_first true is others = (w, eq_number w.number k is, all.0)
-    at_first false is others = others (let none : 0 < once false + times k (numbers ws) = subst (λ (b : Bool). 0 < once b + times k (numbers ws)) is some in omega (arith, none))
+use Rattle.session_threads.proofs.Reading.{Newest, WasReadLaws}
+use Rattle.session_threads.proofs.Lining.{AllJudgedIn, JudgedLater, all_judged, lines_at, lines_own}
+use Rattle.session_threads.proofs.Bounding.{bounded_lines}
+use Rattle.session_threads.proofs.Closing as closing
+use Rattle.session_threads.proofs.Closing.{SessionLaws, Stored, after_parts, later_parts, numbers-append, stored_of, times-append, times-reverse}
 
 -- ---- passes that were taken in
-
-later_parts : (xs ys : List BoardState) (h : List Entry) → IsLaterThanAll (xs ++ ys) h → IsLaterThanAll xs h × IsLaterThanAll ys h
-later_parts [] ys h all = (tt, all)
-later_parts (x ∷ xs) ys h all = let rest = later_parts xs ys h all.1 in ((all.0, rest.0), rest.1)
-
-after_parts : (xs ys : List BoardState) (b : BoardState) → IsAfterAll (xs ++ ys) b → IsAfterAll xs b × IsAfterAll ys b
-after_parts [] ys b all = (tt, all)
-after_parts (x ∷ xs) ys b all = let rest = after_parts xs ys b all.1 in ((all.0, rest.0), rest.1)
 
 abbrev pub AllLater : List Entry → List Gone → Type 0
 AllLater h [] = Unit {0}
@@ -199,87 +151,7 @@ module _ (gate : TableId) (first : Known) (program : Program) (strict : Bool) (l
       ap (λ (k : Known). k.rooms) is.joined_are
       ∙ all_rooms (joined is.rest is.script.knows) is.gone (ap (λ (rs : List RoomFor). rs ++ is.script.knows.rooms) (is.less.rests rests).rooms ∙ is.script_done.rests.rooms) (gone_rest (split_off first) fresh begun is.gone is.sessions)
 
--- ---- an opening has no write
-
-abbrev NoWrites : List Entry → Type 0
-NoWrites [] = Unit {0}
-NoWrites (e ∷ es) = ((w : Write) → e ≡ entry.Write w → ⊥) × NoWrites es
-
-roles_none : (roles : List ConfigRole) (es : List Entry) → AreOf IsRoleEntry roles es → NoWrites es
-roles_none [] [] are = tt
-roles_none (r ∷ roles) (e ∷ es) are = (λ w is. put_role (sym are.0.entry ∙ is), roles_none roles es are.1)
-  where
-    put_role : {w : Write} {name : List ℕ} {channels : List (List ℕ)} → entry.PutRole name channels ≡ entry.Write w → ⊥
-    put_role is = absurd cc
-roles_none [] (e ∷ es) are = absurd are
-roles_none (r ∷ roles) [] are = absurd are
-
-users_none : (users : List ConfigUser) (es : List Entry) → AreOf IsUserEntry users es → NoWrites es
-users_none [] [] are = tt
-users_none (u ∷ users) (e ∷ es) are = (λ w is. put_user (sym are.0.entry ∙ is), users_none users es are.1)
-  where
-    put_user : {w : Write} {name : List ℕ} {channels roles : List (List ℕ)} → entry.PutUser name channels roles ≡ entry.Write w → ⊥
-    put_user is = absurd cc
-users_none [] (e ∷ es) are = absurd are
-users_none (u ∷ users) [] are = absurd are
-
-both_none : (es fs : List Entry) → NoWrites es → NoWrites fs → NoWrites (es ++ fs)
-both_none [] fs a b = b
-both_none (e ∷ es) fs a b = (a.0, both_none es fs a.1 b)
-
-taken_none : (n : ℕ) (es : List Entry) → NoWrites es → NoWrites (take n es)
-taken_none zero es none = tt
-taken_none (suc n) [] none = tt
-taken_none (suc n) (e ∷ es) none = (none.0, taken_none n es none.1)
-
-none_at : (es : List Entry) (place : ℕ) (w : Write) → NoWrites es → slice_get es place ≡ Some (entry.Write w) → ⊥
-none_at [] place w none is = absurd cc
-none_at (e ∷ es) zero w none is = none.0 w (some_is is)
-  where
-    some_is : Some e ≡ Some (entry.Write w) → e ≡ entry.Write w
-    some_is is = ap (λ (o : Option Entry). entry_in o) is
-      where
-        entry_in : Option Entry → Entry
-        entry_in None = e
-        entry_in (Some x) = x
-none_at (e ∷ es) (suc place) w none is = none_at es place w none.1 is
-
-opening_none : (roles : List ConfigRole) (users : List ConfigUser) (opening : List Entry) → IsOpening roles users opening → NoWrites opening
-opening_none roles users opening is =
-    subst NoWrites (sym is.entries) (taken_none 3999999 (is.roles ++ is.users) (both_none is.roles is.users (roles_none roles is.roles is.are_roles) (users_none users is.users is.are_users)))
-
--- before its end stands what stood there
-before_end : (es more : List Entry) (place : ℕ) → place < length es → slice_get (es ++ more) place ≡ slice_get es place
-before_end [] more place low = absurd (omega (arith, low))
-before_end (e ∷ es) more zero low = refl
-before_end (e ∷ es) more (suc place) low = before_end es more place (omega (arith, low))
-
-in_opening : (opening h : List Entry) (k : ℕ) (w : Write) → Extends opening h → NoWrites opening → k ≤ length opening → book_of h k ≡ Some (entry.Write w) → ⊥
-in_opening opening h zero w on none low is = absurd cc
-in_opening opening h (suc place) w (more, on) none low is =
-    none_at opening place w none (sym (before_end opening more place (omega (arith, low))) ∙ ap (λ (es : List Entry). slice_get es place) (sym on) ∙ is)
-
 -- ---- the whole
-
--- what the laws of sessions say
-pub record SessionLaws : Type 0 where
-  pub own : (setup : Setup) (start final : Moment) (ended : Ended) (results : List Got) (sent : List (List ℕ)) (failed : List Gave)
-      → IsSession setup start final ended results sent failed
-      → (added : List Waiting) × (final.own ≡ added ++ start.own) × (map (λ (w : Waiting). w.number) added ≡ reverse ended.stored) × AreJudged (arc_value setup.program) setup.user start.read final.read added
-
--- the entries of a session stand in the history, judged
-session_judged : JudgedLater → (h : List Entry) (program : Program) (user : List ℕ) (before after : List BoardState) → IsLaterThanAll after h → (ws : List Waiting) → AreJudged program user before after ws → AllJudgedIn h program ws
-session_judged on h program user before after all [] are = tt
-session_judged on h program user before after all (w ∷ ws) (one, are) = (
-  record {
-    there = subst (λ (e : Entry). book_of h w.number ≡ Some e) (sym one.entry_is) judged.there;
-    judged = λ x is. judged.judged x (sym one.entry_is ∙ is);
-  },
-  session_judged on h program user before after all ws are,
-)
-  where
-    judged : IsJudgedIn h program (record { number = w.number; entry = entry.Write one.write })
-    judged = judged_in on h program one.holding w.number one.write (later_one after one.holding h (was_one before after one.holding one.holding_read) all) one.there one.judged_write
 
 module _ (reads : WasReadLaws) (on : JudgedLater) (sessions : SessionLaws)
     (opened board : BoardState) (program : Program) (strict : Bool) (lines : List AdminLine) (devices : List Device) (begun : List Begun) (outcomes : List LineOutcome) (leaves : List Leaves)
@@ -326,25 +198,9 @@ module _ (reads : WasReadLaws) (on : JudgedLater) (sessions : SessionLaws)
 
   session_of : (d : Device) (b : Begun) (g : Gone) → IsReadyFor program strict d b.setup b.traffic b.faults → IsGone split b g → IsLaterThanAll g.knows.read h → IsAfterAll g.knows.read board → IsSessionOf h program strict d g.leaves
   session_of d b g r done all behind =
-      let session = done.served.session in
-      let now_after : IsAfterAll session.now.read board = (after_parts session.reads.reads.added session.now.read board (subst (λ (read : List BoardState). IsAfterAll read board) session.reads.reads.read behind)).1 in
-      record {
-        setup = b.setup;
-        is_setup = r.is_setup;
-        start = moment_at split;
-        final = moment_at g.knows;
-        served = record {
-          results = done.served.results;
-          sent = done.served.sent;
-          failed = done.served.failed;
-          session = session;
-          records = subst (λ (t : Option Traffic). Records t done.served.results done.served.sent done.served.failed g.leaves.traffic) r.traffic_is done.served.records;
-        };
-        later = all;
-        fault = λ failed. subst (λ (n : ℕ). n < g.leaves.faults) r.faults_is (done.fault failed);
-        bounded = bounded_parts h (undone session.halted) (steps_of session.turns)
-            (bounded_steps opened board none is.closes.pending is.closes.rooms reads (moment_at split) session.now b.setup.user (arc_value b.setup.program) b.setup.strict (undone session.halted ++ steps_of session.turns) (inl refl) now_after session.answered);
-      }
+      closing.session_of reads opened board program strict none is.closes.pending is.closes.rooms d g.leaves b.setup (moment_at split) (moment_at g.knows) r.is_setup
+      (subst (λ (t : Option Traffic). IsServed b.setup (moment_at split) (moment_at g.knows) t g.leaves.ended g.leaves.traffic) r.traffic_is done.served)
+      (λ failed. subst (λ (n : ℕ). n < g.leaves.faults) r.faults_is (done.fault failed)) (inl refl) all behind
 
   sessions_of : (ds : List Device) (bs : List Begun) (gs : List Gone) → AllPairs (λ (d : Device) (b : Begun). IsReadyFor program strict d b.setup b.traffic b.faults) ds bs → AllPairs (IsGone split) bs gs → AllLater h gs → AllAfter board gs
       → AllPairs (IsSessionOf h program strict) ds (map (λ (g : Gone). g.leaves) gs)
@@ -363,23 +219,12 @@ module _ (reads : WasReadLaws) (on : JudgedLater) (sessions : SessionLaws)
   script_own : (added : List Waiting) × (threaded.script.knows.own ≡ added ++ []) × (numbers added ≡ reverse (sequences_of outcomes)) × AllJudgedIn h program added
   script_own = lines_own on h program strict (moment_at split) (moment_at threaded.script.knows) lines outcomes script_later threaded.script_done.run
 
-  -- what a session has of its own stands at the numbers that it lists, judged
-  record Stored (g : Gone) : Type 0 where
-    pub judged : AllJudgedIn h program g.knows.own
-    pub count : (k : ℕ) → times k (numbers g.knows.own) ≡ times k g.leaves.ended.stored
-
-  stored_by : (d : Device) (b : Begun) (g : Gone) → IsReadyFor program strict d b.setup b.traffic b.faults → IsGone split b g → IsLaterThanAll g.knows.read h → Stored g
-  stored_by d b g r done all =
-      let mine = sessions.own b.setup (moment_at split) (moment_at g.knows) g.leaves.ended done.served.results done.served.sent done.served.failed done.served.session in
-      let own : g.knows.own ≡ mine.0 = mine.1 ∙ append-nil mine.0 in record {
-        judged = subst (λ (ws : List Waiting). AllJudgedIn h program ws) (sym own)
-            (subst (λ (p : Program). AllJudgedIn h p mine.0) r.is_setup.judged_by (session_judged on h (arc_value b.setup.program) b.setup.user split.read g.knows.read all mine.0 mine.3));
-        count = λ k. ap (λ (ws : List Waiting). times k (numbers ws)) own ∙ ap (times k) (sym (numbers_mapped mine.0) ∙ mine.2) ∙ times-reverse k g.leaves.ended.stored;
-      }
+  stored_by : (d : Device) (b : Begun) (g : Gone) → IsReadyFor program strict d b.setup b.traffic b.faults → IsGone split b g → IsLaterThanAll g.knows.read h → Stored h program g.knows.own g.leaves.ended.stored
+  stored_by d b g r done all = stored_of sessions on h program b.setup (moment_at split) (moment_at g.knows) g.leaves.ended done.served.results done.served.sent done.served.failed done.served.session refl r.is_setup.judged_by all
 
   abbrev AllStored : List Gone → Type 0
   AllStored [] = Unit {0}
-  AllStored (g ∷ gs) = Stored g × AllStored gs
+  AllStored (g ∷ gs) = Stored h program g.knows.own g.leaves.ended.stored × AllStored gs
 
   all_stored : (ds : List Device) (bs : List Begun) (gs : List Gone) → AllPairs (λ (d : Device) (b : Begun). IsReadyFor program strict d b.setup b.traffic b.faults) ds bs → AllPairs (IsGone split) bs gs → AllLater h gs → AllStored gs
   all_stored [] [] [] r done l = tt
@@ -432,29 +277,8 @@ module _ (reads : WasReadLaws) (on : JudgedLater) (sessions : SessionLaws)
   own_judged : AllJudgedIn h program is.pass.knows.own
   own_judged = subst (λ (p : Known). AllJudgedIn h program p.own) (sym threaded.joined_are) (all_own h program rest_and_script threaded.gone script_judged (λ g among. among_stored g threaded.gone stored among))
 
-  same_entry : (k : ℕ) (w : Write) (v : Waiting) → v.number ≡ k → IsJudgedIn h program v → book_of h k ≡ Some (entry.Write w) → v.entry ≡ entry.Write w
-  same_entry k w v at judged there = same_some (sym judged.there ∙ ap (λ (n : ℕ). book_of h n) at ∙ there)
-    where
-      entry_in : Option Entry → Entry
-      entry_in None = v.entry
-      entry_in (Some e) = e
-
-      same_some : Some v.entry ≡ Some (entry.Write w) → v.entry ≡ entry.Write w
-      same_some same = ap entry_in same
-
-  book_is : (k : ℕ) (w : Write) → book_of h k ≡ Some (entry.Write w) → board_book board k ≡ Some (entry.Write w)
-  book_is k w there = ap (λ (ws : List Waiting). entry_or (book_of h k) (waiting_at ws k)) is.closes.pending ∙ ap (λ (o : Option Entry). entry_or o None) there
-
   pub all_judged_writes : (roles : List ConfigRole) (users : List ConfigUser) → IsOpening roles users opened.log → (k : ℕ) (w : Write) → book_of h k ≡ Some (entry.Write w) → IsJudgedWrite program (book_of h) k w
-  all_judged_writes roles users opening k w there = by (nat_lt (length opened.log) k) refl
-    where
-      by : (past : Bool) → nat_lt (length opened.log) k ≡ past → IsJudgedWrite program (book_of h) k w
-      by false low = absurd (in_opening opened.log h k w begins.log (opening_none roles users opened.log opening) (ltb-false (length opened.log) k low) there)
-      by true past =
-          let one : 0 < times k (numbers is.pass.knows.own) =
-          omega (arith, is.closes.owners k ∙ ap (λ (n : ℕ). owed n board k) opening_is ∙ ap (λ (b : Bool). if b then used (board_book board k) else 0) past ∙ ap (λ (o : Option Entry). used o) (book_is k w there)) in
-          let it = found h program k is.pass.knows.own one own_judged in
-          subst (λ (n : ℕ). IsJudgedWrite program (book_of h) n w) it.1 (it.2.judged w (same_entry k w it.0 it.1 it.2 there))
+  all_judged_writes = closing.all_judged_writes opened board program begins.log is.closes.pending is.pass.knows.own own_judged (λ k. is.closes.owners k ∙ ap (λ (n : ℕ). owed n board k) opening_is)
 
   -- all of it, by the configuration
   pub played : (config : Config) → program ≡ arc_value config.program → strict ≡ not config.conflicts → IsOpening config.roles config.users opened.log → IsPlayed config lines devices board outcomes leaves

@@ -12,6 +12,6 @@ mod script;
 mod session;
 
 pub use line::own_revision;
-pub use opening::{open, run_command};
+pub use opening::{open, opened, run_command};
 pub use played::{LineOutcome, LineOutcomes, Played, PlayedSession, PlayedSessions, Sessions};
 pub use run::run_sessions;

@@ -10,12 +10,12 @@ ghost use Rattle.principals.specs.Script.{entry_of};
 ghost use Rattle.session_threads.specs.Opening.{IsInOrder, IsOpening, IsRoleEntry, IsUserEntry};
 ghost use Rattle.session_threads.specs.Opened.{HasOwnLog, IsCommandRun, IsGrownByAll, IsOpened, is_taken};
 
-use gateway_config::{ConfigRole, ConfigRoles, ConfigUser, ConfigUsers};
+use gateway_config::{Config, ConfigRole, ConfigRoles, ConfigUser, ConfigUsers};
 use log_views::in_order;
 use sg_history::{ChannelName, Channels, Name, Names};
 use sg_outside::Memory;
 use std::alloc::{AllocError, Global};
-use write_path::{Command, Ground, Outcome, SoloGround};
+use write_path::{Command, Ground, Outcome, Shelf, SoloGround};
 
 /// Passes over the names of channels, so that contracts know them to be in their grammar and UTF-8.
 fn pass_channels(channels: &[ChannelName])
@@ -157,4 +157,24 @@ pub fn open(
 {
     put_roles(alloc, ground, roles.as_slice())?;
     put_users(alloc, ground, users.as_slice())
+}
+
+/// The shelf whose history is that of a configuration's roles and users.
+pub fn opened(alloc: Global, shelf: Shelf, config: &Config) -> Result<Shelf, Memory>
+    requires empty { shelf.board.log ≡ [] }
+    requires pending { shelf.board.pending ≡ [] }
+    requires rooms { shelf.board.rooms ≡ [] }
+    ensures opening { IfOk result (λ s. IsOpening config.now.roles config.now.users s.board.log) }
+    ensures opened { IfOk result (λ s. IsOpened s.board.log) }
+    ensures pending { IfOk result (λ s. s.board.pending ≡ []) }
+    ensures rooms { IfOk result (λ s. s.board.rooms ≡ []) }
+{
+    let mut ground = SoloGround::new(shelf);
+    match open(alloc, &mut ground, &config.roles, &config.users) {
+        Ok(()) => Ok(ground.into_inner()),
+        Err(fault) => {
+            drop(ground);
+            Err(fault)
+        }
+    }
 }

@@ -7,14 +7,12 @@ ghost use Rattle.seq_gate.specs.Passes.{first_known, joined};
 ghost use Rattle.principals.specs.Script.{AreLines};
 ghost use Rattle.write_path.specs.Shared.{Rests};
 ghost use Rattle.write_path.specs.Shelf.{shelf_state};
-ghost use Rattle.session_threads.specs.Opened.{IsOpened};
-ghost use Rattle.session_threads.specs.Opening.{IsOpening};
 ghost use Rattle.session_threads.specs.Pairs.{AllOf, AllPairs};
 ghost use Rattle.session_threads.specs.Played.{IsPlayed};
 ghost use Rattle.session_threads.specs.Runs.{AreClosed, AreThreaded, IsScriptDone, joined_all};
 
 use crate::job::{Job, Started, finish_all, start_all};
-use crate::opening::open as open_history;
+use crate::opening::opened;
 use crate::played::{LineOutcome, LineOutcomes, Played, PlayedSession, PlayedSessions, Sessions};
 use crate::ready::{Ready, jobs_of, ready_all, with_places};
 use crate::script::run_script;
@@ -27,27 +25,7 @@ use std::alloc::{AllocError, Global};
 use std::sync::{Arc, Wait};
 use std::thread;
 use std::thread::Threads;
-use write_path::{Resolved, Shelf, SoloGround};
-
-/// The shelf whose history is that of a configuration's roles and users.
-fn opened(alloc: Global, shelf: Shelf, config: &Config) -> Result<Shelf, Memory>
-    requires empty { shelf.board.log ≡ [] }
-    requires pending { shelf.board.pending ≡ [] }
-    requires rooms { shelf.board.rooms ≡ [] }
-    ensures opening { IfOk result (λ s. IsOpening config.now.roles config.now.users s.board.log) }
-    ensures opened { IfOk result (λ s. IsOpened s.board.log) }
-    ensures pending { IfOk result (λ s. s.board.pending ≡ []) }
-    ensures rooms { IfOk result (λ s. s.board.rooms ≡ []) }
-{
-    let mut ground = SoloGround::new(shelf);
-    match open_history(alloc, &mut ground, &config.roles, &config.users) {
-        Ok(()) => Ok(ground.into_inner()),
-        Err(fault) => {
-            drop(ground);
-            Err(fault)
-        }
-    }
-}
+use write_path::{Resolved, Shelf};
 
 /// Takes in the pass of a session.
 fn take_in<R: Wait + Sync, W: Wire + Send>(
