@@ -23,6 +23,7 @@ fn give_back<D: Door, S: Serve<D::Line>>(door: &mut D, serve: &mut S, done: <S::
     ensures stays { (job : S.Job) → S.made serve.old job → S.made serve.new job }
     ensures served { Serves (S.holds serve.old) (S.out serve.old) (D.recorded door.old)
         None (S.holds serve.new) (S.out serve.new) (D.recorded door.new) }
+    ensures follows { S.follows serve.old serve.new }
     ensures faults { D.faults door.old ≤ D.faults door.new }
 {
     let trace = serve.done(done);
@@ -43,6 +44,7 @@ fn finish<D: Door, S: Serve<D::Line>>(
     ensures stays { (job : S.Job) → S.made serve.old job → S.made serve.new job }
     ensures served { Serves (S.holds serve.old) (S.out serve.old) (D.recorded door.old)
         None (S.holds serve.new) (S.out serve.new) (D.recorded door.new) }
+    ensures follows { S.follows serve.old serve.new }
     ensures faults { D.faults door.old ≤ D.faults door.new }
 {
     let done = running.join(rt);
@@ -64,6 +66,7 @@ fn reap<D: Door, S: Serve<D::Line>>(
     ensures refused { S.refused serve.new ≡ S.refused serve.old }
     ensures served { Serves (S.holds serve.old) (S.out serve.old) (D.recorded door.old)
         None (S.holds serve.new) (S.out serve.new) (D.recorded door.new) }
+    ensures follows { S.follows serve.old serve.new }
     ensures faults { D.faults door.old ≤ D.faults door.new }
 {
     let mut kept = Vec::new(alloc);
@@ -93,6 +96,7 @@ fn finish_all<D: Door, S: Serve<D::Line>>(
     ensures refused { S.refused serve.new ≡ S.refused serve.old }
     ensures served { Serves (S.holds serve.old) (S.out serve.old) (D.recorded door.old)
         None (S.holds serve.new) (S.out serve.new) (D.recorded door.new) }
+    ensures follows { S.follows serve.old serve.new }
     ensures faults { D.faults door.old ≤ D.faults door.new }
 {
     for one in running {
@@ -129,6 +133,7 @@ where
     ensures refused { S.refused serve.new ≡ S.refused serve.old }
     ensures served { Serves (S.holds serve.old) (S.out serve.old) (D.recorded door.old)
         None (S.holds serve.new) (S.out serve.new) (D.recorded door.new) }
+    ensures follows { S.follows serve.old serve.new }
     ensures faults { D.faults door.old ≤ D.faults door.new }
 {
     let (ended, theirs) = flags;
@@ -152,6 +157,7 @@ fn next_job<D: Door, S: Serve<D::Line>>(door: &mut D, serve: &mut S) -> Result<S
         (D.recorded door.new)) (λ stop. Serves (S.holds serve.old) (S.out serve.old)
         (D.recorded door.old) (Some stop) (S.holds serve.new) (S.out serve.new)
         (D.recorded door.new)) }
+    ensures follows { S.follows serve.old serve.new }
     ensures faults { D.faults door.old ≤ D.faults door.new }
     ensures failed { IfErr result (λ stop. stop ≡ Stop.Failed
         → D.faults door.old < D.faults door.new) }
@@ -186,6 +192,7 @@ where
     ensures refused { S.refused serve.new ≡ refusal_after (S.refused serve.old) result }
     ensures served { Serves (S.holds serve.old) (S.out serve.old) (D.recorded door.old)
         result (S.holds serve.new) (S.out serve.new) (D.recorded door.new) }
+    ensures follows { S.follows serve.old serve.new }
     ensures faults { D.faults door.old ≤ D.faults door.new }
     ensures failed { result ≡ Some Stop.Failed → D.faults door.old < D.faults door.new }
 {
@@ -224,6 +231,7 @@ where
     ensures refused { S.refused serve.new ≡ refusal_after (S.refused serve.old) (Some result.0) }
     ensures served { Serves (S.holds serve.old) (S.out serve.old) (D.recorded door.old)
         (Some result.0) (S.holds serve.new) (S.out serve.new) (D.recorded door.new) }
+    ensures follows { S.follows serve.old serve.new }
     ensures faults { D.faults door.old ≤ D.faults door.new }
     ensures failed { result.0 ≡ Stop.Failed → D.faults door.old < D.faults door.new }
 {
@@ -254,6 +262,7 @@ where
     ensures refused { S.refused serve.new ≡ refusal_after (S.refused serve.old) (Some result.0) }
     ensures served { ServedIfRecorded (S.holds serve.old) (D.recorded door.old) result.0
         (S.holds serve.new) (D.recorded door.new) }
+    ensures follows { S.follows serve.old serve.new }
     ensures faults { D.faults door.old ≤ D.faults door.new }
     ensures failed { result.0 ≡ Stop.Failed → D.faults door.old < D.faults door.new }
 {
@@ -280,6 +289,7 @@ pub fn serve_door<R: Threads + Wait + Sync, D: Door, S: Serve<D::Line>>(
 ) -> DoorEnd
     ensures failed { result ≡ DoorEnd.Failed → D.faults door.old < D.faults door.new }
     ensures faults { D.faults door.old ≤ D.faults door.new }
+    ensures follows { S.follows serve.old serve.new }
     ensures out { S.out serve.new ≡ S.out serve.old }
     ensures served { (stop : Stop) × (result ≡ end_of stop)
         × (S.refused serve.new ≡ refusal_after (S.refused serve.old) (Some stop))

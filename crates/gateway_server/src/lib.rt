@@ -9,4 +9,4 @@ mod stop;
 pub use accepting::serve_door;
 pub use job::Job;
 pub use serve::{NoJob, Serve};
-pub use stop::DoorEnd;
+pub use stop::{DoorEnd, Stop};

@@ -30,6 +30,9 @@ pub trait Serve<L: Line> {
     /// Why it refused a job, as it did last, if it did.
     ghost refused: { Self → Option NoJob };
 
+    /// That it is another one's server later on: what this says stays.
+    ghost follows: { Self → Self → Type 0 };
+
     /// What holds of the traces that it answered, the newest first.
     ghost holds: { Self → List L.Trace → Type 0 };
 
@@ -41,6 +44,7 @@ pub trait Serve<L: Line> {
         ensures refused { MatchResult result (λ _. refused self.new ≡ refused self.old)
             (λ why. refused self.new ≡ Some why) }
         ensures stays { (job : Self.Job) → made self.old job → made self.new job }
+        ensures follows { follows self.old self.new }
         ensures holds { L.recorded line ≡ Some no_line → (traces : List L.Trace)
             → holds self.old traces → holds self.new traces };
 
@@ -51,6 +55,11 @@ pub trait Serve<L: Line> {
         ensures out { out self.new + 1 ≡ out self.old }
         ensures refused { refused self.new ≡ refused self.old }
         ensures stays { (job : Self.Job) → made self.old job → made self.new job }
+        ensures follows { follows self.old self.new }
         ensures holds { (traces : List L.Trace) → holds self.old traces
             → holds self.new (result ∷ traces) };
+
+    ghost itself: { (s : Self) → follows s s };
+
+    ghost later: { (a b c : Self) → follows a b → follows b c → follows a c };
 }

@@ -18,7 +18,7 @@ pub enum DoorEnd {
 
 /// What stopped it.
 #[derive(Drop)]
-pub(crate) enum Stop {
+pub enum Stop {
     /// Accepting answered its end.
     End,
     /// Accepting answered a fault.

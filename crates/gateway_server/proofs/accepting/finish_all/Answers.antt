@@ -10,6 +10,7 @@ loop-one-init g c = record {
   out = search rules;
   within = search rules;
   refused = search rules;
+  follows = g.met.S.Serve.itself c.args.serve.now;
   served = same _ _ _;
   faults = search rules;
 }
@@ -27,6 +28,7 @@ loop-one-preserved g c =
       out = omega (arith, was.out, c.finish.ensures.out, count);
       within = omega (arith, was.within, c.finish.ensures.out, count);
       refused = c.finish.ensures.refused ∙ was.refused;
+      follows = g.met.S.Serve.later _ _ _ was.follows c.finish.ensures.follows;
       served = before was.served c.finish.ensures.served;
       faults = omega (arith, was.faults, c.finish.ensures.faults);
     }

@@ -12,6 +12,7 @@ loop-one-init g c = record {
   within = search rules;
   room = search rules;
   refused = search rules;
+  follows = g.met.S.Serve.itself c.args.serve.now;
   served = same _ _ _;
   faults = search rules;
 }
@@ -28,6 +29,7 @@ loop-one-preserved-then-has_ended g c =
       within = omega (arith, was.within, c.finish.ensures.out, count);
       room = omega (arith, was.room, count);
       refused = c.finish.ensures.refused ∙ was.refused;
+      follows = g.met.S.Serve.later _ _ _ was.follows c.finish.ensures.follows;
       served = before was.served c.finish.ensures.served;
       faults = omega (arith, was.faults, c.finish.ensures.faults);
     }
@@ -45,9 +47,13 @@ loop-one-preserved g c =
       within = omega (arith, was.within, c.push_reserved.ensures.len, count);
       room = omega (arith, was.room, c.push_reserved.ensures.len, c.push_reserved.ensures.capacity, count);
       refused = was.refused;
+      follows = was.follows;
       served = was.served;
       faults = was.faults;
     }
 
 pub returns-then-is_err-clause-served : goal.returns-then-is_err-clause-served
 returns-then-is_err-clause-served g c = same _ _ _
+
+pub returns-then-is_err-clause-follows : goal.returns-then-is_err-clause-follows
+returns-then-is_err-clause-follows g c = g.met.S.Serve.itself c.args.serve.now

@@ -11,6 +11,7 @@ invariant-loop-one g l = record {
   within : length l.one-iterator.rest.items + vec_len l.kept ≤ g.S.Serve.out l.serve;
   room : length l.one-iterator.rest.items + vec_len l.kept ≤ vec_capacity l.kept;
   refused : g.S.Serve.refused l.serve ≡ g.S.Serve.refused l.fn.serve;
+  follows : g.S.Serve.follows l.fn.serve l.serve;
   served : Serves (g.S.Serve.holds l.fn.serve) (g.S.Serve.out l.fn.serve) (g.D.Door.recorded l.fn.door) None (g.S.Serve.holds l.serve) (g.S.Serve.out l.serve) (g.D.Door.recorded l.door);
   faults : g.D.Door.faults l.fn.door ≤ g.D.Door.faults l.door;
 }

@@ -11,6 +11,10 @@ loop-preserved g c =
       jobs = c.serve_next.ensures.jobs;
       out = omega (arith, was.out, c.reap-running.ensures.count, c.serve_next.ensures.count);
       refused = c.in-None.ensures.refused ∙ c.reap-running.ensures.refused ∙ was.refused;
+      follows = g.met.S.Serve.later _ _ _ was.follows (g.met.S.Serve.later _ _ _ c.reap-running.ensures.follows c.in-None.ensures.follows);
       served = before was.served (before c.reap-running.ensures.served c.in-None.ensures.served);
       faults = omega (arith, was.faults, c.reap-running.ensures.faults, c.serve_next.ensures.faults);
     }
+
+pub returns-in-Some-clause-follows : goal.returns-in-Some-clause-follows
+returns-in-Some-clause-follows g c = g.met.S.Serve.later _ _ _ c.loop.invariant.follows (g.met.S.Serve.later _ _ _ c.reap-running.ensures.follows c.in-Some.ensures.follows)
