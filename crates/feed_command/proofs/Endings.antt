@@ -17,6 +17,7 @@ printed status.BadWords h journal f faults faults' before after spelled p = p
 printed (status.BadInput file place why) h journal f faults faults' before after spelled p = absurd p
 printed status.ReadFault h journal f faults faults' before after spelled p = p
 printed status.WriteFault h journal f faults faults' before after spelled p = (h, spelled, p.1, p.0)
+printed status.DoorFault h journal f faults faults' before after spelled p = p
 printed status.Memory h journal f faults faults' before after spelled p = p
 
 -- what was found of the journal that was loaded is so of the bytes that the files record
@@ -36,6 +37,7 @@ with_bytes status.ReadFault f bytes journal faults faults' before after loaded e
 with_bytes status.WriteFault f bytes journal faults faults' before after loaded e =
     let P : List ℕ → Type 0 = λ b. Spells b e.0 in
     (e.0, (loaded.0, subst P loaded.1 e.1), e.2)
+with_bytes status.DoorFault f bytes journal faults faults' before after loaded e = e
 with_bytes status.Memory f bytes journal faults faults' before after loaded e = tt
 
 -- a journal that was not loaded
@@ -46,4 +48,5 @@ not_loaded (status.BadInput file place why) f bytes before after loaded =
     (loaded.0, inl (loaded.1, loaded.2, loaded.3), λ h input. omega (arith, loaded.1, input.0))
 not_loaded status.ReadFault f bytes before after loaded = tt
 not_loaded status.WriteFault f bytes before after loaded = absurd loaded
+not_loaded status.DoorFault f bytes before after loaded = absurd loaded
 not_loaded status.Memory f bytes before after loaded = tt

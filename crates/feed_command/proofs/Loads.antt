@@ -84,6 +84,7 @@ journal_came status.ReadFault recorded path journal f faults faults' taken taken
 journal_came status.WriteFault recorded path journal f faults faults' taken taken' before after came same e =
     come status.WriteFault recorded path journal before after came (λ there.
     inl ((record { load_is = refl; there = there; good = λ bytes file. (e.0, subst (λ b. Spells b e.0) (same bytes file) e.1) }, tt), inr (inl refl)))
+journal_came status.DoorFault recorded path journal f faults faults' taken taken' before after came same e = absurd e
 journal_came status.Memory recorded path journal f faults faults' taken taken' before after came same e =
     come status.Memory recorded path journal before after came (λ there. inr (refl, inl refl))
 

@@ -37,3 +37,7 @@ unfoldable pub replay_app : App
 replay_app =
     with_rule (with_rule (with_rule (plain_app (codes "replay")) (needed (codes "config"))) (needed (codes "admin")))
     (several (codes "files"))
+
+-- serve CONFIG
+unfoldable pub serve_app : App
+serve_app = with_rule (plain_app (codes "serve")) (needed (codes "config"))

@@ -9,4 +9,5 @@ pub mod Matches
 pub mod PlainWords
 pub mod ReplayRequest
 pub mod ReplayWords
+pub mod ServeWords
 pub mod Run

@@ -27,6 +27,7 @@ IsRefusal status.Ok = ⊥
 IsRefusal (status.BadInput file place why) = ⊥
 IsRefusal status.ReadFault = ⊥
 IsRefusal status.WriteFault = ⊥
+IsRefusal status.DoorFault = ⊥
 
 -- the bytes are no more than a file may have, and are the journal of this history
 abbrev pub IsInput : List ℕ → History → Type 0
@@ -55,6 +56,7 @@ EndsAbsent status.Ok = ⊥
 EndsAbsent status.BadWords = ⊥
 EndsAbsent (status.BadInput file place why) = ⊥
 EndsAbsent status.WriteFault = ⊥
+EndsAbsent status.DoorFault = ⊥
 
 -- each status with what it says of the journal's bytes and of the sink
 abbrev pub Ends : Status → FeedWords → List ℕ → Option (List ℕ) → Option (List ℕ) → Type 0
@@ -64,15 +66,17 @@ Ends (status.BadInput file place why) f bytes before after =
     (file ≡ 1) × IsBadInput bytes place why × ((h : History) → ¬ IsInput bytes h)
 Ends status.ReadFault f bytes before after = Unit {0}
 Ends status.WriteFault f bytes before after = (h : History) × IsInput bytes h × TookPart before after (feed_text h f.user f.since f.options)
+Ends status.DoorFault f bytes before after = ⊥
 Ends status.Memory f bytes before after = Unit {0}
 
--- a fault that is answered was counted
+-- a fault that is answered was counted, of a command that has no door
 abbrev pub Counted : Status → ℕ → ℕ → ℕ → ℕ → Type 0
 Counted status.ReadFault read read' wrote wrote' = read < read'
 Counted status.WriteFault read read' wrote wrote' = wrote < wrote'
 Counted status.Ok read read' wrote wrote' = Unit {0}
 Counted status.BadWords read read' wrote wrote' = Unit {0}
 Counted (status.BadInput file place why) read read' wrote wrote' = Unit {0}
+Counted status.DoorFault read read' wrote wrote' = ⊥
 Counted status.Memory read read' wrote wrote' = Unit {0}
 
 -- nothing was written but at the two statuses that follow the writing
@@ -82,6 +86,7 @@ Silent status.WriteFault before after = Unit {0}
 Silent status.BadWords before after = after ≡ before
 Silent (status.BadInput file place why) before after = after ≡ before
 Silent status.ReadFault before after = after ≡ before
+Silent status.DoorFault before after = after ≡ before
 Silent status.Memory before after = after ≡ before
 
 -- a file that was loaded whole, or how the run ends without it, where its bytes are recorded; it has this number among the command's files
@@ -92,6 +97,7 @@ IsLoaded number bytes (Err status.BadWords) = ⊥
 IsLoaded number bytes (Err (status.BadInput file place why)) = (file ≡ number) × (largest_file < length bytes) × (place ≡ 0) × (why ≡ Long)
 IsLoaded number bytes (Err status.ReadFault) = Unit {0}
 IsLoaded number bytes (Err status.WriteFault) = ⊥
+IsLoaded number bytes (Err status.DoorFault) = ⊥
 IsLoaded number bytes (Err status.Memory) = Unit {0}
 
 -- how a run may end at the loading, with the count of the files' faults, which never falls
@@ -102,6 +108,7 @@ EndsLoaded (Err status.BadWords) before after = ⊥
 EndsLoaded (Err (status.BadInput file place why)) before after = before ≤ after
 EndsLoaded (Err status.ReadFault) before after = before < after
 EndsLoaded (Err status.WriteFault) before after = ⊥
+EndsLoaded (Err status.DoorFault) before after = ⊥
 EndsLoaded (Err status.Memory) before after = before ≤ after
 
 -- how a run may end at the writing, with the count of the sink's faults and what it took of the text
@@ -111,6 +118,7 @@ Prints status.BadWords text faults faults' before after = ⊥
 Prints (status.BadInput file place why) text faults faults' before after = ⊥
 Prints status.ReadFault text faults faults' before after = ⊥
 Prints status.WriteFault text faults faults' before after = (faults < faults') × TookPart before after text
+Prints status.DoorFault text faults faults' before after = ⊥
 Prints status.Memory text faults faults' before after = after ≡ before
 
 -- how a run may end with the journal in hand, with the count of the sink's faults and what the sink took
@@ -123,4 +131,5 @@ EndsFeed (status.BadInput file place why) journal f faults faults' before after 
 EndsFeed status.ReadFault journal f faults faults' before after = ⊥
 EndsFeed status.WriteFault journal f faults faults' before after =
     (h : History) × Spells journal h × TookPart before after (feed_text h f.user f.since f.options) × (faults < faults')
+EndsFeed status.DoorFault journal f faults faults' before after = ⊥
 EndsFeed status.Memory journal f faults faults' before after = after ≡ before

@@ -4,7 +4,7 @@ ghost use Rattle.std.specs.Prelude.{◌≡◌, IfOk, false};
 ghost use Rattle.clap.specs.Walk.{rule_of};
 ghost use Rattle.clap.specs.Simple.{app_of};
 ghost use Rattle.feed_command.specs.CommandLines as lines;
-ghost use Rattle.feed_command.specs.CommandLines.{feed_app, plain_app, replay_app};
+ghost use Rattle.feed_command.specs.CommandLines.{feed_app, plain_app, replay_app, serve_app};
 
 use clap::{Arg, ArgAction, Command};
 use std::alloc::{AllocError, Global};
@@ -71,4 +71,11 @@ pub(crate) fn replay_line<'a>(alloc: Global) -> Result<Command<'a>, AllocError>
         .arg(needed(alloc, "config"))?
         .arg(needed(alloc, "admin"))?
         .arg(several(alloc, "files"))
+}
+
+/// The command line of `serve`.
+pub(crate) fn serve_line<'a>(alloc: Global) -> Result<Command<'a>, AllocError>
+    ensures { IfOk result (λ c. app_of c ≡ serve_app) }
+{
+    plain(alloc, "serve").arg(needed(alloc, "config"))
 }

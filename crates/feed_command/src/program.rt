@@ -37,6 +37,7 @@ fn number_of(status: &Status) -> u8
         Status::BadInput { .. } => 2,
         Status::ReadFault => 3,
         Status::WriteFault => 4,
+        Status::DoorFault => 5,
         Status::Memory => 6,
     }
 }
@@ -49,6 +50,7 @@ fn print_status(rt: &impl Eprint, status: &Status) -> io::Result<()> {
         Status::BadInput { file, place, .. } => eprintln!(rt; "sgate: bad input {file} {place}"),
         Status::ReadFault => eprintln!(rt; "sgate: read fault"),
         Status::WriteFault => eprintln!(rt; "sgate: write fault"),
+        Status::DoorFault => eprintln!(rt; "sgate: door fault"),
         Status::Memory => eprintln!(rt; "sgate: no memory"),
     }
 }

@@ -14,6 +14,8 @@ pub enum Status {
     ReadFault,
     /// The output could not be written.
     WriteFault,
+    /// The door could not be opened, or failed.
+    DoorFault,
     /// Memory ran out.
     Memory,
 }

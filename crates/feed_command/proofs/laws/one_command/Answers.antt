@@ -1,5 +1,9 @@
-use Rattle.feed_command.proofs.OneCommand.{not_both}
+use Rattle.feed_command.proofs.OneCommand as one
 use Rattle.feed_command.proofs.laws.one_command.Goals as goal
 
 pub returns : goal.returns
-returns c = λ words f r feed replay. not_both words feed.0 replay.0
+returns c = record {
+  feed_or_replay = λ words f r feed replay. one.feed_or_replay words feed.0 replay.0;
+  feed_or_serve = λ words f config feed serve. one.feed_or_serve words feed.0 serve.0;
+  replay_or_serve = λ words r config replay serve. one.replay_or_serve words replay.0 serve.0;
+}
