@@ -1,0 +1,5 @@
+pub mod Calling
+pub mod Holding
+pub mod LineLists
+pub mod ServedCallers
+pub mod Crossing

@@ -1,0 +1,4 @@
+pub mod Callers
+pub mod Served
+pub mod Lines
+pub mod Runs
