@@ -18,6 +18,7 @@ module _ (Is : Config → List AdminLine → List Recorded → List ℕ → Type
   replayed (status.BadInput file place why) contents i faults faults' before after are p = absurd p
   replayed status.ReadFault contents i faults faults' before after are p = tt
   replayed status.WriteFault contents i faults faults' before after are p = (p.1, record { inputs = i; are_inputs = are; replay = p.2 }, p.3)
+  replayed status.DoorFault contents i faults faults' before after are p = absurd p
   replayed status.Memory contents i faults faults' before after are p = tt
 
   -- files that were not read
@@ -27,6 +28,7 @@ module _ (Is : Config → List AdminLine → List Recorded → List ℕ → Type
   not_read (status.BadInput file place why) contents before after r = r
   not_read status.ReadFault contents before after r = tt
   not_read status.WriteFault contents before after r = absurd r
+  not_read status.DoorFault contents before after r = absurd r
   not_read status.Memory contents before after r = tt
 
   -- what is printed ends in one of three ways
@@ -36,4 +38,5 @@ module _ (Is : Config → List AdminLine → List Recorded → List ℕ → Type
   printed_status (status.BadInput file place why) i faults faults' before after p = absurd p
   printed_status status.ReadFault i faults faults' before after p = absurd p
   printed_status status.WriteFault i faults faults' before after p = inr (inl refl)
+  printed_status status.DoorFault i faults faults' before after p = absurd p
   printed_status status.Memory i faults faults' before after p = inr (inr refl)

@@ -2,3 +2,4 @@ pub mod Endings
 pub mod Loading
 pub mod Reading
 pub mod Refusing
+pub mod Serving

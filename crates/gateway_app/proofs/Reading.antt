@@ -39,6 +39,7 @@ not_loaded_read view Is IsBad number bytes (status.BadInput file place why) long
 )
 not_loaded_read view Is IsBad number bytes status.ReadFault long loaded = tt
 not_loaded_read view Is IsBad number bytes status.WriteFault long loaded = absurd loaded
+not_loaded_read view Is IsBad number bytes status.DoorFault long loaded = absurd loaded
 not_loaded_read view Is IsBad number bytes status.Memory long loaded = tt
 
 long_config : (bytes : List ℕ) → largest_file < length bytes → (◌≡◌ {A = ℕ} 1 1 × IsBadConfig bytes 0 whys.Long) × ((c : Config) → ¬ IsConfigIn bytes c)
@@ -106,12 +107,14 @@ refused_read view Is IsBad number (read.Bad bad) status.Ok refused named = absur
 refused_read view Is IsBad number (read.Bad bad) status.BadWords refused named = absurd refused
 refused_read view Is IsBad number (read.Bad bad) status.ReadFault refused named = absurd refused
 refused_read view Is IsBad number (read.Bad bad) status.WriteFault refused named = absurd refused
+refused_read view Is IsBad number (read.Bad bad) status.DoorFault refused named = absurd refused
 refused_read view Is IsBad number (read.Bad bad) status.Memory refused named = absurd refused
 refused_read view Is IsBad number read.Memory (status.BadInput file place why) refused named = absurd refused
 refused_read view Is IsBad number read.Memory status.Ok refused named = absurd refused
 refused_read view Is IsBad number read.Memory status.BadWords refused named = absurd refused
 refused_read view Is IsBad number read.Memory status.ReadFault refused named = absurd refused
 refused_read view Is IsBad number read.Memory status.WriteFault refused named = absurd refused
+refused_read view Is IsBad number read.Memory status.DoorFault refused named = absurd refused
 refused_read view Is IsBad number read.Memory status.Memory refused named = tt
 
 pub refused_script : (bytes loaded : List ℕ) (fault : ReadLog) (s : Status) → loaded ≡ bytes → length bytes ≤ largest_file → IsRefused 2 fault s → NamesLine (IsBadScript loaded) fault → RefusesLog fault ((ls : List AdminLine) → ¬ script.Spells loaded ls) → IsScriptRead bytes (Err s)
@@ -180,6 +183,7 @@ session_failed contents i records (status.BadInput file place why) low are faile
     )
 session_failed contents i records status.ReadFault low are failed = tt
 session_failed contents i records status.WriteFault low are failed = absurd failed
+session_failed contents i records status.DoorFault low are failed = absurd failed
 session_failed contents i records status.Memory low are failed = tt
 
 -- ---- the whole
@@ -190,6 +194,7 @@ config_failed contents status.BadWords failed = absurd failed
 config_failed contents (status.BadInput file place why) failed = (inl failed.0, λ i are. failed.1 i.config are.config)
 config_failed contents status.ReadFault failed = tt
 config_failed contents status.WriteFault failed = absurd failed
+config_failed contents status.DoorFault failed = absurd failed
 config_failed contents status.Memory failed = tt
 
 pub script_failed : (contents : Contents) (config : Config) (s : Status) → IsConfigIn contents.config config → IsScriptRead contents.admin (Err s) → AreInputsRead contents (Err s)
@@ -199,6 +204,7 @@ script_failed contents config (status.BadInput file place why) is failed =
     (inr ((config, is), inl failed.0), λ i are. failed.1 i.lines are.script)
 script_failed contents config status.ReadFault is failed = tt
 script_failed contents config status.WriteFault is failed = absurd failed
+script_failed contents config status.DoorFault is failed = absurd failed
 script_failed contents config status.Memory is failed = tt
 
 pub sessions_failed : (contents : Contents) (config : Config) (lines : List AdminLine) (s : Status) → IsConfigIn contents.config config → IsScriptIn contents.admin lines → AreSessionsRead contents.sessions (Err s) → AreInputsRead contents (Err s)
@@ -208,4 +214,5 @@ sessions_failed contents config lines (status.BadInput file place why) is spells
     (inr ((config, is), inr ((lines, spells), failed.0)), λ i are. failed.1 i.records are.sessions)
 sessions_failed contents config lines status.ReadFault is spells failed = tt
 sessions_failed contents config lines status.WriteFault is spells failed = absurd failed
+sessions_failed contents config lines status.DoorFault is spells failed = absurd failed
 sessions_failed contents config lines status.Memory is spells failed = tt

@@ -39,12 +39,14 @@ module _ (recorded : Option (List ℕ → Option (List ℕ))) where
   script_refuses name (read.Bad bad) status.BadWords is r = absurd is
   script_refuses name (read.Bad bad) status.ReadFault is r = absurd is
   script_refuses name (read.Bad bad) status.WriteFault is r = absurd is
+  script_refuses name (read.Bad bad) status.DoorFault is r = absurd is
   script_refuses name (read.Bad bad) status.Memory is r = absurd is
   script_refuses name read.Memory (status.BadInput file place why) is r = absurd is
   script_refuses name read.Memory status.Ok is r = absurd is
   script_refuses name read.Memory status.BadWords is r = absurd is
   script_refuses name read.Memory status.ReadFault is r = absurd is
   script_refuses name read.Memory status.WriteFault is r = absurd is
+  script_refuses name read.Memory status.DoorFault is r = absurd is
 
   pub session_refuses : (number : ℕ) (name : List ℕ) (fault : ReadLog) (s : Status) → 3 ≤ number → IsRefused number fault s → ((bytes : List ℕ) → HasFile recorded name bytes → IsSessionRead number bytes (Err s)) → Refuses recorded IsGoodFile IsBadFileAt number name s
   session_refuses number name (read.Bad bad) (status.BadInput file place why) high is r =
@@ -54,9 +56,11 @@ module _ (recorded : Option (List ℕ → Option (List ℕ))) where
   session_refuses number name (read.Bad bad) status.BadWords high is r = absurd is
   session_refuses number name (read.Bad bad) status.ReadFault high is r = absurd is
   session_refuses number name (read.Bad bad) status.WriteFault high is r = absurd is
+  session_refuses number name (read.Bad bad) status.DoorFault high is r = absurd is
   session_refuses number name (read.Bad bad) status.Memory high is r = absurd is
   session_refuses number name read.Memory (status.BadInput file place why) high is r = absurd is
   session_refuses number name read.Memory status.Ok high is r = absurd is
   session_refuses number name read.Memory status.BadWords high is r = absurd is
   session_refuses number name read.Memory status.ReadFault high is r = absurd is
   session_refuses number name read.Memory status.WriteFault high is r = absurd is
+  session_refuses number name read.Memory status.DoorFault high is r = absurd is

@@ -1,3 +1,4 @@
 pub mod Inputs
 pub mod Loading
 pub mod Replays
+pub mod Serves

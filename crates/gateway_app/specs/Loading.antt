@@ -26,6 +26,7 @@ IsRead view Is IsBad (Err status.Memory) = Unit {0}
 IsRead view Is IsBad (Err status.Ok) = ⊥
 IsRead view Is IsBad (Err status.BadWords) = ⊥
 IsRead view Is IsBad (Err status.WriteFault) = ⊥
+IsRead view Is IsBad (Err status.DoorFault) = ⊥
 
 abbrev pub IsConfigRead : List ℕ → Result Config Status → Type 0
 IsConfigRead bytes result = IsRead (λ (config : Config). config) (IsConfigIn bytes) (λ file place why. (file ≡ 1) × IsBadConfig bytes place why) result
@@ -61,6 +62,7 @@ abbrev pub PrintsReplay : (Config → List AdminLine → List Recorded → List 
 PrintsReplay Is status.Ok i faults faults' before after = (text : List ℕ) × Is i.config i.lines i.records text × Took before after text
 PrintsReplay Is status.WriteFault i faults faults' before after =
     (faults < faults') × (text : List ℕ) × Is i.config i.lines i.records text × TookPart before after text
+PrintsReplay Is status.DoorFault i faults faults' before after = ⊥
 PrintsReplay Is status.Memory i faults faults' before after = after ≡ before
 PrintsReplay Is status.BadWords i faults faults' before after = ⊥
 PrintsReplay Is (status.BadInput file place why) i faults faults' before after = ⊥

@@ -21,4 +21,5 @@ EndsReplay Is status.BadWords contents before after = ⊥
 EndsReplay Is (status.BadInput file place why) contents before after = IsFirstBad contents file place why × ((i : Inputs) → ¬ AreInputs contents i)
 EndsReplay Is status.ReadFault contents before after = Unit {0}
 EndsReplay Is status.WriteFault contents before after = (text : List ℕ) × IsTranscript Is contents text × TookPart before after text
+EndsReplay Is status.DoorFault contents before after = ⊥
 EndsReplay Is status.Memory contents before after = Unit {0}

@@ -3,6 +3,7 @@
 
 mod commands;
 mod replay_command;
+mod serve_command;
 
 pub use commands::run;
 pub use feed_command::Status;

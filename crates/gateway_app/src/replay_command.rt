@@ -50,7 +50,11 @@ fn config_refused(fault: ConfigFault) -> Status
 }
 
 /// The configuration of a file, the first one.
-fn load_config<F: Files>(alloc: Global, files: &mut F, path: &str) -> Result<Config, Status>
+pub(crate) fn load_config<F: Files>(
+    alloc: Global,
+    files: &mut F,
+    path: &str,
+) -> Result<Config, Status>
     ensures recorded { (bytes : List ℕ) → HasFile (F.recorded files.old) path.now bytes
         → IsConfigRead bytes result }
     ensures loads { (done : List Load) × (F.loads files.new ≡ F.loads files.old ++ done)

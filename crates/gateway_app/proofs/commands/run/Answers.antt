@@ -1,18 +1,22 @@
-use Rattle.feed_command.specs.ReplayRequest.{replay_of}
-use Rattle.feed_command.proofs.OneCommand.{not_both}
+use Rattle.std.proofs.Common.{inl, inr}
+use Rattle.feed_command.proofs.OneCommand.{feed_or_serve, replay_or_serve}
+use Rattle.gateway_app.proofs.Serving.{counted_all}
 use Rattle.gateway_app.proofs.commands.run.Goals as goal
 
 pub returns-in-Ok-clause-outside : goal.returns-in-Ok-clause-outside
-returns-in-Ok-clause-outside g c = λ no_feed none. absurd (none (replay_of c.in-Ok.request) c.in-Ok.ensures.ok)
+returns-in-Ok-clause-outside g c = λ no_feed no_replay none. absurd (none c.in-Ok.config.now c.in-Ok.ensures.ok)
 
 pub returns-in-Ok-clause-ends : goal.returns-in-Ok-clause-ends
-returns-in-Ok-clause-ends g c = λ f bytes is has. absurd (not_both _ is.0 c.in-Ok.ensures.ok.0)
+returns-in-Ok-clause-ends g c = λ f bytes is has. absurd (feed_or_serve _ is.0 c.in-Ok.ensures.ok.0)
+
+pub returns-in-Ok-clause-replays : goal.returns-in-Ok-clause-replays
+returns-in-Ok-clause-replays g c = λ r contents is have. absurd (replay_or_serve _ is.0 c.in-Ok.ensures.ok.0)
 
 pub returns-in-Ok-clause-absent : goal.returns-in-Ok-clause-absent
-returns-in-Ok-clause-absent g c = λ f is none. absurd (not_both _ is.0 c.in-Ok.ensures.ok.0)
+returns-in-Ok-clause-absent g c = λ f is none. absurd (feed_or_serve _ is.0 c.in-Ok.ensures.ok.0)
 
 pub returns-in-Ok-clause-feed_loads : goal.returns-in-Ok-clause-feed_loads
-returns-in-Ok-clause-feed_loads g c = λ f is. absurd (not_both _ is.0 c.in-Ok.ensures.ok.0)
+returns-in-Ok-clause-feed_loads g c = λ f is. absurd (feed_or_serve _ is.0 c.in-Ok.ensures.ok.0)
 
-pub returns-in-Err-BadWords-clause-words : goal.returns-in-Err-BadWords-clause-words
-returns-in-Err-BadWords-clause-words g c = λ e. (c.run.ensures.words e, c.read_replay.ensures.bad search)
+pub returns-in-Ok-clause-replay_loads : goal.returns-in-Ok-clause-replay_loads
+returns-in-Ok-clause-replay_loads g c = λ r is. absurd (replay_or_serve _ is.0 c.in-Ok.ensures.ok.0)
