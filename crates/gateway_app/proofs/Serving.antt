@@ -1,5 +1,5 @@
 -- how the parts of a run of `serve` make the whole
-use Rattle.std.proofs.Common.{◌≡◌, ◌⊎◌, ◌<◌, ℕ, List, Option, Some, None, Err, refl, sym, subst, inl, inr}
+use Rattle.std.proofs.Common.{◌≡◌, ◌⊎◌, ◌<◌, ℕ, List, Option, Some, None, Err, refl, sym, subst, arith, inl, inr}
 use Rattle.feed_command.specs.declared.status.Status.{Status}
 use Rattle.feed_command.specs.declared.status.Status.TheVariants as status
 use Rattle.feed_command.specs.Run.{Counted, EndsLoaded}
@@ -30,8 +30,8 @@ pub counted_door : (s : Status) (read read' wrote wrote' door door' : ℕ) → C
 counted_door status.Ok read read' wrote wrote' door door' is = tt
 counted_door status.BadWords read read' wrote wrote' door door' is = tt
 counted_door (status.BadInput file place why) read read' wrote wrote' door door' is = tt
-counted_door status.ReadFault read read' wrote wrote' door door' is = absurd is
-counted_door status.WriteFault read read' wrote wrote' door door' is = absurd is
+counted_door status.ReadFault read read' wrote wrote' door door' is = absurd (omega (arith, is))
+counted_door status.WriteFault read read' wrote wrote' door door' is = absurd (omega (arith, is))
 counted_door status.DoorFault read read' wrote wrote' door door' is = is
 counted_door status.Memory read read' wrote wrote' door door' is = tt
 
@@ -81,7 +81,7 @@ module _ {T : Type 0} (traced : T → Option TraceRecord) where
   unread bytes before status.Memory is = inl refl
 
 -- a fault of files, and a door that was not touched
-pub counted_read : {X : Type 0} (s : Status) (read read' door : ℕ) → EndsLoaded {X} (Err s) read read' → CountedAll s read read' 0 0 door door
+pub counted_read : (s : Status) (read read' door : ℕ) → EndsLoaded {X = Config} (Err s) read read' → CountedAll s read read' 0 0 door door
 counted_read status.Ok read read' door is = tt
 counted_read status.BadWords read read' door is = tt
 counted_read (status.BadInput file place why) read read' door is = tt

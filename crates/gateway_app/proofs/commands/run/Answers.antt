@@ -1,6 +1,4 @@
-use Rattle.std.proofs.Common.{inl, inr}
 use Rattle.feed_command.proofs.OneCommand.{feed_or_serve, replay_or_serve}
-use Rattle.gateway_app.proofs.Serving.{counted_all}
 use Rattle.gateway_app.proofs.commands.run.Goals as goal
 
 pub returns-in-Ok-clause-outside : goal.returns-in-Ok-clause-outside
@@ -20,3 +18,9 @@ returns-in-Ok-clause-feed_loads g c = λ f is. absurd (feed_or_serve _ is.0 c.in
 
 pub returns-in-Ok-clause-replay_loads : goal.returns-in-Ok-clause-replay_loads
 returns-in-Ok-clause-replay_loads g c = λ r is. absurd (replay_or_serve _ is.0 c.in-Ok.ensures.ok.0)
+
+pub returns-in-Ok-clause-closed : goal.returns-in-Ok-clause-closed
+returns-in-Ok-clause-closed g c = λ none. absurd (none c.in-Ok.config.now c.in-Ok.ensures.ok)
+
+pub returns-in-Err-BadWords-clause-words : goal.returns-in-Err-BadWords-clause-words
+returns-in-Err-BadWords-clause-words g c = λ is. let words = c.run_on_files.ensures.words is in (words.0, words.1, c.read_serve.ensures.bad search)

@@ -1,10 +1,12 @@
-use Rattle.std.proofs.Common.{inl, inr, refl}
+use Rattle.std.proofs.Common.{List, ℕ, inl, inr, refl, subst}
 use Rattle.sg_outside.specs.declared.sink.Gave.TheVariants as gave
+use Rattle.sg_lines.specs.Door.{OpensIfRecorded}
 use Rattle.gateway_app.proofs.Serving.{as_it_was, not_opened, opened_served, status_is}
 use Rattle.gateway_app.proofs.serve_command.serve_config.Goals as goal
 
 pub returns-in-Done-clause-served : goal.returns-in-Done-clause-served
-returns-in-Done-clause-served g c = opened_served g.D.Line.Line.traced c.args.config.now _ _ _ _ c.in-Done.ensures.recorded c.serve_opened.ensures.served
+returns-in-Done-clause-served g c = opened_served g.D.Line.Line.traced c.args.config.now _ _ _ _
+    (subst (λ (b : List ℕ). OpensIfRecorded (g.D.Door.recorded c.args.door.now) b c.args.config.now.accepts gave.Done (g.D.Door.recorded c.open.new.self)) c.as_str.ensures c.in-Done.ensures.recorded) c.serve_opened.ensures.served
 
 pub returns-in-Done-clause-status : goal.returns-in-Done-clause-status
 returns-in-Done-clause-status g c = status_is c.serve_opened.ensures.served.0 c.serve_opened.result c.serve_opened.ensures.served.1
