@@ -151,6 +151,16 @@ module _ {T : Type 0} (traced : T → Option TraceRecord) (config : Config) (boa
       by (stop.Refused refusal.Memory) same is_end = absurd (no_ending is_end)
       by stop.Memory same is_end = absurd (no_ending is_end)
 
+  short_of : (came : List T) → holds came → (refused_by (Some why) ≡ 0) ⊎ ((most_callers ≤ length came) ⊎ (ending ≡ end.Memory))
+  short_of came is = by why refl ends
+    where
+      by : (w : Stop) → why ≡ w → ending ≡ end_of w → (refused_by (Some w) ≡ 0) ⊎ ((most_callers ≤ length came) ⊎ (ending ≡ end.Memory))
+      by stop.End same is_end = inl refl
+      by stop.Failed same is_end = inl refl
+      by (stop.Refused refusal.Spent) same is_end = inr (inl (spent came same is))
+      by (stop.Refused refusal.Memory) same is_end = inr (inr is_end)
+      by stop.Memory same is_end = inl refl
+
   one_at_most : (w : Stop) → refused_by (Some w) ≤ 1
   one_at_most stop.End = omega arith
   one_at_most stop.Failed = omega arith
@@ -170,6 +180,7 @@ module _ {T : Type 0} (traced : T → Option TraceRecord) (config : Config) (boa
           traces = refl;
           refused = refused_by (Some why);
           few = one_at_most why;
+          short = short_of came here;
           callers = refl;
           ended = ended b (length came + refused_by (Some why)) came here;
           board = board;

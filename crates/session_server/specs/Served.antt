@@ -40,13 +40,14 @@ most_callers = 2 ^ 30 - 2
 
 module _ {T : Type 0} where
   -- No opening is recorded. So many callers came more, and these traces came back, the last first: each one's, but for a last one's whose job
-  -- was refused since draws were short. Serving ended only where the door answered its end or so many callers came that draws are short.
+  -- was refused, since draws were short or memory was. Serving ended only where the door answered its end or so many callers came that draws are short.
   pub record ServesDoor (traced : T → Option TraceRecord) (config : Config) (before : DoorRecord T) (ending : DoorEnd) (after : DoorRecord T) : Type 0 where
     pub opened : after.opened ≡ before.opened
     pub came : List T
     pub traces : after.traces ≡ before.traces ++ reverse came
     pub refused : ℕ
     pub few : refused ≤ 1
+    pub short : (refused ≡ 0) ⊎ ((most_callers ≤ length came) ⊎ (ending ≡ end.Memory))
     pub callers : after.callers ≡ before.callers + (length came + refused)
     pub ended : ending ≡ end.Ended → (after.ended ≡ true) ⊎ (most_callers ≤ length came)
     pub board : BoardState
