@@ -13,11 +13,14 @@ use sg_outside::Memory;
 use std::alloc::{AllocError, Global};
 use std::marker::Model;
 use std::snapshot::Snapshot;
+use std::sync::Mutex;
 
-/// A gate to a board: four words, and a slot for the board. Threads share it by reference.
+/// A gate to a board: four words, and a slot for the board. Threads share it by reference. Of those that wait for a turn one looks
+/// whether it has come; the others sleep on the lock.
 #[derive(Drop)]
 pub struct Gate<B: Kept> {
     pub(crate) table: Table<Option<B>, View, Snapshot<B>, Rule<B>, Global>,
+    pub(crate) next: Mutex<()>,
 }
 
 impl<B: Kept> Model for Gate<B> {
@@ -54,7 +57,10 @@ pub fn open<B: Kept>(alloc: Global, board: B) -> Result<(Gate<B>, Pass<B>), Memo
         &about,
     ) {
         Ok((table, seat)) => Ok((
-            Gate { table },
+            Gate {
+                table,
+                next: Mutex::new(()),
+            },
             Pass {
                 seat,
                 left: 1 << 62,
@@ -72,7 +78,7 @@ pub fn close<B: Kept>(gate: Gate<B>, pass: Pass<B>) -> B
     requires rooms { pass.knows.rooms ≡ [] }
     ensures { Closes pass.knows (B.seen result) }
 {
-    let Gate { table } = gate;
+    let Gate { table, next: _ } = gate;
     let Pass { seat, left: _ } = pass;
     let mut closed = table.close_with(seat);
     let board = closed.take(0);

@@ -63,7 +63,8 @@ impl<B: Kept> Pass<B> {
         gate.table.shared.load::<LoadFront>(&mut self.seat, 3)
     }
 
-    /// Takes a ticket, and waits until it is served. Allocates nothing.
+    /// Takes a ticket, and waits until it is served. Of many that wait one looks for its ticket, and the others sleep. Allocates
+    /// nothing.
     pub fn enter<R: Wait>(self, rt: &R, gate: &Gate<B>) -> Turn<B>
         requires here { self.gate ≡ gate.now }
         ensures gate { result.gate ≡ self.gate }
@@ -72,11 +73,13 @@ impl<B: Kept> Pass<B> {
         ensures board { B.seen result.board ≡ result.found }
     {
         let Pass { mut seat, left } = self;
+        let next = gate.next.lock(rt);
         let ticket = gate.table.shared.fetch_add::<TakeTicket>(&mut seat, 1, 1);
         for _ in rt.forever() {
             let served = gate.table.shared.load::<Look>(&mut seat, 2);
             if served == ticket {
                 let board = gate.table.shared.exchange(&mut seat, 0, None).unwrap();
+                drop(next);
                 return Turn { seat, left, board };
             }
             thread::yield_now();
