@@ -172,7 +172,7 @@ fn order(one: &str, other: &str) -> Ordering
     one.as_bytes().cmp(other.as_bytes())
 }
 
-/// Puts names in their order, each once.
+/// Puts names in their order, each once, and lets the places go of those that stood there again.
 fn in_order(names: Vec<&str>) -> Result<Vec<&str>, Memory>
     ensures same { IfOk result (λ v. AreSame (texts names.entry.items) (texts v.items)) }
     ensures sorted { IfOk result (λ v. AreSorted (texts v.items)) }
@@ -180,6 +180,7 @@ fn in_order(names: Vec<&str>) -> Result<Vec<&str>, Memory>
     let mut names = names;
     names.sort_by(|a, b| order(a, b))?;
     names.dedup_by(|a, b| order(a, b).is_eq());
+    names.shrink_to_fit();
     Ok(names)
 }
 

@@ -1,4 +1,4 @@
-use Rattle.std.proofs.Common.{◌≡◌, ℕ, List, Bor, rules}
+use Rattle.std.proofs.Common.{◌≡◌, ◌∙◌, ℕ, List, Bor, rules}
 use Rattle.std.specs.List.{dedup}
 use Rattle.std.proofs.lemmas.Cmp.{nat_list_cmp_total}
 use Rattle.std.proofs.lemmas.Fn.{always_returns_same, dedup_same}
@@ -11,11 +11,11 @@ text t = t.now
 
 pub returns-clause-same : goal.returns-clause-same
 returns-clause-same c =
-    let kept : c.dedup_by.new.self.items ≡ dedup (tie_by text) c.sort_by.new.self.items = dedup_same _ (tie_by text) _ (λ x y b f' x' y' k. search rules) _ _ c.dedup_by.ensures.filtered in
-    same_kept text c.args.names.items c.sort_by.new.self.items c.dedup_by.new.self.items c.in_ok-sort_by.ensures.permutation kept
+    let kept : c.shrink_to_fit.new.self.items ≡ dedup (tie_by text) c.sort_by.new.self.items = c.shrink_to_fit.ensures.items ∙ dedup_same _ (tie_by text) _ (λ x y b f' x' y' k. search rules) _ _ c.dedup_by.ensures.filtered in
+    same_kept text c.args.names.items c.sort_by.new.self.items c.shrink_to_fit.new.self.items c.in_ok-sort_by.ensures.permutation kept
 
 pub returns-clause-sorted : goal.returns-clause-sorted
 returns-clause-sorted c =
-    let kept : c.dedup_by.new.self.items ≡ dedup (tie_by text) c.sort_by.new.self.items = dedup_same _ (tie_by text) _ (λ x y b f' x' y' k. search rules) _ _ c.dedup_by.ensures.filtered in
-    sorted_kept text c.sort_by.new.self.items c.dedup_by.new.self.items
+    let kept : c.shrink_to_fit.new.self.items ≡ dedup (tie_by text) c.sort_by.new.self.items = c.shrink_to_fit.ensures.items ∙ dedup_same _ (tie_by text) _ (λ x y b f' x' y' k. search rules) _ _ c.dedup_by.ensures.filtered in
+    sorted_kept text c.sort_by.new.self.items c.shrink_to_fit.new.self.items
     (c.in_ok-sort_by.ensures.sorted _ (ranks_by nat_list_cmp_total text) (always_returns_same _ _ _ (λ a r f' k. search rules))) kept
