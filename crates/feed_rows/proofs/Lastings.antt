@@ -46,25 +46,13 @@ take_all [] (suc n) h = refl
 take_all (x ∷ xs) zero h = absurd (omega (arith, h))
 take_all (x ∷ xs) (suc n) h = ap (λ l. x ∷ l) (take_all xs n (omega (arith, h)))
 
--- what the user has in channels and a filter lets through, by whether it does
+-- what the user has in channels that a filter lets through
 module _ (periods : List Period) (filter : Option (List (List ℕ))) (channels : List (List ℕ)) (k : ℕ) (l : Lasting) where
   abbrev had : ℕ → Bool
   had j = list_any (λ c. periods_have periods c j) (every ∷ channels)
 
   pub shown_through : passes filter (every ∷ channels) ≡ true → Lasts had k l → Lasts (is_shown periods filter channels) k l
   shown_through lets = lasts_same _ _ k l (λ j. sym (ap (λ (b : Bool). list_any (λ c. periods_have periods c j) (if b then every ∷ channels else [])) lets))
-
-  pub shown_never : passes filter (every ∷ channels) ≡ false → l.holds ≡ false → l.since ≤ k → Lasts (is_shown periods filter channels) k l
-  shown_never stops none past =
-      let nowhere : (j : ℕ) → is_shown periods filter channels j ≡ false = λ j. ap (λ (b : Bool). list_any (λ c. periods_have periods c j) (if b then every ∷ channels else [])) stops in
-      record { now = none ∙ sym (nowhere k); past = past; same = λ j a b. nowhere j ∙ sym (nowhere k) }
-
-  pub shown_unless : Lasts had k l → l.holds ≡ false → Lasts (is_shown periods filter channels) k l
-  shown_unless lasts none = by (passes filter (every ∷ channels)) refl
-    where
-      by : (b : Bool) → passes filter (every ∷ channels) ≡ b → Lasts (is_shown periods filter channels) k l
-      by true is = shown_through is lasts
-      by false is = shown_never is none lasts.past
 
 -- what is kept once a list of channels was put in
 pub switches_put : (viewer : Viewer) (to : ℕ) (old new : BTreeMap (String Global) Kept) (name : List ℕ) (kept : Kept) → AreSwitches viewer to old

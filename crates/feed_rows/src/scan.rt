@@ -1,20 +1,24 @@
 //! The rows of a feed.
 
-ghost use Rattle.std.specs.Prelude.{◌≡◌, ◌≤◌, ℕ, List, length, reverse, IfOk};
+ghost use Rattle.std.specs.Prelude.{◌≡◌, ◌≤◌, ℕ, List, length, reverse, IfOk, IsTrue};
 ghost use Rattle.sg_history.specs.declared.entries.Entry.{Entry};
 ghost use Rattle.sg_history.specs.History.{entries_of, past};
 ghost use Rattle.sg_history.specs.Principals.{has_channel};
+ghost use Rattle.sg_history.specs.Device.{plain};
 ghost use Rattle.sg_history.specs.Feed as feed;
 ghost use Rattle.grant_history.specs.Periods.{AreInOrder, ArePeriods};
 ghost use Rattle.grant_history.specs.Winners.{AreWinners};
+ghost use Rattle.feed_rows.specs.Laws.{IsBelow};
 ghost use Rattle.feed_rows.specs.PassAt.{IsViewer};
 
 use crate::asked::rows_of_pass;
+use crate::laws;
 use crate::shown::Viewer;
 use grant_history::{Period, periods_by, winners_of};
 use log_views::Filter;
 use sg_history::{Entry, Key, Log, Name, Options, Row, Rows};
 use std::alloc::{AllocError, Global};
+use std::cmp::Ordering;
 
 /// A user with a filter, by the periods of the user's channels. Allocates nothing.
 pub fn viewer_of<'a>(user: &'a Name, filter: &'a Filter<'a>, periods: &'a [Period]) -> Viewer<'a>
@@ -53,8 +57,18 @@ fn rows_of(
     rows
 }
 
+/// Whether a since key is at a front or past it, where there are no rows yet.
+fn is_past(since: &Key, front: u64) -> bool
+    ensures { IsTrue result → ¬ (IsBelow since.now (plain front)) }
+{
+    since.order(&Key {
+        by: front,
+        seq: front,
+    }) != Ordering::Less
+}
+
 /// The rows of a user's changes feed over the first `front` entries of a log, after a since key, in rising
-/// order of their keys.
+/// order of their keys. Where the key is at the front or past it, it reads none of them.
 pub fn rows(
     alloc: Global,
     log: &Log,
@@ -67,6 +81,10 @@ pub fn rows(
     ensures { IfOk result (λ rows. rows ≡ feed.feed
         (past (entries_of log.now) front) user.now since.now options.now) }
 {
+    laws::order();
+    if is_past(since, front) {
+        return Ok(Rows::new(alloc));
+    }
     let entries = &log.entries.as_slice()[..front as usize];
     let winners = winners_of(alloc, entries)?;
     let filter = Filter::new(alloc, &options.filter)?;

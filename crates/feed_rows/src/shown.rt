@@ -79,17 +79,13 @@ pub fn lasting_shown(viewer: &Viewer<'_>, winner: &Write, k: u64) -> Lasting
         winner.now.channels) k result }
 {
     let channels = winner.channels.as_slice();
-    let had = lasting_of_every(viewer.periods, channels, k);
-    if !had.holds {
-        return had;
-    }
     if !viewer.filter.passes(channels) {
         return Lasting {
             holds: false,
             since: 0,
         };
     }
-    had
+    lasting_of_every(viewer.periods, channels, k)
 }
 
 /// The last place after one, up to another, at which it changed whether a document with this winner is shown.
