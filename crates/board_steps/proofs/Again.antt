@@ -70,6 +70,7 @@ spent_still s m t room number e same spent = record {
       ∙ ap (λ (es : List Entry). release es (put_waiting (record { number = number.value; entry = e }) m.pending)) same.log
       ∙ ap (λ (ws : List Waiting). release s.log (put_waiting (record { number = number.value; entry = e }) ws)) same.pending;
   rooms = spent.rooms ∙ ap (λ (rooms : List RoomFor). without_room room.made_for rooms) same.rooms;
+  checkpoints = spent.checkpoints ∙ same.checkpoints;
 }
 
 pub stored_again : (s m t : State) (program : Program) (strict : Bool) (by : Option (List ℕ)) (r : Revision) (room : Room) (number : Number) (c : Ready) (result : Retried)
@@ -82,6 +83,6 @@ stored_again s m t program strict by r room number c (retried.Overtaken given he
   record {
     is_ready = subst (λ (x : Ready). IsReady s program strict by r x) (sym is) ready;
     above = subst (λ (x : Ready). number.value ≤ x.base) (sym is) above;
-    same = record { log = after.log ∙ same.log; pending = after.pending ∙ same.pending; rooms = after.rooms ∙ same.rooms };
+    same = record { log = after.log ∙ same.log; pending = after.pending ∙ same.pending; rooms = after.rooms ∙ same.rooms; checkpoints = after.checkpoints ∙ same.checkpoints };
   },
 )

@@ -3,7 +3,6 @@ use Rattle.std.proofs.Common.{◌≡◌, ◌≤◌, ◌∙◌, ℕ, List, [], �
 use Rattle.sg_history.specs.declared.book.Waiting.{Waiting}
 use Rattle.sg_history.specs.declared.entries.Entry.{Entry}
 use Rattle.sg_history.specs.declared.entries.Write.{Write}
-use Rattle.sg_history.specs.declared.room.RoomFor.{RoomFor}
 use Rattle.sg_history.specs.Book.{book_with}
 use Rattle.rev_tree.specs.declared.tree.Node.{Node}
 use Rattle.rev_tree.specs.Documents.{tree_in, last_in}
@@ -13,12 +12,10 @@ use Rattle.doc_board.specs.Candidates.{ExtendsTree}
 use Rattle.doc_board.specs.State.{State, tree_on, last_on, top_of}
 use Rattle.board_steps.specs.After.{IsAsBefore}
 
--- boards with the same log, the same that waits and the same rooms are one board
+-- boards with the same log, the same that waits, the same rooms and the same checkpoints are one board
 pub same_board : (s t : State) → IsAsBefore s t → board_of t ≡ board_of s
 same_board s t e =
-    ap (λ (es : List Entry). board_of (record { log = es; pending = t.pending; rooms = t.rooms; known = 0; reads = 0 })) e.log
-    ∙ ap (λ (ws : List Waiting). board_of (record { log = s.log; pending = ws; rooms = t.rooms; known = 0; reads = 0 })) e.pending
-    ∙ ap (λ (rooms : List RoomFor). board_of (record { log = s.log; pending = s.pending; rooms = rooms; known = 0; reads = 0 })) e.rooms
+    λ i. board_of (record { log = e.log i; pending = e.pending i; rooms = e.rooms i; checkpoints = e.checkpoints i; known = 0; reads = 0 })
 
 pub extends_still : (s t : State) (w : Write) (tree : List Node) → t.log ≡ s.log → t.pending ≡ s.pending → ExtendsTree (tree_on s w.doc) w tree → ExtendsTree (tree_on t w.doc) w tree
 extends_still s t w tree same pending h =

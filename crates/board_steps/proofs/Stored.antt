@@ -21,7 +21,7 @@ use Rattle.board_steps.proofs.SameBoards.{small_body, same_board}
 
 module _ (s m t : State) (program : Program) (strict : Bool) (by : Option (List ℕ)) (r : Revision) (c : Ready) (same : IsAsBefore s m) (ready : IsReady s program strict by r c) where
   on : IsAsBefore m t → IsAsBefore s t
-  on after = record { log = after.log ∙ same.log; pending = after.pending ∙ same.pending; rooms = after.rooms ∙ same.rooms }
+  on after = record { log = after.log ∙ same.log; pending = after.pending ∙ same.pending; rooms = after.rooms ∙ same.rooms; checkpoints = after.checkpoints ∙ same.checkpoints }
 
   judged_at : (at : ℕ) → at ≡ length m.log → IsJudged strict by r (board_of s) extends_tree at
   judged_at at is =
@@ -54,6 +54,7 @@ module _ (s m t : State) (program : Program) (strict : Bool) (by : Option (List 
     log = h.log ∙ ap (λ (es : List Entry). es ++ kinds.Write c.entry ∷ []) same.log;
     pending = h.pending ∙ same.pending;
     rooms = h.rooms ∙ same.rooms;
+    checkpoints = h.checkpoints ∙ same.checkpoints;
     is_write = ready.made.is_write;
   }
   board_is (outcome.Full503 at places) h = on h.0

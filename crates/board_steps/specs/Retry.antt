@@ -54,11 +54,12 @@ IsTurnedDown (outcome.Full503 at places) = ⊥
 IsTurnedDown (outcome.LogFull509 at entries bytes) = ⊥
 IsTurnedDown other = Unit {0}
 
--- what a number that was held has then, and the rooms without the one that ended
+-- what a number that was held has then, and the rooms without the one that ended; the checkpoints stay
 pub record IsSpent (before after : State) (room : Room) (number : Number) (e : Entry) : Type 0 where
   pub stored : history_on after ≡ stored_at before number.value e
   pub book : book_on after ≡ with_entry number.value e (book_on before)
   pub rooms : after.rooms ≡ without_room room.made_for before.rooms
+  pub checkpoints : after.checkpoints ≡ before.checkpoints
 
 -- the write is stored at its number, or handed back with all where its document was written above that
 abbrev pub IsHeldStored : State → State → Room → Number → Ready → Retried → Type 0

@@ -24,6 +24,7 @@ pub fn commit_fresh(board: &mut Board, room: Room, number: Number, candidate: Ca
     ensures book { book_on board.new
         ≡ with_entry number.value (entry_of candidate) (book_on board.old) }
     ensures rooms { board.new.rooms ≡ without_room room.made_for board.old.rooms }
+    ensures checkpoints { board.new.checkpoints ≡ board.old.checkpoints }
 {
     match board.commit(room, number, candidate) {
         Commit::Stored { sequence, at: _at } => sequence,
@@ -51,6 +52,7 @@ pub(crate) fn put_next(board: &mut Board, room: Room, candidate: Candidate) -> u
     ensures log { board.new.log ≡ board.old.log ++ entry_of candidate ∷ [] }
     ensures pending { board.new.pending ≡ [] }
     ensures rooms { board.new.rooms ≡ [] }
+    ensures checkpoints { board.new.checkpoints ≡ board.old.checkpoints }
 {
     alone();
     let number = Number::new(board.front() + 1);

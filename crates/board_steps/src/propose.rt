@@ -225,6 +225,7 @@ fn store(board: &mut Board, ready: Ready) -> Result<u64, NoRoom>
     ensures refused { IsStoredBut (refusal (board_of board.old) (length ready.entry.body)) result }
     ensures pending { board.new.pending ≡ [] }
     ensures rooms { board.new.rooms ≡ [] }
+    ensures checkpoints { board.new.checkpoints ≡ board.old.checkpoints }
 {
     alone();
     let bytes = ready.entry.body.len() as u64;

@@ -118,6 +118,7 @@ pub fn store_at_fresh(
     ensures book { book_on board.new ≡ with_entry fresh.value (kinds.Write ready.entry)
         (with_entry number.value kinds.Unused (book_on board.old)) }
     ensures rooms { board.new.rooms ≡ without_room room.made_for board.old.rooms }
+    ensures checkpoints { board.new.checkpoints ≡ board.old.checkpoints }
 {
     let Ready { entry, tree, base } = ready;
     match board.swap_commit(room, number, fresh, Candidate::Write { entry, tree, base }) {

@@ -3,12 +3,14 @@ use Rattle.std.proofs.Common.{◌≡◌, ◌≢◌, ◌≤◌, ◌<◌, ◌+◌,
 use Rattle.std.proofs.lemmas.Bool.{cases_eq, eq-eqb, ne_eqb}
 use Rattle.std.proofs.lemmas.List.{length-append}
 use Rattle.std.proofs.lemmas.Option.{none-some}
+use Rattle.checkpoint_store.specs.declared.answers.SetAnswer.{SetAnswer}
+use Rattle.checkpoint_store.specs.Answers.{Sets}
 use Rattle.sg_history.specs.declared.book.Waiting.{Waiting}
 use Rattle.sg_history.specs.declared.entries.Entry.{Entry}
 use Rattle.sg_history.specs.declared.entries.Entry.TheVariants.{Unused}
 use Rattle.sg_history.specs.declared.entries.Write.{Write}
 use Rattle.sg_history.specs.declared.room.RoomFor.{RoomFor}
-use Rattle.sg_history.specs.Board.{BoardState, SideValue, After, board_count, side_at}
+use Rattle.sg_history.specs.Board.{BoardState, SideEntry, SideFollows, After, board_count, side_at}
 use Rattle.sg_history.specs.Book.{Book, Later, write_at, written_in}
 use Rattle.sg_history.specs.History.{Extends, as_write}
 use Rattle.sg_history.specs.Rooms.{without_room}
@@ -75,22 +77,24 @@ release_count log (f ∷ fs) = go (nat_eq f.number (length log + 1)) (release_co
     go true rest = omega (arith, rest, length-append log (f.entry ∷ []))
     go false rest = refl
 
-no_side : (text : List ℕ) (old : SideValue) → side_at [] text ≡ Some old → ⊥
-no_side text old h = none-some old h
+-- the same side map follows
+same_side : (earlier later : List SideEntry) → later ≡ earlier → SideFollows earlier later
+same_side earlier later same =
+    λ text old h. (old, ap (λ (side : List SideEntry). side_at side text) same ∙ h, record { number = omega arith; bytes = λ e. refl })
 
 -- ---- boards
 
 -- more entries wait, in place of a room that ends, whose bytes are at least theirs; and those that come next are moved to the log
 in_place : (s t : State) (room : RoomFor) (ws : List Waiting) (size more : ℕ) → Later (book_on s) (book_on t) → history_on t ≡ release s.log ws
     → length ws ≡ length s.pending + more → 1 ≤ more → bytes_waiting ws ≡ size + bytes_waiting s.pending → size ≤ room.bytes
-    → is_outstanding s.rooms room ≡ true → t.rooms ≡ without_room room s.rooms → After (board_of s) (board_of t)
-in_place s t room ws size more book is long least bytes small out rooms =
+    → is_outstanding s.rooms room ≡ true → t.rooms ≡ without_room room s.rooms → t.checkpoints ≡ s.checkpoints → After (board_of s) (board_of t)
+in_place s t room ws size more book is long least bytes small out rooms checkpoints =
     record {
       book = book;
       log = subst (λ (es : List Entry). Extends s.log es) (sym (ap (λ (r : Released). r.log) is)) (release_extends s.log ws);
       count = omega (arith, count, less, long, least, rooms_long);
       bytes = omega (arith, stored, bytes, small, asked, rooms_asked);
-      side = λ text old h. absurd (no_side text old h);
+      side = same_side s.checkpoints t.checkpoints checkpoints;
       faults = omega arith;
     }
   where
@@ -112,45 +116,62 @@ in_place s t room ws size more book is long least bytes small out rooms =
     rooms_asked : bytes_asked t.rooms ≡ bytes_asked (without_room room s.rooms)
     rooms_asked = ap (λ (rs : List RoomFor). bytes_asked rs) rooms
 
-pub looked : (s t : State) → t.log ≡ s.log → t.pending ≡ s.pending → t.rooms ≡ s.rooms → board_of t ≡ board_of s
-looked s t log pending rooms =
-    λ i. board_of (record { log = log i; pending = pending i; rooms = rooms i; known = 0; reads = 0 })
+pub looked : (s t : State) → t.log ≡ s.log → t.pending ≡ s.pending → t.rooms ≡ s.rooms → t.checkpoints ≡ s.checkpoints → board_of t ≡ board_of s
+looked s t log pending rooms checkpoints =
+    λ i. board_of (record { log = log i; pending = pending i; rooms = rooms i; checkpoints = checkpoints i; known = 0; reads = 0 })
 
 abbrev with_room : State → RoomFor → State
-with_room s room = record { log = s.log; pending = s.pending; rooms = s.rooms ++ room ∷ []; known = 0; reads = 0 }
+with_room s room = record { log = s.log; pending = s.pending; rooms = s.rooms ++ room ∷ []; checkpoints = s.checkpoints; known = 0; reads = 0 }
 
 grown : (kept asked more bytes count after : ℕ) → more ≡ asked + bytes → bytes ≤ 20971520 → after ≡ count + 1 → kept + more ≤ kept + asked + 20971520 * (after - count)
 grown kept asked more bytes count after a b c = omega (arith, a, b, c)
 
-pub after_room : (s t : State) (room : RoomFor) → Later (book_on s) (book_on s) → t.log ≡ s.log → t.pending ≡ s.pending → t.rooms ≡ s.rooms ++ room ∷ [] → room.bytes ≤ 20971520
-    → After (board_of s) (board_of t)
-after_room s t room itself log pending rooms small =
+pub after_room : (s t : State) (room : RoomFor) → Later (book_on s) (book_on s) → t.log ≡ s.log → t.pending ≡ s.pending → t.rooms ≡ s.rooms ++ room ∷ [] → t.checkpoints ≡ s.checkpoints
+    → room.bytes ≤ 20971520 → After (board_of s) (board_of t)
+after_room s t room itself log pending rooms checkpoints small =
     let long : length (s.rooms ++ room ∷ []) ≡ length s.rooms + 1 = length-append s.rooms (room ∷ []) in
     let count : board_count (board_of (with_room s room)) ≡ board_count (board_of s) + 1 = omega (arith, long) in
-    subst (λ (b : BoardState). After (board_of s) b) (sym (looked (with_room s room) t log pending rooms))
+    subst (λ (b : BoardState). After (board_of s) b) (sym (looked (with_room s room) t log pending rooms checkpoints))
     (record {
       book = itself;
       log = ([], append_none s.log);
       count = omega (arith, count);
       bytes = grown (bytes_stored s.log + bytes_waiting s.pending) (bytes_asked s.rooms) (bytes_asked (s.rooms ++ room ∷ [])) room.bytes (board_count (board_of s)) (board_count (board_of (with_room s room))) (asked_more room s.rooms) small count;
-      side = λ text old h. absurd (no_side text old h);
+      side = same_side s.checkpoints s.checkpoints refl;
+      faults = omega arith;
+    })
+
+abbrev with_checkpoints : State → List SideEntry → State
+with_checkpoints s side = record { log = s.log; pending = s.pending; rooms = s.rooms; checkpoints = side; known = 0; reads = 0 }
+
+pub after_set : ((before after : List SideEntry) (text : List ℕ) (rev : ℕ) (body : List ℕ) (answer : SetAnswer) → Sets before text rev body answer after → SideFollows before after)
+    → (s t : State) (text : List ℕ) (rev : ℕ) (body : List ℕ) (answer : SetAnswer) → Later (book_on s) (book_on s)
+    → t.log ≡ s.log → t.pending ≡ s.pending → t.rooms ≡ s.rooms → Sets s.checkpoints text rev body answer t.checkpoints → After (board_of s) (board_of t)
+after_set follows s t text rev body answer itself log pending rooms sets =
+    subst (λ (b : BoardState). After (board_of s) b) (sym (looked (with_checkpoints s t.checkpoints) t log pending rooms refl))
+    (record {
+      book = itself;
+      log = ([], append_none s.log);
+      count = omega arith;
+      bytes = omega arith;
+      side = follows s.checkpoints t.checkpoints text rev body answer sets;
       faults = omega arith;
     })
 
 -- an entry is stored in place of a room
 put_after : (s t : State) (room : RoomFor) (number : ℕ) (e : Entry) → MayStore s.log s.pending number → is_outstanding s.rooms room ≡ true
     → body_size (as_write e) ≤ room.bytes → IsAbove (book_on s) number e
-    → history_on t ≡ stored_at s number e → book_on t ≡ with_entry number e (book_on s) → t.rooms ≡ without_room room s.rooms → After (board_of s) (board_of t)
-put_after s t room number e may out small above history book rooms =
+    → history_on t ≡ stored_at s number e → book_on t ≡ with_entry number e (book_on s) → t.rooms ≡ without_room room s.rooms → t.checkpoints ≡ s.checkpoints → After (board_of s) (board_of t)
+put_after s t room number e may out small above history book rooms checkpoints =
     let put : Waiting = record { number = number; entry = e } in
     in_place s t room (put_waiting put s.pending) (body_size (as_write e)) 1 (later_with (book_on s) (book_on t) number e may.1 book above) history
-    (put_length put s.pending) (omega arith) (put_bytes put s.pending) small out rooms
+    (put_length put s.pending) (omega arith) (put_bytes put s.pending) small out rooms checkpoints
 
 -- the same, and another number is given up
 swap_after : Again → (s t : State) (room : RoomFor) (spent number : ℕ) (e : Entry) → MayStore s.log s.pending spent → MayStore s.log s.pending number → spent ≢ number → is_outstanding s.rooms room ≡ true
     → body_size (as_write e) ≤ room.bytes → IsAbove (book_on s) number e
-    → history_on t ≡ swapped_to s spent number e → book_on t ≡ with_entry number e (with_entry spent Unused (book_on s)) → t.rooms ≡ without_room room s.rooms → After (board_of s) (board_of t)
-swap_after again s t room spent number e gone may apart out small above history book rooms =
+    → history_on t ≡ swapped_to s spent number e → book_on t ≡ with_entry number e (with_entry spent Unused (book_on s)) → t.rooms ≡ without_room room s.rooms → t.checkpoints ≡ s.checkpoints → After (board_of s) (board_of t)
+swap_after again s t room spent number e gone may apart out small above history book rooms checkpoints =
     let first : Waiting = record { number = spent; entry = Unused } in
     let put : Waiting = record { number = number; entry = e } in
     let between : Book = with_entry spent Unused (book_on s) in
@@ -159,7 +180,7 @@ swap_after again s t room spent number e gone may apart out small above history 
     let two : Later between (book_on t) = later_with between (book_on t) number e free book still in
     in_place s t room (put_waiting put (put_waiting first s.pending)) (body_size (as_write e)) 2 (again (book_on s) between (book_on t) one two) history
     (omega (arith, put_length put (put_waiting first s.pending), put_length first s.pending)) (omega arith)
-    (omega (arith, put_bytes put (put_waiting first s.pending), put_bytes first s.pending)) small out rooms
+    (omega (arith, put_bytes put (put_waiting first s.pending), put_bytes first s.pending)) small out rooms checkpoints
   where
     still : IsAbove (with_entry spent Unused (book_on s)) number e
     still doc w old v writes there = go (cases_eq spent old)
@@ -181,18 +202,18 @@ size_is (candidate.Plain e) s number may = none (as_write e) may.1
 
 pub after_commit : (s t : State) (room : RoomFor) (number : ℕ) (c : Candidate) → MayStore s.log s.pending number → is_outstanding s.rooms room ≡ true → Fits room c
     → MayBeStored s number c → is_stale s c ≡ false
-    → history_on t ≡ stored_at s number (entry_of c) → book_on t ≡ with_entry number (entry_of c) (book_on s) → t.rooms ≡ without_room room s.rooms → After (board_of s) (board_of t)
-after_commit s t room number c may out fits stored fresh history book rooms =
-    put_after s t room number (entry_of c) may out (omega (arith, size_is c s number stored, fits.bytes)) (above_writes s 0 number [] c stored fresh) history book rooms
+    → history_on t ≡ stored_at s number (entry_of c) → book_on t ≡ with_entry number (entry_of c) (book_on s) → t.rooms ≡ without_room room s.rooms → t.checkpoints ≡ s.checkpoints → After (board_of s) (board_of t)
+after_commit s t room number c may out fits stored fresh history book rooms checkpoints =
+    put_after s t room number (entry_of c) may out (omega (arith, size_is c s number stored, fits.bytes)) (above_writes s 0 number [] c stored fresh) history book rooms checkpoints
 
 pub after_swap : Again → (s t : State) (room : RoomFor) (spent number : ℕ) (c : Candidate) → MayStore s.log s.pending spent → MayStore s.log s.pending number → spent ≢ number
     → is_outstanding s.rooms room ≡ true → Fits room c → MayBeStored s number c → is_stale s c ≡ false
-    → history_on t ≡ swapped_to s spent number (entry_of c) → book_on t ≡ with_entry number (entry_of c) (with_entry spent Unused (book_on s)) → t.rooms ≡ without_room room s.rooms
+    → history_on t ≡ swapped_to s spent number (entry_of c) → book_on t ≡ with_entry number (entry_of c) (with_entry spent Unused (book_on s)) → t.rooms ≡ without_room room s.rooms → t.checkpoints ≡ s.checkpoints
     → After (board_of s) (board_of t)
-after_swap again s t room spent number c gone may apart out fits stored fresh history book rooms =
-    swap_after again s t room spent number (entry_of c) gone may apart out (omega (arith, size_is c s number stored, fits.bytes)) (above_writes s 0 number [] c stored fresh) history book rooms
+after_swap again s t room spent number c gone may apart out fits stored fresh history book rooms checkpoints =
+    swap_after again s t room spent number (entry_of c) gone may apart out (omega (arith, size_is c s number stored, fits.bytes)) (above_writes s 0 number [] c stored fresh) history book rooms checkpoints
 
 pub after_void : (s t : State) (room : RoomFor) (number : ℕ) → MayStore s.log s.pending number → is_outstanding s.rooms room ≡ true
-    → history_on t ≡ stored_at s number Unused → book_on t ≡ with_entry number Unused (book_on s) → t.rooms ≡ without_room room s.rooms → After (board_of s) (board_of t)
-after_void s t room number may out history book rooms =
-    put_after s t room number Unused may out (omega arith) (plain_above (book_on s) number Unused refl) history book rooms
+    → history_on t ≡ stored_at s number Unused → book_on t ≡ with_entry number Unused (book_on s) → t.rooms ≡ without_room room s.rooms → t.checkpoints ≡ s.checkpoints → After (board_of s) (board_of t)
+after_void s t room number may out history book rooms checkpoints =
+    put_after s t room number Unused may out (omega arith) (plain_above (book_on s) number Unused refl) history book rooms checkpoints

@@ -23,7 +23,7 @@ holds_in P now s log waiting it = subst (λ (es : List Entry). P es s.pending.wa
 
 pub book_is : (now : State) (s : Storage) → s.log.entries.list ≡ now.log → s.pending.waiting ≡ now.pending → book_in s ≡ book_on now
 book_is now s log waiting =
-    same_on (λ log ws. book_with log ws) now (record { log = s.log.entries.list; pending = s.pending.waiting; rooms = now.rooms; known = now.known; reads = now.reads }) log waiting
+    same_on (λ log ws. book_with log ws) now (record { log = s.log.entries.list; pending = s.pending.waiting; rooms = now.rooms; checkpoints = now.checkpoints; known = now.known; reads = now.reads }) log waiting
 
 -- those that come next are moved to a board's log
 pub released_on : (log : List Entry) (ws : List Waiting) (put new : Storage) → put.log.entries.list ≡ log → put.pending.waiting ≡ ws

@@ -3,6 +3,7 @@ pub mod Based
 pub mod Boards
 pub mod Candidates
 pub mod Contexts
+pub mod Errors
 pub mod JudgedWrites
 pub mod Judging
 pub mod Kept

@@ -1,20 +1,22 @@
--- What a board is: the history that it keeps, the entries that wait, and the rooms that are outstanding; and what its book says of a document.
+-- What a board is: the history that it keeps, the entries that wait, the rooms that are outstanding and the checkpoints; and what its book says of a document.
 use Rattle.std.specs.Prelude.{ℕ, List, [], ◌∷◌, length, max, reverse, Option}
 use Rattle.sg_names.specs.declared.rev_id.RevId.{RevId}
 use Rattle.sg_history.specs.declared.book.Waiting.{Waiting}
 use Rattle.sg_history.specs.declared.entries.Entry.{Entry}
 use Rattle.sg_history.specs.declared.entries.Write.{Write}
 use Rattle.sg_history.specs.declared.room.RoomFor.{RoomFor}
+use Rattle.sg_history.specs.Board.{SideEntry}
 use Rattle.sg_history.specs.Book.{Book, book_with}
 use Rattle.rev_tree.specs.declared.tree.Node.{Node}
 use Rattle.rev_tree.specs.Extension.{Recorded}
 use Rattle.rev_tree.specs.Documents.{writes_in, tree_in, last_in, base_in}
 
--- all entries of the log, those that wait by rising numbers, and the rooms that are outstanding; up to which place of the log its grants are known, and how many entries were read for them
+-- all entries of the log, those that wait by rising numbers, the rooms that are outstanding, and the checkpoints; up to which place of the log its grants are known, and how many entries were read for them
 pub record State : Type 0 where
   pub log : List Entry
   pub pending : List Waiting
   pub rooms : List RoomFor
+  pub checkpoints : List SideEntry
   pub known : ℕ
   pub reads : ℕ
 

@@ -1,10 +1,12 @@
-//! The board: the log, each document's tree, and the rooms that are outstanding.
+//! The board: the log, each document's tree, the rooms that are outstanding, and the devices' checkpoints.
 
 ghost use Rattle.std.specs.Prelude.{◌≡◌, ◌≢◌, ◌≤◌, ◌<◌, ◌+◌, ◌-◌, ◌*◌, ◌++◌, ◌∷◌, [], ℕ, List, false, true, length, min, reverse, is_some, Some, None, option_map, OnOk, OnErr, IfOk, IfErr, IfSome, IfNone, IsTrue, Err};
 ghost use Rattle.std.specs.Option.{option_copied};
 ghost use Rattle.sg_history.specs.Book.{waiting_at};
 ghost use Rattle.sg_history.specs.History.{entries_of, among};
 ghost use Rattle.sg_history.specs.Principals as principals;
+ghost use Rattle.checkpoint_store.specs.Answers as kept;
+ghost use Rattle.checkpoint_store.specs.Checkpoints.{AreCheckpoints, pair_text};
 ghost use Rattle.grant_history.specs.Sorted.{AreSorted};
 ghost use Rattle.grant_history.specs.Stands.{StandsFor};
 ghost use Rattle.pending_front.specs.Storing.{MayStore};
@@ -36,14 +38,17 @@ use crate::open::{OpenFault, bytes_of, documents_of};
 use crate::room::{OutstandingRooms, Room};
 use crate::snapshot::{Proposer, Snapshot, snapshot_of};
 use crate::storage::Storage;
+use checkpoint_store::{Checkpoints, Kept0, SetAnswer};
 use grant_history::GrantHistory;
 use pending_front::Pending;
 use repl_messages::Revision;
 use rev_tree::Tree;
 use rev_tree::laws::histories;
 use sg_history::laws::books;
-use sg_history::{Channels, DocId, Entry, Log, LogReads, Name, Number, RevId, RoomFor, Write};
-use sg_outside::Memory;
+use sg_history::{
+    Channels, Client, DocId, Entry, Log, LogReads, Name, Number, RevId, RoomFor, Write,
+};
+use sg_outside::{Bytes, Memory};
 use std::alloc::Global;
 use std::collections::{BTreeMap, HashMap};
 use std::marker::Model;
@@ -58,15 +63,17 @@ const MOST_ENTRIES: u64 = 4_000_000;
 const MOST_BYTES: u64 = 2_147_483_648;
 
 /// The log, with the entries that wait for their places in it, each document's tree of revisions, the rooms that are outstanding,
-/// and the history of its grants, which has an index of the log. What is stored allocates nothing then: a room has it
-/// beforehand. The grants are brought up to the log by the calls that may take memory. Contracts see up to which place of the log
-/// they are, and how many entries were read for them, which stands still at its type's end.
+/// the devices' checkpoints, and the history of the log's grants, which has an index of the log. What is stored in a room
+/// allocates nothing then: the room has it beforehand. The grants are brought up to the log by the calls that may take memory.
+/// Contracts see up to which place of the log they are, and how many entries were read for them, which stands still at its type's
+/// end.
 #[derive(Drop)]
 pub struct Board {
     alloc: Global,
     storage: Storage,
     grants: GrantHistory,
     reads: u64,
+    checkpoints: Checkpoints,
 }
 
 impl Model for Board {
@@ -81,6 +88,7 @@ impl Model for Board {
       log = entries_of b.storage.log;
       pending = b.storage.pending.waiting;
       rooms = b.storage.rooms;
+      checkpoints = b.checkpoints;
       known = b.grants.applied;
       reads = b.reads;
     } };
@@ -95,6 +103,7 @@ impl Board {
         ensures log { IfOk result (λ board. board.log ≡ []) }
         ensures pending { IfOk result (λ board. board.pending ≡ []) }
         ensures rooms { IfOk result (λ board. board.rooms ≡ []) }
+        ensures checkpoints { IfOk result (λ board. board.checkpoints ≡ []) }
         ensures known { IfOk result (λ board. board.known ≡ 0) }
         ensures reads { IfOk result (λ board. board.reads ≡ 0) }
     {
@@ -110,6 +119,7 @@ impl Board {
             },
             grants: GrantHistory::new(alloc),
             reads: 0,
+            checkpoints: Checkpoints::new(alloc),
         })
     }
 
@@ -119,6 +129,7 @@ impl Board {
         ensures log { IfOk result (λ board. board.log ≡ entries_of log) }
         ensures pending { IfOk result (λ board. board.pending ≡ []) }
         ensures rooms { IfOk result (λ board. board.rooms ≡ []) }
+        ensures checkpoints { IfOk result (λ board. board.checkpoints ≡ []) }
         ensures known { IfOk result (λ board. board.known ≡ 0) }
         ensures reads { IfOk result (λ board. board.reads ≡ 0) }
         ensures following { IfOk result (λ board. AreFollowing (reverse (entries_of log))) }
@@ -149,6 +160,7 @@ impl Board {
             },
             grants: GrantHistory::new(alloc),
             reads: 0,
+            checkpoints: Checkpoints::new(alloc),
         })
     }
 
@@ -199,6 +211,7 @@ impl Board {
         ensures log { self.new.log ≡ self.old.log }
         ensures pending { self.new.pending ≡ self.old.pending }
         ensures rooms { self.new.rooms ≡ self.old.rooms }
+        ensures checkpoints { self.new.checkpoints ≡ self.old.checkpoints }
         ensures known { OnOk result (self.new.known ≡ length self.old.log) }
         ensures known_rises { self.old.known ≤ self.new.known }
         ensures known_within { self.new.known ≤ length self.old.log }
@@ -228,6 +241,7 @@ impl Board {
         ensures log { self.new.log ≡ self.old.log }
         ensures pending { self.new.pending ≡ self.old.pending }
         ensures rooms { self.new.rooms ≡ self.old.rooms }
+        ensures checkpoints { self.new.checkpoints ≡ self.old.checkpoints }
         ensures known { OnOk result (self.new.known ≡ length self.old.log) }
         ensures known_rises { self.old.known ≤ self.new.known }
         ensures known_within { self.new.known ≤ length self.old.log }
@@ -245,6 +259,35 @@ impl Board {
     {
         self.apply_grants()?;
         channels_at_end(&self.grants, user)
+    }
+
+    /// The checkpoint of a user's client, with its whole body.
+    pub fn get_checkpoint(&self, user: &Name, client: &Client) -> Result<Kept0, Memory>
+        ensures kept { IfOk result (λ found. found
+            ≡ kept.kept_at self.now.checkpoints (pair_text user.now client.now)) }
+        ensures checkpoints { AreCheckpoints self.now.checkpoints }
+    {
+        self.checkpoints.get(user, client)
+    }
+
+    /// Gives the user's client this body under the number after `rev`, or answers why not.
+    pub fn set_checkpoint(
+        &mut self,
+        user: &Name,
+        client: &Client,
+        rev: u64,
+        body: Bytes,
+    ) -> SetAnswer
+        ensures sets { kept.Sets self.old.checkpoints (pair_text user.now client.now) rev body
+            result self.new.checkpoints }
+        ensures checkpoints { AreCheckpoints self.new.checkpoints }
+        ensures log { self.new.log ≡ self.old.log }
+        ensures pending { self.new.pending ≡ self.old.pending }
+        ensures rooms { self.new.rooms ≡ self.old.rooms }
+        ensures known { self.new.known ≡ self.old.known }
+        ensures reads { self.new.reads ≡ self.old.reads }
+    {
+        self.checkpoints.set(user, client, rev, body)
     }
 
     /// The write on which a revision is based, of those that wait too.
@@ -312,6 +355,7 @@ impl Board {
         ensures log { self.new.log ≡ self.old.log }
         ensures pending { self.new.pending ≡ self.old.pending }
         ensures rooms { self.new.rooms ≡ self.old.rooms }
+        ensures checkpoints { self.new.checkpoints ≡ self.old.checkpoints }
         ensures known { OnOk result (self.new.known ≡ length self.old.log) }
         ensures known_rises { self.old.known ≤ self.new.known }
         ensures known_within { self.new.known ≤ length self.old.log }
@@ -364,6 +408,7 @@ impl Board {
             (option_copied doc.entry) bytes ∷ []) }
         ensures err { OnErr result (self.new.rooms ≡ self.old.rooms) }
         ensures room { IfOk result (λ room. room ≡ room_for (option_copied doc.entry) bytes) }
+        ensures checkpoints { self.new.checkpoints ≡ self.old.checkpoints }
         ensures known { self.new.known ≡ self.old.known }
         ensures reads { self.new.reads ≡ self.old.reads }
     {
@@ -383,6 +428,7 @@ impl Board {
         ensures room { IfOk result (λ room. room.made_for ≡ room_for
             (option_copied doc.entry) body_bytes) }
         ensures out { IfOk result (λ room. IsTrue (is_outstanding self.new.rooms room.made_for)) }
+        ensures checkpoints { self.new.checkpoints ≡ self.old.checkpoints }
         ensures known { self.new.known ≡ self.old.known }
         ensures reads { self.new.reads ≡ self.old.reads }
     {
@@ -406,6 +452,7 @@ impl Board {
         ensures book { book_on self.new
             ≡ with_entry number entry (book_with_unused spent (book_on self.old)) }
         ensures rooms { self.new.rooms ≡ without_room room.made_for self.old.rooms }
+        ensures checkpoints { self.new.checkpoints ≡ self.old.checkpoints }
         ensures known { self.new.known ≡ self.old.known }
         ensures reads { self.new.reads ≡ self.old.reads }
     {
@@ -441,6 +488,7 @@ impl Board {
         ensures book { book_on self.new ≡ with_entry number (kinds.Write entry)
             (book_with_unused spent (book_on self.old)) }
         ensures rooms { self.new.rooms ≡ without_room room.made_for self.old.rooms }
+        ensures checkpoints { self.new.checkpoints ≡ self.old.checkpoints }
         ensures known { self.new.known ≡ self.old.known }
         ensures reads { self.new.reads ≡ self.old.reads }
     {
@@ -466,6 +514,7 @@ impl Board {
         ensures book { book_on self.new ≡ with_entry number (entry_of candidate)
             (book_with_unused spent (book_on self.old)) }
         ensures rooms { self.new.rooms ≡ without_room room.made_for self.old.rooms }
+        ensures checkpoints { self.new.checkpoints ≡ self.old.checkpoints }
         ensures known { self.new.known ≡ self.old.known }
         ensures reads { self.new.reads ≡ self.old.reads }
     {
@@ -518,6 +567,7 @@ impl Board {
             ≡ with_entry number.value (entry_of candidate) (book_on self.old)) }
         ensures rooms { IfStored result
             (λ sequence at. self.new.rooms ≡ without_room room.made_for self.old.rooms) }
+        ensures checkpoints { self.new.checkpoints ≡ self.old.checkpoints }
         ensures known { self.new.known ≡ self.old.known }
         ensures reads { self.new.reads ≡ self.old.reads }
     {
@@ -559,6 +609,7 @@ impl Board {
         ensures book { book_on self.new ≡ with_entry fresh.value (entry_of candidate)
             (with_entry spent.value kinds.Unused (book_on self.old)) }
         ensures rooms { self.new.rooms ≡ without_room room.made_for self.old.rooms }
+        ensures checkpoints { self.new.checkpoints ≡ self.old.checkpoints }
         ensures known { self.new.known ≡ self.old.known }
         ensures reads { self.new.reads ≡ self.old.reads }
     {
@@ -576,6 +627,7 @@ impl Board {
         ensures book { book_on self.new
             ≡ with_entry number.value kinds.Unused (book_on self.old) }
         ensures rooms { self.new.rooms ≡ without_room room.made_for self.old.rooms }
+        ensures checkpoints { self.new.checkpoints ≡ self.old.checkpoints }
         ensures known { self.new.known ≡ self.old.known }
         ensures reads { self.new.reads ≡ self.old.reads }
     {

@@ -1,6 +1,8 @@
 //! Laws of boards' logs. Each is the contract of a function that does nothing.
 
 ghost use Rattle.std.specs.Prelude.{◌≡◌, ◌≢◌, ◌≤◌, ◌<◌, ◌+◌, ◌++◌, ◌∷◌, [], ℕ, Bool, false, length, reverse, List, Option, Some, None, IsTrue};
+ghost use Rattle.checkpoint_store.specs.declared.answers.SetAnswer.{SetAnswer};
+ghost use Rattle.checkpoint_store.specs.Answers.{Sets};
 ghost use Rattle.sg_history.specs.declared.entries.Entry.{Entry};
 ghost use Rattle.sg_history.specs.Board.{BoardState, After, board_book};
 ghost use Rattle.sg_history.specs.Book.{Book, Later, book_of, write_at};
@@ -102,19 +104,24 @@ pub fn judged_writes()
 {}
 
 /// What the calls of a board leave comes after what they found, with any entries that wait and any rooms that are outstanding: a look,
-/// a room, a commit, a swap, and a number that is given up.
+/// a room, a set of a checkpoint, a commit, a swap, and a number that is given up.
 pub fn after()
     ensures looked { (s t : State) → t.log ≡ s.log → t.pending ≡ s.pending → t.rooms ≡ s.rooms
-        → board_of t ≡ board_of s }
+        → t.checkpoints ≡ s.checkpoints → board_of t ≡ board_of s }
     ensures room { (s t : State) (room : RoomFor) → t.log ≡ s.log → t.pending ≡ s.pending
-        → t.rooms ≡ s.rooms ++ room ∷ [] → room.bytes ≤ 20971520
+        → t.rooms ≡ s.rooms ++ room ∷ [] → t.checkpoints ≡ s.checkpoints
+        → room.bytes ≤ 20971520 → After (board_of s) (board_of t) }
+    ensures set { (s t : State) (text : List ℕ) (rev : ℕ) (body : List ℕ) (answer : SetAnswer)
+        → t.log ≡ s.log → t.pending ≡ s.pending → t.rooms ≡ s.rooms
+        → Sets s.checkpoints text rev body answer t.checkpoints
         → After (board_of s) (board_of t) }
     ensures commit { (s t : State) (room : RoomFor) (number : ℕ) (c : Candidate)
         → MayStore s.log s.pending number → IsTrue (is_outstanding s.rooms room) → Fits room c
         → MayBeStored s number c → is_stale s c ≡ false
         → history_on t ≡ stored_at s number (entry_of c)
         → book_on t ≡ with_entry number (entry_of c) (book_on s)
-        → t.rooms ≡ without_room room s.rooms → After (board_of s) (board_of t) }
+        → t.rooms ≡ without_room room s.rooms → t.checkpoints ≡ s.checkpoints
+        → After (board_of s) (board_of t) }
     ensures swap { (s t : State) (room : RoomFor) (spent number : ℕ) (c : Candidate)
         → MayStore s.log s.pending spent → MayStore s.log s.pending number → spent ≢ number
         → IsTrue (is_outstanding s.rooms room) → Fits room c
@@ -122,13 +129,16 @@ pub fn after()
         → history_on t ≡ swapped_to s spent number (entry_of c)
         → book_on t ≡ with_entry number (entry_of c)
         (with_entry spent kinds.Unused (book_on s))
-        → t.rooms ≡ without_room room s.rooms → After (board_of s) (board_of t) }
+        → t.rooms ≡ without_room room s.rooms → t.checkpoints ≡ s.checkpoints
+        → After (board_of s) (board_of t) }
     ensures void { (s t : State) (room : RoomFor) (number : ℕ)
         → MayStore s.log s.pending number → IsTrue (is_outstanding s.rooms room)
         → history_on t ≡ stored_at s number kinds.Unused
         → book_on t ≡ with_entry number kinds.Unused (book_on s)
-        → t.rooms ≡ without_room room s.rooms → After (board_of s) (board_of t) }
+        → t.rooms ≡ without_room room s.rooms → t.checkpoints ≡ s.checkpoints
+        → After (board_of s) (board_of t) }
 {
+    checkpoint_store::laws::sets();
     sg_history::laws::later();
 }
 

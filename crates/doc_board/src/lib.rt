@@ -17,9 +17,10 @@ mod waiting;
 
 pub use board::Board;
 pub use candidate::{Candidate, Commit, NoRoom};
+pub use checkpoint_store::{Kept0, SetAnswer};
 pub use offers::answer_offer;
 pub use open::OpenFault;
-pub use outcome::{MOST_BODY_BYTES, Outcome};
+pub use outcome::{MOST_BODY_BYTES, Outcome, outcome_error};
 pub use room::Room;
 pub use sg_history::RoomFor;
 pub use snapshot::Snapshot;

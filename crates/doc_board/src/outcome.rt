@@ -1,7 +1,12 @@
 //! The outcome of a revision that is proposed.
 
-use repl_messages::Field;
+ghost use Rattle.std.specs.Prelude.{◌≡◌, IfOk};
+ghost use Rattle.doc_board.specs.Errors as errors;
+
+use repl_messages::{ErrorKind, Field};
 use sg_history::RevId;
+use sg_outside::Memory;
+use std::alloc::Global;
 use sync_meaning::Rule;
 
 /// The most bytes that a document's body may have.
@@ -33,4 +38,27 @@ pub enum Outcome {
     LogFull509 { at: u64, entries: u64, bytes: u64 },
     /// Out of memory.
     Memory507,
+}
+
+/// The error by which a proposed revision is refused, by its outcome; none where its document has it now.
+pub fn outcome_error(alloc: Global, outcome: &Outcome) -> Result<Option<ErrorKind>, Memory>
+    ensures { IfOk result (λ error. error ≡ errors.outcome_error outcome.now) }
+{
+    let error = match outcome {
+        Outcome::Stored { .. } | Outcome::Known { .. } => return Ok(None),
+        Outcome::Bad400 { field } => ErrorKind::Bad400 { field: *field },
+        Outcome::TooLarge413 { .. } => ErrorKind::TooLarge413,
+        Outcome::UserGone401 { .. } => ErrorKind::UserGone401,
+        Outcome::BadHistory400 { .. } => ErrorKind::BadHistory400,
+        Outcome::Conflict409 { leaf, .. } => ErrorKind::Conflict409 {
+            leaf: leaf.copy(alloc)?,
+        },
+        Outcome::Denied403 { rule, .. } => ErrorKind::Denied403 {
+            rule: rule.text(alloc)?,
+        },
+        Outcome::Full503 { .. } => ErrorKind::PendingFull503,
+        Outcome::LogFull509 { .. } => ErrorKind::LogFull509,
+        Outcome::Memory507 => ErrorKind::Memory507,
+    };
+    Ok(Some(error))
 }

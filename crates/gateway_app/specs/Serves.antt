@@ -1,5 +1,5 @@
 -- What a run of `serve` answers and does.
-use Rattle.std.specs.Prelude.{◌≡◌, ◌⊎◌, ◌<◌, ◌≤◌, ℕ, List, [], ◌∷◌, ◌++◌, Option, Some, None}
+use Rattle.std.specs.Prelude.{◌≡◌, ◌⊎◌, ◌<◌, ℕ, List, [], ◌∷◌, ◌++◌, Option, Some, None}
 use Rattle.sg_outside.specs.declared.sink.Gave.TheVariants as gave
 use Rattle.sg_outside.specs.Files.{Load}
 use Rattle.sg_lines.specs.Door.{DoorRecord, opened_after}
@@ -11,7 +11,6 @@ use Rattle.session_server.specs.Served.{ServesIfRecorded}
 use Rattle.feed_command.specs.declared.status.Status.{Status}
 use Rattle.feed_command.specs.declared.status.Status.TheVariants as status
 use Rattle.feed_command.specs.Loads.{AreAccepted, IsStopped}
-use Rattle.feed_command.specs.Run.{Counted}
 use Rattle.gateway_app.specs.Inputs.{IsBadConfig, IsBadFileAt, IsConfigIn, IsGoodFile}
 
 -- the status that serving ends with

@@ -16,7 +16,7 @@ use Rattle.transcripts.specs.Transcript.{Run}
 
 -- what a ground with one owner records at a moment
 abbrev pub moment_of : Solo → Moment
-moment_of g = moment g.read (length g.board.log) (Some (length g.board.log)) g.own
+moment_of g = moment g.read (length g.board.log) (Some (length g.board.log)) (Some g.board.checkpoints) g.own
 
 -- the setup of a recorded session: its user and version, and the program and strictness of all
 pub record IsSetup (program : Program) (strict : Bool) (recorded : Recorded) (setup : Setup) : Type 0 where

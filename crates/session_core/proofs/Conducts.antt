@@ -18,15 +18,15 @@ use Rattle.repl_messages.specs.declared.looks.Body.TheVariants as body
 use Rattle.repl_messages.specs.declared.looks.Bodies.{Bodies}
 use Rattle.repl_messages.specs.declared.looks.Fed.{Fed}
 use Rattle.repl_messages.specs.declared.looks.Fed.TheVariants as fed
-use Rattle.repl_messages.specs.declared.offers.Asked.{Asked}
 use Rattle.repl_messages.specs.declared.offers.Offer.{Offer}
 use Rattle.repl_messages.specs.Answers.{answers_payload}
+use Rattle.repl_messages.specs.Checkpoints.{checkpoint_payload}
 use Rattle.repl_messages.specs.Errors.{ok_payload, error_payload}
 use Rattle.repl_messages.specs.Looks.{front_of}
 use Rattle.repl_messages.specs.Wanted.{wanted_rows, reply_items}
-use Rattle.sync_values.specs.Texts.{rule_text}
-use Rattle.doc_board.specs.declared.outcome.Outcome.{Outcome}
-use Rattle.doc_board.specs.declared.outcome.Outcome.TheVariants as outcome
+use Rattle.doc_board.specs.Errors.{outcome_error}
+use Rattle.checkpoint_store.specs.declared.answers.Kept0.TheVariants as kept0
+use Rattle.checkpoint_store.specs.declared.answers.SetAnswer.TheVariants as set
 use Rattle.session_core.specs.declared.act.Act.{Act}
 use Rattle.session_core.specs.declared.act.Act.TheVariants as act
 use Rattle.session_core.specs.declared.act.Want.{Want}
@@ -34,15 +34,18 @@ use Rattle.session_core.specs.declared.act.Want.TheVariants as want
 use Rattle.session_core.specs.declared.event.Event.{Event}
 use Rattle.session_core.specs.declared.event.Event.TheVariants as event
 use Rattle.session_core.specs.declared.replies.Asker.{Asker}
+use Rattle.session_core.specs.declared.replies.Awaited.{Awaited}
+use Rattle.session_core.specs.declared.replies.Awaited.TheVariants as awaited
 use Rattle.session_core.specs.declared.machine.Subscription.{Subscription}
 use Rattle.session_core.specs.declared.machine.Pending.{Pending}
 use Rattle.session_core.specs.declared.machine.Pending.TheVariants as pending
-use Rattle.session_core.specs.Acts.{chosen, reply_act, refusal_act, acceptance_act, outcome_act, error_of, body_act, body_acts, offer_act}
-use Rattle.session_core.specs.Conduct.{AreOnOffer, requests_among, are_requests, AreAnswers, due_with, due_at, IsStillDue, feed_front, WantsFor, most_answers, is_answer, AreWithin, IsKept}
+use Rattle.session_core.specs.Acts.{chosen, reply_act, refusal_act, refusal_by, acceptance_act, is_proposed, answer_act, error_of, body_act, body_acts, offer_act}
+use Rattle.session_core.specs.Conduct.{AreOnOffer, IsWanted, requests_among, are_requests, AreAnswers, due_with, due_at, IsStillDue, feed_front, WantsFor, most_answers, is_answer, AreWithin, IsKept}
 use Rattle.session_core.specs.Fronts.{front_by}
 use Rattle.session_core.specs.Running.{Running, rest, is_none, is_silent, next_acts, next_requests, next_feed_with}
-use Rattle.session_core.specs.State.{Machine, AwaitsBy, Awaits}
-use Rattle.session_core.specs.Transitions.{Done, puts, asks, goes_on, looks_again, answered_by, asker_of, refused, on_sub_changes, on_changes, on_served, on_request, answers, wanted_of, most_ancestors, on_wanted, on_reply, first_of, on_first_look, on_next_look, on_fed, on_bodies_of, on_bodies, on_asked, on_judged, on_idle, Does, DoesByMessage}
+use Rattle.session_core.specs.State.{Machine, AwaitsBy, Awaits, IsReply}
+use Rattle.session_core.specs.Transitions.{Done, puts, asks, goes_on, looks_again, answered_by, asker_of, refused, on_sub_changes, on_changes, on_served, on_request, answers, wanted_of, most_ancestors, on_wanted, on_reply, first_of, on_first_look, on_next_look, on_fed, on_bodies_of, on_bodies, on_answer, on_idle, Does, DoesByMessage}
+use Rattle.session_core.proofs.Awaiting.{awaits_reply}
 
 -- ---- acts
 
@@ -212,18 +215,21 @@ feed_asked : (m : Machine) (asked : Subscription) (feed : Option Running) → Co
 feed_asked m asked None = asks_for m (Some asked.asker.number) [] (pending.Feed asked) (want.Feed asked.since asked.options) (inr refl) (refl, refl)
 feed_asked m asked (Some r) = refusal m asked.asker [] errors.FeedRuns409
 
+asked_for : (m : Machine) (asker : Asker) (to : Awaited) (wanted : Want) → IsWanted to wanted → Conducted m (Some asker.number) [] (asks m (pending.Reply asker to) wanted)
+asked_for m asker to wanted is = asks_for m (Some asker.number) [] (pending.Reply asker to) wanted (inr refl) is
+
 offered : (b : Bool) (m : Machine) (asker : Asker) (offers : List Offer) → Conducted m (Some asker.number) [] (on_changes b m asker (want.Ask offers))
 offered true m asker offers = refusal m asker [] errors.UsePropose409
-offered false m asker offers = asks_for m (Some asker.number) [] (pending.Ask asker false) (want.Ask offers) (inr refl) tt
+offered false m asker offers = asked_for m asker (awaited.Asked false) (want.Ask offers) tt
 
 served : (m : Machine) (asker : Asker) (r : Request) → Conducted m (Some asker.number) [] (on_served m asker r)
-served m asker (request.GetCheckpoint client) = refusal m asker [] errors.NoHandler404
-served m asker (request.SetCheckpoint client rev body) = refusal m asker [] errors.NoHandler404
+served m asker (request.GetCheckpoint client) = asked_for m asker awaited.Got (want.GetCheckpoint client) tt
+served m asker (request.SetCheckpoint client rev body) = asked_for m asker awaited.Set (want.SetCheckpoint client rev body) tt
 served m asker (request.SubChanges since continuous batch options) =
     feed_asked m (record { asker = asker; since = since; continuous = continuous; batch = batch; options = options }) m.feed
 served m asker (request.Changes offers) = offered m.strict m asker offers
-served m asker (request.ProposeChanges offers) = asks_for m (Some asker.number) [] (pending.Ask asker true) (want.Ask offers) (inr refl) tt
-served m asker (request.Rev revision) = asks_for m (Some asker.number) [] (pending.Push asker) (want.Propose revision) (inr refl) tt
+served m asker (request.ProposeChanges offers) = asked_for m asker (awaited.Asked true) (want.Ask offers) tt
+served m asker (request.Rev revision) = asked_for m asker awaited.Pushed (want.Propose revision) tt
 
 requested : (m : Machine) (message : Message) (read : Result Request RequestFault) → Conducted m (Some message.number) [] (on_request m message read)
 requested m message (Err fault) = refusal m (asker_of message) [] (error_of fault)
@@ -272,8 +278,7 @@ fed_to m answer pending.Nothing = none_put m None (front_of answer ∷ [])
 fed_to m answer (pending.Feed asked) = first_look m asked answer
 fed_to m answer pending.More = next_look m m.feed answer
 fed_to m answer (pending.Bodies rows) = none_put m None (front_of answer ∷ [])
-fed_to m answer (pending.Ask asker proposed) = none_put m (Some asker.number) (front_of answer ∷ [])
-fed_to m answer (pending.Push asker) = none_put m (Some asker.number) (front_of answer ∷ [])
+fed_to m answer (pending.Reply asker to) = none_put m (Some asker.number) (front_of answer ∷ [])
 
 bodies_of : (m : Machine) (b : Bodies) (wanted : List Row) (feed : Option Running) → m.feed ≡ feed → length b.answers ≡ length wanted
     → Conducted m None (b.front ∷ []) (on_bodies_of m b wanted feed)
@@ -284,47 +289,41 @@ bodies_of m b wanted (Some r) e same =
     (ap (λ n. m.requests + n) (sym (bodies_counted wanted b.answers same)))
     (λ most a seen. subst (λ f. feed_front f ≤ most) e a)
 
-accepted : (m : Machine) (asker : Asker) (fronts : List ℕ) → Conducted m (Some asker.number) fronts (puts m (acceptance_act asker))
-accepted m asker fronts = puts_are m (Some asker.number) fronts (acceptance_act asker) (reply_due asker kinds.Rpy ok_payload refl) (reply_count asker kinds.Rpy ok_payload)
-
-outcome_is : (m : Machine) (asker : Asker) (o : Outcome) (fronts : List ℕ) → Conducted m (Some asker.number) fronts (puts m (outcome_act asker o))
-outcome_is m asker (outcome.Bad400 field) fronts = refusal m asker fronts (errors.Bad400 field)
-outcome_is m asker (outcome.TooLarge413 bytes) fronts = refusal m asker fronts errors.TooLarge413
-outcome_is m asker (outcome.UserGone401 at) fronts = refusal m asker fronts errors.UserGone401
-outcome_is m asker (outcome.Known at) fronts = accepted m asker fronts
-outcome_is m asker (outcome.BadHistory400 at) fronts = refusal m asker fronts errors.BadHistory400
-outcome_is m asker (outcome.Conflict409 at leaf) fronts = refusal m asker fronts (errors.Conflict409 leaf)
-outcome_is m asker (outcome.Denied403 at rule) fronts = refusal m asker fronts (errors.Denied403 (rule_text rule))
-outcome_is m asker (outcome.Stored sequence at) fronts = accepted m asker fronts
-outcome_is m asker (outcome.Full503 at places) fronts = refusal m asker fronts errors.PendingFull503
-outcome_is m asker (outcome.LogFull509 at entries bytes) fronts = refusal m asker fronts errors.LogFull509
-outcome_is m asker outcome.Memory507 fronts = refusal m asker fronts errors.Memory507
-
 bodied : (m : Machine) (b : Bodies) (awaited : Pending) → AwaitsBy m.feed awaited (event.Bodies b) → Conducted m (due_with awaited) (b.front ∷ []) (on_bodies m b awaited)
 bodied m b pending.Nothing a = absurd a
 bodied m b (pending.Feed asked) a = absurd a
 bodied m b pending.More a = absurd a
 bodied m b (pending.Bodies rows) a = bodies_of m b rows m.feed refl a
-bodied m b (pending.Ask asker proposed) a = absurd a
-bodied m b (pending.Push asker) a = absurd a
+bodied m b (pending.Reply asker to) a = absurd a
 
-asked_to : (m : Machine) (answer : Asked) (awaited : Pending) → Conducted m (due_with awaited) (answer.front ∷ []) (on_asked m answer awaited)
-asked_to m answer pending.Nothing = none_put m None (answer.front ∷ [])
-asked_to m answer (pending.Feed asked) = none_put m (Some asked.asker.number) (answer.front ∷ [])
-asked_to m answer pending.More = none_put m None (answer.front ∷ [])
-asked_to m answer (pending.Bodies rows) = none_put m None (answer.front ∷ [])
-asked_to m answer (pending.Ask asker proposed) =
-    puts_are m (Some asker.number) (answer.front ∷ []) (reply_act asker kinds.Rpy (answers_payload answer.answers proposed))
-    (reply_due asker kinds.Rpy (answers_payload answer.answers proposed) refl) (reply_count asker kinds.Rpy (answers_payload answer.answers proposed))
-asked_to m answer (pending.Push asker) = none_put m (Some asker.number) (answer.front ∷ [])
+reply_puts : (m : Machine) (asker : Asker) (fronts : List ℕ) (payload : Payload) → Conducted m (Some asker.number) fronts (puts m (reply_act asker kinds.Rpy payload))
+reply_puts m asker fronts payload = puts_are m (Some asker.number) fronts (reply_act asker kinds.Rpy payload) (reply_due asker kinds.Rpy payload refl) (reply_count asker kinds.Rpy payload)
 
-judged_to : (m : Machine) (o : Outcome) (awaited : Pending) → Conducted m (due_with awaited) (front_by (event.Judged o)) (on_judged m o awaited)
-judged_to m o pending.Nothing = none_put m None (front_by (event.Judged o))
-judged_to m o (pending.Feed asked) = none_put m (Some asked.asker.number) (front_by (event.Judged o))
-judged_to m o pending.More = none_put m None (front_by (event.Judged o))
-judged_to m o (pending.Bodies rows) = none_put m None (front_by (event.Judged o))
-judged_to m o (pending.Ask asker proposed) = none_put m (Some asker.number) (front_by (event.Judged o))
-judged_to m o (pending.Push asker) = outcome_is m asker o (front_by (event.Judged o))
+outcome_puts : (m : Machine) (asker : Asker) (fronts : List ℕ) (error : Option ErrorKind) → Conducted m (Some asker.number) fronts (puts m (refusal_by asker error))
+outcome_puts m asker fronts None = reply_puts m asker fronts ok_payload
+outcome_puts m asker fronts (Some error) = refusal m asker fronts error
+
+answer_puts : (m : Machine) (asker : Asker) (to : Awaited) (fronts : List ℕ) (e : Event) → Conducted m (Some asker.number) fronts (puts m (answer_act asker to e))
+answer_puts m asker to fronts (event.Whole message) = none_put m (Some asker.number) fronts
+answer_puts m asker to fronts (event.Idle front) = none_put m (Some asker.number) fronts
+answer_puts m asker to fronts (event.Fed answer) = none_put m (Some asker.number) fronts
+answer_puts m asker to fronts (event.Bodies b) = none_put m (Some asker.number) fronts
+answer_puts m asker to fronts (event.Asked answer) = reply_puts m asker fronts (answers_payload answer.answers (is_proposed to))
+answer_puts m asker to fronts (event.Judged o) = outcome_puts m asker fronts (outcome_error o)
+answer_puts m asker to fronts (event.Got (kept0.Found rev body)) = reply_puts m asker fronts (checkpoint_payload rev body)
+answer_puts m asker to fronts (event.Got kept0.Absent404) = refusal m asker fronts errors.NoCheckpoint404
+answer_puts m asker to fronts (event.Set (set.Set rev)) = reply_puts m asker fronts (checkpoint_payload rev [])
+answer_puts m asker to fronts (event.Set (set.Conflict409 current)) = refusal m asker fronts (errors.Checkpoint409 current)
+answer_puts m asker to fronts (event.Set (set.TooLarge413 bytes)) = refusal m asker fronts errors.TooLarge413
+answer_puts m asker to fronts (event.Set set.Full503) = refusal m asker fronts errors.CheckpointsFull503
+answer_puts m asker to fronts (event.Set set.Memory) = none_put m (Some asker.number) fronts
+
+answered_to : (m : Machine) (e : Event) (fronts : List ℕ) (awaited : Pending) → Conducted m (due_with awaited) fronts (on_answer m e awaited)
+answered_to m e fronts pending.Nothing = none_put m None fronts
+answered_to m e fronts (pending.Feed asked) = none_put m (Some asked.asker.number) fronts
+answered_to m e fronts pending.More = none_put m None fronts
+answered_to m e fronts (pending.Bodies rows) = none_put m None fronts
+answered_to m e fronts (pending.Reply asker to) = answer_puts m asker to fronts e
 
 -- ---- idle moments
 
@@ -361,40 +360,35 @@ fewer_fed m answer pending.Nothing a = absurd a
 fewer_fed m answer (pending.Feed asked) a = omega (arith, after_first m asked answer)
 fewer_fed m answer pending.More a = omega (arith, after_next m m.feed answer)
 fewer_fed m answer (pending.Bodies rows) a = absurd a
-fewer_fed m answer (pending.Ask asker proposed) a = absurd a
-fewer_fed m answer (pending.Push asker) a = absurd a
+fewer_fed m answer (pending.Reply asker to) a = absurd a
 
 fewer_bodies : (m : Machine) (b : Bodies) (awaited : Pending) → AwaitsBy m.feed awaited (event.Bodies b) → most_answers (on_bodies m b awaited).after.pending < most_answers awaited
 fewer_bodies m b pending.Nothing a = absurd a
 fewer_bodies m b (pending.Feed asked) a = absurd a
 fewer_bodies m b pending.More a = absurd a
 fewer_bodies m b (pending.Bodies rows) a = omega (arith, after_bodies m b rows m.feed)
-fewer_bodies m b (pending.Ask asker proposed) a = absurd a
-fewer_bodies m b (pending.Push asker) a = absurd a
+fewer_bodies m b (pending.Reply asker to) a = absurd a
 
-fewer_asked : (m : Machine) (answer : Asked) (awaited : Pending) → AwaitsBy m.feed awaited (event.Asked answer) → most_answers (on_asked m answer awaited).after.pending < most_answers awaited
-fewer_asked m answer pending.Nothing a = absurd a
-fewer_asked m answer (pending.Feed asked) a = absurd a
-fewer_asked m answer pending.More a = absurd a
-fewer_asked m answer (pending.Bodies rows) a = absurd a
-fewer_asked m answer (pending.Ask asker proposed) a = omega arith
-fewer_asked m answer (pending.Push asker) a = absurd a
-
-fewer_judged : (m : Machine) (o : Outcome) (awaited : Pending) → AwaitsBy m.feed awaited (event.Judged o) → most_answers (on_judged m o awaited).after.pending < most_answers awaited
-fewer_judged m o pending.Nothing a = absurd a
-fewer_judged m o (pending.Feed asked) a = absurd a
-fewer_judged m o pending.More a = absurd a
-fewer_judged m o (pending.Bodies rows) a = absurd a
-fewer_judged m o (pending.Ask asker proposed) a = absurd a
-fewer_judged m o (pending.Push asker) a = omega arith
+fewer_replied : (m : Machine) (e : Event) (awaited : Pending) → IsReply awaited → most_answers (on_answer m e awaited).after.pending < most_answers awaited
+fewer_replied m e pending.Nothing is = absurd is
+fewer_replied m e (pending.Feed asked) is = absurd is
+fewer_replied m e pending.More is = absurd is
+fewer_replied m e (pending.Bodies rows) is = absurd is
+fewer_replied m e (pending.Reply asker to) is = omega arith
 
 pub fewer : (m : Machine) (e : Event) (done : Done) → Awaits m e → Does m e done → is_answer e ≡ true → most_answers done.after.pending < most_answers m.pending
 fewer m (event.Whole message) done awaits does is = absurd (false≢true is)
 fewer m (event.Idle front) done awaits does is = absurd (false≢true is)
 fewer m (event.Fed answer) done awaits does is = subst (λ (d : Done). most_answers d.after.pending < most_answers m.pending) (sym does) (fewer_fed m answer m.pending awaits)
 fewer m (event.Bodies b) done awaits does is = subst (λ (d : Done). most_answers d.after.pending < most_answers m.pending) (sym does) (fewer_bodies m b m.pending awaits)
-fewer m (event.Asked answer) done awaits does is = subst (λ (d : Done). most_answers d.after.pending < most_answers m.pending) (sym does) (fewer_asked m answer m.pending awaits)
-fewer m (event.Judged o) done awaits does is = subst (λ (d : Done). most_answers d.after.pending < most_answers m.pending) (sym does) (fewer_judged m o m.pending awaits)
+fewer m (event.Asked answer) done awaits does is =
+    subst (λ (d : Done). most_answers d.after.pending < most_answers m.pending) (sym does) (fewer_replied m (event.Asked answer) m.pending (awaits_reply m.feed m.pending (event.Asked answer) refl awaits))
+fewer m (event.Judged o) done awaits does is =
+    subst (λ (d : Done). most_answers d.after.pending < most_answers m.pending) (sym does) (fewer_replied m (event.Judged o) m.pending (awaits_reply m.feed m.pending (event.Judged o) refl awaits))
+fewer m (event.Got k) done awaits does is =
+    subst (λ (d : Done). most_answers d.after.pending < most_answers m.pending) (sym does) (fewer_replied m (event.Got k) m.pending (awaits_reply m.feed m.pending (event.Got k) refl awaits))
+fewer m (event.Set answer) done awaits does is =
+    subst (λ (d : Done). most_answers d.after.pending < most_answers m.pending) (sym does) (fewer_replied m (event.Set answer) m.pending (awaits_reply m.feed m.pending (event.Set answer) refl awaits))
 
 -- ---- all of them
 
@@ -404,8 +398,14 @@ conducted m (event.Idle front) done awaits does = subst (Conducted m None (front
 conducted m (event.Fed answer) done awaits does = subst (Conducted m (due_with m.pending) (front_of answer ∷ [])) (sym does) (fed_to m answer m.pending)
 conducted m (event.Bodies b) done awaits does =
     subst (Conducted m (due_with m.pending) (b.front ∷ [])) (sym does) (bodied m b m.pending awaits)
-conducted m (event.Asked answer) done awaits does = subst (Conducted m (due_with m.pending) (answer.front ∷ [])) (sym does) (asked_to m answer m.pending)
-conducted m (event.Judged o) done awaits does = subst (Conducted m (due_with m.pending) (front_by (event.Judged o))) (sym does) (judged_to m o m.pending)
+conducted m (event.Asked answer) done awaits does =
+    subst (Conducted m (due_with m.pending) (front_by (event.Asked answer))) (sym does) (answered_to m (event.Asked answer) (front_by (event.Asked answer)) m.pending)
+conducted m (event.Judged o) done awaits does =
+    subst (Conducted m (due_with m.pending) (front_by (event.Judged o))) (sym does) (answered_to m (event.Judged o) (front_by (event.Judged o)) m.pending)
+conducted m (event.Got k) done awaits does =
+    subst (Conducted m (due_with m.pending) (front_by (event.Got k))) (sym does) (answered_to m (event.Got k) (front_by (event.Got k)) m.pending)
+conducted m (event.Set answer) done awaits does =
+    subst (Conducted m (due_with m.pending) (front_by (event.Set answer))) (sym does) (answered_to m (event.Set answer) (front_by (event.Set answer)) m.pending)
 
 pub kept : (m : Machine) (e : Event) (done : Done) → Awaits m e → Does m e done → IsKept m e done
 kept m e done awaits does =

@@ -26,13 +26,12 @@ use Rattle.repl_messages.specs.declared.looks.Body.TheVariants as body
 use Rattle.repl_messages.specs.declared.looks.Bodies.{Bodies}
 use Rattle.repl_messages.specs.declared.looks.Fed.{Fed}
 use Rattle.repl_messages.specs.declared.looks.Fed.TheVariants as fed
-use Rattle.repl_messages.specs.declared.offers.Asked.{Asked}
-use Rattle.repl_messages.specs.Answers.{answers_payload}
 use Rattle.repl_messages.specs.Errors.{error_payload}
 use Rattle.repl_messages.specs.Looks.{front_of}
 use Rattle.sync_syntax.specs.declared.tree.Program.{Program}
-use Rattle.doc_board.specs.declared.outcome.Outcome.{Outcome}
-use Rattle.doc_board.specs.declared.outcome.Outcome.TheVariants as outcome
+use Rattle.doc_board.specs.Errors.{outcome_error}
+use Rattle.checkpoint_store.specs.declared.answers.Kept0.TheVariants as kept0
+use Rattle.checkpoint_store.specs.declared.answers.SetAnswer.TheVariants as set
 use Rattle.session_core.specs.declared.act.Act.{Act}
 use Rattle.session_core.specs.declared.act.Act.TheVariants as act
 use Rattle.session_core.specs.declared.act.Want.{Want}
@@ -40,17 +39,19 @@ use Rattle.session_core.specs.declared.act.Want.TheVariants as want
 use Rattle.session_core.specs.declared.event.Event.{Event}
 use Rattle.session_core.specs.declared.event.Event.TheVariants as event
 use Rattle.session_core.specs.declared.replies.Asker.{Asker}
+use Rattle.session_core.specs.declared.replies.Awaited.{Awaited}
+use Rattle.session_core.specs.declared.replies.Awaited.TheVariants as awaited
 use Rattle.session_core.specs.declared.machine.Subscription.{Subscription}
 use Rattle.session_core.specs.declared.machine.Pending.{Pending}
 use Rattle.session_core.specs.declared.machine.Pending.TheVariants as pending
-use Rattle.session_core.specs.Acts.{messages_from, request_message, reply_message, error_of, reply_act, refusal_act, acceptance_act, outcome_act, body_act, body_acts, offer_act}
+use Rattle.session_core.specs.Acts.{messages_from, request_message, reply_message, error_of, reply_act, refusal_act, refusal_by, acceptance_act, answer_act, body_act, body_acts, offer_act}
 use Rattle.session_core.specs.Conduct.{requests_among, WantsFor}
 use Rattle.session_core.specs.Feeds.{AreOffered, not_offered, rows_at, feed_look, feed_looks, LeadsFeed, RunsFeed}
 use Rattle.session_core.specs.Right.{IsRight, AreRight}
 use Rattle.session_core.specs.Running.{Running, rest, is_none, is_silent, waits, next_since, next_acts, next_feed, next_feed_with}
 use Rattle.session_core.specs.State.{Machine, new_machine, AwaitsBy, Awaits}
 use Rattle.session_core.specs.Steps.{Step, Steps, Leads, put_by, wanted_after}
-use Rattle.session_core.specs.Transitions.{Done, puts, asks, goes_on, looks_again, answered_by, answered, asker_of, refused, on_sub_changes, on_changes, on_served, on_request, answers, wanted_of, most_ancestors, on_wanted, on_reply, first_of, on_first_look, on_next_look, on_fed, on_bodies_of, on_bodies, on_asked, on_judged, on_idle, Does, DoesByMessage}
+use Rattle.session_core.specs.Transitions.{Done, puts, asks, goes_on, looks_again, answered_by, answered, asker_of, refused, on_sub_changes, on_changes, on_served, on_request, answers, wanted_of, most_ancestors, on_wanted, on_reply, first_of, on_first_look, on_next_look, on_fed, on_bodies_of, on_bodies, on_answer, on_idle, Does, DoesByMessage}
 use Rattle.session_core.proofs.Conducts.{conducted}
 
 -- ---- messages
@@ -164,8 +165,7 @@ Waits r pending.Nothing = Unit {0}
 Waits r (pending.Feed asked) = ⊥
 Waits r pending.More = is_none r.rows ≡ true
 Waits r (pending.Bodies rows) = Unit {0}
-Waits r (pending.Ask asker proposed) = Unit {0}
-Waits r (pending.Push asker) = Unit {0}
+Waits r (pending.Reply asker to) = Unit {0}
 
 abbrev Runs : Subscription → List ℕ → Option Running → Pending → Type 0
 Runs asked fronts None awaited = Unit {0}
@@ -289,19 +289,21 @@ second_feed h user version asked other messages fronts m r so_far e =
 changes_stay : (h : List Entry) (user : List ℕ) (version : Version) (asked : Subscription) (messages : List Message) (fronts : List ℕ) (m : Machine) (r : Running) (asker : Asker) (wanted : Want) (b : Bool)
     → Offering h user version asked messages fronts m → m.feed ≡ Some r → After h user version asked messages fronts m (on_changes b m asker wanted)
 changes_stay h user version asked messages fronts m r asker wanted true so_far e = refused_stay h user version asked messages fronts m r asker errors.UsePropose409 so_far e
-changes_stay h user version asked messages fronts m r asker wanted false so_far e = asks_stay h user version asked messages fronts m r (pending.Ask asker false) wanted so_far e tt
+changes_stay h user version asked messages fronts m r asker wanted false so_far e = asks_stay h user version asked messages fronts m r (pending.Reply asker (awaited.Asked false)) wanted so_far e tt
 
 served_stay : (h : List Entry) (user : List ℕ) (version : Version) (asked : Subscription) (messages : List Message) (fronts : List ℕ) (m : Machine) (r : Running) (asker : Asker) (read : Request)
     → Offering h user version asked messages fronts m → m.feed ≡ Some r → After h user version asked messages fronts m (on_served m asker read)
-served_stay h user version asked messages fronts m r asker (request.GetCheckpoint client) so_far e = refused_stay h user version asked messages fronts m r asker errors.NoHandler404 so_far e
-served_stay h user version asked messages fronts m r asker (request.SetCheckpoint client rev body) so_far e = refused_stay h user version asked messages fronts m r asker errors.NoHandler404 so_far e
+served_stay h user version asked messages fronts m r asker (request.GetCheckpoint client) so_far e =
+    asks_stay h user version asked messages fronts m r (pending.Reply asker awaited.Got) (want.GetCheckpoint client) so_far e tt
+served_stay h user version asked messages fronts m r asker (request.SetCheckpoint client rev body) so_far e =
+    asks_stay h user version asked messages fronts m r (pending.Reply asker awaited.Set) (want.SetCheckpoint client rev body) so_far e tt
 served_stay h user version asked messages fronts m r asker (request.SubChanges since continuous batch options) so_far e =
     second_feed h user version asked (record { asker = asker; since = since; continuous = continuous; batch = batch; options = options }) messages fronts m r so_far e
 served_stay h user version asked messages fronts m r asker (request.Changes offers) so_far e = changes_stay h user version asked messages fronts m r asker (want.Ask offers) m.strict so_far e
 served_stay h user version asked messages fronts m r asker (request.ProposeChanges offers) so_far e =
-    asks_stay h user version asked messages fronts m r (pending.Ask asker true) (want.Ask offers) so_far e tt
+    asks_stay h user version asked messages fronts m r (pending.Reply asker (awaited.Asked true)) (want.Ask offers) so_far e tt
 served_stay h user version asked messages fronts m r asker (request.Rev revision) so_far e =
-    asks_stay h user version asked messages fronts m r (pending.Push asker) (want.Propose revision) so_far e tt
+    asks_stay h user version asked messages fronts m r (pending.Reply asker awaited.Pushed) (want.Propose revision) so_far e tt
 
 request_stay : (h : List Entry) (user : List ℕ) (version : Version) (asked : Subscription) (messages : List Message) (fronts : List ℕ) (m : Machine) (r : Running) (message : Message) (read : Result Request RequestFault)
     → Offering h user version asked messages fronts m → m.feed ≡ Some r → After h user version asked messages fronts m (on_request m message read)
@@ -355,6 +357,8 @@ by_look h user r front rows (Some s) (Some (want.Feed since options)) e (since_i
 by_look h user r front rows (Some s) (Some (want.Bodies options wanted most)) e w program strict right = absurd w
 by_look h user r front rows (Some s) (Some (want.Ask offers)) e w program strict right = absurd w
 by_look h user r front rows (Some s) (Some (want.Propose revision)) e w program strict right = absurd w
+by_look h user r front rows (Some s) (Some (want.GetCheckpoint client)) e w program strict right = absurd w
+by_look h user r front rows (Some s) (Some (want.SetCheckpoint client rev body)) e w program strict right = absurd w
 
 fed_stay : (h : List Entry) (user : List ℕ) (version : Version) (program : Program) (strict : Bool) (asked : Subscription) (messages : List Message) (fronts : List ℕ) (m : Machine) (r : Running) (answer : Fed) (wanted : Option Want) (awaited : Pending)
     → Offering h user version asked messages fronts m → m.feed ≡ Some r → m.pending ≡ awaited → AwaitsBy m.feed awaited (event.Fed answer) → WantsFor m.feed awaited wanted → IsRight h user program strict wanted (event.Fed answer)
@@ -367,8 +371,7 @@ fed_stay h user version program strict asked messages fronts m r (fed.Rows front
     subst (λ f. After h user version asked messages (front ∷ fronts) m (on_next_look m f (fed.Rows front rows))) (sym e)
     (more_rows h user version asked messages fronts m r front rows so_far e awaited_is (by_look h user r front rows m.feed wanted e w program strict right))
 fed_stay h user version program strict asked messages fronts m r answer wanted (pending.Bodies rows) so_far e awaited_is a w right = absurd a
-fed_stay h user version program strict asked messages fronts m r answer wanted (pending.Ask asker proposed) so_far e awaited_is a w right = absurd a
-fed_stay h user version program strict asked messages fronts m r answer wanted (pending.Push asker) so_far e awaited_is a w right = absurd a
+fed_stay h user version program strict asked messages fronts m r answer wanted (pending.Reply asker to) so_far e awaited_is a w right = absurd a
 
 bodies_stay : (h : List Entry) (user : List ℕ) (version : Version) (asked : Subscription) (messages : List Message) (fronts : List ℕ) (m : Machine) (r : Running) (b : Bodies) (awaited : Pending)
     → Offering h user version asked messages fronts m → m.feed ≡ Some r → After h user version asked messages fronts m (on_bodies m b awaited)
@@ -378,40 +381,35 @@ bodies_stay h user version asked messages fronts m r b (pending.Bodies wanted) s
 bodies_stay h user version asked messages fronts m r b pending.Nothing so_far e = puts_stay h user version asked messages fronts m r [] so_far e tt
 bodies_stay h user version asked messages fronts m r b (pending.Feed other) so_far e = puts_stay h user version asked messages fronts m r [] so_far e tt
 bodies_stay h user version asked messages fronts m r b pending.More so_far e = puts_stay h user version asked messages fronts m r [] so_far e tt
-bodies_stay h user version asked messages fronts m r b (pending.Ask asker proposed) so_far e = puts_stay h user version asked messages fronts m r [] so_far e tt
-bodies_stay h user version asked messages fronts m r b (pending.Push asker) so_far e = puts_stay h user version asked messages fronts m r [] so_far e tt
+bodies_stay h user version asked messages fronts m r b (pending.Reply asker to) so_far e = puts_stay h user version asked messages fronts m r [] so_far e tt
 
-asked_stay : (h : List Entry) (user : List ℕ) (version : Version) (asked : Subscription) (messages : List Message) (fronts : List ℕ) (m : Machine) (r : Running) (answer : Asked) (awaited : Pending)
-    → Offering h user version asked messages fronts m → m.feed ≡ Some r → After h user version asked messages fronts m (on_asked m answer awaited)
-asked_stay h user version asked messages fronts m r answer (pending.Ask asker proposed) so_far e =
-    puts_stay h user version asked messages fronts m r (reply_act asker kinds.Rpy (answers_payload answer.answers proposed)) so_far e (reply_none asker kinds.Rpy (answers_payload answer.answers proposed) refl)
-asked_stay h user version asked messages fronts m r answer pending.Nothing so_far e = puts_stay h user version asked messages fronts m r [] so_far e tt
-asked_stay h user version asked messages fronts m r answer (pending.Feed other) so_far e = puts_stay h user version asked messages fronts m r [] so_far e tt
-asked_stay h user version asked messages fronts m r answer pending.More so_far e = puts_stay h user version asked messages fronts m r [] so_far e tt
-asked_stay h user version asked messages fronts m r answer (pending.Bodies rows) so_far e = puts_stay h user version asked messages fronts m r [] so_far e tt
-asked_stay h user version asked messages fronts m r answer (pending.Push asker) so_far e = puts_stay h user version asked messages fronts m r [] so_far e tt
+outcome_none : (asker : Asker) (error : Option ErrorKind) → OffersNone (refusal_by asker error)
+outcome_none asker None = reply_none asker kinds.Rpy _ refl
+outcome_none asker (Some error) = reply_none asker kinds.Err _ refl
 
-outcome_none : (asker : Asker) (o : Outcome) → OffersNone (outcome_act asker o)
-outcome_none asker (outcome.Bad400 field) = reply_none asker kinds.Err _ refl
-outcome_none asker (outcome.TooLarge413 bytes) = reply_none asker kinds.Err _ refl
-outcome_none asker (outcome.UserGone401 at) = reply_none asker kinds.Err _ refl
-outcome_none asker (outcome.Known at) = reply_none asker kinds.Rpy _ refl
-outcome_none asker (outcome.BadHistory400 at) = reply_none asker kinds.Err _ refl
-outcome_none asker (outcome.Conflict409 at leaf) = reply_none asker kinds.Err _ refl
-outcome_none asker (outcome.Denied403 at rule) = reply_none asker kinds.Err _ refl
-outcome_none asker (outcome.Stored sequence at) = reply_none asker kinds.Rpy _ refl
-outcome_none asker (outcome.Full503 at places) = reply_none asker kinds.Err _ refl
-outcome_none asker (outcome.LogFull509 at entries bytes) = reply_none asker kinds.Err _ refl
-outcome_none asker outcome.Memory507 = reply_none asker kinds.Err _ refl
+answer_none : (asker : Asker) (to : Awaited) (e : Event) → OffersNone (answer_act asker to e)
+answer_none asker to (event.Whole message) = tt
+answer_none asker to (event.Idle front) = tt
+answer_none asker to (event.Fed answer) = tt
+answer_none asker to (event.Bodies b) = tt
+answer_none asker to (event.Asked answer) = reply_none asker kinds.Rpy _ refl
+answer_none asker to (event.Judged o) = outcome_none asker (outcome_error o)
+answer_none asker to (event.Got (kept0.Found rev body)) = reply_none asker kinds.Rpy _ refl
+answer_none asker to (event.Got kept0.Absent404) = reply_none asker kinds.Err _ refl
+answer_none asker to (event.Set (set.Set rev)) = reply_none asker kinds.Rpy _ refl
+answer_none asker to (event.Set (set.Conflict409 current)) = reply_none asker kinds.Err _ refl
+answer_none asker to (event.Set (set.TooLarge413 bytes)) = reply_none asker kinds.Err _ refl
+answer_none asker to (event.Set set.Full503) = reply_none asker kinds.Err _ refl
+answer_none asker to (event.Set set.Memory) = tt
 
-judged_stay : (h : List Entry) (user : List ℕ) (version : Version) (asked : Subscription) (messages : List Message) (fronts : List ℕ) (m : Machine) (r : Running) (o : Outcome) (awaited : Pending)
-    → Offering h user version asked messages fronts m → m.feed ≡ Some r → After h user version asked messages fronts m (on_judged m o awaited)
-judged_stay h user version asked messages fronts m r o (pending.Push asker) so_far e = puts_stay h user version asked messages fronts m r (outcome_act asker o) so_far e (outcome_none asker o)
-judged_stay h user version asked messages fronts m r o pending.Nothing so_far e = puts_stay h user version asked messages fronts m r [] so_far e tt
-judged_stay h user version asked messages fronts m r o (pending.Feed other) so_far e = puts_stay h user version asked messages fronts m r [] so_far e tt
-judged_stay h user version asked messages fronts m r o pending.More so_far e = puts_stay h user version asked messages fronts m r [] so_far e tt
-judged_stay h user version asked messages fronts m r o (pending.Bodies rows) so_far e = puts_stay h user version asked messages fronts m r [] so_far e tt
-judged_stay h user version asked messages fronts m r o (pending.Ask asker proposed) so_far e = puts_stay h user version asked messages fronts m r [] so_far e tt
+answer_stay : (h : List Entry) (user : List ℕ) (version : Version) (asked : Subscription) (messages : List Message) (fronts : List ℕ) (m : Machine) (r : Running) (answer : Event) (awaited : Pending)
+    → Offering h user version asked messages fronts m → m.feed ≡ Some r → After h user version asked messages fronts m (on_answer m answer awaited)
+answer_stay h user version asked messages fronts m r answer (pending.Reply asker to) so_far e =
+    puts_stay h user version asked messages fronts m r (answer_act asker to answer) so_far e (answer_none asker to answer)
+answer_stay h user version asked messages fronts m r answer pending.Nothing so_far e = puts_stay h user version asked messages fronts m r [] so_far e tt
+answer_stay h user version asked messages fronts m r answer (pending.Feed other) so_far e = puts_stay h user version asked messages fronts m r [] so_far e tt
+answer_stay h user version asked messages fronts m r answer pending.More so_far e = puts_stay h user version asked messages fronts m r [] so_far e tt
+answer_stay h user version asked messages fronts m r answer (pending.Bodies rows) so_far e = puts_stay h user version asked messages fronts m r [] so_far e tt
 
 idle_with : (h : List Entry) (user : List ℕ) (version : Version) (asked : Subscription) (messages : List Message) (fronts : List ℕ) (m : Machine) (r : Running) (b : Bool)
     → Offering h user version asked messages fronts m → m.feed ≡ Some r → is_none r.rows ≡ true → After h user version asked messages fronts m (if b then looks_again m [] m.requests r else puts m [])
@@ -423,8 +421,7 @@ idle_waits feed_runs r pending.Nothing front e a = ap waits (sym e) ∙ a
 idle_waits feed_runs r (pending.Feed other) front e a = absurd a
 idle_waits feed_runs r pending.More front e a = absurd a
 idle_waits feed_runs r (pending.Bodies rows) front e a = absurd a
-idle_waits feed_runs r (pending.Ask asker proposed) front e a = absurd a
-idle_waits feed_runs r (pending.Push asker) front e a = absurd a
+idle_waits feed_runs r (pending.Reply asker to) front e a = absurd a
 
 -- ---- each event
 
@@ -439,9 +436,13 @@ event_stay h user version program strict asked messages fronts m r (event.Fed an
 event_stay h user version program strict asked messages fronts m r (event.Bodies b) done wanted so_far e a does w right =
     subst (After h user version asked messages fronts m) (sym does) (bodies_stay h user version asked messages fronts m r b m.pending so_far e)
 event_stay h user version program strict asked messages fronts m r (event.Asked answer) done wanted so_far e a does w right =
-    subst (After h user version asked messages fronts m) (sym does) (asked_stay h user version asked messages fronts m r answer m.pending so_far e)
+    subst (After h user version asked messages fronts m) (sym does) (answer_stay h user version asked messages fronts m r (event.Asked answer) m.pending so_far e)
 event_stay h user version program strict asked messages fronts m r (event.Judged o) done wanted so_far e a does w right =
-    subst (After h user version asked messages fronts m) (sym does) (judged_stay h user version asked messages fronts m r o m.pending so_far e)
+    subst (After h user version asked messages fronts m) (sym does) (answer_stay h user version asked messages fronts m r (event.Judged o) m.pending so_far e)
+event_stay h user version program strict asked messages fronts m r (event.Got k) done wanted so_far e a does w right =
+    subst (After h user version asked messages fronts m) (sym does) (answer_stay h user version asked messages fronts m r (event.Got k) m.pending so_far e)
+event_stay h user version program strict asked messages fronts m r (event.Set answer) done wanted so_far e a does w right =
+    subst (After h user version asked messages fronts m) (sym does) (answer_stay h user version asked messages fronts m r (event.Set answer) m.pending so_far e)
 
 step_stay : (h : List Entry) (user : List ℕ) (version : Version) (program : Program) (strict : Bool) (asked : Subscription) (messages : List Message) (fronts : List ℕ) (m : Machine) (r : Running) (s : Step) (after : Machine) (wanted : Option Want)
     → Offering h user version asked messages fronts m → m.feed ≡ Some r → Steps m s after → WantsFor m.feed m.pending wanted → IsRight h user program strict wanted s.event
@@ -480,6 +481,8 @@ rows_of_first h user program strict asked front rows feed_runs (Some (want.Feed 
 rows_of_first h user program strict asked front rows feed_runs (Some (want.Bodies options wanted most)) w right = absurd w
 rows_of_first h user program strict asked front rows feed_runs (Some (want.Ask offers)) w right = absurd w
 rows_of_first h user program strict asked front rows feed_runs (Some (want.Propose revision)) w right = absurd w
+rows_of_first h user program strict asked front rows feed_runs (Some (want.GetCheckpoint client)) w right = absurd w
+rows_of_first h user program strict asked front rows feed_runs (Some (want.SetCheckpoint client rev body)) w right = absurd w
 
 first_offer : (h : List Entry) (user : List ℕ) (version : Version) (program : Program) (strict : Bool) (asked : Subscription) (front : ℕ) (rows : List Row) (before : Machine) (s : Step) (first : Machine) (wanted : Option Want)
     → before.user ≡ user → before.version ≡ version → before.pending ≡ pending.Feed asked → s.event ≡ event.Fed (fed.Rows front rows) → Steps before s first

@@ -12,16 +12,25 @@ use Rattle.repl_messages.specs.declared.error.ErrorKind.{ErrorKind}
 use Rattle.repl_messages.specs.declared.error.ErrorKind.TheVariants as errors
 use Rattle.repl_messages.specs.declared.looks.Body.{Body}
 use Rattle.repl_messages.specs.declared.looks.Body.TheVariants as bodies
+use Rattle.repl_messages.specs.Answers.{answers_payload}
 use Rattle.repl_messages.specs.Changes.{changes_payload}
+use Rattle.repl_messages.specs.Checkpoints.{checkpoint_payload}
 use Rattle.repl_messages.specs.Rev.{rev_payload, norev_payload}
 use Rattle.repl_messages.specs.Errors.{ok_payload, error_payload}
-use Rattle.sync_values.specs.Texts.{rule_text}
+use Rattle.checkpoint_store.specs.declared.answers.Kept0.{Kept0}
+use Rattle.checkpoint_store.specs.declared.answers.Kept0.TheVariants as kept0
+use Rattle.checkpoint_store.specs.declared.answers.SetAnswer.{SetAnswer}
+use Rattle.checkpoint_store.specs.declared.answers.SetAnswer.TheVariants as set
 use Rattle.doc_board.specs.declared.outcome.Outcome.{Outcome}
-use Rattle.doc_board.specs.declared.outcome.Outcome.TheVariants as outcome
+use Rattle.doc_board.specs.Errors.{outcome_error}
 use Rattle.session_core.specs.declared.act.Act.{Act}
 use Rattle.session_core.specs.declared.act.Act.TheVariants as act
 use Rattle.session_core.specs.declared.act.Want.{Want}
+use Rattle.session_core.specs.declared.event.Event.{Event}
+use Rattle.session_core.specs.declared.event.Event.TheVariants as event
 use Rattle.session_core.specs.declared.replies.Asker.{Asker}
+use Rattle.session_core.specs.declared.replies.Awaited.{Awaited}
+use Rattle.session_core.specs.declared.replies.Awaited.TheVariants as awaited
 
 -- all that is to be done in one list, of which a want is the last
 abbrev pub listed : List Act → Option Want → List Act
@@ -68,19 +77,40 @@ error_of faults.LowForm400 = errors.LowForm400
 error_of faults.Unknown404 = errors.NoHandler404
 error_of faults.Memory = errors.NoHandler404
 
--- the reply to a revision that was proposed, by its outcome: the empty one where the document has it now, else the refusal
+-- the empty reply where there is no error, else the refusal
+abbrev pub refusal_by : Asker → Option ErrorKind → List Act
+refusal_by asker None = acceptance_act asker
+refusal_by asker (Some error) = refusal_act asker error
+
+-- the reply to a revision that was proposed, by its outcome
 abbrev pub outcome_act : Asker → Outcome → List Act
-outcome_act asker (outcome.Bad400 field) = refusal_act asker (errors.Bad400 field)
-outcome_act asker (outcome.TooLarge413 bytes) = refusal_act asker errors.TooLarge413
-outcome_act asker (outcome.UserGone401 at) = refusal_act asker errors.UserGone401
-outcome_act asker (outcome.Known at) = acceptance_act asker
-outcome_act asker (outcome.BadHistory400 at) = refusal_act asker errors.BadHistory400
-outcome_act asker (outcome.Conflict409 at leaf) = refusal_act asker (errors.Conflict409 leaf)
-outcome_act asker (outcome.Denied403 at rule) = refusal_act asker (errors.Denied403 (rule_text rule))
-outcome_act asker (outcome.Stored sequence at) = acceptance_act asker
-outcome_act asker (outcome.Full503 at places) = refusal_act asker errors.PendingFull503
-outcome_act asker (outcome.LogFull509 at entries bytes) = refusal_act asker errors.LogFull509
-outcome_act asker outcome.Memory507 = refusal_act asker errors.Memory507
+outcome_act asker outcome = refusal_by asker (outcome_error outcome)
+
+-- the reply to a request for a checkpoint: its number and its body
+abbrev pub checkpoint_act : Asker → Kept0 → List Act
+checkpoint_act asker (kept0.Found rev body) = reply_act asker kinds.Rpy (checkpoint_payload rev body)
+checkpoint_act asker kept0.Absent404 = refusal_act asker errors.NoCheckpoint404
+
+-- the reply to a request that sets a checkpoint: its new number; none where memory ran out, since that ends the session
+abbrev pub set_act : Asker → SetAnswer → List Act
+set_act asker (set.Set rev) = reply_act asker kinds.Rpy (checkpoint_payload rev [])
+set_act asker (set.Conflict409 current) = refusal_act asker (errors.Checkpoint409 current)
+set_act asker (set.TooLarge413 bytes) = refusal_act asker errors.TooLarge413
+set_act asker set.Full503 = refusal_act asker errors.CheckpointsFull503
+set_act asker set.Memory = []
+
+-- whether revisions were offered by proposeChanges
+abbrev pub is_proposed : Awaited → Bool
+is_proposed (awaited.Asked proposed) = proposed
+is_proposed to = false
+
+-- the reply to a request, by the answer to what was wanted for it
+abbrev pub answer_act : Asker → Awaited → Event → List Act
+answer_act asker to (event.Asked answer) = reply_act asker kinds.Rpy (answers_payload answer.answers (is_proposed to))
+answer_act asker to (event.Judged outcome) = outcome_act asker outcome
+answer_act asker to (event.Got kept) = checkpoint_act asker kept
+answer_act asker to (event.Set answer) = set_act asker answer
+answer_act asker to other = []
 
 -- ---- requests
 

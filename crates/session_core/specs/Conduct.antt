@@ -12,6 +12,8 @@ use Rattle.session_core.specs.declared.event.Event.{Event}
 use Rattle.session_core.specs.declared.event.Event.TheVariants as event
 use Rattle.session_core.specs.declared.machine.Pending.{Pending}
 use Rattle.session_core.specs.declared.machine.Pending.TheVariants as pending
+use Rattle.session_core.specs.declared.replies.Awaited.{Awaited}
+use Rattle.session_core.specs.declared.replies.Awaited.TheVariants as awaited
 use Rattle.session_core.specs.Acts.{chosen}
 use Rattle.session_core.specs.Fronts.{front_by}
 use Rattle.session_core.specs.Running.{Running, next_since}
@@ -47,8 +49,7 @@ due_with pending.Nothing = None
 due_with (pending.Feed asked) = Some asked.asker.number
 due_with pending.More = None
 due_with (pending.Bodies rows) = None
-due_with (pending.Ask asker proposed) = Some asker.number
-due_with (pending.Push asker) = Some asker.number
+due_with (pending.Reply asker to) = Some asker.number
 
 -- the number of the request whose reply is due at an event
 abbrev pub due_at : Pending → Event → Option ℕ
@@ -77,14 +78,21 @@ abbrev pub AreOnOffer : Option Running → Options → List Row → Type 0
 AreOnOffer None options rows = ⊥
 AreOnOffer (Some r) options rows = (options ≡ r.options) × ((flags : List Bool) × (rows ≡ chosen (take r.batch r.rows) flags))
 
+-- this is wanted for a request
+abbrev pub IsWanted : Awaited → Want → Type 0
+IsWanted (awaited.Asked proposed) (want.Ask offers) = Unit {0}
+IsWanted awaited.Pushed (want.Propose revision) = Unit {0}
+IsWanted awaited.Got (want.GetCheckpoint client) = Unit {0}
+IsWanted awaited.Set (want.SetCheckpoint client rev body) = Unit {0}
+IsWanted to other = ⊥
+
 -- what is wanted is what is then awaited
 abbrev pub WantsFor : Option Running → Pending → Option Want → Type 0
 WantsFor feed pending.Nothing None = Unit {0}
 WantsFor feed (pending.Feed asked) (Some (want.Feed since options)) = (since ≡ asked.since) × (options ≡ asked.options)
 WantsFor feed pending.More (Some (want.Feed since options)) = IsNextLook feed since options
 WantsFor feed (pending.Bodies rows) (Some (want.Bodies options wanted most)) = (wanted ≡ rows) × AreOnOffer feed options rows
-WantsFor feed (pending.Ask asker proposed) (Some (want.Ask offers)) = Unit {0}
-WantsFor feed (pending.Push asker) (Some (want.Propose revision)) = Unit {0}
+WantsFor feed (pending.Reply asker to) (Some wanted) = IsWanted to wanted
 WantsFor feed awaited wanted = ⊥
 
 -- how many answers may still come before a message does
@@ -93,8 +101,7 @@ most_answers pending.Nothing = 0
 most_answers (pending.Feed asked) = 1
 most_answers pending.More = 1
 most_answers (pending.Bodies rows) = 2
-most_answers (pending.Ask asker proposed) = 1
-most_answers (pending.Push asker) = 1
+most_answers (pending.Reply asker to) = 1
 
 -- whether an event is an answer
 abbrev pub is_answer : Event → Bool

@@ -23,7 +23,7 @@ judged_at (outcome.Full503 at places) = at ∷ []
 judged_at (outcome.LogFull509 at entries bytes) = at ∷ []
 judged_at outcome.Memory507 = []
 
--- the look by which an event answers, if it does by one
+-- the look by which an event answers, if it does by one; an answer on checkpoints is none
 abbrev pub look_of : Event → List Look
 look_of (event.Whole message) = []
 look_of (event.Idle front) = []
@@ -31,6 +31,8 @@ look_of (event.Fed answer) = record { front = front_of answer; purpose = purpose
 look_of (event.Bodies b) = record { front = b.front; purpose = purposes.Bodies } ∷ []
 look_of (event.Asked answer) = record { front = answer.front; purpose = purposes.Ask } ∷ []
 look_of (event.Judged outcome) = map (λ front. record { front = front; purpose = purposes.Push }) (judged_at outcome)
+look_of (event.Got kept) = []
+look_of (event.Set answer) = []
 
 -- the front that an event has: that of its look, or the length of the history that was loaded at an idle moment
 abbrev pub front_by : Event → List ℕ
@@ -40,6 +42,8 @@ front_by (event.Fed answer) = front_of answer ∷ []
 front_by (event.Bodies b) = b.front ∷ []
 front_by (event.Asked answer) = answer.front ∷ []
 front_by (event.Judged outcome) = judged_at outcome
+front_by (event.Got kept) = []
+front_by (event.Set answer) = []
 
 -- the sequence at which a revision was stored, if it was
 abbrev pub stored_as : Outcome → List ℕ

@@ -4,7 +4,6 @@ pub mod Feeds
 pub mod Fronts
 pub mod Right
 pub mod Running
-pub mod Served
 pub mod State
 pub mod Steps
 pub mod Transitions

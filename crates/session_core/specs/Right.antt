@@ -66,13 +66,16 @@ IsProposedIn h program strict by r (outcome.Full503 at places) = IsRefusedIn h p
 IsProposedIn h program strict by r (outcome.LogFull509 at entries bytes) = IsRefusedIn h program strict by r (outcome.LogFull509 at entries bytes)
 IsProposedIn h program strict by r outcome.Memory507 = Unit {0}
 
--- the event is the history's answer to what was wanted, for a session of this user whose revisions are judged by this program
+-- the event is the history's answer to what was wanted, for a session of this user whose revisions are judged by this program; of
+-- checkpoints the history says nothing
 abbrev pub IsRight : List Entry → List ℕ → Program → Bool → Option Want → Event → Type 0
 IsRight h user program strict None event = Unit {0}
 IsRight h user program strict (Some (want.Feed since options)) (event.Fed answer) = IsFed h user since options answer
 IsRight h user program strict (Some (want.Bodies options rows most)) (event.Bodies b) = AreBodies h user options rows most b
 IsRight h user program strict (Some (want.Ask offers)) (event.Asked answer) = AreAsked h offers answer
 IsRight h user program strict (Some (want.Propose r)) (event.Judged answer) = IsProposedIn h program (strict || r.noconflicts) (Some user) r answer
+IsRight h user program strict (Some (want.GetCheckpoint client)) (event.Got kept) = Unit {0}
+IsRight h user program strict (Some (want.SetCheckpoint client rev body)) (event.Set answer) = Unit {0}
 IsRight h user program strict (Some wanted) event = ⊥
 
 -- the same of all steps, the last of which is the first of the list

@@ -1,7 +1,6 @@
 -- What a session does for each event.
 use Rattle.std.specs.Prelude.{◌≡◌, ℕ, ◌+◌, Bool, true, false, ◌&&◌, not, nat_lt, List, [], ◌∷◌, ◌++◌, length, take, codes, Option, Some, None, Result, Ok, Err, ◌==◌, if◌then◌else◌}
 use Rattle.blip_frame.specs.Props.{value_at}
-use Rattle.blip_frame.specs.declared.frame.Kind.TheVariants as kinds
 use Rattle.blip_mux.specs.declared.message.Message.{Message}
 use Rattle.blip_mux.specs.Joining.{is_request, is_reply}
 use Rattle.sg_history.specs.declared.row.Row.{Row}
@@ -13,10 +12,8 @@ use Rattle.repl_messages.specs.declared.error.ErrorKind.TheVariants as errors
 use Rattle.repl_messages.specs.declared.looks.Bodies.{Bodies}
 use Rattle.repl_messages.specs.declared.looks.Fed.{Fed}
 use Rattle.repl_messages.specs.declared.looks.Fed.TheVariants as fed
-use Rattle.repl_messages.specs.declared.offers.Asked.{Asked}
-use Rattle.repl_messages.specs.Answers.{answers_payload}
+use Rattle.repl_messages.specs.Requests.{IsAnswer}
 use Rattle.repl_messages.specs.Wanted.{wanted_rows, reply_items, max_history_of}
-use Rattle.doc_board.specs.declared.outcome.Outcome.{Outcome}
 use Rattle.session_core.specs.declared.act.Act.{Act}
 use Rattle.session_core.specs.declared.act.Acts.{Acts}
 use Rattle.session_core.specs.declared.act.Want.{Want}
@@ -24,12 +21,12 @@ use Rattle.session_core.specs.declared.act.Want.TheVariants as want
 use Rattle.session_core.specs.declared.event.Event.{Event}
 use Rattle.session_core.specs.declared.event.Event.TheVariants as event
 use Rattle.session_core.specs.declared.replies.Asker.{Asker}
+use Rattle.session_core.specs.declared.replies.Awaited.TheVariants as awaited
 use Rattle.session_core.specs.declared.machine.Subscription.{Subscription}
 use Rattle.session_core.specs.declared.machine.Pending.{Pending}
 use Rattle.session_core.specs.declared.machine.Pending.TheVariants as pending
-use Rattle.session_core.specs.Acts.{reply_act, refusal_act, acceptance_act, outcome_act, error_of, body_acts, chosen}
+use Rattle.session_core.specs.Acts.{refusal_act, acceptance_act, error_of, answer_act, body_acts, chosen}
 use Rattle.session_core.specs.Running.{Running, rest, is_none, next_since, next_acts, next_requests, next_feed}
-use Rattle.session_core.specs.Served.{IsRead}
 use Rattle.session_core.specs.State.{Machine}
 
 -- what is done at an event: the state after it, what is put, and what is wanted of the history
@@ -91,17 +88,18 @@ on_sub_changes m asked (Some r) = refused m asked.asker errors.FeedRuns409
 -- revisions are offered: by proposeChanges, or, unless conflicts are off, by changes
 abbrev pub on_changes : Bool → Machine → Asker → Want → Done
 on_changes true m asker wanted = refused m asker errors.UsePropose409
-on_changes false m asker wanted = asks m (pending.Ask asker false) wanted
+on_changes false m asker wanted = asks m (pending.Reply asker (awaited.Asked false)) wanted
 
 -- a request that could be read
 abbrev pub on_served : Machine → Asker → Request → Done
-on_served m asker (request.GetCheckpoint client) = refused m asker errors.NoHandler404
-on_served m asker (request.SetCheckpoint client rev body) = refused m asker errors.NoHandler404
+on_served m asker (request.GetCheckpoint client) = asks m (pending.Reply asker awaited.Got) (want.GetCheckpoint client)
+on_served m asker (request.SetCheckpoint client rev body) =
+    asks m (pending.Reply asker awaited.Set) (want.SetCheckpoint client rev body)
 on_served m asker (request.SubChanges since continuous batch options) =
     on_sub_changes m (record { asker = asker; since = since; continuous = continuous; batch = batch; options = options }) m.feed
 on_served m asker (request.Changes offers) = on_changes m.strict m asker (want.Ask offers)
-on_served m asker (request.ProposeChanges offers) = asks m (pending.Ask asker true) (want.Ask offers)
-on_served m asker (request.Rev revision) = asks m (pending.Push asker) (want.Propose revision)
+on_served m asker (request.ProposeChanges offers) = asks m (pending.Reply asker (awaited.Asked true)) (want.Ask offers)
+on_served m asker (request.Rev revision) = asks m (pending.Reply asker awaited.Pushed) (want.Propose revision)
 
 abbrev pub on_request : Machine → Message → Result Request RequestFault → Done
 on_request m message (Err fault) = refused m (asker_of message) (error_of fault)
@@ -163,15 +161,10 @@ abbrev pub on_bodies : Machine → Bodies → Pending → Done
 on_bodies m b (pending.Bodies wanted) = on_bodies_of m b wanted m.feed
 on_bodies m b other = puts m []
 
--- offered revisions are answered
-abbrev pub on_asked : Machine → Asked → Pending → Done
-on_asked m answer (pending.Ask asker proposed) = puts m (reply_act asker kinds.Rpy (answers_payload answer.answers proposed))
-on_asked m answer other = puts m []
-
--- a proposed revision is answered by its outcome
-abbrev pub on_judged : Machine → Outcome → Pending → Done
-on_judged m outcome (pending.Push asker) = puts m (outcome_act asker outcome)
-on_judged m outcome other = puts m []
+-- the request is answered for which this was wanted
+abbrev pub on_answer : Machine → Event → Pending → Done
+on_answer m answer (pending.Reply asker to) = puts m (answer_act asker to answer)
+on_answer m answer other = puts m []
 
 -- ---- idle moments
 
@@ -185,7 +178,7 @@ on_idle m front (Some r) = if nat_lt r.front front then looks_again m [] m.reque
 -- a request is read before it is answered
 abbrev pub DoesByMessage : Bool → Machine → Message → Done → Type 0
 DoesByMessage true m message done =
-    (read : Result Request RequestFault) × IsRead message.payload m.version read × (done ≡ on_request m message read)
+    (read : Result Request RequestFault) × IsAnswer message.payload m.version read × (done ≡ on_request m message read)
 DoesByMessage false m message done = done ≡ on_reply m message m.feed
 
 -- what a session does for an event
@@ -194,8 +187,7 @@ Does m (event.Whole message) done = DoesByMessage (is_request message.kind) m me
 Does m (event.Idle front) done = done ≡ on_idle m front m.feed
 Does m (event.Fed answer) done = done ≡ on_fed m answer m.pending
 Does m (event.Bodies b) done = done ≡ on_bodies m b m.pending
-Does m (event.Asked answer) done = done ≡ on_asked m answer m.pending
-Does m (event.Judged outcome) done = done ≡ on_judged m outcome m.pending
+Does m other done = done ≡ on_answer m other m.pending
 
 -- ---- what the machine answers
 

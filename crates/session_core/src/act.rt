@@ -5,11 +5,11 @@ ghost use Rattle.session_core.specs.Acts.{listed};
 
 use blip_frame::{Kind, Payload};
 use repl_messages::{Offers, Revision};
-use sg_history::{Key, Options, Rows};
-use sg_outside::Memory;
+use sg_history::{Client, Key, Options, Rows};
+use sg_outside::{Bytes, Memory};
 use std::alloc::Global;
 
-/// What is wanted of the history.
+/// What is wanted of the ground: of the history, or of the checkpoints.
 #[derive(Drop)]
 pub enum Want {
     /// The user's feed after a since key.
@@ -31,6 +31,16 @@ pub enum Want {
     Propose {
         revision: Revision,
     },
+    /// The checkpoint of the user's client.
+    GetCheckpoint {
+        client: Client,
+    },
+    /// That the user's client has this checkpoint, where it has the one of this number.
+    SetCheckpoint {
+        client: Client,
+        rev: u64,
+        body: Bytes,
+    },
 }
 
 /// One thing to do.
@@ -48,11 +58,12 @@ pub enum Act {
         payload: Payload,
         no_reply: bool,
     },
-    /// Read the history, and take the answer as the next event.
+    /// Have this of the ground, and take the answer as the next event.
     Want(Want),
 }
 
-/// What is to be done: first these replies and requests are put, in order; then the history is read, where that is wanted.
+/// What is to be done: first these replies and requests are put, in order; then what is wanted, if anything is, is had of the
+/// ground.
 #[derive(Drop)]
 pub struct Acts {
     pub puts: Vec<Act>,

@@ -1,7 +1,7 @@
 //! What happens to a session.
 
 use blip_mux::Message;
-use doc_board::Outcome;
+use doc_board::{Kept0, Outcome, SetAnswer};
 use repl_messages::{Asked, Bodies, Fed};
 
 /// One event.
@@ -19,4 +19,8 @@ pub enum Event {
     Asked(Asked),
     /// The outcome of the proposed revision.
     Judged(Outcome),
+    /// The checkpoint that was asked for.
+    Got(Kept0),
+    /// What became of the checkpoint that was set.
+    Set(SetAnswer),
 }

@@ -10,7 +10,6 @@ pub mod laws;
 pub mod look;
 pub mod machine;
 pub mod replies;
-pub(crate) mod served;
 
 pub use act::{Act, Acts, Want};
 pub use event::Event;

@@ -2,33 +2,32 @@
 
 ghost use Rattle.std.specs.Prelude.{◌≡◌, ◌≤◌, ◌<◌, ◌+◌, ◌&&◌, ◌==◌, length, Some, None, Ok, Result, IsSome, IsTrue, ◌↔◌, IfOk, OnOk, OnErr};
 ghost use Rattle.blip_mux.specs.Joining.{is_reply};
-ghost use Rattle.repl_messages.specs.Requests.{IsBounded};
+ghost use Rattle.repl_messages.specs.Requests.{IsBounded, IsAnswer};
 ghost use Rattle.repl_messages.specs.declared.request.RequestFault.{RequestFault};
 ghost use Rattle.sg_history.specs.Device as device;
 ghost use Rattle.session_core.specs.Running as running;
 ghost use Rattle.session_core.specs.Running.{Running, rest};
-ghost use Rattle.session_core.specs.Served.{IsRead};
-ghost use Rattle.session_core.specs.State.{Machine, Awaits, IsSound, new_machine};
+ghost use Rattle.session_core.specs.State.{Machine, Awaits, IsSound, IsAwaited, IsReply, new_machine, most_puts, most_requests};
 ghost use Rattle.session_core.specs.Transitions as does;
-ghost use Rattle.session_core.specs.Transitions.{Does, IsDone, IsDoneBy, IsFirst, BeginsBy, going_on, most_ancestors, on_sub_changes, on_changes, on_served, on_request, on_reply, on_wanted, on_next_look, on_fed, on_bodies, on_asked, on_judged, on_idle, refused, asks};
+ghost use Rattle.session_core.specs.Transitions.{Does, IsDone, IsDoneBy, IsFirst, BeginsBy, going_on, most_ancestors, on_sub_changes, on_changes, on_served, on_request, on_reply, on_wanted, on_next_look, on_fed, on_bodies, on_answer, on_idle, refused, asks};
 
 use crate::act::{Act, Acts, Want};
 use crate::bodies::{bodies, choose, copy_rows};
 use crate::event::Event;
 use crate::feed::Feed;
-use crate::replies::{
-    Asker, accept, answer_offers, answer_outcome, error_of_fault, push_offer, refuse,
-};
-use crate::served::read_served;
+use crate::replies::{Asker, Awaited, accept, answer, error_of_fault, push_offer, refuse};
 use blip_frame::Kind;
 use blip_mux::Message;
-use doc_board::Outcome;
-use repl_messages::{Asked, Bodies, ErrorKind, Fed, Offers, Request, Version, read_wanted};
+use doc_board::SetAnswer;
+use repl_messages::{Bodies, ErrorKind, Fed, Offers, Request, Version, read_request, read_wanted};
 use sg_history::{Key, Name, Options, Rows};
 use sg_outside::Memory;
 use std::alloc::Global;
 use std::marker::Model;
 use std::mem;
+
+/// How many requests have been put at most where an event is taken.
+const MOST_REQUESTS: u64 = 9_223_372_036_854_775_808;
 
 /// A request for a feed.
 #[derive(Drop)]
@@ -51,10 +50,8 @@ pub enum Pending {
     More,
     /// That of the look for the bodies of these rows.
     Bodies(Rows),
-    /// That of the look for revisions which a request offers, by proposeChanges or by changes.
-    Ask { asker: Asker, proposed: bool },
-    /// The outcome of the revision that a request proposes.
-    Push(Asker),
+    /// That to which a request is then replied.
+    Reply { asker: Asker, to: Awaited },
 }
 
 /// A session of one device. Contracts see its user, the version that it speaks, whether conflicts are off, how many
@@ -128,9 +125,9 @@ impl Core {
     /// Whether this event is one that is awaited, and there is room for the numbers of further requests.
     pub fn may_take(&self, event: &Event) -> bool
         ensures { IsTrue result ↔ (Awaits self.now event.now
-            × (self.now.requests ≤ 9223372036854775808)) }
+            × (self.now.requests ≤ most_requests)) }
     {
-        self.awaits(event) && self.requests <= 9_223_372_036_854_775_808
+        self.awaits(event) && self.requests <= MOST_REQUESTS
     }
 
     fn awaits(&self, event: &Event) -> bool
@@ -144,8 +141,7 @@ impl Core {
             (Pending::Bodies(rows), Event::Bodies(bodies)) => {
                 bodies.answers.as_slice().len() == rows.as_slice().len()
             }
-            (Pending::Ask { .. }, Event::Asked(_)) => true,
-            (Pending::Push(_), Event::Judged(_)) => true,
+            (Pending::Reply { to, .. }, _) => is_awaited(event, *to),
             _ => false,
         }
     }
@@ -153,10 +149,10 @@ impl Core {
     /// Takes one event, and says what is to be done. Out of memory the session stays as it was.
     pub fn step(&mut self, alloc: Global, event: Event) -> Result<Acts, Memory>
         requires awaited { Awaits self.old event }
-        requires room { self.old.requests ≤ 9223372036854775808 }
+        requires room { self.old.requests ≤ most_requests }
         ensures ok { IfOk result (λ acts. IsDoneBy
             (λ done. Does self.old event done) self.new acts) }
-        ensures few { OnOk result (self.new.requests ≤ self.old.requests + 10001) }
+        ensures few { OnOk result (self.new.requests ≤ self.old.requests + most_puts) }
         ensures err { OnErr result (self.new ≡ self.old) }
     {
         match event {
@@ -172,18 +168,15 @@ impl Core {
                 drop(bodies);
                 acts
             }
-            Event::Asked(asked) => {
-                let acts = self.take_asked(alloc, &asked);
-                drop(asked);
-                acts
+            Event::Asked(_) | Event::Judged(_) | Event::Got(_) | Event::Set(_) => {
+                self.take_answer(alloc, event)
             }
-            Event::Judged(outcome) => self.take_judged(alloc, outcome),
         }
     }
 
     fn take_message(&mut self, alloc: Global, message: &Message) -> Result<Acts, Memory>
         requires awaited { self.old.pending ≡ Pending.Nothing }
-        requires room { self.old.requests ≤ 9223372036854775808 }
+        requires room { self.old.requests ≤ most_requests }
         ensures ok { IfOk result (λ acts. IsDoneBy
             (λ done. Does self.old (Event.Whole message.now) done) self.new acts) }
         ensures few { OnOk result (self.new.requests ≤ self.old.requests + 1) }
@@ -201,7 +194,7 @@ impl Core {
         requires awaited { self.old.pending ≡ Pending.Nothing }
         ensures ok { IfOk result (λ acts. IsDoneBy
             (λ done. (read : Result Request RequestFault)
-            × IsRead message.now.payload self.old.version read
+            × IsAnswer message.now.payload self.old.version read
             × (done ≡ on_request self.old message.now read)) self.new acts) }
         ensures few { OnOk result (self.new.requests ≡ self.old.requests) }
         ensures err { OnErr result (self.new ≡ self.old) }
@@ -211,7 +204,7 @@ impl Core {
             urgent: message.urgent,
             no_reply: message.no_reply,
         };
-        match read_served(alloc, message, self.version) {
+        match read_request(alloc, message, self.version) {
             Ok(request) => self.take_served(alloc, asker, request),
             Err(fault) => self.refuse(alloc, asker, error_of_fault(fault)?),
         }
@@ -242,24 +235,19 @@ impl Core {
                 },
             ),
             Request::Changes { offers } => self.take_changes(alloc, asker, offers),
-            Request::ProposeChanges { offers } => Ok(self.ask(
-                alloc,
-                Pending::Ask {
-                    asker,
-                    proposed: true,
-                },
-                Want::Ask { offers },
-            )),
+            Request::ProposeChanges { offers } => {
+                let to = Awaited::Asked { proposed: true };
+                Ok(self.ask_for(alloc, asker, to, Want::Ask { offers }))
+            }
             Request::Rev(revision) => {
-                Ok(self.ask(alloc, Pending::Push(asker), Want::Propose { revision }))
+                Ok(self.ask_for(alloc, asker, Awaited::Pushed, Want::Propose { revision }))
             }
-            Request::GetCheckpoint { .. } => {
-                drop(request);
-                self.refuse(alloc, asker, ErrorKind::NoHandler404)
+            Request::GetCheckpoint { client } => {
+                Ok(self.ask_for(alloc, asker, Awaited::Got, Want::GetCheckpoint { client }))
             }
-            Request::SetCheckpoint { .. } => {
-                drop(request);
-                self.refuse(alloc, asker, ErrorKind::NoHandler404)
+            Request::SetCheckpoint { client, rev, body } => {
+                let want = Want::SetCheckpoint { client, rev, body };
+                Ok(self.ask_for(alloc, asker, Awaited::Set, want))
             }
         }
     }
@@ -276,11 +264,8 @@ impl Core {
         if self.strict {
             return self.refuse(alloc, asker, ErrorKind::UsePropose409);
         }
-        let pending = Pending::Ask {
-            asker,
-            proposed: false,
-        };
-        Ok(self.ask(alloc, pending, Want::Ask { offers }))
+        let to = Awaited::Asked { proposed: false };
+        Ok(self.ask_for(alloc, asker, to, Want::Ask { offers }))
     }
 
     /// Refuses a request.
@@ -303,6 +288,13 @@ impl Core {
             puts: Vec::new(alloc),
             want: Some(want),
         }
+    }
+
+    /// Awaits the answer to which a request is then replied.
+    fn ask_for(&mut self, alloc: Global, asker: Asker, to: Awaited, want: Want) -> Acts
+        ensures { IsDone (asks self.old (Pending.Reply asker to) want) self.new result }
+    {
+        self.ask(alloc, Pending::Reply { asker, to }, want)
     }
 
     fn subscribe(&mut self, alloc: Global, asked: Subscription) -> Result<Acts, Memory>
@@ -337,7 +329,7 @@ impl Core {
 
     fn take_reply(&mut self, alloc: Global, message: &Message) -> Result<Acts, Memory>
         requires awaited { self.old.pending ≡ Pending.Nothing }
-        requires room { self.old.requests ≤ 9223372036854775808 }
+        requires room { self.old.requests ≤ most_requests }
         ensures ok { IfOk result
             (λ acts. IsDone (on_reply self.old message.now self.old.feed) self.new acts) }
         ensures few { OnOk result (self.new.requests ≤ self.old.requests + 1) }
@@ -358,7 +350,7 @@ impl Core {
     /// The rows on offer are answered, of which these are wanted.
     fn take_wanted(&mut self, alloc: Global, rows: Rows, most: u64) -> Result<Acts, Memory>
         requires awaited { self.old.pending ≡ Pending.Nothing }
-        requires room { self.old.requests ≤ 9223372036854775808 }
+        requires room { self.old.requests ≤ most_requests }
         requires runs { IsSome self.old.feed }
         requires few { length rows ≤ 10000 }
         ensures ok { IfOk result (λ acts. (r : Running) × (self.old.feed ≡ Some r)
@@ -384,7 +376,7 @@ impl Core {
     /// The rows on offer are answered, by these acts, which are so many requests.
     fn answered(&mut self, alloc: Global, acts: Vec<Act>, count: u64) -> Result<Acts, Memory>
         requires runs { IsSome self.old.feed }
-        requires room { self.old.requests ≤ 9223372036854775808 }
+        requires room { self.old.requests ≤ most_requests }
         requires few { count ≤ 10000 }
         ensures ok { IfOk result (λ done. (r : Running) × (self.old.feed ≡ Some r)
             × IsDone (does.answered self.old acts.items (self.old.requests + count) (rest r))
@@ -414,7 +406,7 @@ impl Core {
     /// The rows on offer are answered by so many requests, and the feed's next look is awaited.
     fn look_again(&mut self, count: u64)
         requires runs { IsSome self.old.feed }
-        requires room { self.old.requests ≤ 9223372036854775808 }
+        requires room { self.old.requests ≤ most_requests }
         requires few { count ≤ 10000 }
         ensures { (r : Running) × (self.old.feed ≡ Some r)
             × (self.new ≡ record self.old {
@@ -435,7 +427,7 @@ impl Core {
     /// The rows on offer are answered by so many requests, and the feed goes on.
     fn go_on_with_rest(&mut self, count: u64)
         requires runs { IsSome self.old.feed }
-        requires room { self.old.requests ≤ 9223372036854775808 }
+        requires room { self.old.requests ≤ most_requests }
         requires few { count ≤ 10000 }
         ensures { (r : Running) × (self.old.feed ≡ Some r)
             × (self.new ≡ going_on self.old (self.old.requests + count) (rest r)) }
@@ -463,7 +455,7 @@ impl Core {
 
     fn take_fed(&mut self, alloc: Global, fed: Fed) -> Result<Acts, Memory>
         requires awaited { Awaits self.old (Event.Fed fed) }
-        requires room { self.old.requests ≤ 9223372036854775808 }
+        requires room { self.old.requests ≤ most_requests }
         ensures ok { IfOk result
             (λ acts. IsDone (on_fed self.old fed self.old.pending) self.new acts) }
         ensures few { OnOk result (self.new.requests ≤ self.old.requests + 1) }
@@ -497,7 +489,7 @@ impl Core {
     /// The feed that was asked for begins with these rows of its first look.
     fn begin(&mut self, rows: Rows, front: u64)
         requires awaited { IsFirst self.old.pending }
-        requires room { self.old.requests ≤ 9223372036854775808 }
+        requires room { self.old.requests ≤ most_requests }
         ensures { BeginsBy self.old rows front self.old.pending self.new }
     {
         let Pending::Feed(asked) = mem::replace(&mut self.pending, Pending::Nothing) else {
@@ -511,7 +503,7 @@ impl Core {
     /// The feed goes on with these rows of its next look.
     fn take_more(&mut self, alloc: Global, rows: Rows, front: u64) -> Result<Acts, Memory>
         requires awaited { self.old.pending ≡ Pending.More }
-        requires room { self.old.requests ≤ 9223372036854775808 }
+        requires room { self.old.requests ≤ most_requests }
         ensures ok { IfOk result
             (λ acts. IsDone (on_next_look self.old self.old.feed (Fed.Rows front rows)) self.new
             acts) }
@@ -539,7 +531,7 @@ impl Core {
     /// The feed has these rows of its next look, and goes on.
     fn go_on_with(&mut self, rows: Rows, front: u64)
         requires runs { IsSome self.old.feed }
-        requires room { self.old.requests ≤ 9223372036854775808 }
+        requires room { self.old.requests ≤ most_requests }
         ensures { (r : Running) × (self.old.feed ≡ Some r)
             × (self.new ≡ going_on self.old self.old.requests (record r {
               rows = rows;
@@ -557,10 +549,10 @@ impl Core {
 
     fn take_bodies(&mut self, alloc: Global, answers: &Bodies) -> Result<Acts, Memory>
         requires awaited { Awaits self.old (Event.Bodies answers.now) }
-        requires room { self.old.requests ≤ 9223372036854775808 }
+        requires room { self.old.requests ≤ most_requests }
         ensures ok { IfOk result
             (λ acts. IsDone (on_bodies self.old answers.now self.old.pending) self.new acts) }
-        ensures few { OnOk result (self.new.requests ≤ self.old.requests + 10001) }
+        ensures few { OnOk result (self.new.requests ≤ self.old.requests + most_puts) }
         ensures err { OnErr result (self.new ≡ self.old) }
     {
         let Pending::Bodies(rows) = &self.pending else {
@@ -571,32 +563,20 @@ impl Core {
         self.answered(alloc, acts, count)
     }
 
-    fn take_asked(&mut self, alloc: Global, asked: &Asked) -> Result<Acts, Memory>
-        requires awaited { Awaits self.old (Event.Asked asked.now) }
+    /// Takes the answer by which a request is replied to.
+    fn take_answer(&mut self, alloc: Global, event: Event) -> Result<Acts, Memory>
+        requires awaited { IsReply self.old.pending }
         ensures ok { IfOk result
-            (λ acts. IsDone (on_asked self.old asked.now self.old.pending) self.new acts) }
+            (λ acts. IsDone (on_answer self.old event self.old.pending) self.new acts) }
         ensures few { OnOk result (self.new.requests ≡ self.old.requests) }
         ensures err { OnErr result (self.new ≡ self.old) }
     {
-        let Pending::Ask { asker, proposed } = &self.pending else {
+        let Pending::Reply { asker, to } = &self.pending else {
             unreachable!();
         };
-        let acts = answer_offers(alloc, *asker, *proposed, asked)?;
-        set(&mut self.pending, Pending::Nothing);
-        Ok(put(acts))
-    }
-
-    fn take_judged(&mut self, alloc: Global, outcome: Outcome) -> Result<Acts, Memory>
-        requires awaited { Awaits self.old (Event.Judged outcome) }
-        ensures ok { IfOk result
-            (λ acts. IsDone (on_judged self.old outcome self.old.pending) self.new acts) }
-        ensures few { OnOk result (self.new.requests ≡ self.old.requests) }
-        ensures err { OnErr result (self.new ≡ self.old) }
-    {
-        let Pending::Push(asker) = &self.pending else {
-            unreachable!();
-        };
-        let acts = answer_outcome(alloc, *asker, outcome)?;
+        let acts = answer(alloc, *asker, *to, &event);
+        drop(event);
+        let acts = acts?;
         set(&mut self.pending, Pending::Nothing);
         Ok(put(acts))
     }
@@ -638,6 +618,20 @@ fn plain(number: u64) -> Key
     Key {
         by: number,
         seq: number,
+    }
+}
+
+/// Whether a request is answered by this event.
+fn is_awaited(event: &Event, to: Awaited) -> bool
+    ensures { IsTrue result ↔ IsAwaited event.now to }
+{
+    match (event, to) {
+        (Event::Asked(_), Awaited::Asked { .. }) => true,
+        (Event::Judged(_), Awaited::Pushed) => true,
+        (Event::Got(_), Awaited::Got) => true,
+        (Event::Set(SetAnswer::Memory), _) => false,
+        (Event::Set(_), Awaited::Set) => true,
+        _ => false,
     }
 }
 

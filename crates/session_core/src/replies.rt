@@ -2,15 +2,17 @@
 
 ghost use Rattle.std.specs.Prelude.{◌≡◌, ◌≢◌, ◌++◌, ◌∷◌, [], IfOk, OnOk, if◌then◌else◌};
 ghost use Rattle.repl_messages.specs.Answers.{answers_payload};
-ghost use Rattle.repl_messages.specs.declared.error.ErrorKind.TheVariants as errors;
-ghost use Rattle.sync_values.specs.Texts.{rule_text};
-ghost use Rattle.session_core.specs.Acts.{error_of, reply_act, refusal_act, acceptance_act, outcome_act, offer_act};
+ghost use Rattle.repl_messages.specs.Checkpoints.{checkpoint_payload};
+ghost use Rattle.session_core.specs.Acts as acts;
+ghost use Rattle.session_core.specs.Acts.{error_of, reply_act, refusal_act, acceptance_act, outcome_act, checkpoint_act, set_act, answer_act, offer_act};
 
 use crate::act::Act;
+use crate::event::Event;
 use blip_frame::{Kind, Payload};
-use doc_board::{Outcome, Rule};
+use doc_board::{Kept0, Outcome, SetAnswer, outcome_error};
 use repl_messages::{
-    Asked, ErrorKind, RequestFault, Version, write_answers, write_changes, write_error, write_ok,
+    Asked, ErrorKind, RequestFault, Version, write_answers, write_changes, write_checkpoint,
+    write_error, write_ok,
 };
 use sg_history::Row;
 use sg_outside::Memory;
@@ -22,6 +24,31 @@ pub struct Asker {
     pub number: u64,
     pub urgent: bool,
     pub no_reply: bool,
+}
+
+/// What a request is answered by.
+#[derive(Clone, Copy, Debug, PartialEq, Eq)]
+pub enum Awaited {
+    /// What is known of the revisions that it offers, by proposeChanges or by changes.
+    Asked { proposed: bool },
+    /// The outcome of the revision that it proposes.
+    Pushed,
+    /// The checkpoint that it asks for.
+    Got,
+    /// What became of the checkpoint that it sets.
+    Set,
+}
+
+impl Awaited {
+    /// Whether revisions were offered by proposeChanges.
+    fn is_proposed(self) -> bool
+        ensures { result ≡ acts.is_proposed self }
+    {
+        match self {
+            Awaited::Asked { proposed } => proposed,
+            Awaited::Pushed | Awaited::Got | Awaited::Set => false,
+        }
+    }
 }
 
 /// The reply to a request; none where it wants none.
@@ -72,7 +99,7 @@ pub(crate) fn error_of_fault(fault: RequestFault) -> Result<ErrorKind, Memory>
 }
 
 /// The reply to offered revisions.
-pub(crate) fn answer_offers(
+fn answer_offers(
     alloc: Global,
     asker: Asker,
     proposed: bool,
@@ -85,34 +112,67 @@ pub(crate) fn answer_offers(
     reply(alloc, asker, Kind::Rpy, payload)
 }
 
-/// The reply that a revision is denied, with the text of the rule that denies it.
-fn deny(alloc: Global, asker: Asker, rule: &Rule) -> Result<Vec<Act>, Memory>
-    ensures { IfOk result (λ acts. acts.items
-        ≡ refusal_act asker (errors.Denied403 (rule_text rule.now))) }
+/// The reply to a revision that was proposed.
+fn answer_outcome(alloc: Global, asker: Asker, outcome: &Outcome) -> Result<Vec<Act>, Memory>
+    ensures { IfOk result (λ acts. acts.items ≡ outcome_act asker outcome.now) }
 {
-    let rule = rule.text(alloc)?;
-    refuse(alloc, asker, ErrorKind::Denied403 { rule })
+    match outcome_error(alloc, outcome)? {
+        Some(error) => refuse(alloc, asker, error),
+        None => accept(alloc, asker),
+    }
 }
 
-/// The reply to a revision that was proposed.
-pub(crate) fn answer_outcome(
+/// The reply that a checkpoint has this number, with its body where it was asked for.
+fn answer_checkpoint(alloc: Global, asker: Asker, rev: u64, body: &[u8]) -> Result<Vec<Act>, Memory>
+    ensures { IfOk result (λ acts. acts.items
+        ≡ reply_act asker Kind.Rpy (checkpoint_payload rev body.now)) }
+{
+    let payload = write_checkpoint(alloc, rev, body)?;
+    reply(alloc, asker, Kind::Rpy, payload)
+}
+
+/// The reply to a request for a checkpoint.
+fn answer_kept(alloc: Global, asker: Asker, kept: &Kept0) -> Result<Vec<Act>, Memory>
+    ensures { IfOk result (λ acts. acts.items ≡ checkpoint_act asker kept.now) }
+{
+    match kept {
+        Kept0::Found { rev, body } => answer_checkpoint(alloc, asker, *rev, body.as_slice()),
+        Kept0::Absent404 => refuse(alloc, asker, ErrorKind::NoCheckpoint404),
+    }
+}
+
+/// The reply to a request that sets a checkpoint.
+fn answer_set(alloc: Global, asker: Asker, answer: SetAnswer) -> Result<Vec<Act>, Memory>
+    ensures { IfOk result (λ acts. acts.items ≡ set_act asker answer) }
+{
+    match answer {
+        SetAnswer::Set { rev } => answer_checkpoint(alloc, asker, rev, &[]),
+        SetAnswer::Conflict409 { current } => {
+            refuse(alloc, asker, ErrorKind::Checkpoint409 { current })
+        }
+        SetAnswer::TooLarge413 { .. } => refuse(alloc, asker, ErrorKind::TooLarge413),
+        SetAnswer::Full503 => refuse(alloc, asker, ErrorKind::CheckpointsFull503),
+        SetAnswer::Memory => Err(AllocError),
+    }
+}
+
+/// The reply to a request, by the answer to what was wanted for it.
+pub(crate) fn answer(
     alloc: Global,
     asker: Asker,
-    outcome: Outcome,
+    to: Awaited,
+    event: &Event,
 ) -> Result<Vec<Act>, Memory>
-    ensures { IfOk result (λ acts. acts.items ≡ outcome_act asker outcome) }
+    ensures { IfOk result (λ acts. acts.items ≡ answer_act asker to event.now) }
 {
-    match outcome {
-        Outcome::Stored { .. } | Outcome::Known { .. } => accept(alloc, asker),
-        Outcome::Bad400 { field } => refuse(alloc, asker, ErrorKind::Bad400 { field }),
-        Outcome::TooLarge413 { .. } => refuse(alloc, asker, ErrorKind::TooLarge413),
-        Outcome::UserGone401 { .. } => refuse(alloc, asker, ErrorKind::UserGone401),
-        Outcome::BadHistory400 { .. } => refuse(alloc, asker, ErrorKind::BadHistory400),
-        Outcome::Conflict409 { leaf, .. } => refuse(alloc, asker, ErrorKind::Conflict409 { leaf }),
-        Outcome::Denied403 { rule, .. } => deny(alloc, asker, &rule),
-        Outcome::Full503 { .. } => refuse(alloc, asker, ErrorKind::PendingFull503),
-        Outcome::LogFull509 { .. } => refuse(alloc, asker, ErrorKind::LogFull509),
-        Outcome::Memory507 => refuse(alloc, asker, ErrorKind::Memory507),
+    match event {
+        Event::Asked(asked) => answer_offers(alloc, asker, to.is_proposed(), asked),
+        Event::Judged(outcome) => answer_outcome(alloc, asker, outcome),
+        Event::Got(kept) => answer_kept(alloc, asker, kept),
+        Event::Set(answer) => answer_set(alloc, asker, *answer),
+        Event::Whole(_) | Event::Idle { .. } | Event::Fed(_) | Event::Bodies(_) => {
+            Ok(Vec::new(alloc))
+        }
     }
 }
 

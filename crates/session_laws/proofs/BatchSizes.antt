@@ -1,22 +1,17 @@
 -- The batch of a feed that is asked for has rows.
-use Rattle.std.proofs.Common.{◌≤◌, Bool, true, false, Result, Ok, Err, IfOk, subst, sym}
+use Rattle.std.proofs.Common.{◌≤◌, Result, Ok, Err, IfOk}
 use Rattle.blip_frame.specs.declared.payload.Payload.{Payload}
 use Rattle.repl_messages.specs.declared.request.Version.{Version}
 use Rattle.repl_messages.specs.declared.request.Request.{Request}
 use Rattle.repl_messages.specs.declared.request.Request.TheVariants as request
 use Rattle.repl_messages.specs.declared.request.RequestFault.{RequestFault}
-use Rattle.repl_messages.specs.Requests.{IsBounded, profile_of}
+use Rattle.repl_messages.specs.Requests.{IsBounded, IsAnswer, profile_of}
 use Rattle.repl_messages.proofs.Batches.{bounded_read}
-use Rattle.session_core.specs.Served.{IsRead, IsReadWhere, is_for_checkpoints}
 
 -- what is read is in bounds
-read_bounded : (b : Bool) (payload : Payload) (version : Version) (read : Result Request RequestFault) → IsReadWhere b payload version read → IfOk read IsBounded
-read_bounded true payload version read is = subst (λ r. IfOk r IsBounded) (sym is) tt
-read_bounded false payload version (Ok r) is = bounded_read (profile_of payload.props) payload version (Ok r) is
-read_bounded false payload version (Err fault) is = tt
-
-pub bounded : (payload : Payload) (version : Version) (read : Result Request RequestFault) → IsRead payload version read → IfOk read IsBounded
-bounded payload version read is = read_bounded (is_for_checkpoints (profile_of payload.props)) payload version read is
+pub bounded : (payload : Payload) (version : Version) (read : Result Request RequestFault) → IsAnswer payload version read → IfOk read IsBounded
+bounded payload version (Ok r) is = bounded_read (profile_of payload.props) payload version (Ok r) is
+bounded payload version (Err fault) is = tt
 
 -- a feed that is asked for has a batch of one row at least
 abbrev pub HasBatch : Request → Type 0
@@ -43,5 +38,5 @@ read_has : (read : Result Request RequestFault) → IfOk read IsBounded → Read
 read_has (Ok r) is = has_batch r is
 read_has (Err fault) is = tt
 
-pub read_batch : (payload : Payload) (version : Version) (read : Result Request RequestFault) → IsRead payload version read → ReadHasBatch read
+pub read_batch : (payload : Payload) (version : Version) (read : Result Request RequestFault) → IsAnswer payload version read → ReadHasBatch read
 read_batch payload version read is = read_has read (bounded payload version read is)

@@ -213,6 +213,8 @@ by_look h user program strict r front rows (Some (want.Feed since options)) (sin
 by_look h user program strict r front rows (Some (want.Bodies options wanted most)) w right = absurd w
 by_look h user program strict r front rows (Some (want.Ask offers)) w right = absurd w
 by_look h user program strict r front rows (Some (want.Propose revision)) w right = absurd w
+by_look h user program strict r front rows (Some (want.GetCheckpoint client)) w right = absurd w
+by_look h user program strict r front rows (Some (want.SetCheckpoint client rev body)) w right = absurd w
 
 more_rows : (h : List Entry) (user : List ℕ) (version : Version) (asked : Subscription) (messages : List Message) (fronts : List ℕ) (m : Machine) (r : Running) (front : ℕ) (rows : List Row)
     → Batched h user version asked messages fronts m → m.feed ≡ Some r → is_none r.rows ≡ true → rows ≡ feed (past h front) user (plain r.front) r.options
@@ -284,6 +286,8 @@ by_first h user program strict asked front rows f (Some (want.Feed since options
 by_first h user program strict asked front rows f (Some (want.Bodies options wanted most)) w right = absurd w
 by_first h user program strict asked front rows f (Some (want.Ask offers)) w right = absurd w
 by_first h user program strict asked front rows f (Some (want.Propose revision)) w right = absurd w
+by_first h user program strict asked front rows f (Some (want.GetCheckpoint client)) w right = absurd w
+by_first h user program strict asked front rows f (Some (want.SetCheckpoint client rev body)) w right = absurd w
 
 -- a feed begins
 begins : (h : List Entry) (user : List ℕ) (version : Version) (program : Program) (strict : Bool) (asked : Subscription) (front : ℕ) (rows : List Row) (before : Machine) (s : Step) (first : Machine) (wanted : Option Want)

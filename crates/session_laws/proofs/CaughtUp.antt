@@ -22,12 +22,11 @@ use Rattle.repl_messages.specs.declared.looks.Body.TheVariants as body
 use Rattle.repl_messages.specs.declared.looks.Bodies.{Bodies}
 use Rattle.repl_messages.specs.declared.looks.Fed.{Fed}
 use Rattle.repl_messages.specs.declared.looks.Fed.TheVariants as fed
-use Rattle.repl_messages.specs.declared.offers.Asked.{Asked}
-use Rattle.repl_messages.specs.Answers.{answers_payload}
 use Rattle.repl_messages.specs.Errors.{ok_payload, error_payload}
 use Rattle.repl_messages.specs.Looks.{front_of}
-use Rattle.doc_board.specs.declared.outcome.Outcome.{Outcome}
-use Rattle.doc_board.specs.declared.outcome.Outcome.TheVariants as outcome
+use Rattle.checkpoint_store.specs.declared.answers.Kept0.TheVariants as kept0
+use Rattle.checkpoint_store.specs.declared.answers.SetAnswer.TheVariants as set
+use Rattle.doc_board.specs.Errors.{outcome_error}
 use Rattle.session_core.specs.declared.act.Act.{Act}
 use Rattle.session_core.specs.declared.act.Act.TheVariants as act
 use Rattle.session_core.specs.declared.act.Want.{Want}
@@ -35,16 +34,19 @@ use Rattle.session_core.specs.declared.act.Want.TheVariants as want
 use Rattle.session_core.specs.declared.event.Event.{Event}
 use Rattle.session_core.specs.declared.event.Event.TheVariants as event
 use Rattle.session_core.specs.declared.replies.Asker.{Asker}
+use Rattle.session_core.specs.declared.replies.Awaited.{Awaited}
+use Rattle.session_core.specs.declared.replies.Awaited.TheVariants as awaited
 use Rattle.session_core.specs.declared.machine.Subscription.{Subscription}
 use Rattle.session_core.specs.declared.machine.Pending.{Pending}
 use Rattle.session_core.specs.declared.machine.Pending.TheVariants as pending
-use Rattle.session_core.specs.Acts.{messages_from, reply_act, refusal_act, acceptance_act, outcome_act, error_of, body_act, body_acts}
+use Rattle.session_core.specs.Acts.{messages_from, reply_act, refusal_act, acceptance_act, refusal_by, answer_act, error_of, body_act, body_acts}
 use Rattle.session_core.specs.Feeds.{feed_look, feed_looks, LeadsFeed, RunsFeed}
 use Rattle.session_core.specs.Running.{Running, rest, is_none, waits, next_acts, next_feed}
-use Rattle.session_core.specs.State.{Machine, new_machine, AwaitsBy}
+use Rattle.session_core.specs.State.{Machine, new_machine, AwaitsBy, IsReply}
 use Rattle.session_core.specs.Steps.{Step, Steps, Leads, put_by}
-use Rattle.session_core.specs.Transitions.{Done, puts, asks, goes_on, looks_again, answered_by, most_ancestors, asker_of, refused, on_sub_changes, on_changes, on_served, on_request, answers, wanted_of, on_wanted, on_reply, first_of, on_first_look, on_next_look, on_fed, on_bodies_of, on_bodies, on_asked, on_judged, on_idle, Does, DoesByMessage}
+use Rattle.session_core.specs.Transitions.{Done, puts, asks, goes_on, looks_again, answered_by, most_ancestors, asker_of, refused, on_sub_changes, on_changes, on_served, on_request, answers, wanted_of, on_wanted, on_reply, first_of, on_first_look, on_next_look, on_fed, on_bodies_of, on_bodies, on_answer, on_idle, Does, DoesByMessage}
 use Rattle.session_laws.specs.Exchanges.{IsAboveLast, IsFromLast, empty_offers, has_caught_up}
+use Rattle.session_core.proofs.Awaiting.{awaits_reply}
 use Rattle.session_laws.proofs.BatchSizes.{HasBatch, ReadHasBatch, read_batch}
 
 -- ---- empty offers among messages
@@ -78,18 +80,24 @@ bodies_none [] bodies n = refl
 bodies_none (row ∷ rows) [] n = refl
 bodies_none (row ∷ rows) (b ∷ bodies) n = one_body n row b (body_acts rows bodies) ∙ bodies_none rows bodies (n + 1)
 
-outcome_none : (asker : Asker) (o : Outcome) → OfferNone (outcome_act asker o)
-outcome_none asker (outcome.Bad400 field) = reply_none asker kinds.Err _ refl
-outcome_none asker (outcome.TooLarge413 bytes) = reply_none asker kinds.Err _ refl
-outcome_none asker (outcome.UserGone401 at) = reply_none asker kinds.Err _ refl
-outcome_none asker (outcome.Known at) = reply_none asker kinds.Rpy _ refl
-outcome_none asker (outcome.BadHistory400 at) = reply_none asker kinds.Err _ refl
-outcome_none asker (outcome.Conflict409 at leaf) = reply_none asker kinds.Err _ refl
-outcome_none asker (outcome.Denied403 at rule) = reply_none asker kinds.Err _ refl
-outcome_none asker (outcome.Stored sequence at) = reply_none asker kinds.Rpy _ refl
-outcome_none asker (outcome.Full503 at places) = reply_none asker kinds.Err _ refl
-outcome_none asker (outcome.LogFull509 at entries bytes) = reply_none asker kinds.Err _ refl
-outcome_none asker outcome.Memory507 = reply_none asker kinds.Err _ refl
+outcome_none : (asker : Asker) (error : Option ErrorKind) → OfferNone (refusal_by asker error)
+outcome_none asker None = reply_none asker kinds.Rpy _ refl
+outcome_none asker (Some error) = reply_none asker kinds.Err _ refl
+
+answer_none : (asker : Asker) (to : Awaited) (e : Event) → OfferNone (answer_act asker to e)
+answer_none asker to (event.Whole message) = (λ n. refl)
+answer_none asker to (event.Idle front) = (λ n. refl)
+answer_none asker to (event.Fed answer) = (λ n. refl)
+answer_none asker to (event.Bodies b) = (λ n. refl)
+answer_none asker to (event.Asked answer) = reply_none asker kinds.Rpy _ refl
+answer_none asker to (event.Judged o) = outcome_none asker (outcome_error o)
+answer_none asker to (event.Got (kept0.Found rev body)) = reply_none asker kinds.Rpy _ refl
+answer_none asker to (event.Got kept0.Absent404) = reply_none asker kinds.Err _ refl
+answer_none asker to (event.Set (set.Set rev)) = reply_none asker kinds.Rpy _ refl
+answer_none asker to (event.Set (set.Conflict409 current)) = reply_none asker kinds.Err _ refl
+answer_none asker to (event.Set (set.TooLarge413 bytes)) = reply_none asker kinds.Err _ refl
+answer_none asker to (event.Set set.Full503) = reply_none asker kinds.Err _ refl
+answer_none asker to (event.Set set.Memory) = (λ n. refl)
 
 -- ---- what always holds
 
@@ -99,16 +107,14 @@ awaits_no_feed pending.Nothing = true
 awaits_no_feed (pending.Feed asked) = false
 awaits_no_feed pending.More = false
 awaits_no_feed (pending.Bodies rows) = true
-awaits_no_feed (pending.Ask asker proposed) = true
-awaits_no_feed (pending.Push asker) = true
+awaits_no_feed (pending.Reply asker to) = true
 
 abbrev is_first : Pending → Bool
 is_first pending.Nothing = false
 is_first (pending.Feed asked) = true
 is_first pending.More = false
 is_first (pending.Bodies rows) = false
-is_first (pending.Ask asker proposed) = false
-is_first (pending.Push asker) = false
+is_first (pending.Reply asker to) = false
 
 -- a feed that is asked for has a batch of one row at least
 abbrev FirstBatch : Pending → Type 0
@@ -116,8 +122,7 @@ FirstBatch pending.Nothing = Unit {0}
 FirstBatch (pending.Feed asked) = 1 ≤ asked.batch
 FirstBatch pending.More = Unit {0}
 FirstBatch (pending.Bodies rows) = Unit {0}
-FirstBatch (pending.Ask asker proposed) = Unit {0}
-FirstBatch (pending.Push asker) = Unit {0}
+FirstBatch (pending.Reply asker to) = Unit {0}
 
 -- a feed that runs: the last look for a feed is its own; a batch has one row at least; only of a continuous one the device was informed that it
 -- caught up; it was informed so where no rows are left, unless the next look is awaited; and no first look is
@@ -254,16 +259,17 @@ feed_asked fronts m asked (Some r) e some no_feed fits = refused_stay fronts m a
 
 offered : (b : Bool) (fronts : List ℕ) (m : Machine) (asker : Asker) (wanted : Want) → awaits_no_feed m.pending ≡ true → Fits fronts m.feed m.pending → CaughtUpBy fronts m (on_changes b m asker wanted)
 offered true fronts m asker wanted no_feed fits = refused_stay fronts m asker errors.UsePropose409 no_feed fits
-offered false fronts m asker wanted no_feed fits = asks_stay fronts m (pending.Ask asker false) wanted no_feed refl tt fits
+offered false fronts m asker wanted no_feed fits = asks_stay fronts m (pending.Reply asker (awaited.Asked false)) wanted no_feed refl tt fits
 
 served : (fronts : List ℕ) (m : Machine) (asker : Asker) (r : Request) → HasBatch r → awaits_no_feed m.pending ≡ true → Fits fronts m.feed m.pending → CaughtUpBy fronts m (on_served m asker r)
-served fronts m asker (request.GetCheckpoint client) some no_feed fits = refused_stay fronts m asker errors.NoHandler404 no_feed fits
-served fronts m asker (request.SetCheckpoint client rev body) some no_feed fits = refused_stay fronts m asker errors.NoHandler404 no_feed fits
+served fronts m asker (request.GetCheckpoint client) some no_feed fits = asks_stay fronts m (pending.Reply asker awaited.Got) (want.GetCheckpoint client) no_feed refl tt fits
+served fronts m asker (request.SetCheckpoint client rev body) some no_feed fits =
+    asks_stay fronts m (pending.Reply asker awaited.Set) (want.SetCheckpoint client rev body) no_feed refl tt fits
 served fronts m asker (request.SubChanges since continuous batch options) some no_feed fits =
     feed_asked fronts m (record { asker = asker; since = since; continuous = continuous; batch = batch; options = options }) m.feed refl some no_feed fits
 served fronts m asker (request.Changes offers) some no_feed fits = offered m.strict fronts m asker (want.Ask offers) no_feed fits
-served fronts m asker (request.ProposeChanges offers) some no_feed fits = asks_stay fronts m (pending.Ask asker true) (want.Ask offers) no_feed refl tt fits
-served fronts m asker (request.Rev revision) some no_feed fits = asks_stay fronts m (pending.Push asker) (want.Propose revision) no_feed refl tt fits
+served fronts m asker (request.ProposeChanges offers) some no_feed fits = asks_stay fronts m (pending.Reply asker (awaited.Asked true)) (want.Ask offers) no_feed refl tt fits
+served fronts m asker (request.Rev revision) some no_feed fits = asks_stay fronts m (pending.Reply asker awaited.Pushed) (want.Propose revision) no_feed refl tt fits
 
 requested : (fronts : List ℕ) (m : Machine) (message : Message) (read : Result Request RequestFault) → ReadHasBatch read → awaits_no_feed m.pending ≡ true → Fits fronts m.feed m.pending → CaughtUpBy fronts m (on_request m message read)
 requested fronts m message (Err fault) some no_feed fits = refused_stay fronts m (asker_of message) (error_of fault) no_feed fits
@@ -333,8 +339,7 @@ fed_to fronts m answer (pending.Feed asked) e a fits = first_look fronts m asked
 fed_to fronts m (fed.Future front) pending.More e a fits = absurd a
 fed_to fronts m (fed.Rows front rows) pending.More e a fits = next_look fronts m m.feed front rows refl fits
 fed_to fronts m answer (pending.Bodies rows) e a fits = absurd a
-fed_to fronts m answer (pending.Ask asker proposed) e a fits = absurd a
-fed_to fronts m answer (pending.Push asker) e a fits = absurd a
+fed_to fronts m answer (pending.Reply asker to) e a fits = absurd a
 
 bodies_of : (fronts : List ℕ) (m : Machine) (b : Bodies) (wanted : List Row) (feed : Option Running) → m.feed ≡ feed → awaits_no_feed m.pending ≡ true → Fits fronts m.feed m.pending → CaughtUpBy fronts m (on_bodies_of m b wanted feed)
 bodies_of fronts m b wanted None e no_feed fits = puts_stay fronts m [] (λ n. refl) no_feed fits
@@ -346,25 +351,14 @@ bodied fronts m b pending.Nothing e a fits = absurd a
 bodied fronts m b (pending.Feed asked) e a fits = absurd a
 bodied fronts m b pending.More e a fits = absurd a
 bodied fronts m b (pending.Bodies rows) e a fits = bodies_of fronts m b rows m.feed refl (ap awaits_no_feed e) fits
-bodied fronts m b (pending.Ask asker proposed) e a fits = absurd a
-bodied fronts m b (pending.Push asker) e a fits = absurd a
+bodied fronts m b (pending.Reply asker to) e a fits = absurd a
 
-asked_to : (fronts : List ℕ) (m : Machine) (answer : Asked) (awaited : Pending) → m.pending ≡ awaited → AwaitsBy m.feed awaited (event.Asked answer) → Fits fronts m.feed m.pending → CaughtUpBy fronts m (on_asked m answer awaited)
-asked_to fronts m answer pending.Nothing e a fits = absurd a
-asked_to fronts m answer (pending.Feed asked) e a fits = absurd a
-asked_to fronts m answer pending.More e a fits = absurd a
-asked_to fronts m answer (pending.Bodies rows) e a fits = absurd a
-asked_to fronts m answer (pending.Ask asker proposed) e a fits =
-    puts_stay fronts m (reply_act asker kinds.Rpy (answers_payload answer.answers proposed)) (reply_none asker kinds.Rpy (answers_payload answer.answers proposed) refl) (ap awaits_no_feed e) fits
-asked_to fronts m answer (pending.Push asker) e a fits = absurd a
-
-judged_to : (fronts : List ℕ) (m : Machine) (o : Outcome) (awaited : Pending) → m.pending ≡ awaited → AwaitsBy m.feed awaited (event.Judged o) → Fits fronts m.feed m.pending → CaughtUpBy fronts m (on_judged m o awaited)
-judged_to fronts m o pending.Nothing e a fits = absurd a
-judged_to fronts m o (pending.Feed asked) e a fits = absurd a
-judged_to fronts m o pending.More e a fits = absurd a
-judged_to fronts m o (pending.Bodies rows) e a fits = absurd a
-judged_to fronts m o (pending.Ask asker proposed) e a fits = absurd a
-judged_to fronts m o (pending.Push asker) e a fits = puts_stay fronts m (outcome_act asker o) (outcome_none asker o) (ap awaits_no_feed e) fits
+answered_to : (fronts : List ℕ) (m : Machine) (e : Event) (awaited : Pending) → m.pending ≡ awaited → IsReply awaited → Fits fronts m.feed m.pending → CaughtUpBy fronts m (on_answer m e awaited)
+answered_to fronts m e pending.Nothing is a fits = absurd a
+answered_to fronts m e (pending.Feed asked) is a fits = absurd a
+answered_to fronts m e pending.More is a fits = absurd a
+answered_to fronts m e (pending.Bodies rows) is a fits = absurd a
+answered_to fronts m e (pending.Reply asker to) is a fits = puts_stay fronts m (answer_act asker to e) (answer_none asker to e) (ap awaits_no_feed is) fits
 
 idled_with : (fronts : List ℕ) (m : Machine) (r : Running) (b : Bool) → m.feed ≡ Some r → awaits_no_feed m.pending ≡ true → Fits fronts m.feed m.pending → CaughtUpBy fronts m (if b then looks_again m [] m.requests r else puts m [])
 idled_with fronts m r true e no_feed fits = looks fronts m [] m.requests r (λ n. refl) (follows fronts m r e fits)
@@ -379,16 +373,14 @@ message_no_feed feed message pending.Nothing a = refl
 message_no_feed feed message (pending.Feed asked) a = absurd a
 message_no_feed feed message pending.More a = absurd a
 message_no_feed feed message (pending.Bodies rows) a = absurd a
-message_no_feed feed message (pending.Ask asker proposed) a = absurd a
-message_no_feed feed message (pending.Push asker) a = absurd a
+message_no_feed feed message (pending.Reply asker to) a = absurd a
 
 idle_no_feed : (feed : Option Running) (front : ℕ) (awaited : Pending) → AwaitsBy feed awaited (event.Idle front) → awaits_no_feed awaited ≡ true
 idle_no_feed feed front pending.Nothing a = refl
 idle_no_feed feed front (pending.Feed asked) a = absurd a
 idle_no_feed feed front pending.More a = absurd a
 idle_no_feed feed front (pending.Bodies rows) a = absurd a
-idle_no_feed feed front (pending.Ask asker proposed) a = absurd a
-idle_no_feed feed front (pending.Push asker) a = absurd a
+idle_no_feed feed front (pending.Reply asker to) a = absurd a
 
 -- ---- each event
 
@@ -397,8 +389,14 @@ event_caught_up fronts m (event.Whole message) done a does fits = by_message fro
 event_caught_up fronts m (event.Idle front) done a does fits = subst (CaughtUpBy fronts m) (sym does) (idled fronts m front m.feed refl (idle_no_feed m.feed front m.pending a) fits)
 event_caught_up fronts m (event.Fed answer) done a does fits = subst (CaughtUpBy (front_of answer ∷ fronts) m) (sym does) (fed_to fronts m answer m.pending refl a fits)
 event_caught_up fronts m (event.Bodies b) done a does fits = subst (CaughtUpBy fronts m) (sym does) (bodied fronts m b m.pending refl a fits)
-event_caught_up fronts m (event.Asked answer) done a does fits = subst (CaughtUpBy fronts m) (sym does) (asked_to fronts m answer m.pending refl a fits)
-event_caught_up fronts m (event.Judged o) done a does fits = subst (CaughtUpBy fronts m) (sym does) (judged_to fronts m o m.pending refl a fits)
+event_caught_up fronts m (event.Asked answer) done a does fits =
+    subst (CaughtUpBy fronts m) (sym does) (answered_to fronts m (event.Asked answer) m.pending refl (awaits_reply m.feed m.pending (event.Asked answer) refl a) fits)
+event_caught_up fronts m (event.Judged o) done a does fits =
+    subst (CaughtUpBy fronts m) (sym does) (answered_to fronts m (event.Judged o) m.pending refl (awaits_reply m.feed m.pending (event.Judged o) refl a) fits)
+event_caught_up fronts m (event.Got k) done a does fits =
+    subst (CaughtUpBy fronts m) (sym does) (answered_to fronts m (event.Got k) m.pending refl (awaits_reply m.feed m.pending (event.Got k) refl a) fits)
+event_caught_up fronts m (event.Set answer) done a does fits =
+    subst (CaughtUpBy fronts m) (sym does) (answered_to fronts m (event.Set answer) m.pending refl (awaits_reply m.feed m.pending (event.Set answer) refl a) fits)
 
 step_caught_up : (fronts : List ℕ) (m : Machine) (s : Step) (after : Machine) → (made : Steps m s after) → Fits fronts m.feed m.pending → CaughtUpBy (feed_look s.event ++ fronts) m made.done
 step_caught_up fronts m s after made fits = event_caught_up fronts m s.event made.done made.awaited made.does fits
@@ -426,8 +424,7 @@ looks_iff fronts m front pending.Nothing (Some r) e a fits =
 looks_iff fronts m front (pending.Feed asked) feed e a fits = absurd a
 looks_iff fronts m front pending.More feed e a fits = absurd a
 looks_iff fronts m front (pending.Bodies rows) feed e a fits = absurd a
-looks_iff fronts m front (pending.Ask asker proposed) feed e a fits = absurd a
-looks_iff fronts m front (pending.Push asker) feed e a fits = absurd a
+looks_iff fronts m front (pending.Reply asker to) feed e a fits = absurd a
 
 from_with : (last : ℕ) (earlier : List ℕ) (m : Machine) (r : Running) (b : Bool) → last ≡ r.front → IsFromLast (last ∷ earlier) (if b then looks_again m [] m.requests r else puts m []).want
 from_with last earlier m r true e = ap plain (sym e)
@@ -511,8 +508,7 @@ no_feed_then fronts r pending.Nothing fits not = refl
 no_feed_then fronts r (pending.Feed asked) fits not = absurd (false≢true (sym fits.later))
 no_feed_then fronts r pending.More fits not = absurd (not refl)
 no_feed_then fronts r (pending.Bodies rows) fits not = refl
-no_feed_then fronts r (pending.Ask asker proposed) fits not = refl
-no_feed_then fronts r (pending.Push asker) fits not = refl
+no_feed_then fronts r (pending.Reply asker to) fits not = refl
 
 caught_up_where : (fronts : List ℕ) (feed : Option Running) (awaited : Pending) → Fits fronts feed awaited → waits feed ≡ true → (awaited ≡ pending.More → ⊥) → has_caught_up feed ≡ true
 caught_up_where fronts None awaited fits waiting not = absurd (false≢true waiting)

@@ -136,6 +136,8 @@ closed_none (event.Fed answer) = refl
 closed_none (event.Bodies b) = refl
 closed_none (event.Asked answer) = refl
 closed_none (event.Judged outcome) = refl
+closed_none (event.Got kept) = refl
+closed_none (event.Set answer) = refl
 
 -- where nothing is offered
 offers_nothing : (f : Option Running) (p : Pending) (m : Machine) (x : Event) (done : Done) → OffersNone done.acts → Fits done.after.feed done.after.pending → IsSized done.after.pending

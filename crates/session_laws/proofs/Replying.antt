@@ -19,12 +19,12 @@ use Rattle.repl_messages.specs.declared.looks.Body.TheVariants as body
 use Rattle.repl_messages.specs.declared.looks.Bodies.{Bodies}
 use Rattle.repl_messages.specs.declared.looks.Fed.{Fed}
 use Rattle.repl_messages.specs.declared.looks.Fed.TheVariants as fed
-use Rattle.repl_messages.specs.declared.offers.Asked.{Asked}
 use Rattle.repl_messages.specs.Answers.{answers_payload}
+use Rattle.repl_messages.specs.Checkpoints.{checkpoint_payload}
 use Rattle.repl_messages.specs.Errors.{ok_payload, error_payload}
-use Rattle.sync_values.specs.Texts.{rule_text}
-use Rattle.doc_board.specs.declared.outcome.Outcome.{Outcome}
-use Rattle.doc_board.specs.declared.outcome.Outcome.TheVariants as outcome
+use Rattle.checkpoint_store.specs.declared.answers.Kept0.TheVariants as kept0
+use Rattle.checkpoint_store.specs.declared.answers.SetAnswer.TheVariants as set
+use Rattle.doc_board.specs.Errors.{outcome_error}
 use Rattle.session_core.specs.declared.act.Act.{Act}
 use Rattle.session_core.specs.declared.act.Act.TheVariants as act
 use Rattle.session_core.specs.declared.act.Want.{Want}
@@ -32,15 +32,17 @@ use Rattle.session_core.specs.declared.act.Want.TheVariants as want
 use Rattle.session_core.specs.declared.event.Event.{Event}
 use Rattle.session_core.specs.declared.event.Event.TheVariants as event
 use Rattle.session_core.specs.declared.replies.Asker.{Asker}
+use Rattle.session_core.specs.declared.replies.Awaited.{Awaited}
 use Rattle.session_core.specs.declared.machine.Subscription.{Subscription}
 use Rattle.session_core.specs.declared.machine.Pending.{Pending}
 use Rattle.session_core.specs.declared.machine.Pending.TheVariants as pending
-use Rattle.session_core.specs.Acts.{messages_from, reply_act, acceptance_act, outcome_act, error_of, body_act, body_acts, offer_act}
+use Rattle.session_core.specs.Acts.{messages_from, reply_act, refusal_by, acceptance_act, is_proposed, answer_act, error_of, body_act, body_acts, offer_act}
 use Rattle.session_core.specs.Conduct.{are_requests}
 use Rattle.session_core.specs.Running.{Running, rest, is_none, is_silent, next_acts}
-use Rattle.session_core.specs.State.{Machine, new_machine, AwaitsBy}
+use Rattle.session_core.specs.State.{Machine, new_machine, AwaitsBy, IsAwaited, IsReply}
 use Rattle.session_core.specs.Steps.{Step, Steps, Leads, put_by}
-use Rattle.session_core.specs.Transitions.{Done, puts, looks_again, answered_by, asker_of, refused, on_sub_changes, on_changes, on_served, on_request, answers, wanted_of, on_wanted, on_reply, first_of, on_first_look, on_next_look, on_fed, on_bodies_of, on_bodies, on_asked, on_judged, on_idle, Does, DoesByMessage}
+use Rattle.session_core.specs.Transitions.{Done, puts, looks_again, answered_by, asker_of, refused, on_sub_changes, on_changes, on_served, on_request, answers, wanted_of, on_wanted, on_reply, first_of, on_first_look, on_next_look, on_fed, on_bodies_of, on_bodies, on_answer, on_idle, Does, DoesByMessage}
+use Rattle.session_core.proofs.Awaiting.{awaits_reply}
 use Rattle.session_laws.specs.Exchanges.{wanting, asked_in, asked_at, asked_by, replied, owed}
 
 -- ---- messages
@@ -94,9 +96,6 @@ replies_once m asker kind payload is n = append-nil (replied (messages_from n (r
 refusal : (m : Machine) (asker : Asker) (error : ErrorKind) → Answers (wanting asker.number asker.no_reply) (refused m asker error)
 refusal m asker error = replies_once m asker kinds.Err (error_payload error) refl
 
-accepted : (m : Machine) (asker : Asker) → Answers (wanting asker.number asker.no_reply) (puts m (acceptance_act asker))
-accepted m asker = replies_once m asker kinds.Rpy ok_payload refl
-
 answered_none : (b : Bool) (m : Machine) (acts : List Act) (requests : ℕ) (r : Running) → are_requests acts ≡ true → Answers [] (answered_by b m acts requests r)
 answered_none true m acts requests r are n = append-nil (replied (messages_from n acts)) ∙ requests_after n [] acts are
 answered_none false m acts requests r are n =
@@ -114,8 +113,8 @@ offered true m asker wanted n = refusal m asker errors.UsePropose409 n
 offered false m asker wanted n = refl
 
 served : (m : Machine) (asker : Asker) (r : Request) → Answers (wanting asker.number asker.no_reply) (on_served m asker r)
-served m asker (request.GetCheckpoint client) = refusal m asker errors.NoHandler404
-served m asker (request.SetCheckpoint client rev body) = refusal m asker errors.NoHandler404
+served m asker (request.GetCheckpoint client) = λ n. refl
+served m asker (request.SetCheckpoint client rev body) = λ n. refl
 served m asker (request.SubChanges since continuous batch options) =
     feed_asked m (record { asker = asker; since = since; continuous = continuous; batch = batch; options = options }) m.feed
 served m asker (request.Changes offers) = offered m.strict m asker (want.Ask offers)
@@ -161,8 +160,7 @@ fed_to m answer pending.Nothing a = absurd a
 fed_to m answer (pending.Feed asked) a = first_look m asked answer
 fed_to m answer pending.More a = next_look m m.feed answer
 fed_to m answer (pending.Bodies rows) a = absurd a
-fed_to m answer (pending.Ask asker proposed) a = absurd a
-fed_to m answer (pending.Push asker) a = absurd a
+fed_to m answer (pending.Reply asker to) a = absurd a
 
 bodies_of : (m : Machine) (b : Bodies) (wanted : List Row) (feed : Option Running) → Answers [] (on_bodies_of m b wanted feed)
 bodies_of m b wanted None = λ n. refl
@@ -174,37 +172,33 @@ bodied m b pending.Nothing a = absurd a
 bodied m b (pending.Feed asked) a = absurd a
 bodied m b pending.More a = absurd a
 bodied m b (pending.Bodies rows) a = bodies_of m b rows m.feed
-bodied m b (pending.Ask asker proposed) a = absurd a
-bodied m b (pending.Push asker) a = absurd a
+bodied m b (pending.Reply asker to) a = absurd a
 
-asked_to : (m : Machine) (answer : Asked) (awaited : Pending) → AwaitsBy m.feed awaited (event.Asked answer) → Answers (owed awaited) (on_asked m answer awaited)
-asked_to m answer pending.Nothing a = absurd a
-asked_to m answer (pending.Feed asked) a = absurd a
-asked_to m answer pending.More a = absurd a
-asked_to m answer (pending.Bodies rows) a = absurd a
-asked_to m answer (pending.Ask asker proposed) a = replies_once m asker kinds.Rpy (answers_payload answer.answers proposed) refl
-asked_to m answer (pending.Push asker) a = absurd a
+outcome_is : (m : Machine) (asker : Asker) (error : Option ErrorKind) → Answers (wanting asker.number asker.no_reply) (puts m (refusal_by asker error))
+outcome_is m asker None = replies_once m asker kinds.Rpy ok_payload refl
+outcome_is m asker (Some error) = refusal m asker error
 
-outcome_is : (m : Machine) (asker : Asker) (o : Outcome) → Answers (wanting asker.number asker.no_reply) (puts m (outcome_act asker o))
-outcome_is m asker (outcome.Bad400 field) = refusal m asker (errors.Bad400 field)
-outcome_is m asker (outcome.TooLarge413 bytes) = refusal m asker errors.TooLarge413
-outcome_is m asker (outcome.UserGone401 at) = refusal m asker errors.UserGone401
-outcome_is m asker (outcome.Known at) = accepted m asker
-outcome_is m asker (outcome.BadHistory400 at) = refusal m asker errors.BadHistory400
-outcome_is m asker (outcome.Conflict409 at leaf) = refusal m asker (errors.Conflict409 leaf)
-outcome_is m asker (outcome.Denied403 at rule) = refusal m asker (errors.Denied403 (rule_text rule))
-outcome_is m asker (outcome.Stored sequence at) = accepted m asker
-outcome_is m asker (outcome.Full503 at places) = refusal m asker errors.PendingFull503
-outcome_is m asker (outcome.LogFull509 at entries bytes) = refusal m asker errors.LogFull509
-outcome_is m asker outcome.Memory507 = refusal m asker errors.Memory507
+answer_replies : (m : Machine) (asker : Asker) (to : Awaited) (e : Event) → IsAwaited e to → Answers (wanting asker.number asker.no_reply) (puts m (answer_act asker to e))
+answer_replies m asker to (event.Whole message) a = absurd a
+answer_replies m asker to (event.Idle front) a = absurd a
+answer_replies m asker to (event.Fed answer) a = absurd a
+answer_replies m asker to (event.Bodies b) a = absurd a
+answer_replies m asker to (event.Asked answer) a = replies_once m asker kinds.Rpy (answers_payload answer.answers (is_proposed to)) refl
+answer_replies m asker to (event.Judged o) a = outcome_is m asker (outcome_error o)
+answer_replies m asker to (event.Got (kept0.Found rev body)) a = replies_once m asker kinds.Rpy (checkpoint_payload rev body) refl
+answer_replies m asker to (event.Got kept0.Absent404) a = refusal m asker errors.NoCheckpoint404
+answer_replies m asker to (event.Set (set.Set rev)) a = replies_once m asker kinds.Rpy (checkpoint_payload rev []) refl
+answer_replies m asker to (event.Set (set.Conflict409 current)) a = refusal m asker (errors.Checkpoint409 current)
+answer_replies m asker to (event.Set (set.TooLarge413 bytes)) a = refusal m asker errors.TooLarge413
+answer_replies m asker to (event.Set set.Full503) a = refusal m asker errors.CheckpointsFull503
+answer_replies m asker to (event.Set set.Memory) a = absurd a
 
-judged_to : (m : Machine) (o : Outcome) (awaited : Pending) → AwaitsBy m.feed awaited (event.Judged o) → Answers (owed awaited) (on_judged m o awaited)
-judged_to m o pending.Nothing a = absurd a
-judged_to m o (pending.Feed asked) a = absurd a
-judged_to m o pending.More a = absurd a
-judged_to m o (pending.Bodies rows) a = absurd a
-judged_to m o (pending.Ask asker proposed) a = absurd a
-judged_to m o (pending.Push asker) a = outcome_is m asker o
+answered_to : (m : Machine) (e : Event) (awaited : Pending) → IsReply awaited → AwaitsBy m.feed awaited e → Answers (owed awaited) (on_answer m e awaited)
+answered_to m e pending.Nothing is a = absurd is
+answered_to m e (pending.Feed asked) is a = absurd is
+answered_to m e pending.More is a = absurd is
+answered_to m e (pending.Bodies rows) is a = absurd is
+answered_to m e (pending.Reply asker to) is a = answer_replies m asker to e a
 
 idled_with : (m : Machine) (front : ℕ) (feed : Option Running) → Answers [] (on_idle m front feed)
 idled_with m front None n = refl
@@ -219,16 +213,14 @@ none_owed feed message pending.Nothing a = refl
 none_owed feed message (pending.Feed asked) a = absurd a
 none_owed feed message pending.More a = absurd a
 none_owed feed message (pending.Bodies rows) a = absurd a
-none_owed feed message (pending.Ask asker proposed) a = absurd a
-none_owed feed message (pending.Push asker) a = absurd a
+none_owed feed message (pending.Reply asker to) a = absurd a
 
 idle_owed : (feed : Option Running) (front : ℕ) (awaited : Pending) → AwaitsBy feed awaited (event.Idle front) → owed awaited ≡ []
 idle_owed feed front pending.Nothing a = refl
 idle_owed feed front (pending.Feed asked) a = absurd a
 idle_owed feed front pending.More a = absurd a
 idle_owed feed front (pending.Bodies rows) a = absurd a
-idle_owed feed front (pending.Ask asker proposed) a = absurd a
-idle_owed feed front (pending.Push asker) a = absurd a
+idle_owed feed front (pending.Reply asker to) a = absurd a
 
 -- ---- each event
 
@@ -242,8 +234,14 @@ event_replied m (event.Idle front) done a does n =
     subst (Answers []) (sym does) (idled_with m front m.feed) n ∙ ap (λ (xs : List ℕ). xs ++ []) (sym (idle_owed m.feed front m.pending a))
 event_replied m (event.Fed answer) done a does n = still_owed (owed m.pending) done (subst (Answers (owed m.pending)) (sym does) (fed_to m answer m.pending a)) n
 event_replied m (event.Bodies b) done a does n = still_owed (owed m.pending) done (subst (Answers (owed m.pending)) (sym does) (bodied m b m.pending a)) n
-event_replied m (event.Asked answer) done a does n = still_owed (owed m.pending) done (subst (Answers (owed m.pending)) (sym does) (asked_to m answer m.pending a)) n
-event_replied m (event.Judged o) done a does n = still_owed (owed m.pending) done (subst (Answers (owed m.pending)) (sym does) (judged_to m o m.pending a)) n
+event_replied m (event.Asked answer) done a does n =
+    still_owed (owed m.pending) done (subst (Answers (owed m.pending)) (sym does) (answered_to m (event.Asked answer) m.pending (awaits_reply m.feed m.pending (event.Asked answer) refl a) a)) n
+event_replied m (event.Judged o) done a does n =
+    still_owed (owed m.pending) done (subst (Answers (owed m.pending)) (sym does) (answered_to m (event.Judged o) m.pending (awaits_reply m.feed m.pending (event.Judged o) refl a) a)) n
+event_replied m (event.Got k) done a does n =
+    still_owed (owed m.pending) done (subst (Answers (owed m.pending)) (sym does) (answered_to m (event.Got k) m.pending (awaits_reply m.feed m.pending (event.Got k) refl a) a)) n
+event_replied m (event.Set answer) done a does n =
+    still_owed (owed m.pending) done (subst (Answers (owed m.pending)) (sym does) (answered_to m (event.Set answer) m.pending (awaits_reply m.feed m.pending (event.Set answer) refl a) a)) n
 
 step_replied : (m : Machine) (s : Step) (after : Machine) → Steps m s after → replied s.puts ++ owed after.pending ≡ owed m.pending ++ asked_at s.event
 step_replied m s after made =

@@ -157,6 +157,8 @@ look_fronts low middle high (event.Idle front) fronts are rise = widen low front
 look_fronts low middle high (event.Bodies b) fronts are rise = widen low fronts middle high (rise_le middle (b.front ∷ []) high rise) are
 look_fronts low middle high (event.Asked answer) fronts are rise = widen low fronts middle high (rise_le middle (answer.front ∷ []) high rise) are
 look_fronts low middle high (event.Judged outcome) fronts are rise = widen low fronts middle high (rise_le middle (front_by (event.Judged outcome)) high rise) are
+look_fronts low middle high (event.Got kept) fronts are rise = widen low fronts middle high rise are
+look_fronts low middle high (event.Set answer) fronts are rise = widen low fronts middle high rise are
 
 pub looks_rise : (steps : List Step) (low high : ℕ) → RiseBetween low (fronts_of steps) high → AreFronts low (feed_looks steps) high
 looks_rise [] low high rise = rise

@@ -49,6 +49,8 @@ wants_feed feed asked (Some (want.Feed since options)) (same, too) = ap (λ (k :
 wants_feed feed asked (Some (want.Bodies options rows most)) wants = absurd wants
 wants_feed feed asked (Some (want.Ask offers)) wants = absurd wants
 wants_feed feed asked (Some (want.Propose revision)) wants = absurd wants
+wants_feed feed asked (Some (want.GetCheckpoint client)) wants = absurd wants
+wants_feed feed asked (Some (want.SetCheckpoint client rev body)) wants = absurd wants
 
 abbrev IsIdle : Pending → Type 0
 IsIdle pending.Nothing = Unit {0}
@@ -117,6 +119,8 @@ event_within most (event.Fed answer) within = within
 event_within most (event.Bodies b) within = tt
 event_within most (event.Asked answer) within = tt
 event_within most (event.Judged outcome) within = tt
+event_within most (event.Got kept) within = tt
+event_within most (event.Set answer) within = tt
 
 feeds_within : (most : ℕ) (steps : List Step) → AreWithin most (look_fronts (looks_of steps)) → AreWithin most (feed_looks steps)
 feeds_within most [] within = tt

@@ -18,13 +18,11 @@ use Rattle.repl_messages.specs.declared.looks.Body.TheVariants as body
 use Rattle.repl_messages.specs.declared.looks.Bodies.{Bodies}
 use Rattle.repl_messages.specs.declared.looks.Fed.{Fed}
 use Rattle.repl_messages.specs.declared.looks.Fed.TheVariants as fed
-use Rattle.repl_messages.specs.declared.offers.Asked.{Asked}
 use Rattle.repl_messages.specs.Requests.{IsBounded}
-use Rattle.repl_messages.specs.Answers.{answers_payload}
 use Rattle.repl_messages.specs.Errors.{error_payload}
-use Rattle.sync_values.specs.Texts.{rule_text}
-use Rattle.doc_board.specs.declared.outcome.Outcome.{Outcome}
-use Rattle.doc_board.specs.declared.outcome.Outcome.TheVariants as outcome
+use Rattle.checkpoint_store.specs.declared.answers.Kept0.TheVariants as kept0
+use Rattle.checkpoint_store.specs.declared.answers.SetAnswer.TheVariants as set
+use Rattle.doc_board.specs.Errors.{outcome_error}
 use Rattle.session_core.specs.declared.act.Act.{Act}
 use Rattle.session_core.specs.declared.act.Act.TheVariants as act
 use Rattle.session_core.specs.declared.act.Want.{Want}
@@ -32,15 +30,18 @@ use Rattle.session_core.specs.declared.act.Want.TheVariants as want
 use Rattle.session_core.specs.declared.event.Event.{Event}
 use Rattle.session_core.specs.declared.event.Event.TheVariants as event
 use Rattle.session_core.specs.declared.replies.Asker.{Asker}
+use Rattle.session_core.specs.declared.replies.Awaited.{Awaited}
+use Rattle.session_core.specs.declared.replies.Awaited.TheVariants as awaited
 use Rattle.session_core.specs.declared.machine.Subscription.{Subscription}
 use Rattle.session_core.specs.declared.machine.Pending.{Pending}
 use Rattle.session_core.specs.declared.machine.Pending.TheVariants as pending
-use Rattle.session_core.specs.Acts.{messages_from, error_of, reply_act, refusal_act, acceptance_act, outcome_act, body_acts}
+use Rattle.session_core.specs.Acts.{messages_from, error_of, reply_act, refusal_act, acceptance_act, refusal_by, answer_act, body_acts}
 use Rattle.session_core.specs.Conduct.{requests_among}
 use Rattle.session_core.specs.Feeds.{feed_look}
 use Rattle.session_core.specs.Running.{Running, rest, is_none}
-use Rattle.session_core.specs.State.{Machine, AwaitsBy, Awaits}
-use Rattle.session_core.specs.Transitions.{Done, puts, asks, goes_on, looks_again, answered_by, asker_of, refused, on_sub_changes, on_changes, on_served, on_request, answers, wanted_of, most_ancestors, on_wanted, on_reply, first_of, on_first_look, on_next_look, on_fed, on_bodies_of, on_bodies, on_asked, on_judged, on_idle, Does, DoesByMessage}
+use Rattle.session_core.specs.State.{Machine, AwaitsBy, Awaits, IsReply}
+use Rattle.session_core.specs.Transitions.{Done, puts, asks, goes_on, looks_again, answered_by, asker_of, refused, on_sub_changes, on_changes, on_served, on_request, answers, wanted_of, most_ancestors, on_wanted, on_reply, first_of, on_first_look, on_next_look, on_fed, on_bodies_of, on_bodies, on_answer, on_idle, Does, DoesByMessage}
+use Rattle.session_core.proofs.Awaiting.{awaits_reply}
 use Rattle.session_laws.proofs.BatchSizes.{bounded}
 use Rattle.session_laws.specs.Batches.{offers_among, closed_by}
 
@@ -79,18 +80,24 @@ bodies_counted (row ∷ rows) (body.NoRev ∷ given) e = omega (arith, bodies_co
 refusal_none : (asker : Asker) (error : ErrorKind) → OffersNone (refusal_act asker error)
 refusal_none asker error = reply_none asker kinds.Err (error_payload error) refl
 
-outcome_none : (asker : Asker) (o : Outcome) → OffersNone (outcome_act asker o)
-outcome_none asker (outcome.Bad400 field) = refusal_none asker (errors.Bad400 field)
-outcome_none asker (outcome.TooLarge413 bytes) = refusal_none asker errors.TooLarge413
-outcome_none asker (outcome.UserGone401 at) = refusal_none asker errors.UserGone401
-outcome_none asker (outcome.Known at) = reply_none asker kinds.Rpy _ refl
-outcome_none asker (outcome.BadHistory400 at) = refusal_none asker errors.BadHistory400
-outcome_none asker (outcome.Conflict409 at leaf) = refusal_none asker (errors.Conflict409 leaf)
-outcome_none asker (outcome.Denied403 at rule) = refusal_none asker (errors.Denied403 (rule_text rule))
-outcome_none asker (outcome.Stored sequence at) = reply_none asker kinds.Rpy _ refl
-outcome_none asker (outcome.Full503 at places) = refusal_none asker errors.PendingFull503
-outcome_none asker (outcome.LogFull509 at entries bytes) = refusal_none asker errors.LogFull509
-outcome_none asker outcome.Memory507 = refusal_none asker errors.Memory507
+outcome_none : (asker : Asker) (error : Option ErrorKind) → OffersNone (refusal_by asker error)
+outcome_none asker None = reply_none asker kinds.Rpy _ refl
+outcome_none asker (Some error) = refusal_none asker error
+
+answer_none : (asker : Asker) (to : Awaited) (e : Event) → OffersNone (answer_act asker to e)
+answer_none asker to (event.Whole message) = nothing_offered
+answer_none asker to (event.Idle front) = nothing_offered
+answer_none asker to (event.Fed answer) = nothing_offered
+answer_none asker to (event.Bodies b) = nothing_offered
+answer_none asker to (event.Asked answer) = reply_none asker kinds.Rpy _ refl
+answer_none asker to (event.Judged o) = outcome_none asker (outcome_error o)
+answer_none asker to (event.Got (kept0.Found rev body)) = reply_none asker kinds.Rpy _ refl
+answer_none asker to (event.Got kept0.Absent404) = reply_none asker kinds.Err _ refl
+answer_none asker to (event.Set (set.Set rev)) = reply_none asker kinds.Rpy _ refl
+answer_none asker to (event.Set (set.Conflict409 current)) = reply_none asker kinds.Err _ refl
+answer_none asker to (event.Set (set.TooLarge413 bytes)) = reply_none asker kinds.Err _ refl
+answer_none asker to (event.Set set.Full503) = reply_none asker kinds.Err _ refl
+answer_none asker to (event.Set set.Memory) = nothing_offered
 
 -- ---- what holds between steps
 
@@ -101,8 +108,7 @@ Fits (Some r) pending.Nothing = Unit {0}
 Fits (Some r) (pending.Feed asked) = ⊥
 Fits (Some r) pending.More = is_none r.rows ≡ true
 Fits (Some r) (pending.Bodies rows) = Unit {0}
-Fits (Some r) (pending.Ask asker proposed) = Unit {0}
-Fits (Some r) (pending.Push asker) = Unit {0}
+Fits (Some r) (pending.Reply asker to) = Unit {0}
 
 -- the number of the offer that is open: where rows are on offer, and not answered
 abbrev pub number_with : Bool → ℕ → Option ℕ
@@ -115,8 +121,7 @@ open_of (Some r) pending.Nothing = number_with (is_none r.rows) r.number
 open_of (Some r) (pending.Feed asked) = None
 open_of (Some r) pending.More = None
 open_of (Some r) (pending.Bodies rows) = None
-open_of (Some r) (pending.Ask asker proposed) = number_with (is_none r.rows) r.number
-open_of (Some r) (pending.Push asker) = number_with (is_none r.rows) r.number
+open_of (Some r) (pending.Reply asker to) = number_with (is_none r.rows) r.number
 
 -- a feed that is asked for has a batch from 1 to 10,000, and a since key with no sequence above that by which it was sent
 abbrev pub IsSized : Pending → Type 0
@@ -124,8 +129,7 @@ IsSized (pending.Feed asked) = (1 ≤ asked.batch) × (asked.batch ≤ 10000) ×
 IsSized pending.Nothing = Unit {0}
 IsSized pending.More = Unit {0}
 IsSized (pending.Bodies rows) = Unit {0}
-IsSized (pending.Ask asker proposed) = Unit {0}
-IsSized (pending.Push asker) = Unit {0}
+IsSized (pending.Reply asker to) = Unit {0}
 
 pub fits_nothing : (f : Option Running) → Fits f pending.Nothing
 fits_nothing None = tt
@@ -181,33 +185,27 @@ sub_changes_shape : (f : Option Running) (m : Machine) (message : Message) (aske
 sub_changes_shape None m message asked e is size = no_feed_asks None pending.Nothing m (event.Whole message) (pending.Feed asked) _ e tt size (λ some. refl) refl
 sub_changes_shape (Some r) m message asked e is size = refused_shape (Some r) m message asked.asker errors.FeedRuns409 e is
 
-ask_shape : (f : Option Running) (m : Machine) (message : Message) (asker : Asker) (proposed : Bool) (wanted : Want) → m.feed ≡ f → is_reply message.kind ≡ false
-    → Shape f pending.Nothing m (event.Whole message) (asks m (pending.Ask asker proposed) wanted)
-ask_shape None m message asker proposed wanted e is = no_feed_asks None pending.Nothing m (event.Whole message) (pending.Ask asker proposed) wanted e tt tt (λ some. refl) refl
-ask_shape (Some r) m message asker proposed wanted e is =
-    no_feed_asks (Some r) pending.Nothing m (event.Whole message) (pending.Ask asker proposed) wanted e tt tt (λ some. refl) (passed_over message (open_of (Some r) pending.Nothing) is)
-
-push_shape : (f : Option Running) (m : Machine) (message : Message) (asker : Asker) (wanted : Want) → m.feed ≡ f → is_reply message.kind ≡ false
-    → Shape f pending.Nothing m (event.Whole message) (asks m (pending.Push asker) wanted)
-push_shape None m message asker wanted e is = no_feed_asks None pending.Nothing m (event.Whole message) (pending.Push asker) wanted e tt tt (λ some. refl) refl
-push_shape (Some r) m message asker wanted e is =
-    no_feed_asks (Some r) pending.Nothing m (event.Whole message) (pending.Push asker) wanted e tt tt (λ some. refl) (passed_over message (open_of (Some r) pending.Nothing) is)
+ask_shape : (f : Option Running) (m : Machine) (message : Message) (asker : Asker) (to : Awaited) (wanted : Want) → m.feed ≡ f → is_reply message.kind ≡ false
+    → Shape f pending.Nothing m (event.Whole message) (asks m (pending.Reply asker to) wanted)
+ask_shape None m message asker to wanted e is = no_feed_asks None pending.Nothing m (event.Whole message) (pending.Reply asker to) wanted e tt tt (λ some. refl) refl
+ask_shape (Some r) m message asker to wanted e is =
+    no_feed_asks (Some r) pending.Nothing m (event.Whole message) (pending.Reply asker to) wanted e tt tt (λ some. refl) (passed_over message (open_of (Some r) pending.Nothing) is)
 
 changes_shape : (b : Bool) (f : Option Running) (m : Machine) (message : Message) (asker : Asker) (wanted : Want) → m.feed ≡ f → is_reply message.kind ≡ false
     → Shape f pending.Nothing m (event.Whole message) (on_changes b m asker wanted)
 changes_shape true f m message asker wanted e is = refused_shape f m message asker errors.UsePropose409 e is
-changes_shape false f m message asker wanted e is = ask_shape f m message asker false wanted e is
+changes_shape false f m message asker wanted e is = ask_shape f m message asker (awaited.Asked false) wanted e is
 
 served_shape : (f : Option Running) (m : Machine) (message : Message) (asker : Asker) (r : Request) → m.feed ≡ f → is_reply message.kind ≡ false → IsBounded r
     → Shape f pending.Nothing m (event.Whole message) (on_served m asker r)
-served_shape f m message asker (request.GetCheckpoint client) e is bounded = refused_shape f m message asker errors.NoHandler404 e is
-served_shape f m message asker (request.SetCheckpoint client rev body) e is bounded = refused_shape f m message asker errors.NoHandler404 e is
+served_shape f m message asker (request.GetCheckpoint client) e is bounded = ask_shape f m message asker awaited.Got (want.GetCheckpoint client) e is
+served_shape f m message asker (request.SetCheckpoint client rev body) e is bounded = ask_shape f m message asker awaited.Set (want.SetCheckpoint client rev body) e is
 served_shape f m message asker (request.SubChanges since continuous batch options) e is bounded =
     let asked : Subscription = record { asker = asker; since = since; continuous = continuous; batch = batch; options = options } in
     subst (λ g. Shape f pending.Nothing m (event.Whole message) (on_sub_changes m asked g)) (sym e) (sub_changes_shape f m message asked e is bounded)
 served_shape f m message asker (request.Changes offers) e is bounded = changes_shape m.strict f m message asker (want.Ask offers) e is
-served_shape f m message asker (request.ProposeChanges offers) e is bounded = ask_shape f m message asker true (want.Ask offers) e is
-served_shape f m message asker (request.Rev revision) e is bounded = push_shape f m message asker (want.Propose revision) e is
+served_shape f m message asker (request.ProposeChanges offers) e is bounded = ask_shape f m message asker (awaited.Asked true) (want.Ask offers) e is
+served_shape f m message asker (request.Rev revision) e is bounded = ask_shape f m message asker awaited.Pushed (want.Propose revision) e is
 
 request_shape : (f : Option Running) (m : Machine) (message : Message) (read : Result Request RequestFault) → m.feed ≡ f → is_reply message.kind ≡ false → IfOk read IsBounded
     → Shape f pending.Nothing m (event.Whole message) (on_request m message read)
@@ -282,8 +280,7 @@ fed_shape (Some r) pending.More m (fed.Rows front rows) e fits a =
     subst (λ g. Shape (Some r) pending.More m (event.Fed (fed.Rows front rows)) (on_next_look m g (fed.Rows front rows))) (sym e)
     (has_more r front rows refl refl fits refl refl)
 fed_shape f (pending.Bodies rows) m answer e fits a = absurd a
-fed_shape f (pending.Ask asker proposed) m answer e fits a = absurd a
-fed_shape f (pending.Push asker) m answer e fits a = absurd a
+fed_shape f (pending.Reply asker to) m answer e fits a = absurd a
 
 bodies_of_shape : (f : Option Running) (m : Machine) (b : Bodies) (rows : List Row) → m.feed ≡ f → length b.answers ≡ length rows
     → Shape f (pending.Bodies rows) m (event.Bodies b) (on_bodies_of m b rows f)
@@ -298,35 +295,21 @@ bodies_shape f (pending.Feed asked) m b e a = absurd a
 bodies_shape f pending.More m b e a = absurd a
 bodies_shape f (pending.Bodies rows) m b e a =
     subst (λ g. Shape f (pending.Bodies rows) m (event.Bodies b) (on_bodies_of m b rows g)) (sym e) (bodies_of_shape f m b rows e a)
-bodies_shape f (pending.Ask asker proposed) m b e a = absurd a
-bodies_shape f (pending.Push asker) m b e a = absurd a
+bodies_shape f (pending.Reply asker to) m b e a = absurd a
 
-open_while_asked : (f : Option Running) (asker : Asker) (proposed : Bool) → open_of f (pending.Ask asker proposed) ≡ open_of f pending.Nothing
-open_while_asked None asker proposed = refl
-open_while_asked (Some r) asker proposed = refl
+open_while_replied : (f : Option Running) (asker : Asker) (to : Awaited) → open_of f (pending.Reply asker to) ≡ open_of f pending.Nothing
+open_while_replied None asker to = refl
+open_while_replied (Some r) asker to = refl
 
-open_while_pushed : (f : Option Running) (asker : Asker) → open_of f (pending.Push asker) ≡ open_of f pending.Nothing
-open_while_pushed None asker = refl
-open_while_pushed (Some r) asker = refl
-
-asked_shape : (f : Option Running) (p : Pending) (m : Machine) (answer : Asked) → m.feed ≡ f → AwaitsBy f p (event.Asked answer) → Shape f p m (event.Asked answer) (on_asked m answer p)
-asked_shape f pending.Nothing m answer e a = absurd a
-asked_shape f (pending.Feed asked) m answer e a = absurd a
-asked_shape f pending.More m answer e a = absurd a
-asked_shape f (pending.Bodies rows) m answer e a = absurd a
-asked_shape f (pending.Ask asker proposed) m answer e a =
-    no_feed_puts f (pending.Ask asker proposed) m (event.Asked answer) (reply_act asker kinds.Rpy (answers_payload answer.answers proposed)) e
-    (reply_none asker kinds.Rpy (answers_payload answer.answers proposed) refl) (λ some. refl) (open_while_asked f asker proposed)
-asked_shape f (pending.Push asker) m answer e a = absurd a
-
-judged_shape : (f : Option Running) (p : Pending) (m : Machine) (o : Outcome) → m.feed ≡ f → AwaitsBy f p (event.Judged o) → Shape f p m (event.Judged o) (on_judged m o p)
-judged_shape f pending.Nothing m o e a = absurd a
-judged_shape f (pending.Feed asked) m o e a = absurd a
-judged_shape f pending.More m o e a = absurd a
-judged_shape f (pending.Bodies rows) m o e a = absurd a
-judged_shape f (pending.Ask asker proposed) m o e a = absurd a
-judged_shape f (pending.Push asker) m o e a =
-    no_feed_puts f (pending.Push asker) m (event.Judged o) (outcome_act asker o) e (outcome_none asker o) (λ some. refl) (open_while_pushed f asker)
+answer_shape : (f : Option Running) (p : Pending) (m : Machine) (answer : Event) → m.feed ≡ f → feed_look answer ≡ [] → ((o : Option ℕ) → closed_by answer o ≡ o) → IsReply p
+    → Shape f p m answer (on_answer m answer p)
+answer_shape f pending.Nothing m answer e look same a = absurd a
+answer_shape f (pending.Feed asked) m answer e look same a = absurd a
+answer_shape f pending.More m answer e look same a = absurd a
+answer_shape f (pending.Bodies rows) m answer e look same a = absurd a
+answer_shape f (pending.Reply asker to) m answer e look same a =
+    no_feed_puts f (pending.Reply asker to) m answer (answer_act asker to answer) e (answer_none asker to answer) (λ some. look)
+    (same (open_of f (pending.Reply asker to)) ∙ open_while_replied f asker to)
 
 -- ---- idle moments
 
@@ -348,8 +331,7 @@ idle_shape f pending.Nothing m front e a = subst (λ g. Shape f pending.Nothing 
 idle_shape f (pending.Feed asked) m front e a = absurd a
 idle_shape f pending.More m front e a = absurd a
 idle_shape f (pending.Bodies rows) m front e a = absurd a
-idle_shape f (pending.Ask asker proposed) m front e a = absurd a
-idle_shape f (pending.Push asker) m front e a = absurd a
+idle_shape f (pending.Reply asker to) m front e a = absurd a
 
 -- ---- all of them
 
@@ -359,13 +341,18 @@ message_shape f pending.Nothing m message done e a does = by_message (is_request
 message_shape f (pending.Feed asked) m message done e a does = absurd a
 message_shape f pending.More m message done e a does = absurd a
 message_shape f (pending.Bodies rows) m message done e a does = absurd a
-message_shape f (pending.Ask asker proposed) m message done e a does = absurd a
-message_shape f (pending.Push asker) m message done e a does = absurd a
+message_shape f (pending.Reply asker to) m message done e a does = absurd a
 
 pub shape : (m : Machine) (x : Event) (done : Done) → Awaits m x → Does m x done → Fits m.feed m.pending → Shape m.feed m.pending m x done
 shape m (event.Whole message) done a does fits = message_shape m.feed m.pending m message done refl a does
 shape m (event.Idle front) done a does fits = subst (Shape m.feed m.pending m (event.Idle front)) (sym does) (idle_shape m.feed m.pending m front refl a)
 shape m (event.Fed answer) done a does fits = subst (Shape m.feed m.pending m (event.Fed answer)) (sym does) (fed_shape m.feed m.pending m answer refl fits a)
 shape m (event.Bodies b) done a does fits = subst (Shape m.feed m.pending m (event.Bodies b)) (sym does) (bodies_shape m.feed m.pending m b refl a)
-shape m (event.Asked answer) done a does fits = subst (Shape m.feed m.pending m (event.Asked answer)) (sym does) (asked_shape m.feed m.pending m answer refl a)
-shape m (event.Judged o) done a does fits = subst (Shape m.feed m.pending m (event.Judged o)) (sym does) (judged_shape m.feed m.pending m o refl a)
+shape m (event.Asked answer) done a does fits =
+    subst (Shape m.feed m.pending m (event.Asked answer)) (sym does) (answer_shape m.feed m.pending m (event.Asked answer) refl refl (λ o. refl) (awaits_reply m.feed m.pending (event.Asked answer) refl a))
+shape m (event.Judged o) done a does fits =
+    subst (Shape m.feed m.pending m (event.Judged o)) (sym does) (answer_shape m.feed m.pending m (event.Judged o) refl refl (λ o. refl) (awaits_reply m.feed m.pending (event.Judged o) refl a))
+shape m (event.Got k) done a does fits =
+    subst (Shape m.feed m.pending m (event.Got k)) (sym does) (answer_shape m.feed m.pending m (event.Got k) refl refl (λ o. refl) (awaits_reply m.feed m.pending (event.Got k) refl a))
+shape m (event.Set answer) done a does fits =
+    subst (Shape m.feed m.pending m (event.Set answer)) (sym does) (answer_shape m.feed m.pending m (event.Set answer) refl refl (λ o. refl) (awaits_reply m.feed m.pending (event.Set answer) refl a))

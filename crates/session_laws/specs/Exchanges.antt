@@ -39,14 +39,13 @@ abbrev pub replied : List Message → List ℕ
 replied [] = []
 replied (m ∷ messages) = (if is_reply m.kind then m.number ∷ [] else []) ++ replied messages
 
--- the number of the request whose reply waits for the answer of the history
+-- the number of the request whose reply waits for an answer of the ground
 abbrev pub owed : Pending → List ℕ
 owed pending.Nothing = []
 owed (pending.Feed asked) = wanting asked.asker.number asked.asker.no_reply
 owed pending.More = []
 owed (pending.Bodies rows) = []
-owed (pending.Ask asker proposed) = wanting asker.number asker.no_reply
-owed (pending.Push asker) = wanting asker.number asker.no_reply
+owed (pending.Reply asker to) = wanting asker.number asker.no_reply
 
 -- ---- idle moments
 

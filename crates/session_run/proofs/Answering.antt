@@ -27,6 +27,8 @@ use Rattle.doc_board.specs.declared.outcome.Outcome.{Outcome}
 use Rattle.doc_board.specs.declared.outcome.Outcome.TheVariants as outcome
 use Rattle.doc_board.specs.Boards.{board_last, board_tree}
 use Rattle.doc_board.specs.Offers.{answer_to}
+use Rattle.checkpoint_store.specs.declared.answers.Kept0.{Kept0}
+use Rattle.checkpoint_store.specs.declared.answers.SetAnswer.{SetAnswer}
 use Rattle.session_core.specs.declared.act.Want.{Want}
 use Rattle.session_core.specs.declared.act.Want.TheVariants as want
 use Rattle.session_core.specs.declared.event.Event.{Event}
@@ -47,7 +49,7 @@ use Rattle.write_path.specs.Proposals.{IsAnswered, IsRefused, IsRoomed, IsStored
 use Rattle.write_path.specs.Reads.{Reads, WasRead, IsOneOf, HasLength, IsLaterThanAll}
 use Rattle.session_run.specs.Judged.{IsJudgedEntry, AreJudged}
 use Rattle.session_run.specs.Answered as answered
-use Rattle.session_run.specs.Answered.{Moment, HasRead, Saw, IsLoaded, AreAnswered, AreLooksAt, look_fronts, length_after, recorded_by, AreLength, AreAtLength}
+use Rattle.session_run.specs.Answered.{Moment, HasRead, Saw, IsLoaded, IsSet, AreAnswered, AreLooksAt, look_fronts, length_after, recorded_by, AreLength, AreAtLength}
 
 -- what the laws say
 abbrev pub Since : Type 0
@@ -371,6 +373,32 @@ came_answer laws before after user program strict message same = record {
   looks = ([], ap (λ (m : Moment). m.read) same);
 }
 
+-- an answer without a look
+no_look_answer : Laws → (before after : Moment) (user : List ℕ) (program : Program) (strict : Bool) (wanted : Want) (e : Event)
+    → Reads before.read after.read before.lowest after.lowest → after.recorded ≡ before.recorded → after.own ≡ before.own
+    → front_by e ≡ [] → look_of e ≡ [] → stored_by e ≡ [] → length_after before.recorded e ≡ before.recorded
+    → ((h : List Entry) → IsRight h user program strict (Some wanted) e)
+    → OneAnswer before user program strict (Some wanted) e after
+no_look_answer laws before after user program strict wanted e reads recorded own fronts look none same right = record {
+  right = λ h later. right h;
+  reads = reads;
+  rise = subst (λ fs. RiseBetween before.lowest fs after.lowest) (sym fronts) reads.rises;
+  recorded = recorded ∙ sym same;
+  at_length = subst (AreLength before.recorded) (sym fronts) (no_front before.recorded);
+  own = ([], own, ap (λ ns. reverse ns) (sym none), tt);
+  looks = subst (λ ls. AreLooksAt before.read ls after.read) (sym look) (reads.added, reads.read);
+}
+
+got_answer : Laws → (before after : Moment) (user : List ℕ) (program : Program) (strict : Bool) (client : List ℕ) (answer : Kept0) → HasRead before after
+    → OneAnswer before user program strict (Some (want.GetCheckpoint client)) (event.Got answer) after
+got_answer laws before after user program strict client answer read =
+    no_look_answer laws before after user program strict (want.GetCheckpoint client) (event.Got answer) read.reads read.recorded read.own refl refl refl refl (λ h. tt)
+
+set_answer : Laws → (before after : Moment) (user : List ℕ) (program : Program) (strict : Bool) (client : List ℕ) (rev : ℕ) (body : List ℕ) (answer : SetAnswer) → IsSet before user client rev body answer after
+    → OneAnswer before user program strict (Some (want.SetCheckpoint client rev body)) (event.Set answer) after
+set_answer laws before after user program strict client rev body answer is =
+    no_look_answer laws before after user program strict (want.SetCheckpoint client rev body) (event.Set answer) is.reads is.recorded is.own refl refl refl refl (λ h. tt)
+
 one_answer : Laws → (before after : Moment) (user : List ℕ) (program : Program) (strict : Bool) (wanted : Option Want) (e : Event) → answered.IsAnswered before user program strict wanted e after → OneAnswer before user program strict wanted e after
 one_answer laws before after user program strict None (event.Whole message) a = came_answer laws before after user program strict message a
 one_answer laws before after user program strict None (event.Idle front) a = loaded_answer laws before after user program strict front a
@@ -378,30 +406,56 @@ one_answer laws before after user program strict None (event.Fed answer) a = abs
 one_answer laws before after user program strict None (event.Bodies answer) a = absurd a
 one_answer laws before after user program strict None (event.Asked answer) a = absurd a
 one_answer laws before after user program strict None (event.Judged answer) a = absurd a
+one_answer laws before after user program strict None (event.Got answer) a = absurd a
+one_answer laws before after user program strict None (event.Set answer) a = absurd a
 one_answer laws before after user program strict (Some (want.Feed since options)) (event.Fed answer) a = fed_answer laws before after user program strict since options answer a.0 a.1
 one_answer laws before after user program strict (Some (want.Feed since options)) (event.Whole message) a = absurd a
 one_answer laws before after user program strict (Some (want.Feed since options)) (event.Idle front) a = absurd a
 one_answer laws before after user program strict (Some (want.Feed since options)) (event.Bodies answer) a = absurd a
 one_answer laws before after user program strict (Some (want.Feed since options)) (event.Asked answer) a = absurd a
 one_answer laws before after user program strict (Some (want.Feed since options)) (event.Judged answer) a = absurd a
+one_answer laws before after user program strict (Some (want.Feed since options)) (event.Got answer) a = absurd a
+one_answer laws before after user program strict (Some (want.Feed since options)) (event.Set answer) a = absurd a
 one_answer laws before after user program strict (Some (want.Bodies options rows most)) (event.Bodies answer) a = bodies_answer laws before after user program strict options rows most answer a.0 a.1
 one_answer laws before after user program strict (Some (want.Bodies options rows most)) (event.Whole message) a = absurd a
 one_answer laws before after user program strict (Some (want.Bodies options rows most)) (event.Idle front) a = absurd a
 one_answer laws before after user program strict (Some (want.Bodies options rows most)) (event.Fed answer) a = absurd a
 one_answer laws before after user program strict (Some (want.Bodies options rows most)) (event.Asked answer) a = absurd a
 one_answer laws before after user program strict (Some (want.Bodies options rows most)) (event.Judged answer) a = absurd a
+one_answer laws before after user program strict (Some (want.Bodies options rows most)) (event.Got answer) a = absurd a
+one_answer laws before after user program strict (Some (want.Bodies options rows most)) (event.Set answer) a = absurd a
 one_answer laws before after user program strict (Some (want.Ask offers)) (event.Asked answer) a = asked_answer laws before after user program strict offers answer a.0 a.1
 one_answer laws before after user program strict (Some (want.Ask offers)) (event.Whole message) a = absurd a
 one_answer laws before after user program strict (Some (want.Ask offers)) (event.Idle front) a = absurd a
 one_answer laws before after user program strict (Some (want.Ask offers)) (event.Fed answer) a = absurd a
 one_answer laws before after user program strict (Some (want.Ask offers)) (event.Bodies answer) a = absurd a
 one_answer laws before after user program strict (Some (want.Ask offers)) (event.Judged answer) a = absurd a
+one_answer laws before after user program strict (Some (want.Ask offers)) (event.Got answer) a = absurd a
+one_answer laws before after user program strict (Some (want.Ask offers)) (event.Set answer) a = absurd a
 one_answer laws before after user program strict (Some (want.Propose r)) (event.Judged answer) a = proposed_answer laws before after user program strict r answer a
 one_answer laws before after user program strict (Some (want.Propose r)) (event.Whole message) a = absurd a
 one_answer laws before after user program strict (Some (want.Propose r)) (event.Idle front) a = absurd a
 one_answer laws before after user program strict (Some (want.Propose r)) (event.Fed answer) a = absurd a
 one_answer laws before after user program strict (Some (want.Propose r)) (event.Bodies answer) a = absurd a
 one_answer laws before after user program strict (Some (want.Propose r)) (event.Asked answer) a = absurd a
+one_answer laws before after user program strict (Some (want.Propose r)) (event.Got answer) a = absurd a
+one_answer laws before after user program strict (Some (want.Propose r)) (event.Set answer) a = absurd a
+one_answer laws before after user program strict (Some (want.GetCheckpoint client)) (event.Got answer) a = got_answer laws before after user program strict client answer a.0
+one_answer laws before after user program strict (Some (want.GetCheckpoint client)) (event.Whole message) a = absurd a
+one_answer laws before after user program strict (Some (want.GetCheckpoint client)) (event.Idle front) a = absurd a
+one_answer laws before after user program strict (Some (want.GetCheckpoint client)) (event.Fed answer) a = absurd a
+one_answer laws before after user program strict (Some (want.GetCheckpoint client)) (event.Bodies answer) a = absurd a
+one_answer laws before after user program strict (Some (want.GetCheckpoint client)) (event.Asked answer) a = absurd a
+one_answer laws before after user program strict (Some (want.GetCheckpoint client)) (event.Judged answer) a = absurd a
+one_answer laws before after user program strict (Some (want.GetCheckpoint client)) (event.Set answer) a = absurd a
+one_answer laws before after user program strict (Some (want.SetCheckpoint client rev body)) (event.Set answer) a = set_answer laws before after user program strict client rev body answer a
+one_answer laws before after user program strict (Some (want.SetCheckpoint client rev body)) (event.Whole message) a = absurd a
+one_answer laws before after user program strict (Some (want.SetCheckpoint client rev body)) (event.Idle front) a = absurd a
+one_answer laws before after user program strict (Some (want.SetCheckpoint client rev body)) (event.Fed answer) a = absurd a
+one_answer laws before after user program strict (Some (want.SetCheckpoint client rev body)) (event.Bodies answer) a = absurd a
+one_answer laws before after user program strict (Some (want.SetCheckpoint client rev body)) (event.Asked answer) a = absurd a
+one_answer laws before after user program strict (Some (want.SetCheckpoint client rev body)) (event.Judged answer) a = absurd a
+one_answer laws before after user program strict (Some (want.SetCheckpoint client rev body)) (event.Got answer) a = absurd a
 
 -- no front of an event is above the lowest front after it, which does not fall
 rise_within : (low : ℕ) (fronts : List ℕ) (high : ℕ) → RiseBetween low fronts high → (low ≤ high) × AreWithin high fronts
@@ -455,6 +509,8 @@ looks_rise low high (event.Idle front) (first, rise) = le_trans first rise
 looks_rise low high (event.Fed answer) rise = rise
 looks_rise low high (event.Bodies b) rise = rise
 looks_rise low high (event.Asked answer) rise = rise
+looks_rise low high (event.Got answer) rise = rise
+looks_rise low high (event.Set answer) rise = rise
 looks_rise low high (event.Judged (outcome.Bad400 field)) rise = rise
 looks_rise low high (event.Judged (outcome.TooLarge413 bytes)) rise = rise
 looks_rise low high (event.Judged (outcome.UserGone401 at)) rise = rise

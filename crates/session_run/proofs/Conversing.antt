@@ -15,7 +15,7 @@ use Rattle.session_core.specs.declared.machine.Pending.TheVariants as pending
 use Rattle.session_core.specs.Conduct.{due_with, WantsFor, most_answers, is_answer, feed_front, AreWithin}
 use Rattle.session_core.specs.Fronts.{look_of, stored_by, front_by, looks_of, stored_of}
 use Rattle.session_core.specs.Running.{Running}
-use Rattle.session_core.specs.State.{Machine}
+use Rattle.session_core.specs.State.{Machine, most_puts}
 use Rattle.session_core.specs.Steps.{Step, Steps, Leads, put_by, wanted_after}
 use Rattle.sync_syntax.specs.declared.tree.Program.{Program}
 use Rattle.session_mux.specs.declared.mux.Mux.{Mux}
@@ -53,6 +53,8 @@ no_look (event.Fed answer) is = absurd (false≢true (sym is))
 no_look (event.Bodies b) is = absurd (false≢true (sym is))
 no_look (event.Asked answer) is = absurd (false≢true (sym is))
 no_look (event.Judged outcome) is = absurd (false≢true (sym is))
+no_look (event.Got kept) is = absurd (false≢true (sym is))
+no_look (event.Set answer) is = absurd (false≢true (sym is))
 
 none_stored : (e : Event) → is_answer e ≡ false → stored_by e ≡ []
 none_stored (event.Whole message) is = refl
@@ -61,6 +63,8 @@ none_stored (event.Fed answer) is = absurd (false≢true (sym is))
 none_stored (event.Bodies b) is = absurd (false≢true (sym is))
 none_stored (event.Asked answer) is = absurd (false≢true (sym is))
 none_stored (event.Judged outcome) is = absurd (false≢true (sym is))
+none_stored (event.Got kept) is = absurd (false≢true (sym is))
+none_stored (event.Set answer) is = absurd (false≢true (sym is))
 
 none_spent : (e : Event) → is_answer e ≡ false → spent_by e ≡ 0
 none_spent (event.Whole message) is = refl
@@ -69,6 +73,8 @@ none_spent (event.Fed answer) is = absurd (false≢true (sym is))
 none_spent (event.Bodies b) is = absurd (false≢true (sym is))
 none_spent (event.Asked answer) is = absurd (false≢true (sym is))
 none_spent (event.Judged outcome) is = absurd (false≢true (sym is))
+none_spent (event.Got kept) is = absurd (false≢true (sym is))
+none_spent (event.Set answer) is = absurd (false≢true (sym is))
 
 same_looks : (e : Event) (old new : List Look) → is_answer e ≡ false → new ≡ old → new ≡ old ++ look_of e
 same_looks e old new is same = same ∙ sym (append-nil old) ∙ ap (λ l. old ++ l) (sym (no_look e is))
@@ -84,8 +90,7 @@ at_most_two pending.Nothing = omega arith
 at_most_two (pending.Feed asked) = omega arith
 at_most_two pending.More = omega arith
 at_most_two (pending.Bodies rows) = omega arith
-at_most_two (pending.Ask asker proposed) = omega arith
-at_most_two (pending.Push asker) = omega arith
+at_most_two (pending.Reply asker to) = omega arith
 
 -- the one step by the first event
 first_step : (program : Program) (old new : Session) (first : Event) (before now : Moment) (s : Step) (user : List ℕ) (strict : Bool) → is_answer first ≡ false → s.event ≡ first → Leads old.core (s ∷ []) new.core
@@ -106,7 +111,7 @@ pub begun : (program : Program) (old new : Session) (first : Event) (before now 
     → IsAnswered before old.core.user program old.core.strict None first now
     → WantsFor new.core.feed new.core.pending want → IsReady new → MayReply new.mux (due_with new.core.pending)
     → feed_front old.core.feed ≤ now.lowest → AreWithin now.lowest (front_by first)
-    → new.core.requests ≤ old.core.requests + 10001
+    → new.core.requests ≤ old.core.requests + most_puts
     → Conversing program old new first before now want (made.step ∷ [])
 begun program old new first before now want is made looks stored spent answered wants ready may front within few = record {
   conversed = first_step program old new first before now made.step old.core.user old.core.strict is made.event_is (old.core, refl, made.steps) looks stored spent answered;
@@ -197,7 +202,7 @@ pub went_on : (program : Program) (old middle asked new : Session) (first : Even
     → (made : Makes asked new answer want) → new.listing ≡ asked.listing
     → WantsFor new.core.feed new.core.pending want → IsReady new → MayReply new.mux (due_with new.core.pending)
     → now.lowest ≤ after.lowest → AreWithin after.lowest (front_by answer)
-    → new.core.requests ≤ asked.core.requests + 10001 → most_answers new.core.pending < most_answers asked.core.pending
+    → new.core.requests ≤ asked.core.requests + most_puts → most_answers new.core.pending < most_answers asked.core.pending
     → Conversing program old new first before after want (made.step ∷ steps)
 went_on program old middle asked new first before now after steps answer wanted want so_far got made listing wants ready may rises within few fewer = record {
   conversed = next_step program old middle new first before now after steps made.step answer wanted so_far.conversed so_far.want_is made.event_is got.is
@@ -287,5 +292,4 @@ at_rest feed pending.Nothing w = refl
 at_rest feed (pending.Feed asked) w = absurd w
 at_rest feed pending.More w = absurd w
 at_rest feed (pending.Bodies rows) w = absurd w
-at_rest feed (pending.Ask asker proposed) w = absurd w
-at_rest feed (pending.Push asker) w = absurd w
+at_rest feed (pending.Reply asker to) w = absurd w

@@ -1,5 +1,5 @@
 -- A session that ends.
-use Rattle.std.proofs.Common.{◌≡◌, ◌⊎◌, inl, inr, ◌≤◌, ◌<◌, ℕ, ◌+◌, Bool, true, false, List, [], ◌∷◌, ◌++◌, length, Option, Some, None, Result, Ok, Err, refl, sym, ◌∙◌, ap, subst, arith, append-nil}
+use Rattle.std.proofs.Common.{◌≡◌, ◌⊎◌, inl, inr, ◌≤◌, ◌<◌, ℕ, ◌+◌, ◌*◌, Bool, true, false, List, [], ◌∷◌, ◌++◌, length, Option, Some, None, Result, Ok, Err, refl, sym, ◌∙◌, ap, subst, arith, append-nil}
 use Rattle.std.proofs.lemmas.Bool.{false≢true}
 use Rattle.std.proofs.lemmas.List.{length-append, append_assoc}
 use Rattle.std.proofs.lemmas.Option.{none-some}
@@ -22,7 +22,7 @@ use Rattle.session_core.specs.declared.event.Event.{Event}
 use Rattle.session_core.specs.declared.machine.Pending.TheVariants as pending
 use Rattle.session_core.specs.Conduct.{feed_front}
 use Rattle.session_core.specs.Fronts.{looks_of, stored_of}
-use Rattle.session_core.specs.State.{Machine}
+use Rattle.session_core.specs.State.{Machine, most_puts}
 use Rattle.session_core.specs.Steps.{Step, wanted_after}
 use Rattle.session_mux.specs.declared.frame_why.FrameWhy.{FrameWhy}
 use Rattle.session_mux.specs.Frames.{IsBadFrame, IsBadTaken}
@@ -271,7 +271,8 @@ wanted_in (s ∷ steps) earlier want e = e
 
 more_in : (old new : Session) (turns : List SessionTurn) (t : SessionTurn) → new.listing.spent ≡ old.listing.spent + spent_of t.steps → old.listing.spent ≡ spent_of (steps_of turns)
     → NeedsMore new.listing.spent t.steps → NeedsMore (spent_of (steps_of (t ∷ turns))) (steps_of (t ∷ turns))
-more_in old new turns t did held (full, want, is) = (omega (arith, full, did, held, spent_after t.steps (steps_of turns)), want, wanted_in t.steps (steps_of turns) want is)
+more_in old new turns t did held (full, want, is, look) =
+    (omega (arith, full, did, held, spent_after t.steps (steps_of turns)), want, wanted_in t.steps (steps_of turns) want is, look)
 
 rests_in : (old new : Session) (turns : List SessionTurn) (t : SessionTurn) → new.listing.spent ≡ old.listing.spent + spent_of t.steps → old.listing.spent ≡ spent_of (steps_of turns)
     → (new.core.pending ≡ pending.Nothing) ⊎ NeedsMore new.listing.spent t.steps → (new.core.pending ≡ pending.Nothing) ⊎ NeedsMore (spent_of (steps_of (t ∷ turns))) (steps_of (t ∷ turns))
@@ -320,7 +321,7 @@ pub front_after : (program : Program) (old new : Session) (result : Got) (now fi
 front_after program old new result now final traffic traffic_after None (t, did, value, rest, now_is, inbox, front, few) e = front
 front_after program old new result now final traffic traffic_after (Some other) takes e = cc
 
-pub few_after : (program : Program) (old new : Session) (result : Got) (now final : Moment) (traffic traffic_after : Option Traffic) (ends : Option End) → Takes program old new result now final traffic traffic_after ends → ends ≡ None → new.core.requests ≤ old.core.requests + 30003
+pub few_after : (program : Program) (old new : Session) (result : Got) (now final : Moment) (traffic traffic_after : Option Traffic) (ends : Option End) → Takes program old new result now final traffic traffic_after ends → ends ≡ None → new.core.requests ≤ old.core.requests + 3 * most_puts
 few_after program old new result now final traffic traffic_after None (t, did, value, rest, now_is, inbox, front, few) e = few
 few_after program old new result now final traffic traffic_after (Some other) takes e = cc
 

@@ -32,7 +32,7 @@ use Rattle.session_run.specs.declared.session.Session.{Session}
 use Rattle.session_run.specs.Answered.{Moment, IsAnswered, AreAnswered}
 use Rattle.session_run.specs.Held.{IsAtRest, IsRead, Holds, Turned, inbox_after, counted}
 use Rattle.session_run.specs.Served.{are_frames, bytes_of}
-use Rattle.session_run.specs.Spent.{most_looks, spent_by, spent_of}
+use Rattle.session_run.specs.Spent.{most_looks, spent_of}
 use Rattle.session_run.specs.Turns.{SessionTurn, steps_of, frame_in, frames_of, is_frame, framed, framed_by, events_of, came_after, put_after, all_put_after, IsJoined}
 use Rattle.session_run.proofs.Taking.{Kept, Wants}
 
@@ -189,8 +189,7 @@ none_wanted feed pending.Nothing (Some want) e w = absurd w
 none_wanted feed (pending.Feed asked) want e w = cc
 none_wanted feed pending.More want e w = cc
 none_wanted feed (pending.Bodies rows) want e w = cc
-none_wanted feed (pending.Ask asker proposed) want e w = cc
-none_wanted feed (pending.Push asker) want e w = cc
+none_wanted feed (pending.Reply asker to) want e w = cc
 
 step_wants : Wants → (m : Machine) (s : Step) (after : Machine) → Steps m s after → after.pending ≡ pending.Nothing → s.want ≡ None
 step_wants law m s after made rest =

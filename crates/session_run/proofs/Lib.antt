@@ -2,9 +2,11 @@ pub mod Answering
 pub mod Conversing
 pub mod Ending
 pub mod Holding
+pub mod Naming
 pub mod Owning
 pub mod ActsPut
 pub mod Spending
+pub mod Storing
 pub mod Taking
 pub mod Turning
 pub mod Whole

@@ -24,19 +24,19 @@ use Rattle.repl_messages.specs.declared.request.Version.{Version}
 use Rattle.repl_messages.specs.declared.request.Request.{Request}
 use Rattle.repl_messages.specs.declared.request.Request.TheVariants as request
 use Rattle.repl_messages.specs.declared.request.RequestFault.{RequestFault}
+use Rattle.repl_messages.specs.declared.error.ErrorKind.{ErrorKind}
 use Rattle.repl_messages.specs.declared.looks.Body.{Body}
 use Rattle.repl_messages.specs.declared.looks.Body.TheVariants as body
 use Rattle.repl_messages.specs.declared.looks.Bodies.{Bodies}
 use Rattle.repl_messages.specs.declared.looks.Fed.{Fed}
 use Rattle.repl_messages.specs.declared.looks.Fed.TheVariants as fed
-use Rattle.repl_messages.specs.declared.offers.Asked.{Asked}
-use Rattle.repl_messages.specs.Answers.{answers_payload}
 use Rattle.repl_messages.specs.Errors.{ok_payload}
 use Rattle.repl_messages.specs.Looks.{AreBodies, winning_write, said_by, left_by_write, body_of}
 use Rattle.repl_messages.specs.Rev.{rev_payload}
 use Rattle.sync_syntax.specs.declared.tree.Program.{Program}
-use Rattle.doc_board.specs.declared.outcome.Outcome.{Outcome}
-use Rattle.doc_board.specs.declared.outcome.Outcome.TheVariants as outcome
+use Rattle.doc_board.specs.Errors.{outcome_error}
+use Rattle.checkpoint_store.specs.declared.answers.Kept0.TheVariants as kept0
+use Rattle.checkpoint_store.specs.declared.answers.SetAnswer.TheVariants as set
 use Rattle.session_core.specs.declared.act.Act.{Act}
 use Rattle.session_core.specs.declared.act.Act.TheVariants as act
 use Rattle.session_core.specs.declared.act.Want.{Want}
@@ -44,16 +44,17 @@ use Rattle.session_core.specs.declared.act.Want.TheVariants as want
 use Rattle.session_core.specs.declared.event.Event.{Event}
 use Rattle.session_core.specs.declared.event.Event.TheVariants as event
 use Rattle.session_core.specs.declared.replies.Asker.{Asker}
+use Rattle.session_core.specs.declared.replies.Awaited.{Awaited}
 use Rattle.session_core.specs.declared.machine.Subscription.{Subscription}
 use Rattle.session_core.specs.declared.machine.Pending.{Pending}
 use Rattle.session_core.specs.declared.machine.Pending.TheVariants as pending
-use Rattle.session_core.specs.Acts.{messages_from, request_message, reply_act, acceptance_act, outcome_act, body_act, body_acts, chosen, offer_act}
+use Rattle.session_core.specs.Acts.{messages_from, request_message, reply_act, refusal_by, acceptance_act, answer_act, body_act, body_acts, chosen, offer_act}
 use Rattle.session_core.specs.Conduct.{WantsFor, AreOnOffer}
 use Rattle.session_core.specs.Right.{IsRight, AreRight}
 use Rattle.session_core.specs.Running.{Running, rest, is_none, is_silent, next_acts}
 use Rattle.session_core.specs.State.{Machine, new_machine, AwaitsBy}
 use Rattle.session_core.specs.Steps.{Step, Steps, Leads, wanted_after}
-use Rattle.session_core.specs.Transitions.{Done, puts, looks_again, answered_by, on_sub_changes, on_changes, on_request, answers, wanted_of, on_wanted, on_reply, first_of, on_next_look, on_fed, on_bodies_of, on_bodies, on_asked, on_judged, on_idle, Does, DoesByMessage}
+use Rattle.session_core.specs.Transitions.{Done, puts, looks_again, answered_by, on_sub_changes, on_changes, on_request, answers, wanted_of, on_wanted, on_reply, first_of, on_next_look, on_fed, on_bodies_of, on_bodies, on_answer, on_idle, Does, DoesByMessage}
 use Rattle.session_run.specs.Own.{IsAmong, IsShown, AreOwn, CarryNone, OwnAt, HasOwnBodies}
 use Rattle.session_run.proofs.Taking.{Wants}
 
@@ -118,8 +119,8 @@ changes_none false m asker wanted = tt
 
 request_none : (m : Machine) (message : Message) (read : Result Request RequestFault) → ActsCarryNone (on_request m message read).acts
 request_none m message (Err fault) = reply_none _ kinds.Err _ refl
-request_none m message (Ok (request.GetCheckpoint client)) = reply_none _ kinds.Err _ refl
-request_none m message (Ok (request.SetCheckpoint client rev body)) = reply_none _ kinds.Err _ refl
+request_none m message (Ok (request.GetCheckpoint client)) = tt
+request_none m message (Ok (request.SetCheckpoint client rev body)) = tt
 request_none m message (Ok (request.SubChanges since continuous batch options)) = subscribed_none m _ m.feed
 request_none m message (Ok (request.Changes offers)) = changes_none m.strict m _ _
 request_none m message (Ok (request.ProposeChanges offers)) = tt
@@ -153,37 +154,33 @@ fed_none m (fed.Rows front rows) (pending.Feed asked) =
 fed_none m answer pending.More = more_none m m.feed answer
 fed_none m answer pending.Nothing = tt
 fed_none m answer (pending.Bodies rows) = tt
-fed_none m answer (pending.Ask asker proposed) = tt
-fed_none m answer (pending.Push asker) = tt
+fed_none m answer (pending.Reply asker to) = tt
 
-asked_none : (m : Machine) (answer : Asked) (awaited : Pending) → ActsCarryNone (on_asked m answer awaited).acts
-asked_none m answer (pending.Ask asker proposed) = reply_none asker kinds.Rpy (answers_payload answer.answers proposed) refl
-asked_none m answer pending.Nothing = tt
-asked_none m answer (pending.Feed asked) = tt
-asked_none m answer pending.More = tt
-asked_none m answer (pending.Bodies rows) = tt
-asked_none m answer (pending.Push asker) = tt
+outcome_none : (asker : Asker) (error : Option ErrorKind) → ActsCarryNone (refusal_by asker error)
+outcome_none asker None = reply_none asker kinds.Rpy _ refl
+outcome_none asker (Some error) = reply_none asker kinds.Err _ refl
 
-outcome_none : (asker : Asker) (o : Outcome) → ActsCarryNone (outcome_act asker o)
-outcome_none asker (outcome.Bad400 field) = reply_none asker kinds.Err _ refl
-outcome_none asker (outcome.TooLarge413 bytes) = reply_none asker kinds.Err _ refl
-outcome_none asker (outcome.UserGone401 at) = reply_none asker kinds.Err _ refl
-outcome_none asker (outcome.Known at) = reply_none asker kinds.Rpy _ refl
-outcome_none asker (outcome.BadHistory400 at) = reply_none asker kinds.Err _ refl
-outcome_none asker (outcome.Conflict409 at leaf) = reply_none asker kinds.Err _ refl
-outcome_none asker (outcome.Denied403 at rule) = reply_none asker kinds.Err _ refl
-outcome_none asker (outcome.Stored sequence at) = reply_none asker kinds.Rpy _ refl
-outcome_none asker (outcome.Full503 at places) = reply_none asker kinds.Err _ refl
-outcome_none asker (outcome.LogFull509 at entries bytes) = reply_none asker kinds.Err _ refl
-outcome_none asker outcome.Memory507 = reply_none asker kinds.Err _ refl
+answer_none : (asker : Asker) (to : Awaited) (e : Event) → ActsCarryNone (answer_act asker to e)
+answer_none asker to (event.Whole message) = tt
+answer_none asker to (event.Idle front) = tt
+answer_none asker to (event.Fed answer) = tt
+answer_none asker to (event.Bodies b) = tt
+answer_none asker to (event.Asked answer) = reply_none asker kinds.Rpy _ refl
+answer_none asker to (event.Judged o) = outcome_none asker (outcome_error o)
+answer_none asker to (event.Got (kept0.Found rev body)) = reply_none asker kinds.Rpy _ refl
+answer_none asker to (event.Got kept0.Absent404) = reply_none asker kinds.Err _ refl
+answer_none asker to (event.Set (set.Set rev)) = reply_none asker kinds.Rpy _ refl
+answer_none asker to (event.Set (set.Conflict409 current)) = reply_none asker kinds.Err _ refl
+answer_none asker to (event.Set (set.TooLarge413 bytes)) = reply_none asker kinds.Err _ refl
+answer_none asker to (event.Set set.Full503) = reply_none asker kinds.Err _ refl
+answer_none asker to (event.Set set.Memory) = tt
 
-judged_none : (m : Machine) (o : Outcome) (awaited : Pending) → ActsCarryNone (on_judged m o awaited).acts
-judged_none m o (pending.Push asker) = outcome_none asker o
-judged_none m o pending.Nothing = tt
-judged_none m o (pending.Feed asked) = tt
-judged_none m o pending.More = tt
-judged_none m o (pending.Bodies rows) = tt
-judged_none m o (pending.Ask asker proposed) = tt
+answered_to_none : (m : Machine) (e : Event) (awaited : Pending) → ActsCarryNone (on_answer m e awaited).acts
+answered_to_none m e (pending.Reply asker to) = answer_none asker to e
+answered_to_none m e pending.Nothing = tt
+answered_to_none m e (pending.Feed asked) = tt
+answered_to_none m e pending.More = tt
+answered_to_none m e (pending.Bodies rows) = tt
 
 idle_none : (m : Machine) (front : ℕ) (feed : Option Running) → ActsCarryNone (on_idle m front feed).acts
 idle_none m front None = tt
@@ -304,6 +301,8 @@ by_right shows wins removes h user program strict before s after b rows (Some r)
     inr (bodies_put shows wins removes h user before s after b r rows options most runs came made does on_offer (subst (λ rs. AreBodies h user options rs most b) same right))
 by_right shows wins removes h user program strict before s after b rows (Some r) (Some (want.Ask offers)) runs came made does w right = absurd w
 by_right shows wins removes h user program strict before s after b rows (Some r) (Some (want.Propose revision)) runs came made does w right = absurd w
+by_right shows wins removes h user program strict before s after b rows (Some r) (Some (want.GetCheckpoint client)) runs came made does w right = absurd w
+by_right shows wins removes h user program strict before s after b rows (Some r) (Some (want.SetCheckpoint client rev body)) runs came made does w right = absurd w
 
 by_bodies : Shows → Wins → Removes → (h : List Entry) (user : List ℕ) (program : Program) (strict : Bool) (before : Machine) (s : Step) (after : Machine) (b : Bodies) (awaited : Pending) (wanted : Option Want)
     → s.event ≡ event.Bodies b → (made : Steps before s after)
@@ -314,8 +313,7 @@ by_bodies shows wins removes h user program strict before s after b (pending.Fee
 by_bodies shows wins removes h user program strict before s after b pending.More wanted came made a does w right = absurd a
 by_bodies shows wins removes h user program strict before s after b (pending.Bodies rows) wanted came made a does w right =
     by_right shows wins removes h user program strict before s after b rows before.feed wanted refl came made does w right
-by_bodies shows wins removes h user program strict before s after b (pending.Ask asker proposed) wanted came made a does w right = absurd a
-by_bodies shows wins removes h user program strict before s after b (pending.Push asker) wanted came made a does w right = absurd a
+by_bodies shows wins removes h user program strict before s after b (pending.Reply asker to) wanted came made a does w right = absurd a
 
 -- ---- each step
 
@@ -333,9 +331,13 @@ by_event shows wins removes h user program strict before s after (event.Fed answ
 by_event shows wins removes h user program strict before s after (event.Bodies b) wanted came made a does w right =
     by_bodies shows wins removes h user program strict before s after b before.pending wanted came made a does w right
 by_event shows wins removes h user program strict before s after (event.Asked answer) wanted came made a does w right =
-    none_put h user before s after made (subst (λ (d : Done). ActsCarryNone d.acts) (sym does) (asked_none before answer before.pending))
+    none_put h user before s after made (subst (λ (d : Done). ActsCarryNone d.acts) (sym does) (answered_to_none before (event.Asked answer) before.pending))
 by_event shows wins removes h user program strict before s after (event.Judged o) wanted came made a does w right =
-    none_put h user before s after made (subst (λ (d : Done). ActsCarryNone d.acts) (sym does) (judged_none before o before.pending))
+    none_put h user before s after made (subst (λ (d : Done). ActsCarryNone d.acts) (sym does) (answered_to_none before (event.Judged o) before.pending))
+by_event shows wins removes h user program strict before s after (event.Got k) wanted came made a does w right =
+    none_put h user before s after made (subst (λ (d : Done). ActsCarryNone d.acts) (sym does) (answered_to_none before (event.Got k) before.pending))
+by_event shows wins removes h user program strict before s after (event.Set answer) wanted came made a does w right =
+    none_put h user before s after made (subst (λ (d : Done). ActsCarryNone d.acts) (sym does) (answered_to_none before (event.Set answer) before.pending))
 
 wants_at : Wants → (user : List ℕ) (version : Version) (strict : Bool) (steps : List Step) (m : Machine) → Leads (new_machine user version strict) steps m → WantsFor m.feed m.pending (wanted_after steps)
 wants_at law user version strict [] m leads = subst (λ (m : Machine). WantsFor m.feed m.pending None) (sym leads) tt

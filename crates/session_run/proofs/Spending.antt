@@ -1,5 +1,5 @@
 -- Draws that are made for looks.
-use Rattle.std.proofs.Common.{◌≡◌, ◌≤◌, ℕ, ◌+◌, ◌*◌, refl, ◌∙◌, subst, arith}
+use Rattle.std.proofs.Common.{◌≤◌, ℕ, refl, ◌∙◌, arith}
 use Rattle.write_path.specs.Origins.{Origin}
 use Rattle.session_run.specs.Spent.{most_looks, CanLook, Draws}
 

@@ -1,12 +1,12 @@
 -- One event, and what is put for it.
-use Rattle.std.proofs.Common.{◌≡◌, inl, inr, ◌≤◌, ◌<◌, ℕ, ◌+◌, true, Option, Result, Ok, Err, refl, sym, ◌∙◌, ap, subst, arith}
+use Rattle.std.proofs.Common.{◌≡◌, inr, ◌≤◌, ◌<◌, ℕ, ◌+◌, Result, Ok, Err, refl, sym, ◌∙◌, ap, subst, arith}
 use Rattle.std.specs.Prelude.{OnErr}
 use Rattle.session_core.specs.declared.act.Acts.{Acts}
 use Rattle.session_core.specs.declared.event.Event.{Event}
 use Rattle.session_core.specs.Acts.{messages_from}
-use Rattle.session_core.specs.Conduct.{AreAnswers, due_at, due_with, IsStillDue, WantsFor, most_answers, is_answer, IsKept, requests_among, feed_front, AreWithin}
+use Rattle.session_core.specs.Conduct.{AreAnswers, due_at, WantsFor, IsKept, requests_among, feed_front, AreWithin}
 use Rattle.session_core.specs.Fronts.{front_by}
-use Rattle.session_core.specs.State.{Machine, Awaits}
+use Rattle.session_core.specs.State.{Machine, Awaits, most_puts, most_requests}
 use Rattle.session_core.specs.Steps.{Step, Steps}
 use Rattle.session_core.specs.Transitions.{Done, Does, IsDoneBy}
 use Rattle.session_mux.specs.declared.mux.Mux.{Mux}
@@ -99,7 +99,7 @@ ready_after law kept apart_law old new event acts awaits stepped ready may mux =
     }
 
 pub room_for : Kept → (old : Session) (new : Machine) (event : Event) (acts : Acts) → Awaits old.core event → Stepped old.core event new acts → IsReady old
-    → old.core.requests ≤ 9223372036854775808 → new.requests ≤ old.core.requests + 10001 → old.mux.outbox.requests + requests_among acts.puts.items < 18446744073709551615
+    → old.core.requests ≤ most_requests → new.requests ≤ old.core.requests + most_puts → old.mux.outbox.requests + requests_among acts.puts.items < 18446744073709551615
 room_for law old new event acts awaits stepped ready room few = omega (arith, ready.requests, room, few, counted_of law old.core new event acts awaits stepped)
 
 -- where it failed

@@ -1,5 +1,5 @@
 -- One result of the wire, from what is done for it to the frames that went.
-use Rattle.std.proofs.Common.{◌≡◌, ◌⊎◌, inl, inr, ℕ, ◌+◌, ◌≤◌, Bool, true, false, List, [], ◌∷◌, ◌++◌, Option, Some, None, Ok, refl, sym, ◌∙◌, ap, subst, arith, le_refl}
+use Rattle.std.proofs.Common.{◌≡◌, ◌⊎◌, inl, inr, ℕ, ◌+◌, ◌*◌, ◌≤◌, Bool, true, false, List, [], ◌∷◌, ◌++◌, Option, Some, None, Ok, refl, sym, ◌∙◌, ap, subst, arith, le_refl}
 use Rattle.std.specs.List.{list_any}
 use Rattle.sg_outside.specs.Wire.{Traffic}
 use Rattle.sg_outside.specs.declared.sink.Gave.{Gave}
@@ -25,8 +25,8 @@ use Rattle.session_core.specs.declared.act.Want.{Want}
 use Rattle.session_core.specs.Conduct.{due_at, feed_front, WantsFor}
 use Rattle.session_core.specs.Fronts.{looks_of, stored_of}
 use Rattle.session_core.specs.Running.{waits}
-use Rattle.session_core.specs.State.{Machine}
-use Rattle.session_core.specs.Steps.{Step, Leads, put_by, wanted_after}
+use Rattle.session_core.specs.State.{Machine, most_puts}
+use Rattle.session_core.specs.Steps.{Step, Leads, put_by}
 use Rattle.sync_syntax.specs.declared.tree.Program.{Program}
 use Rattle.session_mux.specs.declared.mux.Mux.{Mux}
 use Rattle.session_mux.specs.Muxed.{Gives, IsPart, acknowledged_by, HaveGone}
@@ -37,14 +37,14 @@ use Rattle.session_run.specs.declared.session.Session.{Session}
 use Rattle.session_run.specs.Answered.{Moment, HasRead, AreAnswered}
 use Rattle.session_run.specs.Held.{IsReady, IsAtRest, IsCalled, Conversed, Conversing, Went, GoesOn, IsEndOf, Turned, Takes}
 use Rattle.session_run.specs.Putting.{MayReply, put_as}
-use Rattle.session_run.specs.Spent.{most_looks, spent_of, NeedsMore, IsMet}
+use Rattle.session_run.specs.Spent.{spent_of, NeedsMore, IsMet}
 use Rattle.session_run.specs.Turns.{undone, IsForTaken, IsForIdle, puts_all}
 use Rattle.session_run.proofs.Conversing.{at_rest, outbox_steps_on}
 use Rattle.session_run.proofs.ActsPut.{PicksApart, picked_apart, picked_requests}
 
 -- to read nothing
 pub read_nothing : (now : Moment) → HasRead now now
-read_nothing now = record { reads = record { added = []; read = refl; later = tt; lengths = tt; rises = le_refl now.lowest }; recorded = refl; own = refl }
+read_nothing now = record { reads = record { added = []; read = refl; later = tt; lengths = tt; rises = le_refl now.lowest }; recorded = refl; checkpoints = refl; own = refl }
 
 -- ---- frames that go
 
@@ -107,7 +107,7 @@ record Puts (program : Program) (old middle : Session) (first : Option Event) (b
   pub ready : IsReady middle
   pub rest : Rests met middle steps
   pub front : feed_front middle.core.feed ≤ final.lowest
-  pub few : middle.core.requests ≤ old.core.requests + 30003
+  pub few : middle.core.requests ≤ old.core.requests + 3 * most_puts
 
 abbrev puts_went : (program : Program) (old middle new : Session) (first : Option Event) (before final : Moment) (traffic traffic_after : Option Traffic) (met : Bool) (steps : List Step) (failed : List Gave)
     → Puts program old middle first before final met steps → HasRead final final → new.core ≡ middle.core → new.listing ≡ middle.listing → middle.mux.sent ≡ old.mux.sent
@@ -138,7 +138,7 @@ goes_by program law old middle new first before final traffic traffic_after step
       refl,
       inbox ∙ ap (λ (m : Mux). m.inbox) put.mux,
       subst (λ (m : Machine). feed_front m.feed ≤ final.lowest) (sym core) put.front,
-      subst (λ (m : Machine). m.requests ≤ old.core.requests + 30003) (sym core) put.few,
+      subst (λ (m : Machine). m.requests ≤ old.core.requests + 3 * most_puts) (sym core) put.few,
     )
 goes_by program law old middle new first before final traffic traffic_after steps gave.Done false result put read core listing sent inbox (frames, texts, left, value, go, written, records, (idle, left_is, value_is)) e =
     subst (GoesOn program old new first before final traffic traffic_after) (sym e) (
@@ -166,7 +166,7 @@ goes_by program law old middle new first before final traffic traffic_after step
 rests_by : (program : Program) (old middle : Session) (first : Event) (before final : Moment) (met : Bool) (want : Option Want) (steps : List Step) → Conversing program old middle first before final want steps
     → IsMet met want middle.listing.spent → Rests met middle steps
 rests_by program old middle first before final true want steps so_far none = at_rest middle.core.feed middle.core.pending (subst (λ w. WantsFor middle.core.feed middle.core.pending w) none so_far.wants)
-rests_by program old middle first before final false want steps so_far (wanted, is, full) = (full, wanted, so_far.want_is ∙ is)
+rests_by program old middle first before final false want steps so_far (wanted, is, full, look) = (full, wanted, so_far.want_is ∙ is, look)
 
 conversing_puts : (program : Program) (old middle : Session) (first : Event) (before final : Moment) (met : Bool) (want : Option Want) (steps : List Step) → Conversing program old middle first before final want steps
     → IsMet met want middle.listing.spent → Puts program old middle (Some first) before final met steps
@@ -311,7 +311,7 @@ frame_goes program old middle new bytes given first before final traffic traffic
   now,
   inbox ∙ ap (expecting_all (put_by steps)) gives.inbox,
   front,
-  subst (λ (m : Machine). new.core.requests ≤ m.requests + 30003) core few,
+  subst (λ (m : Machine). new.core.requests ≤ m.requests + 3 * most_puts) core few,
 )
 frame_goes program old middle new bytes given first before final traffic traffic_after (Some end.Closed) gives calls core listing sent received count goes = absurd goes
 frame_goes program old middle new bytes given first before final traffic traffic_after (Some end.WireFault) gives calls core listing sent received count (steps, left, went, rest, now) = (

@@ -178,6 +178,8 @@ more_by m (event.Fed answer) = ap Some (omega arith)
 more_by m (event.Bodies bodies) = ap Some (omega arith)
 more_by m (event.Asked answer) = ap Some (omega arith)
 more_by m (event.Judged answer) = more_stored m answer
+more_by m (event.Got answer) = ap Some (omega arith)
+more_by m (event.Set answer) = ap Some (omega arith)
 
 one_for_each : (n : ℕ) (steps : List Step) → recorded_by (Some n) steps ≡ Some (n + length (stored_of steps))
 one_for_each n [] = ap Some (omega arith)

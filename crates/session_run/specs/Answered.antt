@@ -1,7 +1,11 @@
 -- What a ground answers to a session, read by read.
 use Rattle.std.specs.Prelude.{◌≡◌, ◌≤◌, ◌||◌, ℕ, Bool, List, [], ◌∷◌, ◌++◌, length, map, Option, Some, None, IfSome}
 use Rattle.sg_history.specs.declared.book.Waiting.{Waiting}
-use Rattle.sg_history.specs.Board.{BoardState}
+use Rattle.sg_history.specs.Board.{BoardState, SideEntry}
+use Rattle.checkpoint_store.specs.declared.answers.Kept0.{Kept0}
+use Rattle.checkpoint_store.specs.declared.answers.SetAnswer.{SetAnswer}
+use Rattle.checkpoint_store.specs.Answers.{kept_at, Sets}
+use Rattle.checkpoint_store.specs.Checkpoints.{pair_text}
 use Rattle.repl_messages.specs.declared.revision.Revision.{Revision}
 use Rattle.sync_syntax.specs.declared.tree.Program.{Program}
 use Rattle.doc_board.specs.declared.outcome.Outcome.{Outcome}
@@ -15,25 +19,29 @@ use Rattle.session_core.specs.Steps.{Step, wanted_after}
 use Rattle.board_steps.specs.Asks.{AskedAt}
 use Rattle.board_steps.specs.Bodies.{BodiesAt}
 use Rattle.board_steps.specs.Feed.{FeedAt}
+use Rattle.write_path.specs.Checkpoints.{HasCheckpoints, SetsCheckpoint}
 use Rattle.write_path.specs.Proposals.{Stores, recorded_after}
 use Rattle.write_path.specs.Reads.{Reads, WasRead, HasLength}
 
 -- what a ground records at a moment: the boards that it has read, the newest first; its lowest front; the length of the log, where it
--- is recorded; and its own entries, the newest first
+-- is recorded; the checkpoints, where they are recorded; and its own entries, the newest first
 pub record Moment : Type 0 where
   pub read : List BoardState
   pub lowest : ℕ
   pub recorded : Option ℕ
+  pub checkpoints : Option (List SideEntry)
   pub own : List Waiting
 
 -- the same, one by one
-abbrev pub moment : List BoardState → ℕ → Option ℕ → List Waiting → Moment
-moment read lowest recorded own = record { read = read; lowest = lowest; recorded = recorded; own = own }
+abbrev pub moment : List BoardState → ℕ → Option ℕ → Option (List SideEntry) → List Waiting → Moment
+moment read lowest recorded checkpoints own =
+    record { read = read; lowest = lowest; recorded = recorded; checkpoints = checkpoints; own = own }
 
 -- the ground has read, and nothing more
 pub record HasRead (before after : Moment) : Type 0 where
   pub reads : Reads before.read after.read before.lowest after.lowest
   pub recorded : after.recorded ≡ before.recorded
+  pub checkpoints : after.checkpoints ≡ before.checkpoints
   pub own : after.own ≡ before.own
 
 -- a board was read in between, of the recorded length, of which this holds
@@ -46,6 +54,7 @@ pub record IsLoaded (before : Moment) (front : ℕ) (after : Moment) : Type 0 wh
   pub rises : before.lowest ≤ front
   pub lowest : after.lowest ≡ front
   pub recorded : after.recorded ≡ before.recorded
+  pub checkpoints : after.checkpoints ≡ before.checkpoints
   pub own : after.own ≡ before.own
   pub length : IfSome before.recorded (λ n. front ≡ n)
 
@@ -53,6 +62,19 @@ pub record IsLoaded (before : Moment) (front : ℕ) (after : Moment) : Type 0 wh
 pub record IsProposed (before : Moment) (user : List ℕ) (program : Program) (strict : Bool) (r : Revision) (answer : Outcome) (after : Moment) : Type 0 where
   pub stores : Stores before.read after.read before.lowest after.lowest before.own after.own before.recorded program strict (Some user) r answer
   pub recorded : after.recorded ≡ recorded_after before.recorded answer
+  pub checkpoints : after.checkpoints ≡ before.checkpoints
+
+-- the checkpoint of the user's client was had of a board that was read in between, which has the recorded checkpoints
+abbrev pub SawCheckpoint : Moment → Moment → List ℕ → List ℕ → Kept0 → Type 0
+SawCheckpoint before after user client answer =
+    (b : BoardState) × WasRead before.read after.read b × HasCheckpoints before.checkpoints b × (answer ≡ kept_at b.side (pair_text user client))
+
+-- the checkpoint of the user's client was set, or not, by what the answer says
+pub record IsSet (before : Moment) (user client : List ℕ) (rev : ℕ) (body : List ℕ) (answer : SetAnswer) (after : Moment) : Type 0 where
+  pub reads : Reads before.read after.read before.lowest after.lowest
+  pub recorded : after.recorded ≡ before.recorded
+  pub own : after.own ≡ before.own
+  pub sets : SetsCheckpoint before.read after.read before.checkpoints after.checkpoints (pair_text user client) rev body answer
 
 -- What was wanted is answered by this event: by a board that was read for it, and for nothing else. Where nothing was wanted the event
 -- is a message, or an idle moment at which the length of the log was loaded.
@@ -67,6 +89,10 @@ IsAnswered before user program strict (Some (want.Ask offers)) (event.Asked answ
     HasRead before after × Saw before after (λ b. AskedAt b offers answer)
 IsAnswered before user program strict (Some (want.Propose r)) (event.Judged answer) after =
     IsProposed before user program (strict || r.noconflicts) r answer after
+IsAnswered before user program strict (Some (want.GetCheckpoint client)) (event.Got answer) after =
+    HasRead before after × SawCheckpoint before after user client answer
+IsAnswered before user program strict (Some (want.SetCheckpoint client rev body)) (event.Set answer) after =
+    IsSet before user client rev body answer after
 IsAnswered before user program strict wanted other after = ⊥
 
 -- the events of steps were answered one after another, from one moment to another; the last step is the first of the list
@@ -109,3 +135,19 @@ AreLength (Some n) (front ∷ fronts) = (front ≡ n) × AreLength (Some n) fron
 abbrev pub AreAtLength : Option ℕ → List Step → Type 0
 AreAtLength n [] = Unit {0}
 AreAtLength n (s ∷ earlier) = AreLength (recorded_by n earlier) (front_by s.event) × AreAtLength n earlier
+
+-- ---- the checkpoints of one store
+
+-- what was wanted of the checkpoints of a user's clients is answered by these, and leaves those; everything else leaves them as they are
+abbrev pub IsOfStore : List ℕ → List SideEntry → Option Want → Event → List SideEntry → Type 0
+IsOfStore user before (Some (want.GetCheckpoint client)) (event.Got answer) after =
+    (answer ≡ kept_at before (pair_text user client)) × (after ≡ before)
+IsOfStore user before (Some (want.SetCheckpoint client rev body)) (event.Set answer) after =
+    Sets before (pair_text user client) rev body answer after
+IsOfStore user before wanted other after = after ≡ before
+
+-- what was wanted of the checkpoints in steps is answered by one store, which has these at first and those then
+abbrev pub AreOfStore : List ℕ → List SideEntry → List Step → List SideEntry → Type 0
+AreOfStore user start [] now = now ≡ start
+AreOfStore user start (s ∷ earlier) now =
+    (between : List SideEntry) × AreOfStore user start earlier between × IsOfStore user between (wanted_after earlier) s.event now

@@ -21,7 +21,7 @@ use Rattle.session_core.specs.declared.event.Event.{Event}
 use Rattle.session_core.specs.declared.machine.Pending.TheVariants as pending
 use Rattle.session_core.specs.Conduct.{due_with, feed_front, most_answers, WantsFor, AreWithin}
 use Rattle.session_core.specs.Fronts.{looks_of, stored_of, front_by}
-use Rattle.session_core.specs.State.{new_machine}
+use Rattle.session_core.specs.State.{new_machine, most_puts}
 use Rattle.session_core.specs.Steps.{Step, Steps, Leads, put_by, wanted_after}
 use Rattle.session_mux.specs.declared.mux.Mux.{Mux}
 use Rattle.session_mux.specs.Frames.{IsBadFrame}
@@ -79,7 +79,7 @@ pub record Conversing (program : Program) (old new : Session) (first : Event) (b
   pub ready : IsReady new
   pub may : MayReply new.mux (due_with new.core.pending)
   pub front : feed_front new.core.feed ≤ now.lowest
-  pub room : new.core.requests + 10001 * most_answers new.core.pending ≤ old.core.requests + 30003
+  pub room : new.core.requests + most_puts * most_answers new.core.pending ≤ old.core.requests + 3 * most_puts
 
 -- ---- turns
 
@@ -115,7 +115,7 @@ abbrev pub GoesOn : Program → Session → Session → Option Event → Moment 
 GoesOn program old new first before final traffic traffic_after None =
     (steps : List Step) × (went : Went program old new first before final traffic traffic_after steps None new.mux.outbox []) × (went.value ≡ new.mux.sent.value) × IsAtRest new
     × (went.now ≡ final) × (new.mux.inbox ≡ expecting_all (put_by steps) old.mux.inbox) × (feed_front new.core.feed ≤ final.lowest)
-    × (new.core.requests ≤ old.core.requests + 30003)
+    × (new.core.requests ≤ old.core.requests + 3 * most_puts)
 GoesOn program old new first before final traffic traffic_after (Some end.WireFault) =
     (steps : List Step) × (left : Sending) × (went : Went program old new first before final traffic traffic_after steps None left (gave.Failed ∷ []))
     × ((new.core.pending ≡ pending.Nothing) ⊎ NeedsMore new.listing.spent steps) × (went.now ≡ final)
@@ -176,7 +176,7 @@ abbrev pub Takes : Program → Session → Session → Got → Moment → Moment
 Takes program old new result before final traffic traffic_after None =
     (t : SessionTurn) × (did : Turned program old new result before final traffic traffic_after t None new.mux.outbox []) × (did.value ≡ new.mux.sent.value) × IsAtRest new
     × (did.now ≡ final) × (new.mux.inbox ≡ expecting_all (put_by t.steps) (inbox_after old.mux.inbox t.frame)) × (feed_front new.core.feed ≤ final.lowest)
-    × (new.core.requests ≤ old.core.requests + 30003)
+    × (new.core.requests ≤ old.core.requests + 3 * most_puts)
 Takes program old new result before final traffic traffic_after (Some end.WireFault) =
     (t : SessionTurn) × (left : Sending) × (did : Turned program old new result before final traffic traffic_after t None left (gave.Failed ∷ []))
     × ((new.core.pending ≡ pending.Nothing) ⊎ NeedsMore new.listing.spent t.steps) × (did.now ≡ final)

@@ -2,6 +2,7 @@ pub mod Answered
 pub mod Held
 pub mod Judged
 pub mod Listed
+pub mod Numbers
 pub mod Own
 pub mod Putting
 pub mod Served

@@ -10,7 +10,7 @@ ghost use Rattle.session_run.specs.Spent.{most_looks};
 use crate::ended::Sequences;
 use doc_board::Outcome;
 use repl_messages::Fed;
-use session_core::{Event, Look, Looks, Purpose};
+use session_core::{Event, Look, Looks, Purpose, Want};
 use sg_outside::Memory;
 use std::alloc::Global;
 use std::marker::Model;
@@ -68,18 +68,20 @@ impl Listing {
         Ok(())
     }
 
-    /// Whether all looks are spent that a session takes.
-    pub(crate) fn is_full(&self) -> bool
+    /// Whether this wants one more look than a session takes.
+    pub(crate) fn lacks(&self, want: &Want) -> bool
+        requires few { self.now.spent ≤ most_looks }
         ensures full { result ≡ true → self.now.spent ≡ most_looks }
-        ensures left { result ≡ false → self.now.spent ≤ most_looks → self.now.spent < most_looks }
+        ensures look { result ≡ true → spending.looks_for want.now ≡ 1 }
+        ensures left { result ≡ false → self.now.spent + spending.looks_for want.now ≤ most_looks }
     {
-        self.spent == MOST_LOOKS
+        self.spent + looks_for(want) > MOST_LOOKS
     }
 
     /// Lists the look by which an event answers, if it does by one, and the sequence of the revision that it stored, if it did; and
     /// counts the look, or the proposal.
     pub(crate) fn list(&mut self, event: &Event)
-        requires left { self.old.spent < most_looks }
+        requires few { self.old.spent ≤ most_looks }
         requires room_for_a_look { 1 ≤ self.old.spare_looks }
         requires room_for_a_sequence { 1 ≤ self.old.spare_stored }
         ensures looks { self.new.looks ≡ self.old.looks ++ fronts.look_of event.now }
@@ -128,7 +130,7 @@ fn look_of(event: &Event) -> Option<Look>
     ensures { option_to_list result ≡ fronts.look_of event.now }
 {
     let (front, purpose) = match event {
-        Event::Whole(_) | Event::Idle { .. } => return None,
+        Event::Whole(_) | Event::Idle { .. } | Event::Got(_) | Event::Set(_) => return None,
         Event::Fed(fed) => (front_of(fed), Purpose::Feed),
         Event::Bodies(bodies) => (bodies.front, Purpose::Bodies),
         Event::Asked(asked) => (asked.front, Purpose::Ask),
@@ -143,8 +145,19 @@ fn spent_by(event: &Event) -> u64
     ensures few { result ≤ 1 }
 {
     match event {
-        Event::Whole(_) | Event::Idle { .. } => 0,
+        Event::Whole(_) | Event::Idle { .. } | Event::Got(_) | Event::Set(_) => 0,
         Event::Fed(_) | Event::Bodies(_) | Event::Asked(_) | Event::Judged(_) => 1,
+    }
+}
+
+/// How many looks are spent for what is wanted.
+fn looks_for(want: &Want) -> u64
+    ensures looks { result ≡ spending.looks_for want.now }
+    ensures few { result ≤ 1 }
+{
+    match want {
+        Want::GetCheckpoint { .. } | Want::SetCheckpoint { .. } => 0,
+        Want::Feed { .. } | Want::Bodies { .. } | Want::Ask { .. } | Want::Propose { .. } => 1,
     }
 }
 

@@ -39,8 +39,10 @@ pub fn serve_session<W: Wire, G: Ground>(
 ) -> (G, Ended)
     requires draws { 2000000 ≤ G.left ground }
     ensures session { IsServed setup
-        (moment (G.read ground) (G.lowest_front ground) (G.recorded ground) (G.own ground))
-        (moment (G.read result.0) (G.lowest_front result.0) (G.recorded result.0) (G.own result.0))
+        (moment (G.read ground) (G.lowest_front ground) (G.recorded ground)
+        (G.checkpoints ground) (G.own ground))
+        (moment (G.read result.0) (G.lowest_front result.0) (G.recorded result.0)
+        (G.checkpoints result.0) (G.own result.0))
         (W.recorded wire.old) result.1 (W.recorded wire.new) }
 
     // At most so many draws are made as a session has for its looks.

@@ -10,14 +10,14 @@ ghost use Rattle.session_core.specs.declared.event.Event.{Event};
 ghost use Rattle.session_core.specs.declared.machine.Pending.{Pending};
 ghost use Rattle.session_core.specs.Conduct.{feed_front, due_at, due_with, WantsFor, most_answers, is_answer, AreWithin};
 ghost use Rattle.session_core.specs.Fronts.{look_of, stored_by, front_by};
-ghost use Rattle.session_core.specs.State.{Awaits, new_machine};
+ghost use Rattle.session_core.specs.State.{Awaits, new_machine, most_puts, most_requests};
 ghost use Rattle.session_core.specs.Steps.{Step};
 ghost use Rattle.session_run.specs.declared.ended.End.{End};
 ghost use Rattle.session_run.specs.declared.serve.Setup.{Setup};
 ghost use Rattle.session_run.specs.Answered.{Moment, moment, HasRead, IsAnswered};
 ghost use Rattle.session_run.specs.Held.{IsAtRest, IsReady, Makes, Halts, Conversed, Conversing, IsEndOf, Holds, GoesOn, Takes, Runs, RunsOn};
 ghost use Rattle.session_run.specs.Putting.{MayReply};
-ghost use Rattle.session_run.specs.Spent.{most_looks, spent_by, IsMet, CanLook, Draws};
+ghost use Rattle.session_run.specs.Spent.{most_looks, spent_by, looks_for, IsMet, CanLook, Draws};
 
 use crate::ended::{End, Ended};
 use crate::listing::Listing;
@@ -92,7 +92,7 @@ impl Session {
     /// Takes an event, and puts what is put for it. Answers what is then wanted.
     fn take_event(&mut self, alloc: Global, event: Event) -> Result<Option<Want>, Memory>
         requires awaited { Awaits self.old.core event }
-        requires room { self.old.core.requests ≤ 9223372036854775808 }
+        requires room { self.old.core.requests ≤ most_requests }
         requires ready { IsReady self.old }
         requires may { MayReply self.old.mux (due_at self.old.core.pending event) }
         ensures ok { IfOk result (λ want. Makes self.old self.new event want) }
@@ -100,7 +100,7 @@ impl Session {
             (λ want. WantsFor self.new.core.feed self.new.core.pending want) }
         ensures ready { OnOk result (IsReady self.new) }
         ensures may { OnOk result (MayReply self.new.mux (due_with self.new.core.pending)) }
-        ensures few { OnOk result (self.new.core.requests ≤ self.old.core.requests + 10001) }
+        ensures few { OnOk result (self.new.core.requests ≤ self.old.core.requests + most_puts) }
         ensures fewer { OnOk result (is_answer event ≡ true
             → most_answers self.new.core.pending < most_answers self.old.core.pending) }
         ensures halted { OnErr result (Halts self.old self.new event) }
@@ -121,7 +121,7 @@ impl Session {
         }
     }
 
-    /// Reads the history for what is wanted, and lists the look. Out of memory it may have read, or not.
+    /// Has what is wanted of the ground, and lists the look, if it is one. Out of memory it may have read, or not.
     fn answer<G: Ground>(
         &mut self,
         alloc: Global,
@@ -131,14 +131,15 @@ impl Session {
     ) -> Result<Event, Memory>
         requires wants { WantsFor self.old.core.feed self.old.core.pending (Some want) }
         requires front { feed_front self.old.core.feed ≤ G.lowest_front ground.old }
-        requires left { self.old.listing.spent < most_looks }
+        requires left { self.old.listing.spent + looks_for want ≤ most_looks }
         requires looks { CanLook (G.left ground.old) self.old.listing.spent }
         ensures answered { IfOk result (λ event. IsAnswered
             (moment (G.read ground.old) (G.lowest_front ground.old)
-            (G.recorded ground.old) (G.own ground.old)) self.old.core.user
+            (G.recorded ground.old) (G.checkpoints ground.old) (G.own ground.old))
+            self.old.core.user
             program.now self.old.core.strict (Some want) event
             (moment (G.read ground.new) (G.lowest_front ground.new)
-            (G.recorded ground.new) (G.own ground.new))) }
+            (G.recorded ground.new) (G.checkpoints ground.new) (G.own ground.new))) }
         ensures awaited { IfOk result (λ event. Awaits self.old.core event) }
         ensures answer { IfOk result (λ event. is_answer event ≡ true) }
         ensures looks { IfOk result (λ event. self.new.listing.looks
@@ -149,9 +150,9 @@ impl Session {
             ≡ self.old.listing.spent + spent_by event) }
         ensures read { OnErr result (HasRead
             (moment (G.read ground.old) (G.lowest_front ground.old)
-            (G.recorded ground.old) (G.own ground.old))
+            (G.recorded ground.old) (G.checkpoints ground.old) (G.own ground.old))
             (moment (G.read ground.new) (G.lowest_front ground.new)
-            (G.recorded ground.new) (G.own ground.new))) }
+            (G.recorded ground.new) (G.checkpoints ground.new) (G.own ground.new))) }
         ensures same_looks { OnErr result (self.new.listing.looks ≡ self.old.listing.looks) }
         ensures same_stored { OnErr result (self.new.listing.stored ≡ self.old.listing.stored) }
         ensures same_spent { OnErr result (self.new.listing.spent ≡ self.old.listing.spent) }
@@ -181,7 +182,7 @@ impl Session {
     ) -> Result<bool, Memory>
         requires awaited { Awaits self.old.core event }
         requires first { is_answer event ≡ false }
-        requires room { self.old.core.requests ≤ 9223372036854745800 }
+        requires room { self.old.core.requests + 3 * most_puts ≤ most_requests }
         requires ready { IsReady self.old }
         requires may { MayReply self.old.mux (due_at self.old.core.pending event) }
         requires front { feed_front self.old.core.feed ≤ G.lowest_front ground.old }
@@ -190,21 +191,21 @@ impl Session {
         ensures ok { (before : Moment)
             → IsAnswered before self.old.core.user program.now self.old.core.strict None event
             (moment (G.read ground.old) (G.lowest_front ground.old)
-            (G.recorded ground.old) (G.own ground.old))
+            (G.recorded ground.old) (G.checkpoints ground.old) (G.own ground.old))
             → IfOk result (λ met. (steps : List Step) × (want : Option Want)
             × Conversing program.now self.old self.new event before
             (moment (G.read ground.new) (G.lowest_front ground.new)
-            (G.recorded ground.new) (G.own ground.new)) want steps
+            (G.recorded ground.new) (G.checkpoints ground.new) (G.own ground.new)) want steps
             × IsMet met want self.new.listing.spent) }
         ensures halted { (before : Moment)
             → IsAnswered before self.old.core.user program.now self.old.core.strict None event
             (moment (G.read ground.old) (G.lowest_front ground.old)
-            (G.recorded ground.old) (G.own ground.old))
+            (G.recorded ground.old) (G.checkpoints ground.old) (G.own ground.old))
             → OnErr result ((steps : List Step) × (halted : Option Event) × (now : Moment)
             × Conversed program.now self.old self.new event before now steps halted
             × HasRead now
             (moment (G.read ground.new) (G.lowest_front ground.new)
-            (G.recorded ground.new) (G.own ground.new))) }
+            (G.recorded ground.new) (G.checkpoints ground.new) (G.own ground.new))) }
         ensures draws { Draws (G.origin ground.old) (G.origin ground.new) (G.left ground.old)
             (G.left ground.new) self.old.listing.spent self.new.listing.spent }
         ensures frames { self.new.frames ≡ self.old.frames }
@@ -218,7 +219,7 @@ impl Session {
         write_path::laws::was_read();
         let mut want = self.take_event(alloc, event)?;
         while let Some(wanted) = want {
-            if self.listing.is_full() {
+            if self.listing.lacks(&wanted) {
                 drop(wanted);
                 return Ok(false);
             }
@@ -239,7 +240,7 @@ impl Session {
     ) -> Option<End>
         requires awaited { Awaits self.old.core event }
         requires first { is_answer event ≡ false }
-        requires room { self.old.core.requests ≤ 9223372036854745800 }
+        requires room { self.old.core.requests + 3 * most_puts ≤ most_requests }
         requires ready { IsReady self.old }
         requires may { MayReply self.old.mux (due_at self.old.core.pending event) }
         requires front { feed_front self.old.core.feed ≤ G.lowest_front ground.old }
@@ -248,10 +249,11 @@ impl Session {
         ensures goes { (before : Moment)
             → IsAnswered before self.old.core.user program.now self.old.core.strict None event
             (moment (G.read ground.old) (G.lowest_front ground.old)
-            (G.recorded ground.old) (G.own ground.old))
+            (G.recorded ground.old) (G.checkpoints ground.old) (G.own ground.old))
             → GoesOn program.now self.old self.new (Some event) before
             (moment (G.read ground.new) (G.lowest_front ground.new)
-            (G.recorded ground.new) (G.own ground.new)) (W.recorded wire.old) (W.recorded
+            (G.recorded ground.new) (G.checkpoints ground.new) (G.own ground.new))
+            (W.recorded wire.old) (W.recorded
             wire.new) result }
         ensures draws { Draws (G.origin ground.old) (G.origin ground.new) (G.left ground.old)
             (G.left ground.new) self.old.listing.spent self.new.listing.spent }
@@ -297,15 +299,16 @@ impl Session {
         bytes: &[u8],
     ) -> Option<End>
         requires rest { IsAtRest self.old }
-        requires room { self.old.core.requests ≤ 9223372036854745800 }
+        requires room { self.old.core.requests + 3 * most_puts ≤ most_requests }
         requires count { self.old.frames < 18446744073709551615 }
         requires front { feed_front self.old.core.feed ≤ G.lowest_front ground.old }
         requires looks { CanLook (G.left ground.old) self.old.listing.spent }
         ensures takes { Takes program.now self.old self.new (Got.Frame bytes.now)
             (moment (G.read ground.old) (G.lowest_front ground.old)
-            (G.recorded ground.old) (G.own ground.old))
+            (G.recorded ground.old) (G.checkpoints ground.old) (G.own ground.old))
             (moment (G.read ground.new) (G.lowest_front ground.new)
-            (G.recorded ground.new) (G.own ground.new)) (W.recorded wire.old) (W.recorded wire.new)
+            (G.recorded ground.new) (G.checkpoints ground.new) (G.own ground.new))
+            (W.recorded wire.old) (W.recorded wire.new)
             result }
         ensures draws { Draws (G.origin ground.old) (G.origin ground.new) (G.left ground.old)
             (G.left ground.new) self.old.listing.spent self.new.listing.spent }
@@ -338,14 +341,15 @@ impl Session {
         wire: &mut W,
     ) -> Option<End>
         requires rest { IsAtRest self.old }
-        requires room { self.old.core.requests ≤ 9223372036854745800 }
+        requires room { self.old.core.requests + 3 * most_puts ≤ most_requests }
         requires front { feed_front self.old.core.feed ≤ G.lowest_front ground.old }
         requires looks { CanLook (G.left ground.old) self.old.listing.spent }
         ensures takes { Takes program.now self.old self.new Got.Idle
             (moment (G.read ground.old) (G.lowest_front ground.old)
-            (G.recorded ground.old) (G.own ground.old))
+            (G.recorded ground.old) (G.checkpoints ground.old) (G.own ground.old))
             (moment (G.read ground.new) (G.lowest_front ground.new)
-            (G.recorded ground.new) (G.own ground.new)) (W.recorded wire.old) (W.recorded wire.new)
+            (G.recorded ground.new) (G.checkpoints ground.new) (G.own ground.new))
+            (W.recorded wire.old) (W.recorded wire.new)
             result }
         ensures draws { Draws (G.origin ground.old) (G.origin ground.new) (G.left ground.old)
             (G.left ground.new) self.old.listing.spent self.new.listing.spent }
@@ -371,7 +375,7 @@ impl Session {
         wire: &mut W,
     ) -> Option<End>
         requires rest { IsAtRest self.old }
-        requires room { self.old.core.requests ≤ 9223372036854745800 }
+        requires room { self.old.core.requests + 3 * most_puts ≤ most_requests }
         requires count { self.old.frames < 18446744073709551615 }
         requires front { feed_front self.old.core.feed ≤ G.lowest_front ground.old }
         requires looks { CanLook (G.left ground.old) self.old.listing.spent }
@@ -379,17 +383,20 @@ impl Session {
             → arc_value setup.program ≡ program.now
             → Runs setup start
             (moment (G.read ground.old) (G.lowest_front ground.old)
-            (G.recorded ground.old) (G.own ground.old)) traffic self.old (W.recorded
+            (G.recorded ground.old) (G.checkpoints ground.old) (G.own ground.old))
+            traffic self.old (W.recorded
             wire.old) count → count < 1099511627776
             → RunsOn setup start
             (moment (G.read ground.new) (G.lowest_front ground.new)
-            (G.recorded ground.new) (G.own ground.new)) traffic self.new (W.recorded
+            (G.recorded ground.new) (G.checkpoints ground.new) (G.own ground.new))
+            traffic self.new (W.recorded
             wire.new) count result }
         ensures draws { Draws (G.origin ground.old) (G.origin ground.new) (G.left ground.old)
             (G.left ground.new) self.old.listing.spent self.new.listing.spent }
         ensures rest { result ≡ None → IsAtRest self.new }
         ensures front { result ≡ None → feed_front self.new.core.feed ≤ G.lowest_front ground.new }
-        ensures few { result ≡ None → self.new.core.requests ≤ self.old.core.requests + 30003 }
+        ensures few { result ≡ None
+            → self.new.core.requests ≤ self.old.core.requests + 3 * most_puts }
         ensures count { self.new.frames ≤ self.old.frames + 1 }
         ensures faults { W.faults wire.old ≤ W.faults wire.new }
         ensures fault { result ≡ Some End.WireFault → W.faults wire.old < W.faults wire.new }

@@ -5,7 +5,6 @@ use Rattle.sg_outside.specs.Wire.{LineRead, LinkRecord, Traffic, no_line}
 use Rattle.sg_lines.specs.Line.{BeginsIfRecorded, TraceRecord, new_socket, shut_trace, socket_trace}
 use Rattle.seq_gate.specs.declared.known.Known.{Known}
 use Rattle.gateway_config.specs.declared.config.Config.{Config}
-use Rattle.ws_door.specs.declared.answer.Refused.{Refused}
 use Rattle.ws_door.specs.declared.answer.Upgrade.{Upgrade}
 use Rattle.ws_door.specs.declared.greeting.GreetFault.{GreetFault}
 use Rattle.ws_door.specs.declared.greeting.GreetFault.TheVariants as greeting

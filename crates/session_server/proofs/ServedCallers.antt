@@ -47,31 +47,31 @@ module _ (reads : WasReadLaws) (on : JudgedLater) (sessions : SessionLaws) (open
 
   -- ---- one caller
 
-  served_trace : (t : Option TraceRecord) (c : Call) → IsOneOf c.before.read opened → IsServedCaller config c.before t c.knows c.stored → IsLaterThanAll c.knows.read h → IsAfterAll c.knows.read board → IsTraceOf h config t c.stored
+  served_trace : (t : Option TraceRecord) (c : Call) → IsOneOf c.before.read opened → IsServedCaller config c.before t c.knows c.stored → IsLaterThanAll c.knows.read h → IsAfterAll c.knows.read board → IsTraceOf board config t c.stored
   served_trace t c split is later after =
       let its_setup : IsSetup program strict (record { user = is.upgrade.user; version = is.upgrade.version; traffic = Some (new_socket is.line is.coming); faults = is.over.faults }) is.setup =
       record { user = is.is_setup.user; version = is.is_setup.version; strictness = is.is_setup.strictness; judged_by = is.is_setup.judged_by } in
-      let session : HasSession h config is.line is.over.traffic c.stored = record {
+      let session : HasSession board config is.line is.over.traffic c.stored = record {
         upgrade = is.upgrade;
         upgraded = is.upgraded;
         coming = is.coming;
         before = is.over.faults;
         ended = is.over.ended;
         after = is.over.faults_after;
-        session = closing.session_of reads opened board program strict none closes.pending closes.rooms
+        session = closing.session_of reads sessions opened board program strict none closes.pending closes.rooms
             (record { user = is.upgrade.user; version = is.upgrade.version; traffic = Some (new_socket is.line is.coming); faults = is.over.faults })
             (record { ended = is.over.ended; traffic = Some is.over.traffic; faults = is.over.faults_after })
             is.setup (moment_at c.before) (moment_at c.knows) its_setup is.over.served is.over.fault split later after;
         stored_are = is.stored_are;
       } in
-      subst (λ (o : Option TraceRecord). IsTraceOf h config o c.stored) (sym is.over.trace_is) session
+      subst (λ (o : Option TraceRecord). IsTraceOf board config o c.stored) (sym is.over.trace_is) session
 
-  trace_of : (t : Option TraceRecord) (c : Call) → IsCall opened config t c → IsLaterThanAll c.knows.read h → IsAfterAll c.knows.read board → IsTraceOf h config t c.stored
+  trace_of : (t : Option TraceRecord) (c : Call) → IsCall opened config t c → IsLaterThanAll c.knows.read h → IsAfterAll c.knows.read board → IsTraceOf board config t c.stored
   trace_of t c is later after = by is.left
     where
-      by : IsCaller config c.before t c.knows c.stored → IsTraceOf h config t c.stored
+      by : IsCaller config c.before t c.knows c.stored → IsTraceOf board config t c.stored
       by (inl served) = served_trace t c is.split.read served later after
-      by (inr shut) = subst (λ (o : Option TraceRecord). IsTraceOf h config o c.stored) (sym shut.trace_is) (shut.none, shut.stored_are)
+      by (inr shut) = subst (λ (o : Option TraceRecord). IsTraceOf board config o c.stored) (sym shut.trace_is) (shut.none, shut.stored_are)
 
   own_is : (t : Option TraceRecord) (c : Call) → IsCall opened config t c → IsLaterThanAll c.knows.read h → Stored h program c.knows.own c.stored
   own_is t c is later = by is.left
@@ -92,7 +92,7 @@ module _ (reads : WasReadLaws) (on : JudgedLater) (sessions : SessionLaws) (open
   abbrev stored_by : List Call → List (List ℕ)
   stored_by calls = map (λ (c : Call). c.stored) calls
 
-  traces_of : (ts : List (Option TraceRecord)) (cs : List Call) → AllPairs (IsCall opened config) ts cs → AllLater h cs → AllAfter board cs → AllPairs (IsTraceOf h config) ts (stored_by cs)
+  traces_of : (ts : List (Option TraceRecord)) (cs : List Call) → AllPairs (IsCall opened config) ts cs → AllLater h cs → AllAfter board cs → AllPairs (IsTraceOf board config) ts (stored_by cs)
   traces_of [] [] are l a = tt
   traces_of (t ∷ ts) (c ∷ cs) are l a = (trace_of t c are.0 l.0 a.0, traces_of ts cs are.1 l.1 a.1)
   traces_of [] (c ∷ cs) are l a = absurd are

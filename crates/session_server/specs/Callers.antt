@@ -6,7 +6,7 @@ use Rattle.sg_outside.specs.declared.wire.Got.{Got}
 use Rattle.sg_outside.specs.Sink.{Takes}
 use Rattle.sg_outside.specs.Wire.{LinkRecord, Traffic}
 use Rattle.sg_lines.specs.Line.{TraceRecord, new_socket}
-use Rattle.sg_history.specs.declared.entries.Entry.{Entry}
+use Rattle.sg_history.specs.Board.{BoardState}
 use Rattle.gateway_config.specs.declared.config.Config.{Config}
 use Rattle.ws_door.specs.declared.answer.Refused.{Refused}
 use Rattle.ws_door.specs.declared.answer.Upgrade.{Upgrade}
@@ -58,8 +58,8 @@ abbrev pub HasNoSession : Config → LinkRecord → Type 0
 HasNoSession config line = GaveNoHead line ⊎ (IsRefused config line ⊎ (IsCut config line ⊎ IsGivenUp config line))
 
 -- a caller whose line took the upgrade and has a socket, over which a session of the head's user, in the head's version, was served over
--- the history; these are the numbers that it stored
-pub record HasSession (history : List Entry) (config : Config) (line : LinkRecord) (traffic : Traffic) (stored : List ℕ) : Type 0 where
+-- the board; these are the numbers that it stored
+pub record HasSession (board : BoardState) (config : Config) (line : LinkRecord) (traffic : Traffic) (stored : List ℕ) : Type 0 where
   pub upgrade : Upgrade
   pub upgraded : IsUpgraded config line upgrade
   -- what its socket was to receive
@@ -67,17 +67,17 @@ pub record HasSession (history : List Entry) (config : Config) (line : LinkRecor
   pub before : ℕ
   pub ended : Ended
   pub after : ℕ
-  pub session : IsSessionOf history (arc_value config.program) (not config.conflicts)
+  pub session : IsSessionOf board (arc_value config.program) (not config.conflicts)
       (record { user = upgrade.user; version = upgrade.version; traffic = Some (new_socket line coming); faults = before })
       (record { ended = ended; traffic = Some traffic; faults = after })
   pub stored_are : ended.stored ≡ stored
 
 -- by whether the line has a socket
-abbrev pub IsLeftOf : List Entry → Config → LinkRecord → Option Traffic → List ℕ → Type 0
-IsLeftOf history config line None stored = HasNoSession config line × (stored ≡ [])
-IsLeftOf history config line (Some traffic) stored = HasSession history config line traffic stored
+abbrev pub IsLeftOf : BoardState → Config → LinkRecord → Option Traffic → List ℕ → Type 0
+IsLeftOf board config line None stored = HasNoSession config line × (stored ≡ [])
+IsLeftOf board config line (Some traffic) stored = HasSession board config line traffic stored
 
 -- a trace, of which nothing is hidden, is what is left of a caller
-abbrev pub IsTraceOf : List Entry → Config → Option TraceRecord → List ℕ → Type 0
-IsTraceOf history config None stored = ⊥
-IsTraceOf history config (Some t) stored = IsLeftOf history config t.line t.socket stored
+abbrev pub IsTraceOf : BoardState → Config → Option TraceRecord → List ℕ → Type 0
+IsTraceOf board config None stored = ⊥
+IsTraceOf board config (Some t) stored = IsLeftOf board config t.line t.socket stored

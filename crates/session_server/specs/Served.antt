@@ -30,7 +30,7 @@ pub record IsServedAll (config : Config) (board : BoardState) (traces : List (Op
   pub begins : Extends opening board.log
   -- for each caller the numbers that its session stored
   pub stored : List (List ℕ)
-  pub callers : AllPairs (IsTraceOf board.log config) traces stored
+  pub callers : AllPairs (IsTraceOf board config) traces stored
   pub once : (k : ℕ) → total (times k) stored ≡ owed (length opening) board k
   pub judged : (k : ℕ) (w : Write) → book_of board.log k ≡ Some (entry.Write w) → IsJudgedWrite (arc_value config.program) (book_of board.log) k w
 

@@ -39,6 +39,7 @@ fn serve_behind<R: Threads + Wait + Sync, D: Door>(
 {
     doc_board::laws::judged_writes();
     session_run::laws::sessions();
+    checkpoint_store::laws::side_maps();
     write_path::laws::closing();
     write_path::laws::was_read();
     let mut server = Server::<'_, R, D::Line>::new(rt, alloc, &gate, config, opened, pass);

@@ -60,6 +60,65 @@ log_full board bytes at entries sum h = by (either (nat_le 3999999 (entries_on b
     by (inl is) = inl (leb-true 3999999 (entries_on board) is)
     by (inr is) = inr (ltb-true 2147483648 (board.bytes + bytes) is)
 
+-- what is answered adds to the boards that were read
+pub step_read : (before after : Moment) (user : List ℕ) (program : Program) (strict : Bool) (wanted : Option Want) (e : Event) → IsAnswered before user program strict wanted e after → (more : List BoardState) × (after.read ≡ more ++ before.read)
+step_read before after user program strict None (event.Whole message) is = ([], ap (λ (m : Moment). m.read) is)
+step_read before after user program strict None (event.Idle front) is = ([], is.read)
+step_read before after user program strict None (event.Fed answer) is = absurd is
+step_read before after user program strict None (event.Bodies answer) is = absurd is
+step_read before after user program strict None (event.Asked answer) is = absurd is
+step_read before after user program strict None (event.Judged answer) is = absurd is
+step_read before after user program strict None (event.Got answer) is = absurd is
+step_read before after user program strict None (event.Set answer) is = absurd is
+step_read before after user program strict (Some (want.Feed since options)) (event.Fed answer) is = (is.0.reads.added, is.0.reads.read)
+step_read before after user program strict (Some (want.Feed since options)) (event.Whole message) is = absurd is
+step_read before after user program strict (Some (want.Feed since options)) (event.Idle front) is = absurd is
+step_read before after user program strict (Some (want.Feed since options)) (event.Bodies answer) is = absurd is
+step_read before after user program strict (Some (want.Feed since options)) (event.Asked answer) is = absurd is
+step_read before after user program strict (Some (want.Feed since options)) (event.Judged answer) is = absurd is
+step_read before after user program strict (Some (want.Feed since options)) (event.Got answer) is = absurd is
+step_read before after user program strict (Some (want.Feed since options)) (event.Set answer) is = absurd is
+step_read before after user program strict (Some (want.Bodies options rows most)) (event.Bodies answer) is = (is.0.reads.added, is.0.reads.read)
+step_read before after user program strict (Some (want.Bodies options rows most)) (event.Whole message) is = absurd is
+step_read before after user program strict (Some (want.Bodies options rows most)) (event.Idle front) is = absurd is
+step_read before after user program strict (Some (want.Bodies options rows most)) (event.Fed answer) is = absurd is
+step_read before after user program strict (Some (want.Bodies options rows most)) (event.Asked answer) is = absurd is
+step_read before after user program strict (Some (want.Bodies options rows most)) (event.Judged answer) is = absurd is
+step_read before after user program strict (Some (want.Bodies options rows most)) (event.Got answer) is = absurd is
+step_read before after user program strict (Some (want.Bodies options rows most)) (event.Set answer) is = absurd is
+step_read before after user program strict (Some (want.Ask offers)) (event.Asked answer) is = (is.0.reads.added, is.0.reads.read)
+step_read before after user program strict (Some (want.Ask offers)) (event.Whole message) is = absurd is
+step_read before after user program strict (Some (want.Ask offers)) (event.Idle front) is = absurd is
+step_read before after user program strict (Some (want.Ask offers)) (event.Fed answer) is = absurd is
+step_read before after user program strict (Some (want.Ask offers)) (event.Bodies answer) is = absurd is
+step_read before after user program strict (Some (want.Ask offers)) (event.Judged answer) is = absurd is
+step_read before after user program strict (Some (want.Ask offers)) (event.Got answer) is = absurd is
+step_read before after user program strict (Some (want.Ask offers)) (event.Set answer) is = absurd is
+step_read before after user program strict (Some (want.Propose r)) (event.Judged answer) is = (is.stores.reads.added, is.stores.reads.read)
+step_read before after user program strict (Some (want.Propose r)) (event.Whole message) is = absurd is
+step_read before after user program strict (Some (want.Propose r)) (event.Idle front) is = absurd is
+step_read before after user program strict (Some (want.Propose r)) (event.Fed answer) is = absurd is
+step_read before after user program strict (Some (want.Propose r)) (event.Bodies answer) is = absurd is
+step_read before after user program strict (Some (want.Propose r)) (event.Asked answer) is = absurd is
+step_read before after user program strict (Some (want.Propose r)) (event.Got answer) is = absurd is
+step_read before after user program strict (Some (want.Propose r)) (event.Set answer) is = absurd is
+step_read before after user program strict (Some (want.GetCheckpoint client)) (event.Whole message) is = absurd is
+step_read before after user program strict (Some (want.GetCheckpoint client)) (event.Idle front) is = absurd is
+step_read before after user program strict (Some (want.GetCheckpoint client)) (event.Fed answer) is = absurd is
+step_read before after user program strict (Some (want.GetCheckpoint client)) (event.Bodies answer) is = absurd is
+step_read before after user program strict (Some (want.GetCheckpoint client)) (event.Asked answer) is = absurd is
+step_read before after user program strict (Some (want.GetCheckpoint client)) (event.Judged answer) is = absurd is
+step_read before after user program strict (Some (want.GetCheckpoint client)) (event.Got answer) is = (is.0.reads.added, is.0.reads.read)
+step_read before after user program strict (Some (want.GetCheckpoint client)) (event.Set answer) is = absurd is
+step_read before after user program strict (Some (want.SetCheckpoint client rev body)) (event.Whole message) is = absurd is
+step_read before after user program strict (Some (want.SetCheckpoint client rev body)) (event.Idle front) is = absurd is
+step_read before after user program strict (Some (want.SetCheckpoint client rev body)) (event.Fed answer) is = absurd is
+step_read before after user program strict (Some (want.SetCheckpoint client rev body)) (event.Bodies answer) is = absurd is
+step_read before after user program strict (Some (want.SetCheckpoint client rev body)) (event.Asked answer) is = absurd is
+step_read before after user program strict (Some (want.SetCheckpoint client rev body)) (event.Judged answer) is = absurd is
+step_read before after user program strict (Some (want.SetCheckpoint client rev body)) (event.Got answer) is = absurd is
+step_read before after user program strict (Some (want.SetCheckpoint client rev body)) (event.Set answer) is = (is.reads.added, is.reads.read)
+
 -- ---- a board that the closed one comes after
 
 module _ (first b : BoardState) (none : first.bytes ≡ 0) (pending : b.pending ≡ []) (rooms : b.rooms ≡ []) where
@@ -158,38 +217,6 @@ module _ (first b : BoardState) (none : first.bytes ≡ 0) (pending : b.pending 
 
     -- ---- what is answered to a session
 
-    step_read : (before after : Moment) (user : List ℕ) (program : Program) (strict : Bool) (wanted : Option Want) (e : Event) → IsAnswered before user program strict wanted e after → (more : List BoardState) × (after.read ≡ more ++ before.read)
-    step_read before after user program strict None (event.Whole message) is = ([], ap (λ (m : Moment). m.read) is)
-    step_read before after user program strict None (event.Idle front) is = ([], is.read)
-    step_read before after user program strict None (event.Fed answer) is = absurd is
-    step_read before after user program strict None (event.Bodies answer) is = absurd is
-    step_read before after user program strict None (event.Asked answer) is = absurd is
-    step_read before after user program strict None (event.Judged answer) is = absurd is
-    step_read before after user program strict (Some (want.Feed since options)) (event.Fed answer) is = (is.0.reads.added, is.0.reads.read)
-    step_read before after user program strict (Some (want.Feed since options)) (event.Whole message) is = absurd is
-    step_read before after user program strict (Some (want.Feed since options)) (event.Idle front) is = absurd is
-    step_read before after user program strict (Some (want.Feed since options)) (event.Bodies answer) is = absurd is
-    step_read before after user program strict (Some (want.Feed since options)) (event.Asked answer) is = absurd is
-    step_read before after user program strict (Some (want.Feed since options)) (event.Judged answer) is = absurd is
-    step_read before after user program strict (Some (want.Bodies options rows most)) (event.Bodies answer) is = (is.0.reads.added, is.0.reads.read)
-    step_read before after user program strict (Some (want.Bodies options rows most)) (event.Whole message) is = absurd is
-    step_read before after user program strict (Some (want.Bodies options rows most)) (event.Idle front) is = absurd is
-    step_read before after user program strict (Some (want.Bodies options rows most)) (event.Fed answer) is = absurd is
-    step_read before after user program strict (Some (want.Bodies options rows most)) (event.Asked answer) is = absurd is
-    step_read before after user program strict (Some (want.Bodies options rows most)) (event.Judged answer) is = absurd is
-    step_read before after user program strict (Some (want.Ask offers)) (event.Asked answer) is = (is.0.reads.added, is.0.reads.read)
-    step_read before after user program strict (Some (want.Ask offers)) (event.Whole message) is = absurd is
-    step_read before after user program strict (Some (want.Ask offers)) (event.Idle front) is = absurd is
-    step_read before after user program strict (Some (want.Ask offers)) (event.Fed answer) is = absurd is
-    step_read before after user program strict (Some (want.Ask offers)) (event.Bodies answer) is = absurd is
-    step_read before after user program strict (Some (want.Ask offers)) (event.Judged answer) is = absurd is
-    step_read before after user program strict (Some (want.Propose r)) (event.Judged answer) is = (is.stores.reads.added, is.stores.reads.read)
-    step_read before after user program strict (Some (want.Propose r)) (event.Whole message) is = absurd is
-    step_read before after user program strict (Some (want.Propose r)) (event.Idle front) is = absurd is
-    step_read before after user program strict (Some (want.Propose r)) (event.Fed answer) is = absurd is
-    step_read before after user program strict (Some (want.Propose r)) (event.Bodies answer) is = absurd is
-    step_read before after user program strict (Some (want.Propose r)) (event.Asked answer) is = absurd is
-
     steps_read : (start now : Moment) (user : List ℕ) (program : Program) (strict : Bool) (steps : List Step) → AreAnswered start user program strict steps now → (more : List BoardState) × (now.read ≡ more ++ start.read)
     steps_read start now user program strict [] is = ([], ap (λ (m : Moment). m.read) is)
     steps_read start now user program strict (s ∷ earlier) (between, before, is) =
@@ -203,10 +230,14 @@ module _ (first b : BoardState) (none : first.bytes ≡ 0) (pending : b.pending 
     bounded_event before after user program strict wanted (event.Fed answer) one all is = tt
     bounded_event before after user program strict wanted (event.Bodies answer) one all is = tt
     bounded_event before after user program strict wanted (event.Asked answer) one all is = tt
+    bounded_event before after user program strict wanted (event.Got answer) one all is = tt
+    bounded_event before after user program strict wanted (event.Set answer) one all is = tt
     bounded_event before after user program strict None (event.Judged answer) one all is = absurd is
     bounded_event before after user program strict (Some (want.Feed since options)) (event.Judged answer) one all is = absurd is
     bounded_event before after user program strict (Some (want.Bodies options rows most)) (event.Judged answer) one all is = absurd is
     bounded_event before after user program strict (Some (want.Ask offers)) (event.Judged answer) one all is = absurd is
+    bounded_event before after user program strict (Some (want.GetCheckpoint client)) (event.Judged answer) one all is = absurd is
+    bounded_event before after user program strict (Some (want.SetCheckpoint client rev body)) (event.Judged answer) one all is = absurd is
     bounded_event before after user program strict (Some (want.Propose r)) (event.Judged answer) one all is =
         bounded_revision before.read after.read before.lowest after.lowest before.own after.own before.recorded program (strict || r.noconflicts) (Some user) r answer is.stores.reads one all is.stores.proposed
 

@@ -22,6 +22,7 @@ use Rattle.session_run.specs.declared.ended.Ended.{Ended}
 use Rattle.session_run.specs.declared.serve.Setup.{Setup}
 use Rattle.session_run.specs.Answered.{Moment}
 use Rattle.session_run.specs.Judged.{AreJudged}
+use Rattle.session_run.specs.Numbers.{named_of, AreNamedRising, AreNamedWithin}
 use Rattle.session_run.specs.Served.{IsServed, IsSession}
 use Rattle.session_run.specs.Turns.{steps_of, undone}
 use Rattle.sg_outside.specs.declared.sink.Gave.{Gave}
@@ -31,6 +32,7 @@ use Rattle.session_threads.specs.Played.{Device, IsSessionOf, IsSetup, Leaves}
 use Rattle.session_threads.proofs.Reading.{WasReadLaws, later_one, was_one}
 use Rattle.session_threads.proofs.Lining.{AllJudgedIn, IsJudgedIn, JudgedLater, judged_in}
 use Rattle.session_threads.proofs.Bounding.{bounded_parts, bounded_steps}
+use Rattle.session_threads.proofs.Checkpointing.{RisingCount, full_steps}
 
 -- ---- counting
 
@@ -136,6 +138,11 @@ pub record SessionLaws : Type 0 where
   pub own : (setup : Setup) (start final : Moment) (ended : Ended) (results : List Got) (sent : List (List ℕ)) (failed : List Gave)
       → IsSession setup start final ended results sent failed
       → (added : List Waiting) × (final.own ≡ added ++ start.own) × (map (λ (w : Waiting). w.number) added ≡ reverse ended.stored) × AreJudged (arc_value setup.program) setup.user start.read final.read added
+  pub numbers : (setup : Setup) (start final : Moment) (ended : Ended) (results : List Got) (sent : List (List ℕ)) (failed : List Gave)
+      → (session : IsSession setup start final ended results sent failed) → AreNamedRising (named_of (undone session.halted ++ steps_of session.turns))
+  pub closing : (setup : Setup) (start final : Moment) (ended : Ended) (results : List Got) (sent : List (List ℕ)) (failed : List Gave) (board : BoardState)
+      → (session : IsSession setup start final ended results sent failed) → IsAfterAll final.read board → AreNamedWithin setup.user board.side (named_of (undone session.halted ++ steps_of session.turns))
+  pub count : RisingCount
 
 -- the entries of a session stand in the history, judged
 session_judged : JudgedLater → (h : List Entry) (program : Program) (user : List ℕ) (before after : List BoardState) → IsLaterThanAll after h → (ws : List Waiting) → AreJudged program user before after ws → AllJudgedIn h program ws
@@ -167,9 +174,9 @@ stored_of sessions on h program setup start final ended results sent failed sess
     }
 
 -- a session that begins with a board of the gate's opening is one over the history that the gate was closed with
-module _ (reads : WasReadLaws) (opened board : BoardState) (program : Program) (strict : Bool) (none : opened.bytes ≡ 0) (pending : board.pending ≡ []) (rooms : board.rooms ≡ []) where
+module _ (reads : WasReadLaws) (sessions : SessionLaws) (opened board : BoardState) (program : Program) (strict : Bool) (none : opened.bytes ≡ 0) (pending : board.pending ≡ []) (rooms : board.rooms ≡ []) where
   pub session_of : (d : Device) (left : Leaves) (setup : Setup) (start final : Moment) → IsSetup program strict d setup → IsServed setup start final d.traffic left.ended left.traffic → (left.ended.end ≡ WireFault → d.faults < left.faults)
-      → IsOneOf start.read opened → IsLaterThanAll final.read board.log → IsAfterAll final.read board → IsSessionOf board.log program strict d left
+      → IsOneOf start.read opened → IsLaterThanAll final.read board.log → IsAfterAll final.read board → IsSessionOf board program strict d left
   session_of d left setup start final is_setup served fault one later behind =
       let session = served.session in
       let now_after : IsAfterAll session.now.read board = (after_parts session.reads.reads.added session.now.read board (subst (λ (read : List BoardState). IsAfterAll read board) session.reads.reads.read behind)).1 in
@@ -183,6 +190,11 @@ module _ (reads : WasReadLaws) (opened board : BoardState) (program : Program) (
         fault = fault;
         bounded = bounded_parts board.log (undone session.halted) (steps_of session.turns)
             (bounded_steps opened board none pending rooms reads start session.now setup.user (arc_value setup.program) setup.strict (undone session.halted ++ steps_of session.turns) one now_after session.answered);
+        checkpoints = record {
+          rising = sessions.numbers setup start final left.ended served.results served.sent served.failed session;
+          within = sessions.closing setup start final left.ended served.results served.sent served.failed board session behind;
+          full = full_steps sessions.count board start session.now setup.user (arc_value setup.program) setup.strict (undone session.halted ++ steps_of session.turns) now_after session.answered;
+        };
       }
 
 -- all writes of that history were judged, where the entries past the opening are judged ones, each once

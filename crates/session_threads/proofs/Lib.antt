@@ -2,6 +2,7 @@ pub mod Pairs
 pub mod Reading
 pub mod Lining
 pub mod Bounding
+pub mod Checkpointing
 pub mod Threading
 pub mod Closing
 pub mod Playing

@@ -9,7 +9,7 @@ use Rattle.sg_history.specs.declared.entries.Write.{Write}
 use Rattle.sg_history.specs.declared.room.RoomFor.{RoomFor}
 use Rattle.sg_history.specs.Board.{After, BoardState, IsAfterAll}
 use Rattle.sg_history.specs.Book.{book_of}
-use Rattle.seq_gate.specs.Counts.{numbers, once, times, total}
+use Rattle.seq_gate.specs.Counts.{numbers, times, total}
 use Rattle.seq_gate.specs.Passes.{first_known, joined, owed, share, split_off}
 use Rattle.seq_gate.specs.Views.{PassView}
 use Rattle.seq_gate.specs.declared.known.Known.{Known}
@@ -196,14 +196,14 @@ module _ (reads : WasReadLaws) (on : JudgedLater) (sessions : SessionLaws)
   pub bounded : AreBoundedLines h outcomes
   bounded = bounded_lines opened board none is.closes.pending is.closes.rooms reads program strict (moment_at split) (moment_at threaded.script.knows) lines outcomes (inl refl) script_after threaded.script_done.run
 
-  session_of : (d : Device) (b : Begun) (g : Gone) → IsReadyFor program strict d b.setup b.traffic b.faults → IsGone split b g → IsLaterThanAll g.knows.read h → IsAfterAll g.knows.read board → IsSessionOf h program strict d g.leaves
+  session_of : (d : Device) (b : Begun) (g : Gone) → IsReadyFor program strict d b.setup b.traffic b.faults → IsGone split b g → IsLaterThanAll g.knows.read h → IsAfterAll g.knows.read board → IsSessionOf board program strict d g.leaves
   session_of d b g r done all behind =
-      closing.session_of reads opened board program strict none is.closes.pending is.closes.rooms d g.leaves b.setup (moment_at split) (moment_at g.knows) r.is_setup
+      closing.session_of reads sessions opened board program strict none is.closes.pending is.closes.rooms d g.leaves b.setup (moment_at split) (moment_at g.knows) r.is_setup
       (subst (λ (t : Option Traffic). IsServed b.setup (moment_at split) (moment_at g.knows) t g.leaves.ended g.leaves.traffic) r.traffic_is done.served)
       (λ failed. subst (λ (n : ℕ). n < g.leaves.faults) r.faults_is (done.fault failed)) (inl refl) all behind
 
   sessions_of : (ds : List Device) (bs : List Begun) (gs : List Gone) → AllPairs (λ (d : Device) (b : Begun). IsReadyFor program strict d b.setup b.traffic b.faults) ds bs → AllPairs (IsGone split) bs gs → AllLater h gs → AllAfter board gs
-      → AllPairs (IsSessionOf h program strict) ds (map (λ (g : Gone). g.leaves) gs)
+      → AllPairs (IsSessionOf board program strict) ds (map (λ (g : Gone). g.leaves) gs)
   sessions_of [] [] [] r d l a = tt
   sessions_of (d ∷ ds) (b ∷ bs) (g ∷ gs) r done l a = (session_of d b g r.0 done.0 l.0 a.0, sessions_of ds bs gs r.1 done.1 l.1 a.1)
   sessions_of [] (b ∷ bs) gs r done l a = absurd r
@@ -211,8 +211,8 @@ module _ (reads : WasReadLaws) (on : JudgedLater) (sessions : SessionLaws)
   sessions_of [] [] (g ∷ gs) r done l a = absurd done
   sessions_of (d ∷ ds) (b ∷ bs) [] r done l a = absurd done
 
-  pub all_sessions : AllPairs (IsSessionOf h program strict) devices leaves
-  all_sessions = subst (λ (ls : List Leaves). AllPairs (IsSessionOf h program strict) devices ls) (sym threaded.leaves_are) (sessions_of devices begun threaded.gone ready threaded.sessions later.1 after.1)
+  pub all_sessions : AllPairs (IsSessionOf board program strict) devices leaves
+  all_sessions = subst (λ (ls : List Leaves). AllPairs (IsSessionOf board program strict) devices ls) (sym threaded.leaves_are) (sessions_of devices begun threaded.gone ready threaded.sessions later.1 after.1)
 
   -- ---- what is stored, each once
 
@@ -290,8 +290,8 @@ module _ (reads : WasReadLaws) (on : JudgedLater) (sessions : SessionLaws)
     begins = begins.log;
     script = subst (λ (p : Program). AreLinesAt h p (not config.conflicts) [] (length opened.log) lines outcomes) by_program
         (subst (λ (b : Bool). AreLinesAt h program b [] (length opened.log) lines outcomes) by_conflicts script);
-    sessions = subst (λ (p : Program). AllPairs (IsSessionOf h p (not config.conflicts)) devices leaves) by_program
-        (subst (λ (b : Bool). AllPairs (IsSessionOf h program b) devices leaves) by_conflicts all_sessions);
+    sessions = subst (λ (p : Program). AllPairs (IsSessionOf board p (not config.conflicts)) devices leaves) by_program
+        (subst (λ (b : Bool). AllPairs (IsSessionOf board program b) devices leaves) by_conflicts all_sessions);
     once = once_each;
     judged = λ k w there. subst (λ (p : Program). IsJudgedWrite p (book_of h) k w) by_program (all_judged_writes config.roles config.users opening k w there);
     bounded = bounded;

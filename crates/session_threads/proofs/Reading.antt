@@ -28,7 +28,7 @@ later_one [] b h one all = absurd one
 later_one (x ∷ read) b h (inl is) all = subst (λ (y : BoardState). Later (board_book y) (book_of h)) is all.0
 later_one (x ∷ read) b h (inr one) all = later_one read b h one all.1
 
-after_second : (xs ys : List BoardState) (c : BoardState) → IsAfterAll (xs ++ ys) c → IsAfterAll ys c
+pub after_second : (xs ys : List BoardState) (c : BoardState) → IsAfterAll (xs ++ ys) c → IsAfterAll ys c
 after_second [] ys c all = all
 after_second (x ∷ xs) ys c all = after_second xs ys c all.1
 

@@ -44,40 +44,40 @@ BodiesLaw = (setup : Setup) (start final : Moment) (ended : Ended) (results : Li
     → IsLaterThanAll final.read h → HaveOwnBodies h setup.user (new_machine setup.user setup.version setup.strict) (steps_of session.turns)
 
 -- what holds of a setup's user, version, strictness and program holds of the device's and the given ones
-of_device : (P : List ℕ → Version → Bool → Program → Type 0) (history : List Entry) (program : Program) (strict : Bool) (device : Device) (left : Leaves) (is : IsSessionOf history program strict device left)
+of_device : (P : List ℕ → Version → Bool → Program → Type 0) (board : BoardState) (program : Program) (strict : Bool) (device : Device) (left : Leaves) (is : IsSessionOf board program strict device left)
     → P is.setup.user is.setup.version is.setup.strict (arc_value is.setup.program) → P device.user device.version strict program
-of_device P history program strict device left is so =
+of_device P board program strict device left is so =
     subst (λ (u : List ℕ). P u device.version strict program) is.is_setup.user
     (subst (λ (v : Version). P is.setup.user v strict program) is.is_setup.version
     (subst (λ (b : Bool). P is.setup.user is.setup.version b program) is.is_setup.strictness
     (subst (λ (p : Program). P is.setup.user is.setup.version is.setup.strict p) is.is_setup.judged_by so)))
 
-pub leads_in : LeadsLaw → (history : List Entry) (program : Program) (strict : Bool) (device : Device) (left : Leaves) (is : IsSessionOf history program strict device left)
+pub leads_in : LeadsLaw → (board : BoardState) (program : Program) (strict : Bool) (device : Device) (left : Leaves) (is : IsSessionOf board program strict device left)
     → Leads (new_machine device.user device.version strict) (steps_of is.served.session.turns) is.served.session.machine
-leads_in law history program strict device left is =
-    of_device (λ u v b p. Leads (new_machine u v b) (steps_of is.served.session.turns) is.served.session.machine) history program strict device left is
+leads_in law board program strict device left is =
+    of_device (λ u v b p. Leads (new_machine u v b) (steps_of is.served.session.turns) is.served.session.machine) board program strict device left is
     (law is.setup.user is.setup.version is.setup.strict is.served.session.halted is.served.session.turns is.served.session.machine is.served.session.led)
 
-pub right_in : RightLaw → (history : List Entry) (program : Program) (strict : Bool) (device : Device) (left : Leaves) (is : IsSessionOf history program strict device left)
-    → AreRight history device.user program strict (steps_of is.served.session.turns)
-right_in law history program strict device left is =
-    of_device (λ u v b p. AreRight history u p b (steps_of is.served.session.turns)) history program strict device left is
-    (law is.setup is.start is.final left.ended is.served.results is.served.sent is.served.failed history is.served.session is.later)
+pub right_in : RightLaw → (board : BoardState) (program : Program) (strict : Bool) (device : Device) (left : Leaves) (is : IsSessionOf board program strict device left)
+    → AreRight board.log device.user program strict (steps_of is.served.session.turns)
+right_in law board program strict device left is =
+    of_device (λ u v b p. AreRight board.log u p b (steps_of is.served.session.turns)) board program strict device left is
+    (law is.setup is.start is.final left.ended is.served.results is.served.sent is.served.failed board.log is.served.session is.later)
 
-pub bodies_in : BodiesLaw → (history : List Entry) (program : Program) (strict : Bool) (device : Device) (left : Leaves) (is : IsSessionOf history program strict device left)
-    → HaveOwnBodies history device.user (new_machine device.user device.version strict) (steps_of is.served.session.turns)
-bodies_in law history program strict device left is =
-    of_device (λ u v b p. HaveOwnBodies history u (new_machine u v b) (steps_of is.served.session.turns)) history program strict device left is
-    (law is.setup is.start is.final left.ended is.served.results is.served.sent is.served.failed history is.served.session is.later)
+pub bodies_in : BodiesLaw → (board : BoardState) (program : Program) (strict : Bool) (device : Device) (left : Leaves) (is : IsSessionOf board program strict device left)
+    → HaveOwnBodies board.log device.user (new_machine device.user device.version strict) (steps_of is.served.session.turns)
+bodies_in law board program strict device left is =
+    of_device (λ u v b p. HaveOwnBodies board.log u (new_machine u v b) (steps_of is.served.session.turns)) board program strict device left is
+    (law is.setup is.start is.final left.ended is.served.results is.served.sent is.served.failed board.log is.served.session is.later)
 
 abbrev pub OwnLaw : Type 0
 OwnLaw = (setup : Setup) (start final : Moment) (ended : Ended) (results : List Got) (sent : List (List ℕ)) (failed : List Gave) → IsSession setup start final ended results sent failed
     → (added : List Waiting) × (final.own ≡ added ++ start.own) × (map (λ (w : Waiting). w.number) added ≡ reverse ended.stored) × AreJudged (arc_value setup.program) setup.user start.read final.read added
 
-pub own_in : OwnLaw → (history : List Entry) (program : Program) (strict : Bool) (device : Device) (left : Leaves) (is : IsSessionOf history program strict device left)
+pub own_in : OwnLaw → (board : BoardState) (program : Program) (strict : Bool) (device : Device) (left : Leaves) (is : IsSessionOf board program strict device left)
     → (added : List Waiting) × (is.final.own ≡ added ++ is.start.own) × (map (λ (w : Waiting). w.number) added ≡ reverse left.ended.stored) × AreJudged program device.user is.start.read is.final.read added
-own_in law history program strict device left is =
-    of_device (λ u v b p. (added : List Waiting) × (is.final.own ≡ added ++ is.start.own) × (map (λ (w : Waiting). w.number) added ≡ reverse left.ended.stored) × AreJudged p u is.start.read is.final.read added) history program strict device left is
+own_in law board program strict device left is =
+    of_device (λ u v b p. (added : List Waiting) × (is.final.own ≡ added ++ is.start.own) × (map (λ (w : Waiting). w.number) added ≡ reverse left.ended.stored) × AreJudged p u is.start.read is.final.read added) board program strict device left is
     (law is.setup is.start is.final left.ended is.served.results is.served.sent is.served.failed is.served.session)
 
 -- ---- what was read before
@@ -96,6 +96,8 @@ later_than_answered before after user program strict None (event.Fed answer) h a
 later_than_answered before after user program strict None (event.Bodies answer) h answered later = absurd answered
 later_than_answered before after user program strict None (event.Asked answer) h answered later = absurd answered
 later_than_answered before after user program strict None (event.Judged answer) h answered later = absurd answered
+later_than_answered before after user program strict None (event.Got answer) h answered later = absurd answered
+later_than_answered before after user program strict None (event.Set answer) h answered later = absurd answered
 later_than_answered before after user program strict (Some (want.Feed since options)) (event.Whole message) h answered later = absurd answered
 later_than_answered before after user program strict (Some (want.Feed since options)) (event.Idle front) h answered later = absurd answered
 later_than_answered before after user program strict (Some (want.Feed since options)) (event.Fed answer) h answered later =
@@ -103,6 +105,8 @@ later_than_answered before after user program strict (Some (want.Feed since opti
 later_than_answered before after user program strict (Some (want.Feed since options)) (event.Bodies answer) h answered later = absurd answered
 later_than_answered before after user program strict (Some (want.Feed since options)) (event.Asked answer) h answered later = absurd answered
 later_than_answered before after user program strict (Some (want.Feed since options)) (event.Judged answer) h answered later = absurd answered
+later_than_answered before after user program strict (Some (want.Feed since options)) (event.Got answer) h answered later = absurd answered
+later_than_answered before after user program strict (Some (want.Feed since options)) (event.Set answer) h answered later = absurd answered
 later_than_answered before after user program strict (Some (want.Bodies options rows most)) (event.Whole message) h answered later = absurd answered
 later_than_answered before after user program strict (Some (want.Bodies options rows most)) (event.Idle front) h answered later = absurd answered
 later_than_answered before after user program strict (Some (want.Bodies options rows most)) (event.Fed answer) h answered later = absurd answered
@@ -110,6 +114,8 @@ later_than_answered before after user program strict (Some (want.Bodies options 
     later_before before.read after.read before.lowest after.lowest h answered.0.reads later
 later_than_answered before after user program strict (Some (want.Bodies options rows most)) (event.Asked answer) h answered later = absurd answered
 later_than_answered before after user program strict (Some (want.Bodies options rows most)) (event.Judged answer) h answered later = absurd answered
+later_than_answered before after user program strict (Some (want.Bodies options rows most)) (event.Got answer) h answered later = absurd answered
+later_than_answered before after user program strict (Some (want.Bodies options rows most)) (event.Set answer) h answered later = absurd answered
 later_than_answered before after user program strict (Some (want.Ask offers)) (event.Whole message) h answered later = absurd answered
 later_than_answered before after user program strict (Some (want.Ask offers)) (event.Idle front) h answered later = absurd answered
 later_than_answered before after user program strict (Some (want.Ask offers)) (event.Fed answer) h answered later = absurd answered
@@ -117,6 +123,8 @@ later_than_answered before after user program strict (Some (want.Ask offers)) (e
 later_than_answered before after user program strict (Some (want.Ask offers)) (event.Asked answer) h answered later =
     later_before before.read after.read before.lowest after.lowest h answered.0.reads later
 later_than_answered before after user program strict (Some (want.Ask offers)) (event.Judged answer) h answered later = absurd answered
+later_than_answered before after user program strict (Some (want.Ask offers)) (event.Got answer) h answered later = absurd answered
+later_than_answered before after user program strict (Some (want.Ask offers)) (event.Set answer) h answered later = absurd answered
 later_than_answered before after user program strict (Some (want.Propose r)) (event.Whole message) h answered later = absurd answered
 later_than_answered before after user program strict (Some (want.Propose r)) (event.Idle front) h answered later = absurd answered
 later_than_answered before after user program strict (Some (want.Propose r)) (event.Fed answer) h answered later = absurd answered
@@ -124,6 +132,24 @@ later_than_answered before after user program strict (Some (want.Propose r)) (ev
 later_than_answered before after user program strict (Some (want.Propose r)) (event.Asked answer) h answered later = absurd answered
 later_than_answered before after user program strict (Some (want.Propose r)) (event.Judged answer) h answered later =
     later_before before.read after.read before.lowest after.lowest h answered.stores.reads later
+later_than_answered before after user program strict (Some (want.Propose r)) (event.Got answer) h answered later = absurd answered
+later_than_answered before after user program strict (Some (want.Propose r)) (event.Set answer) h answered later = absurd answered
+later_than_answered before after user program strict (Some (want.GetCheckpoint client)) (event.Whole message) h answered later = absurd answered
+later_than_answered before after user program strict (Some (want.GetCheckpoint client)) (event.Idle front) h answered later = absurd answered
+later_than_answered before after user program strict (Some (want.GetCheckpoint client)) (event.Fed answer) h answered later = absurd answered
+later_than_answered before after user program strict (Some (want.GetCheckpoint client)) (event.Bodies answer) h answered later = absurd answered
+later_than_answered before after user program strict (Some (want.GetCheckpoint client)) (event.Asked answer) h answered later = absurd answered
+later_than_answered before after user program strict (Some (want.GetCheckpoint client)) (event.Judged answer) h answered later = absurd answered
+later_than_answered before after user program strict (Some (want.GetCheckpoint client)) (event.Got answer) h answered later = later_before before.read after.read before.lowest after.lowest h answered.0.reads later
+later_than_answered before after user program strict (Some (want.GetCheckpoint client)) (event.Set answer) h answered later = absurd answered
+later_than_answered before after user program strict (Some (want.SetCheckpoint client rev body)) (event.Whole message) h answered later = absurd answered
+later_than_answered before after user program strict (Some (want.SetCheckpoint client rev body)) (event.Idle front) h answered later = absurd answered
+later_than_answered before after user program strict (Some (want.SetCheckpoint client rev body)) (event.Fed answer) h answered later = absurd answered
+later_than_answered before after user program strict (Some (want.SetCheckpoint client rev body)) (event.Bodies answer) h answered later = absurd answered
+later_than_answered before after user program strict (Some (want.SetCheckpoint client rev body)) (event.Asked answer) h answered later = absurd answered
+later_than_answered before after user program strict (Some (want.SetCheckpoint client rev body)) (event.Judged answer) h answered later = absurd answered
+later_than_answered before after user program strict (Some (want.SetCheckpoint client rev body)) (event.Got answer) h answered later = absurd answered
+later_than_answered before after user program strict (Some (want.SetCheckpoint client rev body)) (event.Set answer) h answered later = later_before before.read after.read before.lowest after.lowest h answered.reads later
 
 -- the steps up to some of them were answered by a moment of which the same history is later
 pub answered_by_then : (start now : Moment) (user : List ℕ) (program : Program) (strict : Bool) (later_steps steps : List Step) (h : List Entry) → AreAnswered start user program strict (later_steps ++ steps) now → IsLaterThanAll now.read h
@@ -142,21 +168,21 @@ ResumeLaw = (start now : Moment) (h : List Entry) (user : List ℕ) (version : V
     × ((sent row : Row) → HasRow offered sent → HasRow (feed (all_of h) user runs.asked.since runs.asked.options) row
     → HasRow offered row ⊎ IsAhead (feed (all_of h) user sent.key runs.asked.options) sent.key row)
 
-pub resume_in : ResumeLaw → (history : List Entry) (program : Program) (strict : Bool) (device : Device) (left : Leaves) (earlier : List Step) (begin : Step) (more later : List Step) (after : Machine)
-    → (is : IsSessionOf history program strict device left) → steps_of is.served.session.turns ≡ later ++ (more ++ begin ∷ earlier)
+pub resume_in : ResumeLaw → (board : BoardState) (program : Program) (strict : Bool) (device : Device) (left : Leaves) (earlier : List Step) (begin : Step) (more later : List Step) (after : Machine)
+    → (is : IsSessionOf board program strict device left) → steps_of is.served.session.turns ≡ later ++ (more ++ begin ∷ earlier)
     → (runs : RunsFeed device.user device.version strict earlier begin more after)
     → (offered : List Row) × AreOffered device.version (put_by (more ++ begin ∷ [])) offered
-    × (offered ++ not_offered after.feed ≡ rows_at history device.user runs.asked.since runs.asked.options (feed_looks (more ++ begin ∷ [])))
-    × ((sent row : Row) → HasRow offered sent → HasRow (feed (all_of history) device.user runs.asked.since runs.asked.options) row
-    → HasRow offered row ⊎ IsAhead (feed (all_of history) device.user sent.key runs.asked.options) sent.key row)
-resume_in law history program strict device left earlier begin more later after is split runs =
+    × (offered ++ not_offered after.feed ≡ rows_at board.log device.user runs.asked.since runs.asked.options (feed_looks (more ++ begin ∷ [])))
+    × ((sent row : Row) → HasRow offered sent → HasRow (feed (all_of board.log) device.user runs.asked.since runs.asked.options) row
+    → HasRow offered row ⊎ IsAhead (feed (all_of board.log) device.user sent.key runs.asked.options) sent.key row)
+resume_in law board program strict device left earlier begin more later after is split runs =
     let session = is.served.session in
-    let whole : (then : Moment) × AreAnswered is.start is.setup.user (arc_value is.setup.program) is.setup.strict (steps_of session.turns) then × IsLaterThanAll then.read history =
-    answered_by_then is.start session.now is.setup.user (arc_value is.setup.program) is.setup.strict (undone session.halted) (steps_of session.turns) history session.answered
-    (later_before session.now.read is.final.read session.now.lowest is.final.lowest history session.reads.reads is.later) in
+    let whole : (then : Moment) × AreAnswered is.start is.setup.user (arc_value is.setup.program) is.setup.strict (steps_of session.turns) then × IsLaterThanAll then.read board.log =
+    answered_by_then is.start session.now is.setup.user (arc_value is.setup.program) is.setup.strict (undone session.halted) (steps_of session.turns) board.log session.answered
+    (later_before session.now.read is.final.read session.now.lowest is.final.lowest board.log session.reads.reads is.later) in
     let answered : AreAnswered is.start device.user program strict (later ++ (more ++ begin ∷ earlier)) whole.0 =
     subst (λ steps. AreAnswered is.start device.user program strict steps whole.0) split
-    (of_device (λ u v b p. AreAnswered is.start u p b (steps_of session.turns) whole.0) history program strict device left is whole.1) in
-    let by_then : (then : Moment) × AreAnswered is.start device.user program strict (more ++ begin ∷ earlier) then × IsLaterThanAll then.read history =
-    answered_by_then is.start whole.0 device.user program strict later (more ++ begin ∷ earlier) history answered whole.2 in
-    law is.start by_then.0 history device.user device.version program strict earlier begin more after runs by_then.1 by_then.2
+    (of_device (λ u v b p. AreAnswered is.start u p b (steps_of session.turns) whole.0) board program strict device left is whole.1) in
+    let by_then : (then : Moment) × AreAnswered is.start device.user program strict (more ++ begin ∷ earlier) then × IsLaterThanAll then.read board.log =
+    answered_by_then is.start whole.0 device.user program strict later (more ++ begin ∷ earlier) board.log answered whole.2 in
+    law is.start by_then.0 board.log device.user device.version program strict earlier begin more after runs by_then.1 by_then.2

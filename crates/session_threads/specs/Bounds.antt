@@ -1,11 +1,17 @@
--- Where there is no room: a history that has many entries.
-use Rattle.std.specs.Prelude.{◌≤◌, ◌+◌, List, [], ◌∷◌, length}
+-- Where there is no room: a history that has many entries, and checkpoints that are as many as there may be. And the numbers of
+-- checkpoints that answers name.
+use Rattle.std.specs.Prelude.{◌≤◌, ◌+◌, ◌⊎◌, ℕ, List, [], ◌∷◌, length, Option, Some}
 use Rattle.sg_history.specs.declared.entries.Entry.{Entry}
+use Rattle.sg_history.specs.Board.{SideEntry}
+use Rattle.checkpoint_store.specs.declared.answers.SetAnswer.TheVariants as set
 use Rattle.doc_board.specs.declared.outcome.Outcome.{Outcome}
 use Rattle.doc_board.specs.declared.outcome.Outcome.TheVariants as outcome
+use Rattle.session_core.specs.declared.act.Want.{Want}
+use Rattle.session_core.specs.declared.act.Want.TheVariants as want
 use Rattle.session_core.specs.declared.event.Event.{Event}
 use Rattle.session_core.specs.declared.event.Event.TheVariants as event
-use Rattle.session_core.specs.Steps.{Step}
+use Rattle.session_core.specs.Steps.{Step, wanted_after}
+use Rattle.session_run.specs.Numbers.{named_of, number_in, AreNamedRising, AreNamedWithin}
 use Rattle.session_threads.specs.declared.played.LineOutcome.{LineOutcome}
 use Rattle.session_threads.specs.declared.played.LineOutcome.TheVariants.{Plain}
 
@@ -28,3 +34,21 @@ AreBoundedLines h (Plain answer ∷ outcomes) = IsBounded h answer × AreBounded
 abbrev pub AreBoundedSteps : List Entry → List Step → Type 0
 AreBoundedSteps h [] = Unit {0}
 AreBoundedSteps h (s ∷ steps) = IsBoundedEvent h s.event × AreBoundedSteps h steps
+
+-- no room was found for the checkpoint of a user's client only where 100,000 are kept, or where it has the last number
+abbrev pub IsFullEvent : List SideEntry → List ℕ → Event → Option Want → Type 0
+IsFullEvent side user (event.Set set.Full503) (Some (want.SetCheckpoint client rev body)) =
+    (100000 ≤ length side) ⊎ (18446744073709551615 ≤ number_in side user client)
+IsFullEvent side user other wanted = Unit {0}
+
+-- the same of all that was answered to a session
+abbrev pub AreFullSteps : List SideEntry → List ℕ → List Step → Type 0
+AreFullSteps side user [] = Unit {0}
+AreFullSteps side user (s ∷ earlier) = IsFullEvent side user s.event (wanted_after earlier) × AreFullSteps side user earlier
+
+-- what is answered of checkpoints in the steps of a user's session, the last step first, by what is kept at the end: the numbers that
+-- are named don't fall for any client, and none is above the one that is kept; and no room was found only where there is none
+pub record AreCheckpointsWithin (side : List SideEntry) (user : List ℕ) (steps : List Step) : Type 0 where
+  pub rising : AreNamedRising (named_of steps)
+  pub within : AreNamedWithin user side (named_of steps)
+  pub full : AreFullSteps side user steps

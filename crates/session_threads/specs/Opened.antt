@@ -11,9 +11,9 @@ use Rattle.write_path.specs.Own.{in_order}
 use Rattle.write_path.specs.Solo.{Solo}
 use Rattle.session_threads.specs.Opening.{AreOf}
 
--- a board of this log that nobody else has
+-- a board of this log that nobody else has, without checkpoints
 abbrev pub alone : List Entry → State
-alone log = record { log = log; pending = []; rooms = []; known = 0; reads = 0 }
+alone log = record { log = log; pending = []; rooms = []; checkpoints = []; known = 0; reads = 0 }
 
 -- no room is outstanding, and all entries of the log are the ground's own
 pub record HasOwnLog (g : Solo) : Type 0 where

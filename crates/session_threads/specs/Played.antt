@@ -1,5 +1,5 @@
 -- A script and sessions that ran at the same time over one history.
-use Rattle.std.specs.Prelude.{◌≡◌, ◌<◌, ◌+◌, ℕ, Bool, not, List, [], length, Option, Some}
+use Rattle.std.specs.Prelude.{◌≡◌, ◌<◌, ◌+◌, ◌++◌, ℕ, Bool, not, List, [], length, Option, Some}
 use Rattle.std.specs.Arc.{arc_value}
 use Rattle.sg_outside.specs.Wire.{Traffic}
 use Rattle.sg_history.specs.declared.entries.Entry.{Entry}
@@ -23,7 +23,7 @@ use Rattle.session_run.specs.Answered.{Moment}
 use Rattle.session_run.specs.Served.{IsServed}
 use Rattle.session_run.specs.Turns.{steps_of, undone}
 use Rattle.session_threads.specs.declared.played.LineOutcome.{LineOutcome}
-use Rattle.session_threads.specs.Bounds.{AreBoundedLines, AreBoundedSteps}
+use Rattle.session_threads.specs.Bounds.{AreBoundedLines, AreBoundedSteps, AreCheckpointsWithin}
 use Rattle.session_threads.specs.Lines.{AreLinesAt, sequences_of}
 use Rattle.session_threads.specs.Opening.{IsOpening}
 use Rattle.session_threads.specs.Pairs.{AllPairs}
@@ -48,17 +48,18 @@ pub record IsSetup (program : Program) (strict : Bool) (device : Device) (setup 
   pub strictness : setup.strict ≡ strict
   pub judged_by : arc_value setup.program ≡ program
 
--- a session of the device was served, and the history is later than all boards that were read for it
-pub record IsSessionOf (h : List Entry) (program : Program) (strict : Bool) (device : Device) (left : Leaves) : Type 0 where
+-- a session of the device was served, and the board, at which all ended, has a history that is later than all boards that were read for it
+pub record IsSessionOf (board : BoardState) (program : Program) (strict : Bool) (device : Device) (left : Leaves) : Type 0 where
   pub setup : Setup
   pub is_setup : IsSetup program strict device setup
   pub start : Moment
   pub final : Moment
   pub served : IsServed setup start final device.traffic left.ended left.traffic
-  pub later : IsLaterThanAll final.read h
+  pub later : IsLaterThanAll final.read board.log
   -- the wire is said to have failed only where it did
   pub fault : left.ended.end ≡ WireFault → device.faults < left.faults
-  pub bounded : AreBoundedSteps h (undone served.session.halted) × AreBoundedSteps h (steps_of served.session.turns)
+  pub bounded : AreBoundedSteps board.log (undone served.session.halted) × AreBoundedSteps board.log (steps_of served.session.turns)
+  pub checkpoints : AreCheckpointsWithin board.side setup.user (undone served.session.halted ++ steps_of served.session.turns)
 
 -- The history of the board, at which nothing waits, begins with the configuration's roles and users. Each line of the script has its
 -- outcome by it, in order, and each device was served a session over it. Past the opening it has what the lines and the sessions are
@@ -71,7 +72,7 @@ pub record IsPlayed (config : Config) (lines : List AdminLine) (devices : List D
   pub is_opening : IsOpening config.roles config.users opening
   pub begins : Extends opening board.log
   pub script : AreLinesAt board.log (arc_value config.program) (not config.conflicts) [] (length opening) lines outcomes
-  pub sessions : AllPairs (IsSessionOf board.log (arc_value config.program) (not config.conflicts)) devices left
+  pub sessions : AllPairs (IsSessionOf board (arc_value config.program) (not config.conflicts)) devices left
   pub once : (k : ℕ) → times k (sequences_of outcomes) + total (λ l. times k l.ended.stored) left ≡ owed (length opening) board k
   pub judged : (k : ℕ) (w : Write) → book_of board.log k ≡ Some (entry.Write w) → IsJudgedWrite (arc_value config.program) (book_of board.log) k w
   pub bounded : AreBoundedLines board.log outcomes

@@ -27,7 +27,7 @@ use Rattle.session_threads.specs.Played.{Device, IsSetup, Leaves}
 
 -- what a ground records of a pass that knows this
 abbrev pub moment_at : Known → Moment
-moment_at p = moment p.read p.lowest_front None p.own
+moment_at p = moment p.read p.lowest_front None None p.own
 
 -- ---- lines
 

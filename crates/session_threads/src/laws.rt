@@ -29,21 +29,21 @@ ghost use Rattle.session_threads.specs.Played.{Device, IsPlayed, IsSessionOf, Le
 /// that of this history, none of them puts a body that the user is not shown, and what the ground has of its own since are the entries
 /// at the sequences that it lists as stored, each the write of a revision of the user with the effects with which the program accepts it.
 pub fn sessions()
-    ensures leads { (history : List Entry) (program : Program) (strict : Bool) (device : Device)
-        (left : Leaves) → (is : IsSessionOf history program strict device left)
+    ensures leads { (board : BoardState) (program : Program) (strict : Bool) (device : Device)
+        (left : Leaves) → (is : IsSessionOf board program strict device left)
         → Leads (new_machine device.user device.version strict)
         (steps_of is.served.session.turns) is.served.session.machine }
-    ensures right { (history : List Entry) (program : Program) (strict : Bool) (device : Device)
-        (left : Leaves) → (is : IsSessionOf history program strict device left)
-        → AreRight history device.user program strict (steps_of is.served.session.turns) }
-    ensures own_bodies { (history : List Entry) (program : Program) (strict : Bool)
+    ensures right { (board : BoardState) (program : Program) (strict : Bool) (device : Device)
+        (left : Leaves) → (is : IsSessionOf board program strict device left)
+        → AreRight board.log device.user program strict (steps_of is.served.session.turns) }
+    ensures own_bodies { (board : BoardState) (program : Program) (strict : Bool)
         (device : Device) (left : Leaves)
-        → (is : IsSessionOf history program strict device left)
-        → HaveOwnBodies history device.user
+        → (is : IsSessionOf board program strict device left)
+        → HaveOwnBodies board.log device.user
         (new_machine device.user device.version strict)
         (steps_of is.served.session.turns) }
-    ensures own { (history : List Entry) (program : Program) (strict : Bool) (device : Device)
-        (left : Leaves) → (is : IsSessionOf history program strict device left)
+    ensures own { (board : BoardState) (program : Program) (strict : Bool) (device : Device)
+        (left : Leaves) → (is : IsSessionOf board program strict device left)
         → (added : List Waiting) × (is.final.own ≡ added ++ is.start.own)
         × (map (λ (w : Waiting). w.number) added ≡ reverse left.ended.stored)
         × AreJudged program device.user is.start.read is.final.read added }
@@ -54,21 +54,21 @@ pub fn sessions()
 /// To resume at any key that a session sent misses none: while a feed runs in it, each row of the feed at the history's end, from the
 /// session's own since key, was offered, or has a key above the sent one and stands in the feed from that.
 pub fn resume()
-    ensures { (history : List Entry) (program : Program) (strict : Bool) (device : Device)
+    ensures { (board : BoardState) (program : Program) (strict : Bool) (device : Device)
         (left : Leaves) (earlier : List Step) (begin : Step) (more later : List Step)
         (after : Machine)
-        → (is : IsSessionOf history program strict device left)
+        → (is : IsSessionOf board program strict device left)
         → steps_of is.served.session.turns ≡ later ++ (more ++ begin ∷ earlier)
         → (runs : RunsFeed device.user device.version strict earlier begin more after)
         → (offered : List Row)
         × AreOffered device.version (put_by (more ++ begin ∷ [])) offered
         × (offered ++ not_offered after.feed
-        ≡ rows_at history device.user runs.asked.since runs.asked.options
+        ≡ rows_at board.log device.user runs.asked.since runs.asked.options
         (feed_looks (more ++ begin ∷ [])))
         × ((sent row : Row) → HasRow offered sent
-        → HasRow (feed (all_of history) device.user runs.asked.since runs.asked.options) row
+        → HasRow (feed (all_of board.log) device.user runs.asked.since runs.asked.options) row
         → HasRow offered row
-        ⊎ IsAhead (feed (all_of history) device.user sent.key runs.asked.options)
+        ⊎ IsAhead (feed (all_of board.log) device.user sent.key runs.asked.options)
         sent.key row) }
 {
     session_laws::laws::resume();

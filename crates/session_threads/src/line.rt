@@ -63,9 +63,9 @@ fn run_line<G: Ground>(
     requires draws { 2 ≤ G.left ground.old }
     ensures run { IsLineRun program.now strict
         (moment (G.read ground.old) (G.lowest_front ground.old) (G.recorded ground.old)
-        (G.own ground.old)) line result
+        (G.checkpoints ground.old) (G.own ground.old)) line result
         (moment (G.read ground.new) (G.lowest_front ground.new) (G.recorded ground.new)
-        (G.own ground.new)) }
+        (G.checkpoints ground.new) (G.own ground.new)) }
     ensures spends { Spends (G.origin ground.old) (G.origin ground.new) (G.left ground.old)
         (G.left ground.new) }
 {
@@ -99,9 +99,9 @@ pub fn run_lines<G: Ground>(
     requires none { outcomes.old.items ≡ [] }
     ensures run { AreLinesRun program.now strict
         (moment (G.read ground.old) (G.lowest_front ground.old) (G.recorded ground.old)
-        (G.own ground.old)) lines.items outcomes.new.items
+        (G.checkpoints ground.old) (G.own ground.old)) lines.items outcomes.new.items
         (moment (G.read ground.new) (G.lowest_front ground.new) (G.recorded ground.new)
-        (G.own ground.new)) }
+        (G.checkpoints ground.new) (G.own ground.new)) }
     ensures origin { G.origin ground.new ≡ G.origin ground.old }
 {
     for line in lines {

@@ -353,6 +353,7 @@ pub fn run_sessions<R: Threads + Wait + Sync, W: Wire + Send>(
 {
     doc_board::laws::judged_writes();
     session_run::laws::sessions();
+    checkpoint_store::laws::side_maps();
     write_path::laws::closing();
     write_path::laws::was_read();
     let strict = !config.conflicts;

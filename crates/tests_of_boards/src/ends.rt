@@ -1,14 +1,11 @@
 //! How sessions end over wires that fail.
 
-use crate::programs::open;
+use crate::programs::{OPEN, setup};
 use doc_board::Board;
-use repl_messages::Version;
 use session_mux::FrameWhy;
-use session_run::{End, Ended, Setup, serve_session};
-use sg_history::Name;
+use session_run::{End, Ended, serve_session};
 use sg_outside::{Bytes, Got, ScriptedWire};
 use std::alloc::{AllocError, Global};
-use std::sync::Arc;
 use std::test::Fail;
 use write_path::{Shelf, SoloGround};
 
@@ -17,18 +14,6 @@ const ASK: &[u8] = b"\x01\0\x1bProfile\0subChanges\0since\x000\0\x95\x2c\x1f\xb6
 
 /// The beginning of a frame that is compressed.
 const COMPRESSED: &[u8] = b"\x01\x08";
-
-/// Ann's device, by version 3.
-fn setup(alloc: Global) -> Result<Setup, Fail> {
-    let user = Name::parse(alloc, "ann")?;
-    let program = Arc::new(alloc, open(alloc)?)?;
-    Ok(Setup {
-        user,
-        version: Version::Three,
-        strict: false,
-        program,
-    })
-}
 
 /// A ground with an empty history.
 fn ground(alloc: Global) -> Result<SoloGround, Fail> {
@@ -58,7 +43,7 @@ fn wire(alloc: Global, words: &str, fails: bool) -> Result<ScriptedWire, AllocEr
 }
 
 fn serve(alloc: Global, wire: &mut ScriptedWire) -> Result<Ended, Fail> {
-    let setup = setup(alloc)?;
+    let setup = setup(alloc, OPEN)?;
     let ground = ground(alloc)?;
     let (_ground, ended) = serve_session(alloc, ground, setup, wire);
     Ok(ended)

@@ -1,5 +1,6 @@
 //! Tests that begin with a new board. One function holds it, since each one that does has its drop proved.
 
+use crate::checkpoints::fills_checkpoints;
 use crate::tries::passes_a_number;
 use crate::waiting::{asks_too_much, ends_with_the_lowest, holds_a_number};
 use doc_board::Board;
@@ -13,6 +14,7 @@ enum Case {
     Held,
     TooMuch,
     Passed,
+    Checkpoints,
 }
 
 fn goes_right(alloc: Global, case: Case) -> Result<bool, Fail> {
@@ -22,6 +24,7 @@ fn goes_right(alloc: Global, case: Case) -> Result<bool, Fail> {
         Case::Held => holds_a_number(alloc, &mut board),
         Case::TooMuch => asks_too_much(&mut board),
         Case::Passed => passes_a_number(alloc, &mut board)?,
+        Case::Checkpoints => fills_checkpoints(alloc, &mut board)?,
     })
 }
 
@@ -50,5 +53,12 @@ fn too_many_bytes_are_asked_for(rt: HostRuntime) -> Result<(), Fail> {
 #[test]
 fn a_number_that_a_write_has_passed(rt: HostRuntime) -> Result<(), Fail> {
     assert!(rt; goes_right(rt.alloc(), Case::Passed)?);
+    Ok(())
+}
+
+/// The checkpoint of one more client than 100,000 finds no room; one that is there is set still.
+#[test]
+fn as_many_checkpoints_as_a_board_keeps(rt: HostRuntime) -> Result<(), Fail> {
+    assert!(rt; goes_right(rt.alloc(), Case::Checkpoints)?);
     Ok(())
 }

@@ -4,6 +4,8 @@
 #[cfg(test)]
 mod boards;
 #[cfg(test)]
+mod checkpoints;
+#[cfg(test)]
 mod ends;
 #[cfg(test)]
 mod fresh;

@@ -4,17 +4,17 @@ ghost use Rattle.std.specs.Prelude.{◌≡◌, ◌≤◌, ◌+◌, ◌^◌, [], 
 ghost use Rattle.seq_gate.specs.Passes.{share};
 ghost use Rattle.write_path.specs.Shared.{Rests, shared_origin};
 
-use crate::programs::open as open_program;
+use crate::programs::{OPEN, open as open_program, setup};
 use doc_board::Board;
 use doc_board::laws::recorded;
-use repl_messages::{Revision, Version};
+use repl_messages::Revision;
 use seq_gate::{Gate, Pass, close, open};
 use session_core::{Look, Purpose};
 use session_run::{End, Ended, Setup, serve_session};
 use sg_history::{DocId, Name, RevId, Revs, read_journal};
 use sg_outside::{Bytes, Gave, Got, Input, MemWire, Wire};
 use std::alloc::{AllocError, Global};
-use std::sync::{Arc, Wait};
+use std::sync::Wait;
 use std::test::Fail;
 use std::thread;
 use std::thread::Threads;
@@ -44,7 +44,7 @@ const SENT: [&[u8]; 4] = [
 ];
 
 /// The shelf of a short journal.
-fn shelf_of(alloc: Global, journal: &[u8]) -> Result<Shelf, Fail>
+pub fn shelf_of(alloc: Global, journal: &[u8]) -> Result<Shelf, Fail>
     ensures pending { IfOk result (λ shelf. shelf.board.pending ≡ []) }
     ensures rooms { IfOk result (λ shelf. shelf.board.rooms ≡ []) }
     ensures short { IfOk result (λ shelf. length shelf.board.log ≤ 1000) }
@@ -112,18 +112,6 @@ impl<'g, R: Wait + Sync> Wire for Revoking<'g, R> {
     }
 }
 
-/// Ann's device, by version 3.
-fn setup(alloc: Global) -> Result<Setup, Fail> {
-    let user = Name::parse(alloc, "ann")?;
-    let program = Arc::new(alloc, open_program(alloc)?)?;
-    Ok(Setup {
-        user,
-        version: Version::Three,
-        strict: false,
-        program,
-    })
-}
-
 fn inputs(alloc: Global) -> Result<Vec<Input>, AllocError> {
     let mut inputs = Vec::new(alloc);
     inputs.push(Input::Frame(Bytes::from_slice(alloc, ASK)?))?;
@@ -165,7 +153,7 @@ struct Device {
 fn device_of(alloc: Global) -> Result<Device, Fail> {
     let role = Name::parse(alloc, "r")?;
     let wire = MemWire::new(alloc, inputs(alloc)?);
-    match setup(alloc) {
+    match setup(alloc, OPEN) {
         Ok(setup) => Ok(Device { setup, wire, role }),
         Err(fail) => {
             drop(wire);

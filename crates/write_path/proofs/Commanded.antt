@@ -30,7 +30,7 @@ no_body (command.DropUser name) = omega arith
 no_body (command.DropRole name) = omega arith
 
 pub after_command : Extended → Itself → (s t : State) (c : Command) (answer : Outcome) → s.pending ≡ [] → IsBoardCommanded s t (entry_of c) answer → After (board_of s) (board_of t)
-after_command extended itself s t c (outcome.Stored sequence at) alone left = after_entry extended s t (entry_of c) alone left.pending left.log left.rooms (no_body c)
+after_command extended itself s t c (outcome.Stored sequence at) alone left = after_entry extended s t (entry_of c) alone left.pending left.log left.rooms left.checkpoints (no_body c)
 after_command extended itself s t c (outcome.Full503 at places) alone left = same_after itself s t left.0
 after_command extended itself s t c (outcome.LogFull509 at entries bytes) alone left = same_after itself s t left.0
 after_command extended itself s t c outcome.Memory507 alone left = same_after itself s t left

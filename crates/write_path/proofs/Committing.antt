@@ -58,10 +58,10 @@ pub record Judging : Type 0 where
 -- what they say of the board that is left
 pub record Leaving : Type 0 where
   pub commit : (s t : State) (room : RoomFor) (number : ℕ) (c : Candidate) → MayStore s.log s.pending number → IsTrue (is_outstanding s.rooms room) → Fits room c → MayBeStored s number c → is_stale s c ≡ false → history_on t ≡ stored_at s number (entry_of c)
-      → book_on t ≡ with_entry number (entry_of c) (book_on s) → t.rooms ≡ without_room room s.rooms → After (board_of s) (board_of t)
+      → book_on t ≡ with_entry number (entry_of c) (book_on s) → t.rooms ≡ without_room room s.rooms → t.checkpoints ≡ s.checkpoints → After (board_of s) (board_of t)
   pub swap : (s t : State) (room : RoomFor) (spent number : ℕ) (c : Candidate) → MayStore s.log s.pending spent → MayStore s.log s.pending number → spent ≢ number → IsTrue (is_outstanding s.rooms room) → Fits room c → MayBeStored s number c → is_stale s c ≡ false
-      → history_on t ≡ swapped_to s spent number (entry_of c) → book_on t ≡ with_entry number (entry_of c) (with_entry spent kinds.Unused (book_on s)) → t.rooms ≡ without_room room s.rooms → After (board_of s) (board_of t)
-  pub void : (s t : State) (room : RoomFor) (number : ℕ) → MayStore s.log s.pending number → IsTrue (is_outstanding s.rooms room) → history_on t ≡ stored_at s number kinds.Unused → book_on t ≡ with_entry number kinds.Unused (book_on s) → t.rooms ≡ without_room room s.rooms
+      → history_on t ≡ swapped_to s spent number (entry_of c) → book_on t ≡ with_entry number (entry_of c) (with_entry spent kinds.Unused (book_on s)) → t.rooms ≡ without_room room s.rooms → t.checkpoints ≡ s.checkpoints → After (board_of s) (board_of t)
+  pub void : (s t : State) (room : RoomFor) (number : ℕ) → MayStore s.log s.pending number → IsTrue (is_outstanding s.rooms room) → history_on t ≡ stored_at s number kinds.Unused → book_on t ≡ with_entry number kinds.Unused (book_on s) → t.rooms ≡ without_room room s.rooms → t.checkpoints ≡ s.checkpoints
       → After (board_of s) (board_of t)
 
 -- ---- a board that a pass has read
@@ -157,7 +157,7 @@ module _ (leaving : Leaving) (judging : Judging) (later : LaterBoards) (rising :
       leaving.commit s t room.made_for number.value (candidate.Write c.entry c.tree c.base) may out (fits_room judged program strict by r room.made_for c h.is_ready doc bytes)
       (may_be_stored later judged s c number.value held_ready was.later was.front above (h.last ∙ sym held_ready.base))
       (fresh_on c.base (last_on s c.entry.doc) (held_ready.base ∙ sym h.last))
-      h.spent.stored h.spent.book h.spent.rooms
+      h.spent.stored h.spent.book h.spent.rooms h.spent.checkpoints
 
   after_again : IsStoredAgain s t program strict by r room number answer → After (board_of s) (board_of t)
   after_again h =
@@ -165,10 +165,10 @@ module _ (leaving : Leaving) (judging : Judging) (later : LaterBoards) (rising :
       leaving.commit s t room.made_for number.value (candidate.Write c.entry c.tree c.base) may out (fits_room s program strict by r room.made_for c h.is_ready doc bytes)
       (may_again s c number.value h.is_ready.made.held may h.above)
       (fresh_on c.base (last_on s c.entry.doc) h.is_ready.made.held.base)
-      h.spent.stored h.spent.book h.spent.rooms
+      h.spent.stored h.spent.book h.spent.rooms h.spent.checkpoints
 
   after_down : IsTurnedDownAgain s t program strict by r room number answer → After (board_of s) (board_of t)
-  after_down h = leaving.void s t room.made_for number.value may out h.spent.stored h.spent.book h.spent.rooms
+  after_down h = leaving.void s t room.made_for number.value may out h.spent.stored h.spent.book h.spent.rooms h.spent.checkpoints
 
   left_by : (e : Entry) → IsSpent s t room number e → After (board_of s) (board_of t) → MayLeave p (board_of s) (board_of t)
   left_by e spent next = may_leave_stored rising p s t room.made_for number.value e finds held made next spent.stored spent.book spent.rooms
@@ -292,11 +292,11 @@ module _ (p : Known) (s m : State) (program : Program) (strict : Bool) (by : Opt
   book_same : book_on m ≡ book_on s
   book_same = λ i. book_with (back.same.log i) (back.same.pending i)
 
-  module _ (leaving : Leaving) (judging : Judging) (rising : Rising) (t : State) (history : history_on t ≡ swapped_to m n fresh (kinds.Write c.entry)) (book : book_on t ≡ with_entry fresh (kinds.Write c.entry) (with_entry n kinds.Unused (book_on m))) (rooms : t.rooms ≡ without_room room.made_for m.rooms) where
+  module _ (leaving : Leaving) (judging : Judging) (rising : Rising) (t : State) (history : history_on t ≡ swapped_to m n fresh (kinds.Write c.entry)) (book : book_on t ≡ with_entry fresh (kinds.Write c.entry) (with_entry n kinds.Unused (book_on m))) (rooms : t.rooms ≡ without_room room.made_for m.rooms) (checkpoints : t.checkpoints ≡ m.checkpoints) where
     next : After (board_of s) (board_of t)
     next = subst (λ (b : BoardState). After b (board_of t)) (same_board s m back.same)
         (leaving.swap m t room.made_for n fresh (candidate.Write c.entry c.tree c.base) spent_may fresh_there apart out_there (record { doc = fits_there.doc; bytes = fits_there.bytes })
-        (may_again m c fresh ready_there fresh_there base_below) (fresh_on c.base (last_on m c.entry.doc) ready_there.base) history book rooms)
+        (may_again m c fresh ready_there fresh_there base_below) (fresh_on c.base (last_on m c.entry.doc) ready_there.base) history book rooms checkpoints)
 
     at : (k : ℕ) → board_book (board_of t) k ≡ (if nat_eq fresh k then Some (kinds.Write c.entry) else (if nat_eq n k then Some kinds.Unused else board_book (board_of s) k))
     at k = ap (λ (b : Book). b k) book ∙ ap (λ (b : Book). if nat_eq fresh k then Some (kinds.Write c.entry) else (if nat_eq n k then Some kinds.Unused else b k)) book_same
@@ -437,16 +437,16 @@ module _ (p : Known) (f : BoardState) (m : State) (program : Program) (strict : 
   base_at = base_below p at.s m program strict by r room number c fresh at.finds at.held at.made at.doc at.bytes at.back new top
 
   module _ (leaving : Leaving) (judging : Judging) (rising : Rising) (t : State) (history : history_on t ≡ swapped_to m number.value fresh (kinds.Write c.entry))
-      (book : book_on t ≡ with_entry fresh (kinds.Write c.entry) (with_entry number.value kinds.Unused (book_on m))) (rooms : t.rooms ≡ without_room room.made_for m.rooms) where
+      (book : book_on t ≡ with_entry fresh (kinds.Write c.entry) (with_entry number.value kinds.Unused (book_on m))) (rooms : t.rooms ≡ without_room room.made_for m.rooms) (checkpoints : t.checkpoints ≡ m.checkpoints) where
     pub may_leave_at : MayLeave (drawn_in_turn p fresh) f (board_of t)
     may_leave_at =
         subst (λ (b : BoardState). MayLeave (drawn_in_turn p fresh) b (board_of t)) (sym at.here)
-        (may_leave_swapped p at.s m program strict by r room number c fresh at.finds at.held at.made at.doc at.bytes at.back new top leaving judging rising t history book rooms)
+        (may_leave_swapped p at.s m program strict by r room number c fresh at.finds at.held at.made at.doc at.bytes at.back new top leaving judging rising t history book rooms checkpoints)
 
     pub committed_at : (answer : Outcome) → answer ≡ outcome.Stored fresh c.entry.at → (judged : State) → IsCommitted p (after_turn (drawn_in_turn p fresh) f (board_of t)) judged program strict by r answer
     committed_at answer is judged =
         subst (λ (b : BoardState). IsCommitted p (after_turn (drawn_in_turn p fresh) b (board_of t)) judged program strict by r answer) (sym at.here)
-        (committed_fresh p at.s m program strict by r room number c fresh at.finds at.held at.made at.doc at.bytes at.back new top leaving judging rising t history book rooms answer is judged)
+        (committed_fresh p at.s m program strict by r room number c fresh at.finds at.held at.made at.doc at.bytes at.back new top leaving judging rising t history book rooms checkpoints answer is judged)
 
 -- what was handed back, by its own names
 pub overtaken_at : (p : Known) (f : BoardState) (s m : State) (program : Program) (strict : Bool) (by : Option (List ℕ)) (r : Revision) (room given : Room) (number kept : Number) (c : Ready)

@@ -1,11 +1,10 @@
 -- a board with one write more comes after the board before it
 use Rattle.std.proofs.Common.{◌≡◌, ◌≤◌, ◌+◌, ◌-◌, ◌*◌, ℕ, zero, suc, List, [], ◌∷◌, ◌++◌, length, Some, refl, sym, ap, ◌∙◌, subst, arith}
 use Rattle.std.proofs.lemmas.List.{length-append}
-use Rattle.std.proofs.lemmas.Option.{none-some}
 use Rattle.sg_history.specs.declared.book.Waiting.{Waiting}
 use Rattle.sg_history.specs.declared.entries.Entry.{Entry}
 use Rattle.sg_history.specs.declared.room.RoomFor.{RoomFor}
-use Rattle.sg_history.specs.Board.{SideValue, After, board_book, board_count, side_at}
+use Rattle.sg_history.specs.Board.{SideEntry, SideFollows, After, board_book, board_count, side_at}
 use Rattle.sg_history.specs.Book.{Book, Later, book_of}
 use Rattle.sg_history.specs.History.{Extends, as_write}
 use Rattle.doc_board.specs.Boards.{board_of, bytes_stored, bytes_waiting, bytes_asked, body_size}
@@ -26,11 +25,13 @@ one_longer es e = omega (arith, length-append es (e ∷ []))
 bounded : (stored asked more later_stored later_asked count later_count : ℕ) → later_stored ≡ stored + more → later_asked ≡ asked → later_count ≡ count + 1 → more ≤ 20971520 → later_stored + later_asked ≤ stored + asked + 20971520 * (later_count - count)
 bounded stored asked more later_stored later_asked count later_count a b c d = omega arith
 
-no_side : (text : List ℕ) (old : SideValue) → side_at [] text ≡ Some old → ⊥
-no_side text old h = none-some old h
+-- the same side map follows
+pub same_side : (earlier later : List SideEntry) → later ≡ earlier → SideFollows earlier later
+same_side earlier later same =
+    λ text old h. (old, ap (λ (side : List SideEntry). side_at side text) same ∙ h, record { number = omega arith; bytes = λ e. refl })
 
-pub after_entry : Extended → (s t : State) (e : Entry) → s.pending ≡ [] → t.pending ≡ s.pending → t.log ≡ s.log ++ e ∷ [] → t.rooms ≡ s.rooms → body_size (as_write e) ≤ 20971520 → After (board_of s) (board_of t)
-after_entry extended s t e alone pending log rooms size =
+pub after_entry : Extended → (s t : State) (e : Entry) → s.pending ≡ [] → t.pending ≡ s.pending → t.log ≡ s.log ++ e ∷ [] → t.rooms ≡ s.rooms → t.checkpoints ≡ s.checkpoints → body_size (as_write e) ≤ 20971520 → After (board_of s) (board_of t)
+after_entry extended s t e alone pending log rooms checkpoints size =
     let waits : length t.pending ≡ length s.pending = ap (λ (ws : List Waiting). length ws) pending in
     let waiting : bytes_waiting t.pending ≡ bytes_waiting s.pending = ap (λ (ws : List Waiting). bytes_waiting ws) pending in
     let more : length t.log ≡ length s.log + 1 = ap (λ (es : List Entry). length es) log ∙ one_longer s.log e in
@@ -44,7 +45,7 @@ after_entry extended s t e alone pending log rooms size =
       log = (e ∷ [], log);
       count = omega arith;
       bytes = bounded (bytes_stored s.log + bytes_waiting s.pending) (bytes_asked s.rooms) (body_size (as_write e)) (bytes_stored t.log + bytes_waiting t.pending) (bytes_asked t.rooms) (board_count (board_of s)) (board_count (board_of t)) (omega (arith, stored, waiting)) asked count size;
-      side = λ text old h. absurd (no_side text old h);
+      side = same_side s.checkpoints t.checkpoints checkpoints;
       faults = omega arith;
     }
 

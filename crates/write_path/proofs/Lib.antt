@@ -1,3 +1,4 @@
+pub mod Checkpointing
 pub mod Commanded
 pub mod Commanding
 pub mod Committing

@@ -44,7 +44,7 @@ after_answer extended itself s t program strict by r (outcome.BadHistory400 at) 
 after_answer extended itself s t program strict by r (outcome.Conflict409 at leaf) alone is left = same_after itself s t left
 after_answer extended itself s t program strict by r (outcome.Denied403 at rule) alone is left = same_after itself s t left
 after_answer extended itself s t program strict by r (outcome.Stored sequence at) alone is left =
-    after_entry extended s t (entry.Write left.write) alone left.pending left.log left.rooms (subst (λ (body : List ℕ). length body ≤ 20971520) (sym left.is_write.body) (small_body r.body is.0.formed.size))
+    after_entry extended s t (entry.Write left.write) alone left.pending left.log left.rooms left.checkpoints (subst (λ (body : List ℕ). length body ≤ 20971520) (sym left.is_write.body) (small_body r.body is.0.formed.size))
 after_answer extended itself s t program strict by r (outcome.Full503 at places) alone is left = same_after itself s t left
 after_answer extended itself s t program strict by r (outcome.LogFull509 at entries bytes) alone is left = same_after itself s t left
 after_answer extended itself s t program strict by r outcome.Memory507 alone is left = same_after itself s t left

@@ -40,7 +40,7 @@ a_turn p found left finds next =
 module _ (p : Known) (s t : State) (room : RoomFor) (finds : Finds p (board_of s)) (rests : Rests p) (next : After (board_of s) (board_of t))
     (log : t.log ≡ s.log) (pending : t.pending ≡ s.pending) (rooms : t.rooms ≡ s.rooms ++ room ∷ []) where
   same_book : book_on t ≡ book_on s
-  same_book = λ i. board_book (board_of (record { log = log i; pending = pending i; rooms = rooms i; known = 0; reads = 0 }))
+  same_book = λ i. board_book (board_of (record { log = log i; pending = pending i; rooms = rooms i; checkpoints = []; known = 0; reads = 0 }))
 
   pub may_leave_room : MayLeave p (board_of s) (board_of t)
   may_leave_room = record {

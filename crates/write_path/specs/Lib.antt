@@ -1,3 +1,4 @@
+pub mod Checkpoints
 pub mod Commands
 pub mod Origins
 pub mod Own

@@ -7,6 +7,6 @@ use Rattle.doc_board.specs.State.{State}
 pub record Shelved : Type 0 where
   pub board : State
 
--- a shelf as a gate and the grounds see it: it has no side map and counted no fault
+-- a shelf as a gate and the grounds see it: it counted no fault
 abbrev pub shelf_state : Shelved → BoardState
 shelf_state shelf = board_of shelf.board

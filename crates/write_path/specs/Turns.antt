@@ -22,7 +22,6 @@ use Rattle.doc_board.specs.Outcomes.{IsOutcome, IsWriteOf, bytes_of}
 use Rattle.doc_board.specs.State.{State, last_on}
 use Rattle.board_steps.specs.declared.accepted.Accepted.{Accepted}
 use Rattle.board_steps.specs.declared.retry.Ready.{Ready}
-use Rattle.board_steps.specs.declared.retry.Retried.TheVariants as retried
 use Rattle.board_steps.specs.Accepted.{IsAcceptedBy}
 use Rattle.write_path.specs.Proposals.{Stores}
 use Rattle.write_path.specs.Reads.{IsOneOf}

@@ -3,7 +3,9 @@
 ghost use Rattle.std.specs.Prelude.{◌≡◌, ◌≤◌, ◌||◌, ℕ, List, Option, IfOk, IfSome};
 ghost use Rattle.std.specs.Option.{option_copied};
 ghost use Rattle.sg_history.specs.declared.book.Waiting.{Waiting};
-ghost use Rattle.sg_history.specs.Board.{BoardState};
+ghost use Rattle.sg_history.specs.Board.{BoardState, SideEntry};
+ghost use Rattle.checkpoint_store.specs.Answers.{kept_at};
+ghost use Rattle.checkpoint_store.specs.Checkpoints.{pair_text};
 ghost use Rattle.sg_history.specs.Journal.{IsEntry};
 ghost use Rattle.principals.specs.Script.{entry_of};
 ghost use Rattle.write_path.specs.Reads.{Reads, WasRead, HasLength};
@@ -11,14 +13,15 @@ ghost use Rattle.board_steps.specs.Feed.{FeedAt};
 ghost use Rattle.board_steps.specs.Bodies.{BodiesAt};
 ghost use Rattle.board_steps.specs.Asks.{AskedAt};
 ghost use Rattle.write_path.specs.Origins.{Origin, Spends, Stays};
+ghost use Rattle.write_path.specs.Checkpoints.{HasCheckpoints, SetsCheckpoint};
 ghost use Rattle.write_path.specs.Commands.{Commands};
 ghost use Rattle.write_path.specs.Proposals.{Stores, recorded_after};
 
-use doc_board::Outcome;
+use doc_board::{Kept0, Outcome, SetAnswer};
 use principals::Command;
 use repl_messages::{Asked, Bodies, Fed, Offer, Revision};
-use sg_history::{Key, Name, Options, Row};
-use sg_outside::Memory;
+use sg_history::{Client, Key, Name, Options, Row};
+use sg_outside::{Bytes, Memory};
 use std::alloc::Global;
 use sync_resolve::Resolved;
 
@@ -33,6 +36,9 @@ pub trait Ground: Drop {
 
     /// The length of the log, where nobody else changes it.
     ghost recorded: { Self → Option ℕ };
+
+    /// The checkpoints, where nobody else changes them.
+    ghost checkpoints: { Self → Option (List SideEntry) };
 
     /// The entries that it has stored, with their numbers, the newest first.
     ghost own: { Self → List Waiting };
@@ -53,6 +59,7 @@ pub trait Ground: Drop {
         ensures rises { lowest_front self.old ≤ result }
         ensures lowest_front { lowest_front self.new ≡ result }
         ensures recorded { recorded self.new ≡ recorded self.old }
+        ensures checkpoints { checkpoints self.new ≡ checkpoints self.old }
         ensures own { own self.new ≡ own self.old }
         ensures stays { Stays (origin self.old) (origin self.new) (left self.old) (left self.new) }
         ensures length { IfSome (recorded self.old) (λ n. result ≡ n) };
@@ -68,6 +75,7 @@ pub trait Ground: Drop {
         ensures reads { Reads (read self.old) (read self.new) (lowest_front self.old)
             (lowest_front self.new) }
         ensures recorded { recorded self.new ≡ recorded self.old }
+        ensures checkpoints { checkpoints self.new ≡ checkpoints self.old }
         ensures own { own self.new ≡ own self.old }
         ensures stays { Stays (origin self.old) (origin self.new) (left self.old) (left self.new) }
         ensures answer { IfOk result (λ fed. (b : BoardState)
@@ -87,6 +95,7 @@ pub trait Ground: Drop {
         ensures reads { Reads (read self.old) (read self.new) (lowest_front self.old)
             (lowest_front self.new) }
         ensures recorded { recorded self.new ≡ recorded self.old }
+        ensures checkpoints { checkpoints self.new ≡ checkpoints self.old }
         ensures own { own self.new ≡ own self.old }
         ensures stays { Stays (origin self.old) (origin self.new) (left self.old) (left self.new) }
         ensures answer { IfOk result (λ bodies. (b : BoardState)
@@ -98,6 +107,7 @@ pub trait Ground: Drop {
         ensures reads { Reads (read self.old) (read self.new) (lowest_front self.old)
             (lowest_front self.new) }
         ensures recorded { recorded self.new ≡ recorded self.old }
+        ensures checkpoints { checkpoints self.new ≡ checkpoints self.old }
         ensures own { own self.new ≡ own self.old }
         ensures stays { Stays (origin self.old) (origin self.new) (left self.old) (left self.new) }
         ensures answer { IfOk result (λ asked. (b : BoardState)
@@ -120,6 +130,7 @@ pub trait Ground: Drop {
             (own self.old) (own self.new) (recorded self.old)
             program.now (strict || revision.noconflicts) (option_copied by.entry) revision result }
         ensures recorded { recorded self.new ≡ recorded_after (recorded self.old) result }
+        ensures checkpoints { checkpoints self.new ≡ checkpoints self.old }
         ensures spends { Spends (origin self.old) (origin self.new) (left self.old) (left self.new) };
 
     /// Puts or drops a user or a role: stores the command's entry, which is in its grammar, or answers that there is no room for it,
@@ -131,5 +142,28 @@ pub trait Ground: Drop {
             (lowest_front self.new)
             (own self.old) (own self.new) (recorded self.old) (entry_of command) result }
         ensures recorded { recorded self.new ≡ recorded_after (recorded self.old) result }
+        ensures checkpoints { checkpoints self.new ≡ checkpoints self.old }
         ensures spends { Spends (origin self.old) (origin self.new) (left self.old) (left self.new) };
+
+    /// Reads the checkpoint of a user's client. Out of memory it may have read, or not.
+    fn get_checkpoint(&mut self, user: &Name, client: &Client) -> Result<Kept0, Memory>
+        ensures reads { Reads (read self.old) (read self.new) (lowest_front self.old)
+            (lowest_front self.new) }
+        ensures recorded { recorded self.new ≡ recorded self.old }
+        ensures checkpoints { checkpoints self.new ≡ checkpoints self.old }
+        ensures own { own self.new ≡ own self.old }
+        ensures stays { Stays (origin self.old) (origin self.new) (left self.old) (left self.new) }
+        ensures answer { IfOk result (λ kept. (b : BoardState)
+            × WasRead (read self.old) (read self.new) b × HasCheckpoints (checkpoints self.old) b
+            × (kept ≡ kept_at b.side (pair_text user.now client.now))) };
+
+    /// Gives the user's client this body as its checkpoint, under the number after `rev`, or answers why not.
+    fn set_checkpoint(&mut self, user: &Name, client: &Client, rev: u64, body: Bytes) -> SetAnswer
+        ensures reads { Reads (read self.old) (read self.new) (lowest_front self.old)
+            (lowest_front self.new) }
+        ensures recorded { recorded self.new ≡ recorded self.old }
+        ensures own { own self.new ≡ own self.old }
+        ensures stays { Stays (origin self.old) (origin self.new) (left self.old) (left self.new) }
+        ensures sets { SetsCheckpoint (read self.old) (read self.new) (checkpoints self.old)
+            (checkpoints self.new) (pair_text user.now client.now) rev body result };
 }

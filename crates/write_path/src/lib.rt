@@ -12,7 +12,7 @@ mod storing;
 mod trail;
 mod turns;
 
-pub use doc_board::Outcome;
+pub use doc_board::{Kept0, Outcome, SetAnswer};
 pub use ground::Ground;
 pub use principals::Command;
 pub use shared::SharedGround;

@@ -1,6 +1,8 @@
 //! Turns in which a pass looks at a shelf, and leaves it as it was.
 
 ghost use Rattle.std.specs.Prelude.{◌≡◌, IfOk};
+ghost use Rattle.checkpoint_store.specs.Answers.{kept_at};
+ghost use Rattle.checkpoint_store.specs.Checkpoints.{pair_text};
 ghost use Rattle.sg_history.specs.Board.{BoardState};
 ghost use Rattle.board_steps.specs.Asks.{AskedAt};
 ghost use Rattle.board_steps.specs.Bodies.{BodiesAt};
@@ -10,9 +12,10 @@ ghost use Rattle.write_path.specs.Shared.{IsLookTurn, Rests};
 use crate::shelf::Shelf;
 use crate::turns::{enter, leave_as_found};
 use board_steps::{asked_at, feed_at};
+use doc_board::Kept0;
 use repl_messages::{Asked, Bodies, Fed, Offer};
 use seq_gate::{Gate, Pass};
-use sg_history::{Key, Name, Options, Row};
+use sg_history::{Client, Key, Name, Options, Row};
 use sg_outside::Memory;
 use std::alloc::Global;
 use std::sync::Wait;
@@ -78,4 +81,23 @@ pub(crate) fn ask_in_turn<R: Wait>(
     let mut turn = enter(rt, gate, pass);
     let asked = asked_at(alloc, turn.board().board(), offers);
     (leave_as_found(gate, turn), asked)
+}
+
+/// A turn for the checkpoint of a user's client.
+pub(crate) fn checkpoint_in_turn<R: Wait>(
+    rt: &R,
+    gate: &Gate<Shelf>,
+    pass: Pass<Shelf>,
+    user: &Name,
+    client: &Client,
+) -> (Pass<Shelf>, Result<Kept0, Memory>)
+    requires here { pass.gate ≡ gate.now }
+    requires rests { Rests pass.knows }
+    ensures gate { result.0.gate ≡ pass.gate }
+    ensures looked { (found : BoardState) × IsLookTurn pass.knows result.0.knows found
+        × IfOk result.1 (λ kept. kept ≡ kept_at found.side (pair_text user.now client.now)) }
+{
+    let mut turn = enter(rt, gate, pass);
+    let kept = turn.board().board().get_checkpoint(user, client);
+    (leave_as_found(gate, turn), kept)
 }

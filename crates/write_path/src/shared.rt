@@ -2,11 +2,14 @@
 
 ghost use Rattle.std.specs.Prelude.{◌≡◌, ◌≤◌, ◌+◌, ◌||◌, ◌∷◌, false, length, None, IfOk};
 ghost use Rattle.std.specs.Option.{option_copied};
+ghost use Rattle.checkpoint_store.specs.Answers.{Sets, kept_at};
+ghost use Rattle.checkpoint_store.specs.Checkpoints.{pair_text};
 ghost use Rattle.sg_history.specs.Board.{BoardState};
 ghost use Rattle.sg_history.specs.Journal.{IsEntry};
 ghost use Rattle.principals.specs.Script.{entry_of};
 ghost use Rattle.board_steps.specs.Asks.{AskedAt};
 ghost use Rattle.board_steps.specs.Bodies.{BodiesAt};
+ghost use Rattle.write_path.specs.Checkpoints.{HasCheckpoints, SetsCheckpoint};
 ghost use Rattle.write_path.specs.Commands.{Commands};
 ghost use Rattle.board_steps.specs.Feed.{FeedAt};
 ghost use Rattle.write_path.specs.Origins.{Spends, Stays};
@@ -15,17 +18,17 @@ ghost use Rattle.write_path.specs.Reads.{HasLength, Reads, WasRead};
 ghost use Rattle.write_path.specs.Shared.{MayDrawInTurn, Rests, needs_no_turn, shared_origin};
 
 use crate::ground::Ground;
-use crate::looking::{ask_in_turn, bodies_in_turn, feed_in_turn};
+use crate::looking::{ask_in_turn, bodies_in_turn, checkpoint_in_turn, feed_in_turn};
 use crate::proposing::propose_in_turns;
 use crate::shelf::Shelf;
-use crate::storing::command_in_turns;
+use crate::storing::{command_in_turns, set_in_turn};
 use board_steps::document_of;
-use doc_board::Outcome;
+use doc_board::{Kept0, Outcome, SetAnswer};
 use principals::Command;
 use repl_messages::{Asked, Bodies, Fed, Offer, Revision};
 use seq_gate::{Gate, Pass};
-use sg_history::{Key, Name, Options, Row};
-use sg_outside::Memory;
+use sg_history::{Client, Key, Name, Options, Row};
+use sg_outside::{Bytes, Memory};
 use std::alloc::Global;
 use std::marker::Model;
 use std::sync::Wait;
@@ -93,6 +96,8 @@ impl<'g, R: Wait> Ground for SharedGround<'g, R> {
     ghost lowest_front = { λ g. g.knows.lowest_front };
 
     ghost recorded = { λ g. None };
+
+    ghost checkpoints = { λ g. None };
 
     ghost own = { λ g. g.knows.own };
 
@@ -260,5 +265,48 @@ impl<'g, R: Wait> Ground for SharedGround<'g, R> {
         let (pass, outcome) = command_in_turns(self.rt, self.gate, pass, command);
         self.pass = Some(pass);
         outcome
+    }
+
+    /// One turn.
+    fn get_checkpoint(&mut self, user: &Name, client: &Client) -> Result<Kept0, Memory>
+        ensures reads { Reads self.old.knows.read self.new.knows.read self.old.knows.lowest_front
+            self.new.knows.lowest_front }
+        ensures own { self.new.knows.own ≡ self.old.knows.own }
+        ensures stays { Stays (shared_origin self.old) (shared_origin self.new)
+            self.old.knows.left self.new.knows.left }
+        ensures answer { IfOk result (λ kept. (b : BoardState)
+            × WasRead self.old.knows.read self.new.knows.read b × HasCheckpoints None b
+            × (kept ≡ kept_at b.side (pair_text user.now client.now))) }
+        // At want of memory too.
+        ensures turn { (b : BoardState) × (self.new.knows.read ≡ b ∷ b ∷ self.old.knows.read) }
+        ensures in_turns { self.new.knows.in_turns ≡ self.old.knows.in_turns }
+    {
+        sg_history::laws::boards();
+        let pass = self.pass.take().unwrap();
+        let (pass, kept) = checkpoint_in_turn(self.rt, self.gate, pass, user, client);
+        self.pass = Some(pass);
+        kept
+    }
+
+    /// One turn.
+    fn set_checkpoint(&mut self, user: &Name, client: &Client, rev: u64, body: Bytes) -> SetAnswer
+        ensures reads { Reads self.old.knows.read self.new.knows.read self.old.knows.lowest_front
+            self.new.knows.lowest_front }
+        ensures own { self.new.knows.own ≡ self.old.knows.own }
+        ensures stays { Stays (shared_origin self.old) (shared_origin self.new)
+            self.old.knows.left self.new.knows.left }
+        ensures sets { SetsCheckpoint self.old.knows.read self.new.knows.read None None
+            (pair_text user.now client.now) rev body result }
+        // At each answer.
+        ensures turn { (found : BoardState) × (left : BoardState)
+            × (self.new.knows.read ≡ left ∷ found ∷ self.old.knows.read)
+            × Sets found.side (pair_text user.now client.now) rev body result left.side }
+        ensures in_turns { self.new.knows.in_turns ≡ self.old.knows.in_turns }
+    {
+        sg_history::laws::boards();
+        let pass = self.pass.take().unwrap();
+        let (pass, answer) = set_in_turn(self.rt, self.gate, pass, user, client, rev, body);
+        self.pass = Some(pass);
+        answer
     }
 }

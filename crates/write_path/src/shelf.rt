@@ -2,6 +2,7 @@
 
 ghost use Rattle.std.specs.Prelude.{◌≡◌, ◌≢◌, ◌≤◌, ◌<◌, ◌||◌, ◌++◌, ◌∷◌, [], false, length, None, Some, IfOk, OnOk, OnErr, IsTrue};
 ghost use Rattle.std.specs.Option.{option_copied};
+ghost use Rattle.checkpoint_store.specs.Checkpoints.{pair_text};
 ghost use Rattle.sg_history.specs.declared.entries.Entry.TheVariants as kinds;
 ghost use Rattle.sg_history.specs.Journal.{IsEntry};
 ghost use Rattle.sg_history.specs.Line.{is_write};
@@ -18,6 +19,7 @@ ghost use Rattle.doc_board.specs.Steps.{history_on, stored_at, swapped_to, with_
 ghost use Rattle.board_steps.specs.Bodies.{BodiesAt};
 ghost use Rattle.board_steps.specs.After.{IsBoardCommanded, IsAsBefore, IsBoardAfter};
 ghost use Rattle.board_steps.specs.Retry.{FitsReady, IsHeldReady};
+ghost use Rattle.write_path.specs.Checkpoints.{IsBoardSet};
 ghost use Rattle.write_path.specs.Shelf.{shelf_state};
 ghost use Rattle.board_steps.specs.Tried.{IsJudgedAt, IsTried, WasAccepted};
 
@@ -25,12 +27,12 @@ use board_steps::{
     Accepted, Judged, Ready, Retried, bodies_at, command_to, commit_fresh, extension_of,
     propose_to, store_at_fresh, store_or_retry,
 };
-use doc_board::{Board, Candidate, NoRoom, Outcome, Room};
+use doc_board::{Board, Candidate, NoRoom, Outcome, Room, SetAnswer};
 use principals::Command;
 use repl_messages::{Bodies, Revision};
 use seq_gate::Kept;
-use sg_history::{DocId, Entry, Name, Number, Options, Row};
-use sg_outside::Memory;
+use sg_history::{Client, DocId, Entry, Name, Number, Options, Row};
+use sg_outside::{Bytes, Memory};
 use std::alloc::Global;
 use std::marker::Model;
 use sync_resolve::Resolved;
@@ -62,6 +64,20 @@ impl Shelf {
         ensures { result.now ≡ self.now.board }
     {
         &self.board
+    }
+
+    /// Gives a user's client at its board this body as its checkpoint, or answers why not.
+    pub(crate) fn set_checkpoint(
+        &mut self,
+        user: &Name,
+        client: &Client,
+        rev: u64,
+        body: Bytes,
+    ) -> SetAnswer
+        ensures { IsBoardSet self.old.board self.new.board (pair_text user.now client.now) rev body
+            result }
+    {
+        self.board.set_checkpoint(user, client, rev, body)
     }
 
     /// The board, without the rest.
@@ -152,6 +168,7 @@ impl Shelf {
         ensures err { OnErr result.1 (self.new.board.rooms ≡ self.old.board.rooms) }
         ensures room { IfOk result.1 (λ room. room.made_for
             ≡ room_for (option_copied doc.entry) bytes) }
+        ensures checkpoints { self.new.board.checkpoints ≡ self.old.board.checkpoints }
     {
         let at = self.board.front();
         (at, self.board.room(doc, bytes))
@@ -170,6 +187,7 @@ impl Shelf {
             ≡ with_entry number.value entry (book_on self.old.board) }
         ensures rooms { self.new.board.rooms
             ≡ without_room room.made_for self.old.board.rooms }
+        ensures checkpoints { self.new.board.checkpoints ≡ self.old.board.checkpoints }
     {
         commit_fresh(&mut self.board, room, number, Candidate::Plain(entry))
     }
@@ -234,6 +252,7 @@ impl Shelf {
             (with_entry number.value kinds.Unused (book_on self.old.board)) }
         ensures rooms { self.new.board.rooms
             ≡ without_room room.made_for self.old.board.rooms }
+        ensures checkpoints { self.new.board.checkpoints ≡ self.old.board.checkpoints }
     {
         store_at_fresh(&mut self.board, room, number, fresh, ready)
     }

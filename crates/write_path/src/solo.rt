@@ -2,6 +2,8 @@
 
 ghost use Rattle.std.specs.Prelude.{◌≡◌, ◌≤◌, ◌^◌, ◌||◌, [], ◌∷◌, Some, length, IfOk};
 ghost use Rattle.std.specs.Option.{option_copied};
+ghost use Rattle.checkpoint_store.specs.Answers.{kept_at};
+ghost use Rattle.checkpoint_store.specs.Checkpoints.{pair_text};
 ghost use Rattle.sg_history.specs.Board.{BoardState, IsAfterAll};
 ghost use Rattle.sg_history.specs.Journal.{IsEntry};
 ghost use Rattle.principals.specs.Script.{entry_of};
@@ -9,6 +11,7 @@ ghost use Rattle.doc_board.specs.Boards.{board_of};
 ghost use Rattle.doc_board.specs.Outcomes.{IsByLimits, IsOutcome, bytes_of};
 ghost use Rattle.board_steps.specs.Asks.{AskedAt};
 ghost use Rattle.board_steps.specs.Bodies.{BodiesAt};
+ghost use Rattle.write_path.specs.Checkpoints.{HasCheckpoints, IsBoardSet, SetsCheckpoint};
 ghost use Rattle.write_path.specs.Commands.{Commands};
 ghost use Rattle.board_steps.specs.After.{IsBoardCommanded, IsAsBefore, IsBoardAfter};
 ghost use Rattle.board_steps.specs.Feed.{FeedAt};
@@ -23,11 +26,11 @@ use crate::ground::Ground;
 use crate::shelf::Shelf;
 use crate::trail::{OwnEntries, Trail};
 use board_steps::{asked_at, feed_at};
-use doc_board::{Board, Outcome};
+use doc_board::{Board, Kept0, Outcome, SetAnswer};
 use principals::Command;
 use repl_messages::{Asked, Bodies, Fed, Offer, Revision};
-use sg_history::{Key, Name, Options, Row, entry_at};
-use sg_outside::Memory;
+use sg_history::{Client, Key, Name, Options, Row, entry_at};
+use sg_outside::{Bytes, Memory};
 use std::alloc::Global;
 use std::marker::Model;
 use sync_resolve::Resolved;
@@ -117,6 +120,8 @@ impl Ground for SoloGround {
 
     ghost recorded = { λ g. Some (length g.board.log) };
 
+    ghost checkpoints = { λ g. Some g.board.checkpoints };
+
     ghost own = { λ g. g.own };
 
     ghost left = { λ g. 2 ^ 62 };
@@ -135,6 +140,8 @@ impl Ground for SoloGround {
         ensures lowest_front { length self.new.board.log ≡ result }
         ensures recorded { Some (length self.new.board.log)
             ≡ Some (length self.old.board.log) }
+        ensures checkpoints { Some self.new.board.checkpoints
+            ≡ Some self.old.board.checkpoints }
         ensures own { self.new.own ≡ self.old.own }
         ensures stays { Stays solo_origin solo_origin (2 ^ 62) (2 ^ 62) }
         ensures length { result ≡ length self.old.board.log }
@@ -154,6 +161,8 @@ impl Ground for SoloGround {
             (length self.new.board.log) }
         ensures recorded { Some (length self.new.board.log)
             ≡ Some (length self.old.board.log) }
+        ensures checkpoints { Some self.new.board.checkpoints
+            ≡ Some self.old.board.checkpoints }
         ensures own { self.new.own ≡ self.old.own }
         ensures stays { Stays solo_origin solo_origin (2 ^ 62) (2 ^ 62) }
         ensures answer { IfOk result (λ fed. (b : BoardState)
@@ -178,6 +187,8 @@ impl Ground for SoloGround {
             (length self.new.board.log) }
         ensures recorded { Some (length self.new.board.log)
             ≡ Some (length self.old.board.log) }
+        ensures checkpoints { Some self.new.board.checkpoints
+            ≡ Some self.old.board.checkpoints }
         ensures own { self.new.own ≡ self.old.own }
         ensures stays { Stays solo_origin solo_origin (2 ^ 62) (2 ^ 62) }
         ensures answer { IfOk result (λ bodies. (b : BoardState)
@@ -195,6 +206,8 @@ impl Ground for SoloGround {
             (length self.new.board.log) }
         ensures recorded { Some (length self.new.board.log)
             ≡ Some (length self.old.board.log) }
+        ensures checkpoints { Some self.new.board.checkpoints
+            ≡ Some self.old.board.checkpoints }
         ensures own { self.new.own ≡ self.old.own }
         ensures stays { Stays solo_origin solo_origin (2 ^ 62) (2 ^ 62) }
         ensures answer { IfOk result (λ asked. (b : BoardState)
@@ -221,12 +234,14 @@ impl Ground for SoloGround {
             (option_copied by.entry) revision result }
         ensures recorded { Some (length self.new.board.log)
             ≡ recorded_after (Some (length self.old.board.log)) result }
+        ensures checkpoints { Some self.new.board.checkpoints
+            ≡ Some self.old.board.checkpoints }
         ensures spends { Spends solo_origin solo_origin (2 ^ 62) (2 ^ 62) }
         ensures outcome { IsOutcome program.now (strict || revision.noconflicts)
             (option_copied by.entry) revision (board_of self.old.board) result }
         ensures own { self.new.own ≡ own_after self.old.own self.new.board.log result }
         ensures limits { IsByLimits (bytes_of revision) (board_of self.old.board) result }
-        // The log, what waits and the rooms are as before at every answer other than Stored.
+        // The board is as before at every answer other than Stored.
         ensures board { IsBoardAfter self.old.board self.new.board program.now
             (option_copied by.entry) revision result }
     {
@@ -250,10 +265,12 @@ impl Ground for SoloGround {
             (Some (length self.old.board.log)) (entry_of command) result }
         ensures recorded { Some (length self.new.board.log)
             ≡ recorded_after (Some (length self.old.board.log)) result }
+        ensures checkpoints { Some self.new.board.checkpoints
+            ≡ Some self.old.board.checkpoints }
         ensures spends { Spends solo_origin solo_origin (2 ^ 62) (2 ^ 62) }
         ensures own { self.new.own ≡ own_after self.old.own self.new.board.log result }
         ensures limits { IsByLimits 0 (board_of self.old.board) result }
-        // The log, what waits and the rooms are as before at every answer other than Stored.
+        // The board is as before at every answer other than Stored.
         ensures board { IsBoardCommanded self.old.board self.new.board (entry_of command) result }
     {
         sg_history::laws::boards();
@@ -263,5 +280,46 @@ impl Ground for SoloGround {
         self.read.add(&self.shelf);
         record_own(&mut self.own, self.shelf.board(), &outcome);
         outcome
+    }
+
+    fn get_checkpoint(&mut self, user: &Name, client: &Client) -> Result<Kept0, Memory>
+        ensures reads { Reads self.old.read self.new.read (length self.old.board.log)
+            (length self.new.board.log) }
+        ensures recorded { Some (length self.new.board.log)
+            ≡ Some (length self.old.board.log) }
+        ensures checkpoints { Some self.new.board.checkpoints
+            ≡ Some self.old.board.checkpoints }
+        ensures own { self.new.own ≡ self.old.own }
+        ensures stays { Stays solo_origin solo_origin (2 ^ 62) (2 ^ 62) }
+        ensures answer { IfOk result (λ kept. (b : BoardState)
+            × WasRead self.old.read self.new.read b
+            × HasCheckpoints (Some self.old.board.checkpoints) b
+            × (kept ≡ kept_at b.side (pair_text user.now client.now))) }
+        ensures same { IsAsBefore self.old.board self.new.board }
+    {
+        sg_history::laws::boards();
+        self.read.add(&self.shelf);
+        self.shelf.board().get_checkpoint(user, client)
+    }
+
+    fn set_checkpoint(&mut self, user: &Name, client: &Client, rev: u64, body: Bytes) -> SetAnswer
+        ensures reads { Reads self.old.read self.new.read (length self.old.board.log)
+            (length self.new.board.log) }
+        ensures recorded { Some (length self.new.board.log)
+            ≡ Some (length self.old.board.log) }
+        ensures own { self.new.own ≡ self.old.own }
+        ensures stays { Stays solo_origin solo_origin (2 ^ 62) (2 ^ 62) }
+        ensures sets { SetsCheckpoint self.old.read self.new.read
+            (Some self.old.board.checkpoints) (Some self.new.board.checkpoints)
+            (pair_text user.now client.now) rev body result }
+        ensures board { IsBoardSet self.old.board self.new.board (pair_text user.now client.now)
+            rev body result }
+    {
+        sg_history::laws::boards();
+        doc_board::laws::after();
+        self.read.add(&self.shelf);
+        let answer = self.shelf.set_checkpoint(user, client, rev, body);
+        self.read.add(&self.shelf);
+        answer
     }
 }

@@ -1,7 +1,8 @@
-//! Turns in which a pass changes a board: for a room, and for the entry of a command.
+//! Turns in which a pass changes a board: for a room, for the entry of a command, and for a checkpoint.
 
 ghost use Rattle.std.specs.Prelude.{◌≡◌, ◌≤◌, ◌+◌, ◌∷◌, [], false, length, None};
 ghost use Rattle.std.specs.Option.{option_copied};
+ghost use Rattle.checkpoint_store.specs.Checkpoints.{pair_text};
 ghost use Rattle.sg_history.specs.Journal.{IsEntry};
 ghost use Rattle.sg_history.specs.Line.{is_write};
 ghost use Rattle.principals.specs.Script.{entry_of};
@@ -9,6 +10,7 @@ ghost use Rattle.seq_gate.specs.Counts.{is_unused};
 ghost use Rattle.seq_gate.specs.Passes.{share};
 ghost use Rattle.doc_board.specs.Rooms.{room_for};
 ghost use Rattle.doc_board.specs.State.{State};
+ghost use Rattle.write_path.specs.Checkpoints.{IsSetTurn};
 ghost use Rattle.write_path.specs.Commands.{Commands};
 ghost use Rattle.write_path.specs.Shared.{Rests};
 ghost use Rattle.write_path.specs.Turns.{IsRoomedTurn, IsStoreTurn};
@@ -16,10 +18,11 @@ ghost use Rattle.write_path.specs.Turns.{IsRoomedTurn, IsStoreTurn};
 use crate::shelf::Shelf;
 use crate::turns::{draw, enter, leave, leave_as_found};
 use board_steps::no_room_outcome;
-use doc_board::{NoRoom, Outcome, Room};
+use doc_board::{NoRoom, Outcome, Room, SetAnswer};
 use principals::Command;
 use seq_gate::{Gate, Pass};
-use sg_history::{DocId, Entry, Number};
+use sg_history::{Client, DocId, Entry, Name, Number};
+use sg_outside::Bytes;
 use std::sync::Wait;
 
 /// A turn for a room: the length of the log, and the room or why there is none.
@@ -112,4 +115,26 @@ pub(crate) fn command_in_turns<R: Wait>(
             (pass, no_room_outcome(at, why))
         }
     }
+}
+
+/// A turn in which the checkpoint of a user's client is set.
+pub(crate) fn set_in_turn<R: Wait>(
+    rt: &R,
+    gate: &Gate<Shelf>,
+    pass: Pass<Shelf>,
+    user: &Name,
+    client: &Client,
+    rev: u64,
+    body: Bytes,
+) -> (Pass<Shelf>, SetAnswer)
+    requires here { pass.gate ≡ gate.now }
+    requires rests { Rests pass.knows }
+    ensures gate { result.0.gate ≡ pass.gate }
+    ensures set { IsSetTurn pass.knows result.0.knows (pair_text user.now client.now) rev body
+        result.1 }
+{
+    doc_board::laws::after();
+    let mut turn = enter(rt, gate, pass);
+    let answer = turn.board().set_checkpoint(user, client, rev, body);
+    (leave(gate, turn), answer)
 }

@@ -13,7 +13,7 @@ put_next-sequence-requires-clause-rooms c =
 
 pub returns-in-Err-clause-board : goal.returns-in-Err-clause-board
 returns-in-Err-clause-board c =
-    commanded_without c.args.board.now c.room.new.self (entry_of c.args.command) c.front-at.result c.in-Err.why c.no_room_outcome.result c.no_room_outcome.ensures (record { log = c.in-Err.ensures.log; pending = c.in-Err.ensures.pending; rooms = c.in-Err.ensures.err })
+    commanded_without c.args.board.now c.room.new.self (entry_of c.args.command) c.front-at.result c.in-Err.why c.no_room_outcome.result c.no_room_outcome.ensures (record { log = c.in-Err.ensures.log; pending = c.in-Err.ensures.pending; rooms = c.in-Err.ensures.err; checkpoints = c.room.ensures.checkpoints })
     c.front-at.ensures.front
 
 pub returns-in-Err-clause-limits : goal.returns-in-Err-clause-limits

@@ -12,6 +12,7 @@ returns-in-Ok-clause-board c = record {
   log = c.in-Ok.ensures.stored;
   pending = c.store.ensures.pending ∙ sym c.requires.pending;
   rooms = c.store.ensures.rooms ∙ sym c.requires.rooms;
+  checkpoints = c.store.ensures.checkpoints;
 }
 
 pub returns-in-Ok-clause-limits : goal.returns-in-Ok-clause-limits
@@ -20,7 +21,7 @@ returns-in-Ok-clause-limits c = stored_none (refusal (board_of c.args.board.now)
 pub returns-in-Err-clause-board : goal.returns-in-Err-clause-board
 returns-in-Err-clause-board c =
     commanded_without c.args.board.now c.store.new.board (kinds.Write c.args.ready.entry) c.args.ready.entry.at c.in-Err.why c.no_room_outcome.result c.no_room_outcome.ensures
-    (record { log = c.in-Err.ensures.none; pending = c.store.ensures.pending ∙ sym c.requires.pending; rooms = c.store.ensures.rooms ∙ sym c.requires.rooms }) c.requires.ready.at
+    (record { log = c.in-Err.ensures.none; pending = c.store.ensures.pending ∙ sym c.requires.pending; rooms = c.store.ensures.rooms ∙ sym c.requires.rooms; checkpoints = c.store.ensures.checkpoints }) c.requires.ready.at
 
 pub returns-in-Err-clause-limits : goal.returns-in-Err-clause-limits
 returns-in-Err-clause-limits c =

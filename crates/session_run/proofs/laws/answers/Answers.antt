@@ -1,4 +1,6 @@
 use Rattle.session_run.proofs.Answering.{laws_of, all_answers}
+use Rattle.session_run.proofs.Naming.{all_named}
+use Rattle.session_run.proofs.Storing.{all_stored}
 use Rattle.session_run.proofs.Whole.{looks_within}
 use Rattle.session_run.proofs.laws.answers.Goals as goal
 
@@ -37,3 +39,12 @@ returns-clause-fronts c start now user program strict steps a =
 pub returns-clause-within : goal.returns-clause-within
 returns-clause-within c start now user program strict steps h a later =
     looks_within c.was_read.ensures.extended start.read _ now.read h (all_answers (laws_of c.was_read.ensures.since c.later.ensures.log c.later.ensures.fronts c.later_boards.ensures.trees c.later_boards.ensures.least c.later-2.ensures.feed c.later-2.ensures.bodies c.reads.ensures.before c.reads.ensures.reflexive c.reads.ensures.transitive c.was_read.ensures.lowest c.was_read.ensures.front) start now user program strict steps a).looks later
+
+pub returns-clause-checkpoints : goal.returns-clause-checkpoints
+returns-clause-checkpoints c start now user program strict steps side a is = all_stored start now user program strict side steps a is
+
+pub returns-clause-numbers : goal.returns-clause-numbers
+returns-clause-numbers c start now user program strict steps a = (all_named c.was_read.ensures.before c.pairs.ensures.put start now user program strict steps a).0
+
+pub returns-clause-closing : goal.returns-clause-closing
+returns-clause-closing c start now user program strict steps board a all = (all_named c.was_read.ensures.before c.pairs.ensures.put start now user program strict steps a).1 board all

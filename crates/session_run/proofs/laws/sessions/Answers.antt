@@ -1,3 +1,5 @@
+use Rattle.session_run.proofs.Naming.{session_named}
+use Rattle.session_run.proofs.Storing.{session_stored}
 use Rattle.session_run.proofs.Whole.{all_lead, all_right, all_own, all_judged, all_looks, all_fronts, all_reads, all_recorded}
 use Rattle.session_run.proofs.laws.sessions.Goals as goal
 
@@ -24,3 +26,14 @@ returns-clause-reads c = all_reads c.answers.ensures.reads c.reads.ensures.trans
 
 pub returns-clause-recorded : goal.returns-clause-recorded
 returns-clause-recorded c = all_recorded c.answers.ensures.recorded
+
+pub returns-clause-checkpoints : goal.returns-clause-checkpoints
+returns-clause-checkpoints c = session_stored
+
+pub returns-clause-numbers : goal.returns-clause-numbers
+returns-clause-numbers c setup start final ended results sent failed session =
+    (session_named c.was_read.ensures.before c.pairs.ensures.put setup start final ended results sent failed session).0
+
+pub returns-clause-closing : goal.returns-clause-closing
+returns-clause-closing c setup start final ended results sent failed board session all =
+    (session_named c.was_read.ensures.before c.pairs.ensures.put setup start final ended results sent failed session).1 board all

@@ -15,12 +15,12 @@ use Rattle.session_server.proofs.serving.serve_behind.Goals as goal
 
 pub serve_door-end-requires-send-S-Job : goal.serve_door-end-requires-send-S-Job
 serve_door-end-requires-send-S-Job g c κs within =
-    param_send _ (lts.arg-5-6 g.row.R g.row.D g.row.D-Line g.row.D-Line-Socket g.row.D-Line-Trace g.R.laws g.D.laws g.D.Line.laws g.D.Line.Socket.laws g.D.Line.Trace.laws g.R.Threads g.R.Threads-dict g.R.Wait g.R.Wait-dict g.D.Door g.D.Door-dict g.D.Line.Line g.D.Line.Line-dict g.D.Line.Link g.D.Line.Link-dict g.D.Line.Socket.Wire g.D.Line.Socket.Wire-dict g.D.Destruct-dict g.D.Line.Destruct-dict g.D.Line.Socket.Destruct-dict g.D.Line.Trace.Destruct-dict κs)
+    param_send _ (lts.arg-6-6 g.row.R g.row.D g.row.D-Line g.row.D-Line-Socket g.row.D-Line-Trace g.R.laws g.D.laws g.D.Line.laws g.D.Line.Socket.laws g.D.Line.Trace.laws g.R.Threads g.R.Threads-dict g.R.Wait g.R.Wait-dict g.D.Door g.D.Door-dict g.D.Line.Line g.D.Line.Line-dict g.D.Line.Link g.D.Line.Link-dict g.D.Line.Socket.Wire g.D.Line.Socket.Wire-dict g.D.Destruct-dict g.D.Line.Destruct-dict g.D.Line.Socket.Destruct-dict g.D.Line.Trace.Destruct-dict κs)
     (arg_send _ no _ (caller_send _ _ _ _ _ _ _ _ c.type_bounds.sync-R c.type_bounds.send-D-Line))
 
 pub serve_door-end-requires-send-S-Job-Done : goal.serve_door-end-requires-send-S-Job-Done
 serve_door-end-requires-send-S-Job-Done g c κs within =
-    param_send _ (lts.arg-5-7 g.row.R g.row.D g.row.D-Line g.row.D-Line-Socket g.row.D-Line-Trace g.R.laws g.D.laws g.D.Line.laws g.D.Line.Socket.laws g.D.Line.Trace.laws g.R.Threads g.R.Threads-dict g.R.Wait g.R.Wait-dict g.D.Door g.D.Door-dict g.D.Line.Line g.D.Line.Line-dict g.D.Line.Link g.D.Line.Link-dict g.D.Line.Socket.Wire g.D.Line.Socket.Wire-dict g.D.Destruct-dict g.D.Line.Destruct-dict g.D.Line.Socket.Destruct-dict g.D.Line.Trace.Destruct-dict κs)
+    param_send _ (lts.arg-6-7 g.row.R g.row.D g.row.D-Line g.row.D-Line-Socket g.row.D-Line-Trace g.R.laws g.D.laws g.D.Line.laws g.D.Line.Socket.laws g.D.Line.Trace.laws g.R.Threads g.R.Threads-dict g.R.Wait g.R.Wait-dict g.D.Door g.D.Door-dict g.D.Line.Line g.D.Line.Line-dict g.D.Line.Link g.D.Line.Link-dict g.D.Line.Socket.Wire g.D.Line.Socket.Wire-dict g.D.Destruct-dict g.D.Line.Destruct-dict g.D.Line.Socket.Destruct-dict g.D.Line.Trace.Destruct-dict κs)
     (arg_send _ no _ (left_send _ _ _ c.type_bounds.sync-R c.type_bounds.send-D-Line-Trace))
 
 pub close-requires-send-B : goal.close-requires-send-B
@@ -36,7 +36,7 @@ returns-clause-served g c =
     AreFresh g.D.Line.Link.recorded (lines_in c.serve_door-end.new.serve.lines) × Holds opened c.serve_door-end.new.serve.config.now c.serve_door-end.new.serve.pass.knows (map g.D.Line.Line.traced ts)
     × (length ts + c.serve_door-end.new.serve.out ≡ length (lines_in c.serve_door-end.new.serve.lines)) in
     serves g.D.Line.Line.traced c.args.config.now (shelf_state c.close.result) _ holds c.new-server.ensures.holds
-    (λ ts h. served_all (record { before = c.was_read.ensures.before; lowest = c.was_read.ensures.lowest }) c.judged_writes.ensures.later (record { own = c.sessions.ensures.own }) opened (shelf_state c.close.result) c.args.config.now c.into_pass-pass.result.knows c.close.ensures
+    (λ ts h. served_all (record { before = c.was_read.ensures.before; lowest = c.was_read.ensures.lowest }) c.judged_writes.ensures.later (record { own = c.sessions.ensures.own; numbers = c.sessions.ensures.numbers; closing = c.sessions.ensures.closing; count = c.side_maps.ensures.count }) opened (shelf_state c.close.result) c.args.config.now c.into_pass-pass.result.knows c.close.ensures
     (c.closing.ensures.closed c.into_pass-pass.result.knows (shelf_state c.close.result) c.close.ensures) (one_at_first opened c.into_pass-pass.result.knows.read c.into_pass-pass.ensures.read) c.into_pass-pass.ensures.opening (ap (λ (b : BoardState). b.bytes) same ∙ c.requires.bytes)
     (subst (λ (b : BoardState). IsOpening c.args.config.now.roles c.args.config.now.users b.log) (sym same) c.requires.opening) (map g.D.Line.Line.traced ts)
     (handed_on opened c.serve_door-end.new.serve.config.now c.args.config.now c.serve_door-end.new.serve.pass.knows c.into_pass-pass.result.knows (map g.D.Line.Line.traced ts) (follows.1 ∙ c.new-server.ensures.config) c.into_pass-pass.ensures.knows h.1))

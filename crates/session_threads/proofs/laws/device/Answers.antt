@@ -5,4 +5,4 @@ use Rattle.session_threads.proofs.laws.device.Goals as goal
 
 pub returns : goal.returns
 returns c = λ config lines devices board outcomes left user options last earlier doc is.
-    device_in c.device.ensures c.answers.ensures.within board.log (arc_value config.program) (not config.conflicts) devices left user options last earlier doc is.sessions
+    device_in c.device.ensures c.answers.ensures.within board (arc_value config.program) (not config.conflicts) devices left user options last earlier doc is.sessions

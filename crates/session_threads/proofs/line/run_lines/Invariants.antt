@@ -12,7 +12,7 @@ invariant-loop-line g l = record {
   draws : 2 * length l.line-iterator.rest.items ≤ g.G.Ground.left l.ground;
   room : length l.outcomes.items + length l.line-iterator.rest.items ≤ vec_capacity l.outcomes;
   run : AreLinesRun l.fn.program l.fn.strict
-      (moment (g.G.Ground.read l.initial.ground) (g.G.Ground.lowest_front l.initial.ground) (g.G.Ground.recorded l.initial.ground) (g.G.Ground.own l.initial.ground)) l.yielded l.outcomes.items
-      (moment (g.G.Ground.read l.ground) (g.G.Ground.lowest_front l.ground) (g.G.Ground.recorded l.ground) (g.G.Ground.own l.ground));
+      (moment (g.G.Ground.read l.initial.ground) (g.G.Ground.lowest_front l.initial.ground) (g.G.Ground.recorded l.initial.ground) (g.G.Ground.checkpoints l.initial.ground) (g.G.Ground.own l.initial.ground)) l.yielded l.outcomes.items
+      (moment (g.G.Ground.read l.ground) (g.G.Ground.lowest_front l.ground) (g.G.Ground.recorded l.ground) (g.G.Ground.checkpoints l.ground) (g.G.Ground.own l.ground));
   origin : g.G.Ground.origin l.ground ≡ g.G.Ground.origin l.initial.ground;
 }

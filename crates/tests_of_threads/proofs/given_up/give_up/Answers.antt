@@ -45,7 +45,7 @@ leave-requires-clause-may g c κs =
     let finds : Finds p (board_of s) = subst (λ (b : BoardState). Finds p b) here c.enter-turn.ensures.finds in
     let may : MayStore s.log s.pending number = may_store p s number finds (subst (λ (ns : List ℕ). 0 < times number ns) (sym c.requires.held) (times_one number)) in
     let gone = c.void.ensures in
-    let next : After (board_of s) (board_of t) = c.after.ensures.void s t c.args.room.made_for number may (room_out p s c.args.room.made_for finds c.requires.rooms) gone.stored gone.book gone.rooms in
+    let next : After (board_of s) (board_of t) = c.after.ensures.void s t c.args.room.made_for number may (room_out p s c.args.room.made_for finds c.requires.rooms) gone.stored gone.book gone.rooms gone.checkpoints in
     let knows : c.put_back.new.turn.knows ≡ p = c.put_back.ensures.knows ∙ c.taken-board.ensures.knows ∙ c.enter-turn.ensures.knows in
     let found : c.put_back.new.turn.found ≡ board_of s = c.put_back.ensures.found ∙ c.taken-board.ensures.found ∙ here in
     subst (λ (x : State). MayLeave c.put_back.new.turn.knows c.put_back.new.turn.found (board_of x)) (sym c.put_back.ensures.board)

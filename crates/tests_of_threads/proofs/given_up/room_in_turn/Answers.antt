@@ -30,7 +30,7 @@ leave-requires-clause-may g c κs =
     let here : c.enter-turn.result.found ≡ board_of s = sym c.enter-turn.ensures.board ∙ ap (λ (x : State). board_of x) (sym c.taken-board.ensures.board) in
     let finds : Finds p (board_of s) = subst (λ (b : BoardState). Finds p b) here c.enter-turn.ensures.finds in
     let rooms : t.rooms ≡ s.rooms ++ room ∷ [] = subst (λ (x : Result Room NoRoom). OnOk x (t.rooms ≡ s.rooms ++ room ∷ [])) c.in-Ok.is c.room.ensures.ok in
-    let next : After (board_of s) (board_of t) = c.after.ensures.room s t room c.room.ensures.log c.room.ensures.pending rooms (omega arith) in
+    let next : After (board_of s) (board_of t) = c.after.ensures.room s t room c.room.ensures.log c.room.ensures.pending rooms c.room.ensures.checkpoints (omega arith) in
     let knows : c.put_back.new.turn.knows ≡ p = c.put_back.ensures.knows ∙ c.taken-board.ensures.knows ∙ c.enter-turn.ensures.knows in
     let found : c.put_back.new.turn.found ≡ board_of s = c.put_back.ensures.found ∙ c.taken-board.ensures.found ∙ here in
     subst (λ (x : State). MayLeave c.put_back.new.turn.knows c.put_back.new.turn.found (board_of x)) (sym c.put_back.ensures.board)
@@ -45,7 +45,7 @@ returns-clause-rooms g c =
     let here : c.enter-turn.result.found ≡ board_of s = sym c.enter-turn.ensures.board ∙ ap (λ (x : State). board_of x) (sym c.taken-board.ensures.board) in
     let finds : Finds p (board_of s) = subst (λ (b : BoardState). Finds p b) here c.enter-turn.ensures.finds in
     let rooms : t.rooms ≡ s.rooms ++ room ∷ [] = subst (λ (x : Result Room NoRoom). OnOk x (t.rooms ≡ s.rooms ++ room ∷ [])) c.in-Ok.is c.room.ensures.ok in
-    let next : After (board_of s) (board_of t) = c.after.ensures.room s t room c.room.ensures.log c.room.ensures.pending rooms (omega arith) in
+    let next : After (board_of s) (board_of t) = c.after.ensures.room s t room c.room.ensures.log c.room.ensures.pending rooms c.room.ensures.checkpoints (omega arith) in
     let knows : c.put_back.new.turn.knows ≡ p = c.put_back.ensures.knows ∙ c.taken-board.ensures.knows ∙ c.enter-turn.ensures.knows in
     let found : c.put_back.new.turn.found ≡ board_of s = c.put_back.ensures.found ∙ c.taken-board.ensures.found ∙ here in
     let left : c.leave.result.knows ≡ after_turn c.put_back.new.turn.knows c.put_back.new.turn.found (board_of t) =

@@ -78,7 +78,7 @@ leave-requires-clause-may c =
     (record { commit = c.after.ensures.commit; swap = c.after.ensures.swap; void = c.after.ensures.void })
     (record { next = c.judged_writes.ensures.next; last = c.last_writes.ensures; same = c.boards.ensures.last })
     (record { book = c.storing.ensures.book; rises = c.storing.ensures.rises; released = c.storing.ensures.released })
-    t c.store_at_fresh-outcome.ensures.stored c.store_at_fresh-outcome.ensures.book c.store_at_fresh-outcome.ensures.rooms)
+    t c.store_at_fresh-outcome.ensures.stored c.store_at_fresh-outcome.ensures.book c.store_at_fresh-outcome.ensures.rooms c.store_at_fresh-outcome.ensures.checkpoints)
 
 pub returns-clause-swapped : goal.returns-clause-swapped
 returns-clause-swapped c = λ program strict by r judged given.
@@ -93,4 +93,4 @@ returns-clause-swapped c = λ program strict by r judged given.
     (record { commit = c.after.ensures.commit; swap = c.after.ensures.swap; void = c.after.ensures.void })
     (record { next = c.judged_writes.ensures.next; last = c.last_writes.ensures; same = c.boards.ensures.last })
     (record { book = c.storing.ensures.book; rises = c.storing.ensures.rises; released = c.storing.ensures.released })
-    t c.store_at_fresh-outcome.ensures.stored c.store_at_fresh-outcome.ensures.book c.store_at_fresh-outcome.ensures.rooms c.store_at_fresh-outcome.result c.store_at_fresh-outcome.ensures.answer judged)
+    t c.store_at_fresh-outcome.ensures.stored c.store_at_fresh-outcome.ensures.book c.store_at_fresh-outcome.ensures.rooms c.store_at_fresh-outcome.ensures.checkpoints c.store_at_fresh-outcome.result c.store_at_fresh-outcome.ensures.answer judged)

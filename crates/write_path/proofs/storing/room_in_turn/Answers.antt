@@ -26,7 +26,7 @@ leave-requires-clause-may g c =
     let here : c.enter-turn.result.found ≡ board_of s = sym c.enter-turn.ensures.board ∙ ap (λ (shelf : Shelved). shelf_state shelf) (sym c.board.ensures.value) in
     let finds : Finds p (board_of s) = subst (λ (b : BoardState). Finds p b) here c.enter-turn.ensures.finds in
     let rooms : t.rooms ≡ s.rooms ++ room ∷ [] = subst (λ (x : Result Room NoRoom). OnOk x (t.rooms ≡ s.rooms ++ room ∷ [])) c.in-Ok.is c.room-at.ensures.ok in
-    let next : After (board_of s) (board_of t) = c.after.ensures.room s t room c.room-at.ensures.log c.room-at.ensures.pending rooms c.requires.bytes in
+    let next : After (board_of s) (board_of t) = c.after.ensures.room s t room c.room-at.ensures.log c.room-at.ensures.pending rooms c.room-at.ensures.checkpoints c.requires.bytes in
     may_in p c.enter-turn.result.knows c.enter-turn.result.found (board_of s) (board_of t) c.enter-turn.ensures.knows here
     (may_leave_room p s t room finds c.requires.rests next c.room-at.ensures.log c.room-at.ensures.pending rooms)
 
@@ -39,7 +39,7 @@ returns-in-Ok-clause-room g c =
     let here : c.enter-turn.result.found ≡ board_of s = sym c.enter-turn.ensures.board ∙ ap (λ (shelf : Shelved). shelf_state shelf) (sym c.board.ensures.value) in
     let finds : Finds p (board_of s) = subst (λ (b : BoardState). Finds p b) here c.enter-turn.ensures.finds in
     let rooms : t.rooms ≡ s.rooms ++ room ∷ [] = subst (λ (x : Result Room NoRoom). OnOk x (t.rooms ≡ s.rooms ++ room ∷ [])) c.in-Ok.is c.room-at.ensures.ok in
-    let next : After (board_of s) (board_of t) = c.after.ensures.room s t room c.room-at.ensures.log c.room-at.ensures.pending rooms c.requires.bytes in
+    let next : After (board_of s) (board_of t) = c.after.ensures.room s t room c.room-at.ensures.log c.room-at.ensures.pending rooms c.room-at.ensures.checkpoints c.requires.bytes in
     record {
       found = s;
       front = c.room-at.ensures.front;

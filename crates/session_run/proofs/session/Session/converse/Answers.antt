@@ -13,9 +13,9 @@ use Rattle.session_run.proofs.session.Session.converse.Goals as goal
 pub returns-in_err-want-clause-halted : goal.returns-in_err-want-clause-halted
 returns-in_err-want-clause-halted g c before answered =
     on_err c.from_residual.result _
-    (halted_first c.args.program.now c.args.self.now c.take_event.new.self c.args.event before (record { read = g.G.Ground.read c.args.ground.now; lowest = g.G.Ground.lowest_front c.args.ground.now; recorded = g.G.Ground.recorded c.args.ground.now; own = g.G.Ground.own c.args.ground.now })
+    (halted_first c.args.program.now c.args.self.now c.take_event.new.self c.args.event before (record { read = g.G.Ground.read c.args.ground.now; lowest = g.G.Ground.lowest_front c.args.ground.now; recorded = g.G.Ground.recorded c.args.ground.now; checkpoints = g.G.Ground.checkpoints c.args.ground.now; own = g.G.Ground.own c.args.ground.now })
     c.requires.first c.in_err-want.ensures.halted (ap (λ l. l.looks) c.take_event.ensures.listing) (ap (λ l. l.stored) c.take_event.ensures.listing) (ap (λ l. l.spent) c.take_event.ensures.listing) answered
-    (read_nothing (record { read = g.G.Ground.read c.args.ground.now; lowest = g.G.Ground.lowest_front c.args.ground.now; recorded = g.G.Ground.recorded c.args.ground.now; own = g.G.Ground.own c.args.ground.now })))
+    (read_nothing (record { read = g.G.Ground.read c.args.ground.now; lowest = g.G.Ground.lowest_front c.args.ground.now; recorded = g.G.Ground.recorded c.args.ground.now; checkpoints = g.G.Ground.checkpoints c.args.ground.now; own = g.G.Ground.own c.args.ground.now })))
 
 pub loop-want-init : goal.loop-want-init
 loop-want-init g c = record {
@@ -31,7 +31,7 @@ loop-want-init g c = record {
       (no_draws (g.G.Ground.origin c.args.ground.now) (g.G.Ground.left c.args.ground.now) c.args.self.now.listing.spent c.requires.looks.0);
   run = λ before answered. (
     c.in_ok-want.ensures.ok.step ∷ [],
-    begun c.args.program.now c.args.self.now c.take_event.new.self c.args.event before (record { read = g.G.Ground.read c.args.ground.now; lowest = g.G.Ground.lowest_front c.args.ground.now; recorded = g.G.Ground.recorded c.args.ground.now; own = g.G.Ground.own c.args.ground.now })
+    begun c.args.program.now c.args.self.now c.take_event.new.self c.args.event before (record { read = g.G.Ground.read c.args.ground.now; lowest = g.G.Ground.lowest_front c.args.ground.now; recorded = g.G.Ground.recorded c.args.ground.now; checkpoints = g.G.Ground.checkpoints c.args.ground.now; own = g.G.Ground.own c.args.ground.now })
         c.in_ok-want.want c.requires.first c.in_ok-want.ensures.ok (ap (λ l. l.looks) c.take_event.ensures.listing) (ap (λ l. l.stored) c.take_event.ensures.listing) (ap (λ l. l.spent) c.take_event.ensures.listing) answered
         c.in_ok-want.ensures.wants c.in_ok-want.ensures.ready c.in_ok-want.ensures.may c.requires.front c.requires.seen c.in_ok-want.ensures.few,
   );
@@ -41,24 +41,24 @@ pub returns-in_err-answer-clause-halted : goal.returns-in_err-answer-clause-halt
 returns-in_err-answer-clause-halted g c before answered =
     let run = c.loop-want.invariant.run before answered in
     on_err c.from_residual-in_err-answer.result _
-    (halted_read c.args.program.now c.args.self.now c.loop-want.self c.answer.new.self c.args.event before (record { read = g.G.Ground.read c.loop-want.ground; lowest = g.G.Ground.lowest_front c.loop-want.ground; recorded = g.G.Ground.recorded c.loop-want.ground; own = g.G.Ground.own c.loop-want.ground })
-    (record { read = g.G.Ground.read c.answer.new.ground; lowest = g.G.Ground.lowest_front c.answer.new.ground; recorded = g.G.Ground.recorded c.answer.new.ground; own = g.G.Ground.own c.answer.new.ground })
+    (halted_read c.args.program.now c.args.self.now c.loop-want.self c.answer.new.self c.args.event before (record { read = g.G.Ground.read c.loop-want.ground; lowest = g.G.Ground.lowest_front c.loop-want.ground; recorded = g.G.Ground.recorded c.loop-want.ground; checkpoints = g.G.Ground.checkpoints c.loop-want.ground; own = g.G.Ground.own c.loop-want.ground })
+    (record { read = g.G.Ground.read c.answer.new.ground; lowest = g.G.Ground.lowest_front c.answer.new.ground; recorded = g.G.Ground.recorded c.answer.new.ground; checkpoints = g.G.Ground.checkpoints c.answer.new.ground; own = g.G.Ground.own c.answer.new.ground })
     c.loop-want.want run.0 run.1 c.answer.ensures.core c.in_err-answer.ensures.same_looks c.in_err-answer.ensures.same_stored c.in_err-answer.ensures.same_spent c.in_err-answer.ensures.read)
 
 pub returns-in_err-want-2-clause-halted : goal.returns-in_err-want-2-clause-halted
 returns-in_err-want-2-clause-halted g c before answered =
     let run = c.loop-want.invariant.run before answered in
     on_err c.from_residual-in_err-want-2.result _
-    (halted_at c.args.program.now c.args.self.now c.loop-want.self c.answer.new.self c.take_event-in-Some.new.self c.args.event before (record { read = g.G.Ground.read c.loop-want.ground; lowest = g.G.Ground.lowest_front c.loop-want.ground; recorded = g.G.Ground.recorded c.loop-want.ground; own = g.G.Ground.own c.loop-want.ground })
-    (record { read = g.G.Ground.read c.answer.new.ground; lowest = g.G.Ground.lowest_front c.answer.new.ground; recorded = g.G.Ground.recorded c.answer.new.ground; own = g.G.Ground.own c.answer.new.ground })
+    (halted_at c.args.program.now c.args.self.now c.loop-want.self c.answer.new.self c.take_event-in-Some.new.self c.args.event before (record { read = g.G.Ground.read c.loop-want.ground; lowest = g.G.Ground.lowest_front c.loop-want.ground; recorded = g.G.Ground.recorded c.loop-want.ground; checkpoints = g.G.Ground.checkpoints c.loop-want.ground; own = g.G.Ground.own c.loop-want.ground })
+    (record { read = g.G.Ground.read c.answer.new.ground; lowest = g.G.Ground.lowest_front c.answer.new.ground; recorded = g.G.Ground.recorded c.answer.new.ground; checkpoints = g.G.Ground.checkpoints c.answer.new.ground; own = g.G.Ground.own c.answer.new.ground })
     run.0 c.in_ok-answer.answer c.in-Some.wanted
-    (subst (λ w. Conversing c.args.program.now c.args.self.now c.loop-want.self c.args.event before (record { read = g.G.Ground.read c.loop-want.ground; lowest = g.G.Ground.lowest_front c.loop-want.ground; recorded = g.G.Ground.recorded c.loop-want.ground; own = g.G.Ground.own c.loop-want.ground }) w run.0) c.in-Some.is run.1)
+    (subst (λ w. Conversing c.args.program.now c.args.self.now c.loop-want.self c.args.event before (record { read = g.G.Ground.read c.loop-want.ground; lowest = g.G.Ground.lowest_front c.loop-want.ground; recorded = g.G.Ground.recorded c.loop-want.ground; checkpoints = g.G.Ground.checkpoints c.loop-want.ground; own = g.G.Ground.own c.loop-want.ground }) w run.0) c.in-Some.is run.1)
     (record { answered = c.in_ok-answer.ensures.answered; is = c.in_ok-answer.ensures.answer; core = c.answer.ensures.core; mux = c.answer.ensures.mux; looks = c.in_ok-answer.ensures.looks; stored = c.in_ok-answer.ensures.stored; spent = c.in_ok-answer.ensures.spent })
-    c.in_err-want-2.ensures.halted c.take_event-in-Some.ensures.listing (read_nothing (record { read = g.G.Ground.read c.answer.new.ground; lowest = g.G.Ground.lowest_front c.answer.new.ground; recorded = g.G.Ground.recorded c.answer.new.ground; own = g.G.Ground.own c.answer.new.ground })))
+    c.in_err-want-2.ensures.halted c.take_event-in-Some.ensures.listing (read_nothing (record { read = g.G.Ground.read c.answer.new.ground; lowest = g.G.Ground.lowest_front c.answer.new.ground; recorded = g.G.Ground.recorded c.answer.new.ground; checkpoints = g.G.Ground.checkpoints c.answer.new.ground; own = g.G.Ground.own c.answer.new.ground })))
 
 pub loop-want-preserved : goal.loop-want-preserved
 loop-want-preserved g c =
-    let within = (event_within (laws_of c.was_read.ensures.since c.later.ensures.log c.later.ensures.fronts c.later_boards.ensures.trees c.later_boards.ensures.least c.later-2.ensures.feed c.later-2.ensures.bodies c.reads.ensures.before c.reads.ensures.reflexive c.reads.ensures.transitive c.was_read.ensures.lowest c.was_read.ensures.front) (record { read = g.G.Ground.read c.loop-want.ground; lowest = g.G.Ground.lowest_front c.loop-want.ground; recorded = g.G.Ground.recorded c.loop-want.ground; own = g.G.Ground.own c.loop-want.ground }) (record { read = g.G.Ground.read c.answer.new.ground; lowest = g.G.Ground.lowest_front c.answer.new.ground; recorded = g.G.Ground.recorded c.answer.new.ground; own = g.G.Ground.own c.answer.new.ground }) c.loop-want.self.core.user c.args.program.now c.loop-want.self.core.strict (Some c.in-Some.wanted) c.in_ok-answer.answer c.in_ok-answer.ensures.answered) in
+    let within = (event_within (laws_of c.was_read.ensures.since c.later.ensures.log c.later.ensures.fronts c.later_boards.ensures.trees c.later_boards.ensures.least c.later-2.ensures.feed c.later-2.ensures.bodies c.reads.ensures.before c.reads.ensures.reflexive c.reads.ensures.transitive c.was_read.ensures.lowest c.was_read.ensures.front) (record { read = g.G.Ground.read c.loop-want.ground; lowest = g.G.Ground.lowest_front c.loop-want.ground; recorded = g.G.Ground.recorded c.loop-want.ground; checkpoints = g.G.Ground.checkpoints c.loop-want.ground; own = g.G.Ground.own c.loop-want.ground }) (record { read = g.G.Ground.read c.answer.new.ground; lowest = g.G.Ground.lowest_front c.answer.new.ground; recorded = g.G.Ground.recorded c.answer.new.ground; checkpoints = g.G.Ground.checkpoints c.answer.new.ground; own = g.G.Ground.own c.answer.new.ground }) c.loop-want.self.core.user c.args.program.now c.loop-want.self.core.strict (Some c.in-Some.wanted) c.in_ok-answer.answer c.in_ok-answer.ensures.answered) in
     record {
       wants = c.in_ok-want-2.ensures.wants;
       ready = c.in_ok-want-2.ensures.ready;
@@ -80,21 +80,24 @@ loop-want-preserved g c =
       run = λ before answered.
           let run = c.loop-want.invariant.run before answered in (
             c.in_ok-want-2.ensures.ok.step ∷ run.0,
-            went_on c.args.program.now c.args.self.now c.loop-want.self c.answer.new.self c.take_event-in-Some.new.self c.args.event before (record { read = g.G.Ground.read c.loop-want.ground; lowest = g.G.Ground.lowest_front c.loop-want.ground; recorded = g.G.Ground.recorded c.loop-want.ground; own = g.G.Ground.own c.loop-want.ground })
-                (record { read = g.G.Ground.read c.answer.new.ground; lowest = g.G.Ground.lowest_front c.answer.new.ground; recorded = g.G.Ground.recorded c.answer.new.ground; own = g.G.Ground.own c.answer.new.ground })
+            went_on c.args.program.now c.args.self.now c.loop-want.self c.answer.new.self c.take_event-in-Some.new.self c.args.event before (record { read = g.G.Ground.read c.loop-want.ground; lowest = g.G.Ground.lowest_front c.loop-want.ground; recorded = g.G.Ground.recorded c.loop-want.ground; checkpoints = g.G.Ground.checkpoints c.loop-want.ground; own = g.G.Ground.own c.loop-want.ground })
+                (record { read = g.G.Ground.read c.answer.new.ground; lowest = g.G.Ground.lowest_front c.answer.new.ground; recorded = g.G.Ground.recorded c.answer.new.ground; checkpoints = g.G.Ground.checkpoints c.answer.new.ground; own = g.G.Ground.own c.answer.new.ground })
                 run.0 c.in_ok-answer.answer c.in-Some.wanted c.in_ok-want-2.want
-                (subst (λ w. Conversing c.args.program.now c.args.self.now c.loop-want.self c.args.event before (record { read = g.G.Ground.read c.loop-want.ground; lowest = g.G.Ground.lowest_front c.loop-want.ground; recorded = g.G.Ground.recorded c.loop-want.ground; own = g.G.Ground.own c.loop-want.ground }) w run.0) c.in-Some.is run.1)
+                (subst (λ w. Conversing c.args.program.now c.args.self.now c.loop-want.self c.args.event before (record { read = g.G.Ground.read c.loop-want.ground; lowest = g.G.Ground.lowest_front c.loop-want.ground; recorded = g.G.Ground.recorded c.loop-want.ground; checkpoints = g.G.Ground.checkpoints c.loop-want.ground; own = g.G.Ground.own c.loop-want.ground }) w run.0) c.in-Some.is run.1)
                 (record { answered = c.in_ok-answer.ensures.answered; is = c.in_ok-answer.ensures.answer; core = c.answer.ensures.core; mux = c.answer.ensures.mux; looks = c.in_ok-answer.ensures.looks; stored = c.in_ok-answer.ensures.stored; spent = c.in_ok-answer.ensures.spent })
                 c.in_ok-want-2.ensures.ok c.take_event-in-Some.ensures.listing c.in_ok-want-2.ensures.wants c.in_ok-want-2.ensures.ready c.in_ok-want-2.ensures.may
                 within.0 within.1 c.in_ok-want-2.ensures.few (c.in_ok-want-2.ensures.fewer c.in_ok-answer.ensures.answer),
           );
     }
 
-pub returns-then-is_full-clause-draws : goal.returns-then-is_full-clause-draws
-returns-then-is_full-clause-draws g c = c.loop-want.invariant.draws
+pub returns-then-lacks-clause-draws : goal.returns-then-lacks-clause-draws
+returns-then-lacks-clause-draws g c = c.loop-want.invariant.draws
+
+pub lacks-requires : goal.lacks-requires
+lacks-requires g c = record { few = c.loop-want.invariant.draws.few }
 
 pub answer-requires-clause-left : goal.answer-requires-clause-left
-answer-requires-clause-left g c = c.is_full.ensures.left c.if-is_full.false c.loop-want.invariant.draws.few
+answer-requires-clause-left g c = c.lacks.ensures.left c.if-lacks.false
 
 pub answer-requires-clause-looks : goal.answer-requires-clause-looks
 answer-requires-clause-looks g c =

@@ -1,10 +1,11 @@
-use Rattle.std.proofs.Common.{◌≡◌, ◌∷◌, ◌∙◌, ap, sym, subst, List}
+use Rattle.std.proofs.Common.{◌≡◌, ◌∷◌, ◌∙◌, ap, sym, subst, List, Some}
 use Rattle.sg_history.specs.declared.book.Waiting.{Waiting}
-use Rattle.sg_history.specs.Board.{BoardState, After}
+use Rattle.sg_history.specs.Board.{BoardState, SideEntry, After}
 use Rattle.principals.specs.Script.{entry_of}
 use Rattle.doc_board.specs.Boards.{board_of}
 use Rattle.doc_board.specs.State.{State}
 use Rattle.write_path.specs.Own.{EndsWith, own_after}
+use Rattle.write_path.proofs.Checkpointing.{commanded_still}
 use Rattle.write_path.proofs.Commanded.{after_command, commands, no_rooms, none_waits, recorded_then}
 use Rattle.write_path.proofs.OwnEnds.{ends_commanded}
 use Rattle.write_path.proofs.Proposed.{all_after}
@@ -39,3 +40,8 @@ pub returns-clause-recorded : goal.returns-clause-recorded
 returns-clause-recorded c =
     rw (← c.self.view_is)
     (recorded_then c.self.inside.shelf.board c.command-outcome.new.self.board (entry_of c.args.command) c.command-outcome.result c.command-outcome.ensures.board)
+
+pub returns-clause-checkpoints : goal.returns-clause-checkpoints
+returns-clause-checkpoints c =
+    rw (← c.self.view_is)
+    (ap (λ (side : List SideEntry). Some side) (commanded_still c.self.inside.shelf.board c.command-outcome.new.self.board (entry_of c.args.command) c.command-outcome.result c.command-outcome.ensures.board))

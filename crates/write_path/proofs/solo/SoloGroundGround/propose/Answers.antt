@@ -1,10 +1,11 @@
-use Rattle.std.proofs.Common.{◌≡◌, ◌||◌, ◌∷◌, ◌∙◌, ap, sym, subst, List}
+use Rattle.std.proofs.Common.{◌≡◌, ◌||◌, ◌∷◌, ◌∙◌, ap, sym, subst, List, Some}
 use Rattle.std.specs.Option.{option_copied}
 use Rattle.sg_history.specs.declared.book.Waiting.{Waiting}
-use Rattle.sg_history.specs.Board.{BoardState, After}
+use Rattle.sg_history.specs.Board.{BoardState, SideEntry, After}
 use Rattle.doc_board.specs.Boards.{board_of}
 use Rattle.doc_board.specs.State.{State}
 use Rattle.write_path.specs.Own.{EndsWith, own_after}
+use Rattle.write_path.proofs.Checkpointing.{proposed_still}
 use Rattle.write_path.proofs.OwnEnds.{ends_proposed}
 use Rattle.write_path.proofs.Proposed.{after_answer, all_after, no_rooms, none_waits, recorded_then, stores}
 use Rattle.write_path.proofs.solo.SoloGroundGround.propose.Goals as goal
@@ -38,3 +39,8 @@ pub returns-clause-recorded : goal.returns-clause-recorded
 returns-clause-recorded c =
     rw (← c.self.view_is)
     (recorded_then c.self.inside.shelf.board c.propose-outcome.new.self.board c.args.program.now (option_copied c.args.by) c.args.revision c.propose-outcome.result c.propose-outcome.ensures.board)
+
+pub returns-clause-checkpoints : goal.returns-clause-checkpoints
+returns-clause-checkpoints c =
+    rw (← c.self.view_is)
+    (ap (λ (side : List SideEntry). Some side) (proposed_still c.self.inside.shelf.board c.propose-outcome.new.self.board c.args.program.now (option_copied c.args.by) c.args.revision c.propose-outcome.result c.propose-outcome.ensures.board))
