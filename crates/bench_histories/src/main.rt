@@ -1,16 +1,19 @@
 //! Does work of histories, gates and the sync language, so that what it takes can be measured from outside. The first word is the
-//! job. `draw`, `turn` and `lock` take how many threads and how often. All others take a file: `entries`, `apply`, `channels`,
-//! `roles` and `periods` a journal and how often; `propose`, `pull`, `lose`, `filter` and `names` a journal and how many; `extend`, `repeat`,
-//! `deny`, `offer` and `bodies` besides a leaf of its document `d`; `parse`, `print`, `resolve` and `fault` a function and how often; `judge`,
-//! `judge_user`, `judge_change` and `judge_both` besides a document, `member` the name of a member, how often and a document, and
-//! `plain_channels`, `plain_count` and `plain_pass` any file, how often and a document.
+//! job. `draw`, `turn` and `lock` take how many threads and how often; `set` and `get` besides how many clients have checkpoints for each
+//! thread, and `keep` how many bytes they have and how many there are. All others take a file: `entries`, `apply`, `channels`, `roles` and
+//! `periods` a journal and how often; `propose`, `pull`, `lose`, `filter` and `names` a journal and how many; `extend`, `repeat`, `deny`,
+//! `offer` and `bodies` besides a leaf of its document `d`; `share`, `share_costly` and `wait` besides how many threads; `parse`, `print`,
+//! `resolve` and `fault` a function and how often; `judge`, `judge_user`, `judge_change` and `judge_both` besides a document, `member` the
+//! name of a member, how often and a document, and `plain_channels`, `plain_count` and `plain_pass` any file, how often and a document.
 #![tactic(auto)]
 
+mod checkpoints;
 mod functions;
 mod grants;
 mod grounds;
 mod judging;
 mod passes;
+mod sharing;
 mod stop;
 mod threads;
 mod trees;
@@ -20,10 +23,11 @@ use sg_outside::{Bytes, Files, RealFiles};
 use std::alloc::{AllocError, Global};
 use std::sync::Wait;
 use std::thread::Threads;
+use std::time::Clock;
 use std::{env, io};
 use stop::{Stop, load};
 
-/// The job, what it takes, how often it is done, and a second file or a leaf.
+/// The job, what it takes, how often it is done, and a second file, a leaf, or a number.
 #[derive(Drop)]
 struct Asked {
     job: String,
@@ -34,6 +38,11 @@ struct Asked {
 
 fn text_of(alloc: Global, count: u64) -> Result<String, Stop> {
     Ok(format!(in alloc; "{count}")?)
+}
+
+/// The number that a word is; 1 where it is none.
+fn number_of(word: &str) -> u64 {
+    word.parse::<u64>().unwrap_or(1)
 }
 
 /// The count as one of the sync language's jobs, which make at most so many.
@@ -69,6 +78,19 @@ fn judged_by_two<R: Threads + Sync, F: Files>(
     let count = few(asked.count);
     let found = threads::judged_by_two(rt, alloc, text, document.as_slice(), count);
     text_of(alloc, u64::from(found))
+}
+
+/// How many revisions are stored that threads propose at grounds of one gate; or how long one is waited for.
+fn shared<R: Threads + Wait + Clock + Sync, F: Files>(
+    rt: &R,
+    alloc: Global,
+    files: &mut F,
+    asked: &Asked,
+) -> Result<String, Stop> {
+    let journal = load(alloc, files, asked.of.as_str())?;
+    let threads = number_of(asked.document.as_str());
+    let found = sharing::counted(rt, alloc, journal, asked.job.as_str(), threads, asked.count)?;
+    text_of(alloc, found)
 }
 
 /// What comes of a function of the sync language.
@@ -124,7 +146,19 @@ fn of_passes<R: Threads + Wait + Sync>(
     format!(in alloc; "{} {} {}", asked.job, asked.of, asked.count)
 }
 
-fn run<R: Threads + Wait + Sync, F: Files>(
+/// How many checkpoints are set and got.
+fn of_checkpoints<R: Threads + Wait + Sync>(
+    rt: &R,
+    alloc: Global,
+    asked: &Asked,
+) -> Result<String, Stop> {
+    let of = number_of(asked.of.as_str());
+    let clients = number_of(asked.document.as_str());
+    let found = checkpoints::counted(rt, alloc, asked.job.as_str(), of, asked.count, clients)?;
+    text_of(alloc, found)
+}
+
+fn run<R: Threads + Wait + Clock + Sync, F: Files>(
     rt: &R,
     alloc: Global,
     files: &mut F,
@@ -132,7 +166,9 @@ fn run<R: Threads + Wait + Sync, F: Files>(
 ) -> Result<String, Stop> {
     match asked.job.as_str() {
         "draw" | "turn" | "lock" => Ok(of_passes(rt, alloc, asked)?),
+        "set" | "get" | "keep" => of_checkpoints(rt, alloc, asked),
         "judge_both" => judged_by_two(rt, alloc, files, asked),
+        "share" | "share_costly" | "wait" => shared(rt, alloc, files, asked),
         _ => of_file(alloc, files, asked),
     }
 }

@@ -1,0 +1,277 @@
+//! A board of a journal that threads share behind a gate: each proposes revisions at a ground of its own; or one does, and another pass
+//! takes turn after turn, which tells how long a turn is held.
+
+ghost use Rattle.std.specs.Prelude.{◌≡◌, ◌≤◌, ◌^◌, [], length, IfOk};
+ghost use Rattle.write_path.specs.Shared.{Rests};
+
+use crate::grounds::{FUNCTION, is_stored, log_of, program_of};
+use crate::stop::Stop;
+use doc_board::Board;
+use seq_gate::laws::turns;
+use seq_gate::{Gate, Pass, open};
+use sg_history::Name;
+use sg_outside::Bytes;
+use std::alloc::Global;
+use std::sync::Wait;
+use std::thread::{JoinHandle, Scope, Threads, join, scope, scope_env};
+use std::time::{Clock, Instant};
+use sync_resolve::Resolved;
+use write_path::{SharedGround, Shelf};
+
+/// A sync function that takes some 1,000 visits.
+const COSTLY: &str =
+    "function(doc, oldDoc) { let n = 0; for (let i = 0; i < 110; i++) n = n + i; channel(doc.channels); }";
+
+/// The largest board that is shared.
+const MOST_ENTRIES: u64 = 10_000_000;
+
+/// What a thread does with what it owns, and a number that it finds.
+pub trait Job: Send + Drop {
+    fn run(self) -> u64
+    where
+        Self: Sized;
+}
+
+/// Does both jobs, each in a thread of its own.
+pub fn by_two<J: Job, K: Job>(rt: &impl Threads, one: J, two: K) -> (u64, u64) {
+    join(rt, || -> u64 { one.run() }, || -> u64 { two.run() })
+}
+
+/// A job that was started in a thread, or what it found where no thread could be made.
+type Started = Result<JoinHandle<u64>, u64>;
+
+fn start<'s, E, J: Job + 's>(scope: &Scope<'s, E>, job: J) -> Started {
+    match scope.spawn(move || -> u64 { job.run() }) {
+        Ok(child) => Ok(child),
+        Err(refused) => Err((refused.value)()),
+    }
+}
+
+fn found(rt: &(impl Threads + Wait), started: Started) -> u64 {
+    match started {
+        Ok(child) => child.join(rt),
+        Err(found) => found,
+    }
+}
+
+/// Does all four jobs, the last of them in this thread, and adds up what they find.
+fn by_four<J: Job>(rt: &(impl Threads + Wait), one: J, two: J, three: J, four: J) -> u64 {
+    let (one, two, three, fourth) = scope(
+        scope_env(),
+        rt,
+        move |scope| -> (Started, Started, Started, u64) {
+            let one = start(scope, one);
+            let two = start(scope, two);
+            let three = start(scope, three);
+            (one, two, three, four.run())
+        },
+    );
+    found(rt, one)
+        .saturating_add(found(rt, two))
+        .saturating_add(found(rt, three))
+        .saturating_add(fourth)
+}
+
+/// Whose revisions are proposed, under which program, and how many by each thread.
+#[derive(Clone, Copy)]
+struct Work<'p> {
+    program: &'p Resolved,
+    user: &'p Name,
+    count: u64,
+}
+
+/// A ground at which so many revisions are proposed, from a number on.
+#[derive(Drop)]
+struct Proposing<'g, 'p, R: Wait + Sync> {
+    alloc: Global,
+    ground: SharedGround<'g, R>,
+    program: &'p Resolved,
+    user: &'p Name,
+    from: u64,
+    count: u64,
+}
+
+impl<'g, 'p, R: Wait + Sync> Job for Proposing<'g, 'p, R> {
+    /// Counts those that are stored.
+    fn run(self) -> u64 {
+        let Proposing {
+            alloc,
+            mut ground,
+            program,
+            user,
+            from,
+            count,
+        } = self;
+        let mut stored = 0u64;
+        for number in from..from.saturating_add(count) {
+            if let Ok(true) = is_stored(alloc, &mut ground, program, user, number) {
+                stored = stored.saturating_add(1);
+            }
+        }
+        drop(ground);
+        stored
+    }
+}
+
+/// A pass that takes so many turns.
+#[derive(Drop)]
+struct Waiting<'g, R: Clock + Wait + Sync> {
+    rt: &'g R,
+    gate: &'g Gate<Shelf>,
+    pass: Pass<Shelf>,
+    count: u64,
+    ghost here: { pass.gate ≡ gate.now },
+}
+
+/// Takes a turn, and tells how many microseconds it was waited for.
+fn turn_after<R: Clock + Wait>(rt: &R, gate: &Gate<Shelf>, pass: Pass<Shelf>) -> (Pass<Shelf>, u64)
+    requires { pass.gate ≡ gate.now }
+    ensures { result.0.gate ≡ pass.gate }
+{
+    turns();
+    let before = Instant::now(rt);
+    let turn = pass.enter(rt, gate);
+    let waited = match before {
+        Ok(start) => start.elapsed(rt).map_or(0, |time| time.as_micros()),
+        Err(_) => 0,
+    };
+    (turn.leave(gate), u64::try_from(waited).unwrap_or(u64::MAX))
+}
+
+impl<'g, R: Clock + Wait + Sync> Job for Waiting<'g, R> {
+    /// The most microseconds that a turn was waited for.
+    fn run(self) -> u64 {
+        let Waiting {
+            rt,
+            gate,
+            mut pass,
+            count,
+        } = self;
+        let mut longest = 0u64;
+        for _ in 0..count {
+            let (back, waited) = turn_after(rt, gate, pass);
+            pass = back;
+            longest = longest.max(waited);
+        }
+        drop(pass);
+        longest
+    }
+}
+
+/// The proposals of a thread at a place among the threads.
+fn work_at<'g, 'p, R: Wait + Sync>(
+    rt: &'g R,
+    alloc: Global,
+    gate: &'g Gate<Shelf>,
+    pass: Pass<Shelf>,
+    work: &Work<'p>,
+    place: u64,
+) -> Proposing<'g, 'p, R>
+    requires here { pass.gate ≡ gate.now }
+    requires rests { Rests pass.knows }
+{
+    Proposing {
+        alloc,
+        ground: SharedGround::new(rt, gate, pass),
+        program: work.program,
+        user: work.user,
+        from: work.count.saturating_mul(place),
+        count: work.count,
+    }
+}
+
+/// How many revisions one thread, two or four store.
+fn by_threads<R: Threads + Wait + Sync>(
+    rt: &R,
+    alloc: Global,
+    gate: &Gate<Shelf>,
+    pass: Pass<Shelf>,
+    work: &Work<'_>,
+    threads: u64,
+) -> u64
+    requires here { pass.gate ≡ gate.now }
+    requires rests { Rests pass.knows }
+    requires left { 2 ^ 35 ≤ pass.knows.left }
+{
+    let mut pass = pass;
+    if threads < 2 {
+        return work_at(rt, alloc, gate, pass, work, 0).run();
+    }
+    let second = pass.split(gate);
+    let one = work_at(rt, alloc, gate, second, work, 1);
+    if threads == 2 {
+        let (first, second) = by_two(rt, one, work_at(rt, alloc, gate, pass, work, 0));
+        return first.saturating_add(second);
+    }
+    let third = pass.split(gate);
+    let two = work_at(rt, alloc, gate, third, work, 2);
+    let fourth = pass.split(gate);
+    let three = work_at(rt, alloc, gate, fourth, work, 3);
+    let four = work_at(rt, alloc, gate, pass, work, 0);
+    by_four(rt, one, two, three, four)
+}
+
+/// The longest wait for a turn while another thread proposes.
+fn wait_beside<R: Threads + Wait + Clock + Sync>(
+    rt: &R,
+    alloc: Global,
+    gate: &Gate<Shelf>,
+    pass: Pass<Shelf>,
+    work: &Work<'_>,
+) -> u64
+    requires here { pass.gate ≡ gate.now }
+    requires rests { Rests pass.knows }
+    requires left { 2 ^ 35 ≤ pass.knows.left }
+{
+    let mut pass = pass;
+    let other = pass.split(gate);
+    let beside = work_at(rt, alloc, gate, other, work, 0);
+    let waiting = Waiting {
+        rt,
+        gate,
+        pass,
+        count: work.count.saturating_mul(3),
+    };
+    by_two(rt, beside, waiting).1
+}
+
+fn shelf_of(alloc: Global, journal: Bytes) -> Result<Shelf, Stop>
+    ensures pending { IfOk result (λ shelf. shelf.board.pending ≡ []) }
+    ensures rooms { IfOk result (λ shelf. shelf.board.rooms ≡ []) }
+    ensures short { IfOk result (λ shelf. length shelf.board.log ≤ 10000000) }
+{
+    let board = Board::open(alloc, log_of(alloc, journal)?)?;
+    if board.front() > MOST_ENTRIES {
+        return Err(Stop::Board);
+    }
+    Ok(Shelf::new(board)?)
+}
+
+/// How many of so many revisions for each of some threads are stored at the board of a journal; or how many microseconds a turn is
+/// waited for at most while one thread proposes them.
+pub fn counted<R: Threads + Wait + Clock + Sync>(
+    rt: &R,
+    alloc: Global,
+    journal: Bytes,
+    name: &str,
+    threads: u64,
+    count: u64,
+) -> Result<u64, Stop> {
+    let user = Name::parse(alloc, "ann")?;
+    let function = if name == "share_costly" {
+        COSTLY
+    } else {
+        FUNCTION
+    };
+    let program = program_of(alloc, function)?;
+    let (gate, pass) = open(alloc, shelf_of(alloc, journal)?)?;
+    let work = Work {
+        program: &program,
+        user: &user,
+        count,
+    };
+    if name == "wait" {
+        return Ok(wait_beside(rt, alloc, &gate, pass, &work));
+    }
+    Ok(by_threads(rt, alloc, &gate, pass, &work, threads))
+}
