@@ -121,8 +121,8 @@ class WebSocket:
 class Device:
     """A session of a device: it pushes and pulls, wants each row's body, and keeps what it is sent."""
 
-    def __init__(self, port, **asked):
-        self.socket = WebSocket(port, **asked)
+    def __init__(self, port, wire=None, **asked):
+        self.socket = wire or WebSocket(port, **asked)
         self.frames = record.Frames()
         self.number = 0
         self.open = {}
@@ -190,5 +190,17 @@ class Device:
         self.until(lambda: kind == ERR or (self.caught_up > before and len(self.docs) >= len({row[1] for row in self.rows if len(row) < 4})))
         return kind
 
+    def get_checkpoint(self, client):
+        return self.reply(self.ask("getCheckpoint", client=client))
+
+    def set_checkpoint(self, client, body, **properties):
+        return self.reply(self.ask("setCheckpoint", body, client=client, **properties))
+
     def close(self):
         return self.socket.close()
+
+    def whole_session(self, doc):
+        """Pushes a document, pulls, and closes: what came of each."""
+        kind, _, _ = self.push(doc, "1-a", '{"channels":["B"]}')
+        self.pull()
+        return [kind, {name: list(shown) for name, shown in self.docs.items()}, self.close()]
