@@ -214,6 +214,9 @@ checksum_after-append value xs ys =
     ∙ sym (after_bits-append start (flat_map bits_of xs) (flat_map bits_of ys))
     ∙ ap (after_bits start) (sym (flat_map-append bits_of xs ys)))
 
+pub goes_on : (value : ℕ) (xs ys : List ℕ) → checksum_after (checksum_after value xs) ys ≡ checksum_after value (xs ++ ys)
+goes_on = checksum_after-append
+
 pub checksum_after-nil : (value : ℕ) → checksum_after value [] ≡ value
 unfolding checksum_after after_bits
 checksum_after-nil value = xor_twice all_ones value

@@ -24,6 +24,10 @@ pub record FrameParts : Type 0 where
 abbrev pub parts_of : Frame → FrameParts
 parts_of f = record { number = f.number; kind = f.kind; urgent = f.urgent; no_reply = f.no_reply; more = f.more; payload = f.payload.now }
 
+-- the frame whose payload goes on with these bytes
+abbrev pub with_rest : FrameParts → List ℕ → FrameParts
+with_rest f rest = record f { payload = f.payload ++ rest }
+
 -- the low three bits of the flags
 abbrev pub kind_number : Kind → ℕ
 kind_number kinds.Msg = 0

@@ -102,6 +102,10 @@ abbrev pub text_len : List ℕ → ℕ
 text_len [] = 0
 text_len (b ∷ bs) = if b == 0 then 0 else text_len bs + 1
 
+-- what stands before the body
+abbrev pub front_text : List Pair → List ℕ
+front_text props = varint (length (block_of props)) ++ block_of props
+
 -- the bytes of a payload
 abbrev pub payload_text : List Pair → List ℕ → List ℕ
 payload_text props body = varint (length (block_of props)) ++ (block_of props ++ body)

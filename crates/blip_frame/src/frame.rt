@@ -1,9 +1,9 @@
 //! Frames: a number, a kind with marks, a payload, and the checksum of the direction so far.
 
-ghost use Rattle.std.specs.Prelude.{◌≡◌, ◌≤◌, ◌<◌, ◌^◌, ◌++◌, length, true, false, List, ℕ, Ok, Err, MatchResult, IfOk, OnOk, OnErr, IsOkAnd};
+ghost use Rattle.std.specs.Prelude.{◌≡◌, ◌≤◌, ◌<◌, ◌^◌, ◌+◌, ◌++◌, length, true, false, List, ℕ, Ok, Err, MatchResult, IfOk, OnOk, OnErr, IsOkAnd};
 ghost use Rattle.blip_frame.specs.Checksum.{checksum};
 ghost use Rattle.blip_frame.specs.Varint.{AddsSome};
-ghost use Rattle.blip_frame.specs.Frame.{FrameParts, parts_of, has_checksum, flags_of, largest_written, IsMarkedAsKind, IsFrameAfter, IsFrameFrom, WritesAfter, kind_number, sent_after, value_after, kind_at, is_set, content_at, checked_at, frame_at, spelling};
+ghost use Rattle.blip_frame.specs.Frame.{FrameParts, parts_of, with_rest, has_checksum, flags_of, largest_written, IsMarkedAsKind, IsFrameAfter, IsFrameFrom, WritesAfter, kind_number, sent_after, value_after, kind_at, is_set, content_at, checked_at, frame_at, spelling};
 
 use crate::crc::Crc;
 use crate::varint::{VarintFault, read_varint, write_varint};
@@ -245,9 +245,35 @@ pub fn write_frame(crc: &mut Crc, frame: &Frame<'_>, out: &mut Bytes) -> Result<
         × (crc.new.value ≡ checksum (sent_after sent (parts_of frame.now)))) }
     ensures err { OnErr result ((out.new ≡ out.old) × (crc.new ≡ crc.old)) }
 {
-    let after = crc_after(*crc, frame);
+    write_frame_with(crc, frame, &[], out)
+}
+
+/// The same for a frame whose payload goes on with `rest`.
+pub fn write_frame_with(
+    crc: &mut Crc,
+    frame: &Frame<'_>,
+    rest: &[u8],
+    out: &mut Bytes,
+) -> Result<(), Memory>
+    requires size { length frame.now.payload.now + length rest.now ≤ largest_written }
+    requires marked { IsMarkedAsKind (parts_of frame.now) }
+    ensures ok { OnOk result
+        (out.new
+        ≡ out.old
+        ++ spelling (value_after crc.old.value (with_rest (parts_of frame.now) rest.now))
+        (with_rest (parts_of frame.now) rest.now)) }
+    ensures value { OnOk result
+        (crc.new.value ≡ value_after crc.old.value (with_rest (parts_of frame.now) rest.now)) }
+
+    // In a direction in which these bytes were sent.
+    ensures sent { (sent : List ℕ) → crc.old.value ≡ checksum sent
+        → OnOk result (WritesAfter sent out.old out.new (with_rest (parts_of frame.now) rest.now)
+        × (crc.new.value ≡ checksum (sent_after sent (with_rest (parts_of frame.now) rest.now)))) }
+    ensures err { OnErr result ((out.new ≡ out.old) × (crc.new ≡ crc.old)) }
+{
+    let after = crc_after(*crc, frame, rest);
     let start = out.len();
-    match push_frame(after.value, frame, out) {
+    match push_frame(after.value, frame, rest, out) {
         Ok(()) => {
             *crc = after;
             Ok(())
@@ -259,25 +285,29 @@ pub fn write_frame(crc: &mut Crc, frame: &Frame<'_>, out: &mut Bytes) -> Result<
     }
 }
 
-fn crc_after(mut crc: Crc, frame: &Frame<'_>) -> Crc
-    ensures { result.value ≡ value_after crc.value (parts_of frame.now) }
+#[tactic(auto, using(crate::proofs::Register::goes_on))]
+fn crc_after(mut crc: Crc, frame: &Frame<'_>, rest: &[u8]) -> Crc
+    ensures { result.value ≡ value_after crc.value (with_rest (parts_of frame.now) rest.now) }
 {
     if frame.kind.has_checksum() {
         crc.add(frame.payload);
+        crc.add(rest);
     }
     crc
 }
 
 /// The same for the checksum of the direction up to the frame's end; out of memory it may leave
 /// some bytes there.
-fn push_frame(kept: u32, frame: &Frame<'_>, out: &mut Bytes) -> Result<(), Memory>
-    ensures ok { OnOk result (out.new ≡ out.old ++ spelling kept (parts_of frame.now)) }
+fn push_frame(kept: u32, frame: &Frame<'_>, rest: &[u8], out: &mut Bytes) -> Result<(), Memory>
+    ensures ok { OnOk result
+        (out.new ≡ out.old ++ spelling kept (with_rest (parts_of frame.now) rest.now)) }
     ensures err { OnErr result (AddsSome out.old out.new) }
     ensures number { frame.now.number < 2 ^ 64 }
 {
     write_varint(frame.number, out)?;
     write_varint(flags_of(frame), out)?;
     out.extend_from_slice(frame.payload)?;
+    out.extend_from_slice(rest)?;
     if frame.kind.has_checksum() {
         out.extend_from_slice(&kept.to_be_bytes())?;
     }

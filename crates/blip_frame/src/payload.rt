@@ -6,7 +6,7 @@ ghost use Rattle.std.specs.Str.{is_utf8};
 ghost use Rattle.std.specs.String.{string_bytes};
 ghost use Rattle.blip_frame.specs.Varint.{AddsSome};
 ghost use Rattle.blip_frame.specs.Props.{Pair, pairs_of, pair_of, keys_of, stands_twice};
-ghost use Rattle.blip_frame.specs.Payload.{HasNoNul, IsPayload, payload_at, block_at, is_closed, texts_of, paired, text_len, block_of, closed, closed_pair, payload_text};
+ghost use Rattle.blip_frame.specs.Payload.{HasNoNul, IsPayload, payload_at, block_at, is_closed, texts_of, paired, text_len, block_of, closed, closed_pair, front_text, payload_text};
 
 use crate::props::{Prop, Props};
 use crate::varint::{VarintFault, read_varint, write_varint};
@@ -113,19 +113,9 @@ pub fn take_payload(alloc: Global, bytes: &mut Bytes) -> Result<Payload, Payload
 {
     let (props, body) = props_and_body(alloc, bytes.as_slice())?;
     let start = bytes.len() - body.len();
-    let whole = mem::replace(bytes, Bytes::new(alloc));
-    let body = without_front(whole, start);
+    let mut body = mem::replace(bytes, Bytes::new(alloc));
+    body.drop_front(start);
     Ok(Payload { props, body })
-}
-
-/// The bytes from a place on, in the same buffer.
-fn without_front(bytes: Bytes, start: usize) -> Bytes
-    requires { start ≤ length bytes }
-    ensures { result ≡ drop start bytes }
-{
-    let mut items = bytes.into_vec();
-    items.drain(..start);
-    Bytes::from_vec(items)
 }
 
 #[tactic(auto, unfolding(crate::specs::Payload::payload_at))]
@@ -271,6 +261,38 @@ fn text_len(block: &[u8]) -> usize
     memchr(0, block).unwrap_or(block.len())
 }
 
+/// Puts what stands before the body at the end of `out`: the length of the property block, and the
+/// block. Out of memory `out` stays as it was.
+pub fn write_front(props: &Props, out: &mut Bytes) -> Result<(), Memory>
+    ensures ok { OnOk result (out.new ≡ out.old ++ front_text props.now) }
+    ensures below { OnOk result (length (block_of props.now) < 2 ^ 64) }
+    ensures payload { (body : List ℕ) → payload_text props.now body ≡ front_text props.now ++ body }
+    ensures err { OnErr result (out.new ≡ out.old) }
+{
+    let start = out.len();
+    match push_front(props.as_slice(), out) {
+        Ok(()) => Ok(()),
+        Err(refused) => {
+            out.truncate(start);
+            Err(refused)
+        }
+    }
+}
+
+/// The same, which out of memory may leave some bytes there.
+fn push_front(props: &[Prop], out: &mut Bytes) -> Result<(), Memory>
+    ensures ok { OnOk result (out.new ≡ out.old ++ front_text (pairs_of props.now)) }
+    ensures err { OnErr result (AddsSome out.old out.new) }
+    ensures below { OnOk result (length (block_of (pairs_of props.now)) < 2 ^ 64) }
+{
+    // A block past 2^64 bytes does not fit memory.
+    let Some(len) = block_len(props) else {
+        return Err(AllocError);
+    };
+    write_varint(len, out)?;
+    push_block(props, out)
+}
+
 /// Puts a payload at the end of `out`: the length of the property block, the block, and the body. At
 /// lack of memory `out` stays as it was.
 pub fn write_payload(payload: &Payload, out: &mut Bytes) -> Result<(), Memory>
@@ -283,29 +305,17 @@ pub fn write_payload(payload: &Payload, out: &mut Bytes) -> Result<(), Memory>
         ≡ Ok (payload.now.props, payload.now.body)) }
     ensures err { OnErr result (out.new ≡ out.old) }
 {
+    let _ = payload.props.as_slice();
+    let body = payload.body.as_slice();
     let start = out.len();
-    match push_payload(payload.props.as_slice(), payload.body.as_slice(), out) {
+    write_front(&payload.props, out)?;
+    match out.extend_from_slice(body) {
         Ok(()) => Ok(()),
         Err(refused) => {
             out.truncate(start);
             Err(refused)
         }
     }
-}
-
-/// The same, which out of memory may leave some bytes there.
-fn push_payload(props: &[Prop], body: &[u8], out: &mut Bytes) -> Result<(), Memory>
-    ensures ok { OnOk result (out.new ≡ out.old ++ payload_text (pairs_of props.now) body.now) }
-    ensures err { OnErr result (AddsSome out.old out.new) }
-    ensures below { OnOk result (length (block_of (pairs_of props.now)) < 2 ^ 64) }
-{
-    // A block past 2^64 bytes does not fit memory.
-    let Some(len) = block_len(props) else {
-        return Err(AllocError);
-    };
-    write_varint(len, out)?;
-    push_block(props, out)?;
-    out.extend_from_slice(body)
 }
 
 /// How many bytes the block has, where that is below 2^64.
