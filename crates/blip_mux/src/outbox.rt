@@ -13,7 +13,7 @@ use crate::acknowledgement::Acknowledgement;
 use crate::class::{Class, class_of};
 use crate::queue::Queue;
 use crate::waiting::WaitingMessage;
-use blip_frame::{Crc, Kind, Payload, write_payload};
+use blip_frame::{Crc, Kind, Payload, Props, write_front};
 use sg_outside::{Bytes, Memory};
 use std::alloc::{AllocError, Global};
 use std::collections::VecDeque;
@@ -289,15 +289,37 @@ fn push(
         ++ unsent number kind urgent no_reply (payload_text payload.props payload.body) ∷ []) }
     ensures err { OnErr result (waiting.new ≡ waiting.old) }
 {
-    let bytes = written(alloc, payload)?;
-    waiting.push(WaitingMessage::new(number, kind, urgent, no_reply, bytes))
+    let message = message_of(alloc, number, kind, urgent, no_reply, payload)?;
+    waiting.push(message)
 }
 
-/// The bytes of a payload.
-fn written(alloc: Global, payload: Payload) -> Result<Bytes, AllocError>
-    ensures value { IfOk result (λ bytes. bytes ≡ payload_text payload.props payload.body) }
+/// A message with the bytes of a payload, of which nothing was sent. Its body is the payload's.
+fn message_of(
+    alloc: Global,
+    number: u64,
+    kind: Kind,
+    urgent: bool,
+    no_reply: bool,
+    payload: Payload,
+) -> Result<WaitingMessage, AllocError>
+    requires { has_checksum kind ≡ true }
+    ensures { IfOk result (λ message. message
+        ≡ unsent number kind urgent no_reply (payload_text payload.props payload.body)) }
 {
-    let mut bytes = Bytes::new(alloc);
-    write_payload(&payload, &mut bytes)?;
-    Ok(bytes)
+    let Payload { props, body } = payload;
+    let front = front_of(alloc, props)?;
+    // More than 2^64 bytes do not fit memory.
+    let Some(_) = front.len().checked_add(body.len()) else {
+        return Err(AllocError);
+    };
+    Ok(WaitingMessage::new(number, kind, urgent, no_reply, front, body))
+}
+
+/// The bytes of a payload before its body.
+fn front_of(alloc: Global, props: Props) -> Result<Bytes, AllocError>
+    ensures { IfOk result (λ front. (body : List ℕ) → payload_text props body ≡ front ++ body) }
+{
+    let mut front = Bytes::new(alloc);
+    write_front(&props, &mut front)?;
+    Ok(front)
 }

@@ -14,7 +14,7 @@ use crate::class::Class;
 use crate::index::Index;
 use crate::ready::{Ready, ReadyMessage};
 use crate::waiting::WaitingMessage;
-use blip_frame::{Crc, Kind, write_frame};
+use blip_frame::{Crc, Kind};
 use sg_outside::{Bytes, Memory};
 use std::alloc::{AllocError, Global};
 use std::collections::BTreeMap;
@@ -332,8 +332,7 @@ fn write(
         (λ w. OnOk result (Writes w crc.old.value crc.new.value out.old out.new)) }
     ensures err { OnErr result ((crc.new ≡ crc.old) × (out.new ≡ out.old)) }
 {
-    let frame = messages[&stamp].next_frame();
-    write_frame(crc, &frame, out)
+    messages[&stamp].write_next(crc, out)
 }
 
 /// Writes the next frame of a message that has more, and then moves the message behind all others. Its
@@ -378,7 +377,14 @@ fn make_place(
         ≡ insert_entry nat_cmp messages.old.entries stamp (unsent 0 Kind.Msg false false [])) }
     ensures err { OnErr result (messages.new.entries ≡ messages.old.entries) }
 {
-    let empty = WaitingMessage::new(0, Kind::Msg, false, false, Bytes::new(alloc));
+    let empty = WaitingMessage::new(
+        0,
+        Kind::Msg,
+        false,
+        false,
+        Bytes::new(alloc),
+        Bytes::new(alloc),
+    );
     put(messages, stamp, empty)
 }
 
