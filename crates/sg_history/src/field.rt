@@ -216,6 +216,7 @@ impl Field for Bytes {
     fn read_field(alloc: Global, field: &[u8]) -> Result<Bytes, TextFault> {
         let mut bytes = Bytes::new(alloc);
         from_hex(field, &mut bytes)?;
+        bytes.share()?;
         Ok(bytes)
     }
 }
