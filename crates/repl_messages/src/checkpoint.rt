@@ -59,12 +59,12 @@ fn is_object(alloc: Global, body: &[u8]) -> Result<bool, AllocError>
 }
 
 /// A body that is a JSON object.
-fn object_body(alloc: Global, body: &[u8]) -> Result<Bytes, RequestFault>
+fn object_body(alloc: Global, body: &Bytes) -> Result<Bytes, RequestFault>
     ensures { result ≢ Err RequestFault.Memory
         → result ≡ fields.or_bad Field.Body (checkpoints.object_body body.now) }
 {
-    if is_object(alloc, body)? {
-        Ok(Bytes::from_slice(alloc, body)?)
+    if is_object(alloc, body.as_slice())? {
+        Ok(body.copy(alloc)?)
     } else {
         Err(RequestFault::Bad400 { field: Field::Body })
     }
@@ -100,7 +100,7 @@ fn set_checkpoint(
 {
     let client = client_of(alloc, payload.props.get("client"))?;
     let rev = or_bad(Field::Rev, number)?;
-    let body = object_body(alloc, payload.body.as_slice())?;
+    let body = object_body(alloc, &payload.body)?;
     Ok(Request::SetCheckpoint { client, rev, body })
 }
 

@@ -27,6 +27,6 @@ pub use looks::{Bodies, Body, BodyList, Fed};
 pub use offers::{Asked, Offer, OfferAnswer, OfferAnswers, Offers};
 pub use profile::{Profile, profile_of};
 pub use request::{Field, Request, RequestFault, Version, read_request};
-pub use rev::{write_norev, write_rev};
+pub use rev::{rev_message, write_norev, write_rev};
 pub use revision::Revision;
 pub use wanted::{Flags, Wanted, read_wanted};

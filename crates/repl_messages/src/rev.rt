@@ -11,7 +11,29 @@ use sg_history::{Key, RevId, Row};
 use sg_outside::{Bytes, Memory};
 use std::alloc::Global;
 
-/// The message of a row's revision, with its ancestors, the nearest first, and its body.
+/// The message of a row's revision, with its ancestors, the nearest first, and its body, which it takes.
+pub fn rev_message(
+    alloc: Global,
+    row: &Row,
+    ancestors: &[RevId],
+    body: Bytes,
+) -> Result<Payload, Memory>
+    ensures { IfOk result (λ payload. payload ≡ rev_payload row.now ancestors.now body) }
+{
+    let mut props = Vec::new(alloc);
+    match push_rev(alloc, &mut props, row, ancestors) {
+        Ok(()) => Ok(Payload {
+            props: Props::from_vec(props),
+            body,
+        }),
+        Err(refused) => {
+            drop(body);
+            Err(refused)
+        }
+    }
+}
+
+/// The same with a copy of a body.
 pub fn write_rev(
     alloc: Global,
     row: &Row,
@@ -20,12 +42,7 @@ pub fn write_rev(
 ) -> Result<Payload, Memory>
     ensures { IfOk result (λ payload. payload ≡ rev_payload row.now ancestors.now body.now) }
 {
-    let mut props = Vec::new(alloc);
-    push_rev(alloc, &mut props, row, ancestors)?;
-    Ok(Payload {
-        props: Props::from_vec(props),
-        body: Bytes::from_slice(alloc, body)?,
-    })
+    rev_message(alloc, row, ancestors, Bytes::from_slice(alloc, body)?)
 }
 
 /// The message that a row's revision is not there any more.

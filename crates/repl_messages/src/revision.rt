@@ -116,7 +116,7 @@ fn with_marks(
 ) -> Result<Revision, AllocError>
     ensures { IfOk result (λ r. r ≡ revisions.revision_of doc rev ancestors payload.now) }
 {
-    let body = Bytes::from_slice(alloc, payload.body.as_slice())?;
+    let body = payload.body.copy(alloc)?;
     Ok(Revision {
         doc,
         rev,
