@@ -1,3 +1,4 @@
+pub mod Answered
 pub mod Awaiting
 pub mod Chosen
 pub mod Conducts

@@ -1,10 +1,10 @@
 //! Acts that answer the rows that a device wants.
 
-ghost use Rattle.std.specs.Prelude.{◌≡◌, ◌≤◌, ◌++◌, length, IfOk, OnOk};
+ghost use Rattle.std.specs.Prelude.{◌≡◌, ◌≤◌, ◌++◌, ◌∷◌, [], length, IfOk, OnOk};
 ghost use Rattle.session_core.specs.Acts.{body_act, body_acts, chosen, flagged};
 
 use crate::act::Act;
-use repl_messages::{Body, write_norev, write_rev};
+use repl_messages::{Body, rev_message, write_norev, write_rev};
 use sg_history::{Row, Rows};
 use sg_outside::Memory;
 use std::alloc::Global;
@@ -53,14 +53,18 @@ pub(crate) fn copy_rows(alloc: Global, rows: &[Row]) -> Result<Rows, Memory>
 }
 
 /// The message for a row that the device wants.
-fn body(alloc: Global, row: &Row, answer: &Body) -> Result<Act, Memory>
-    ensures { IfOk result (λ act. act ≡ body_act row.now answer.now) }
+fn body(alloc: Global, row: &Row, answer: Body) -> Result<Act, Memory>
+    ensures { IfOk result (λ act. act ≡ body_act row.now answer) }
 {
     match answer {
-        Body::Rev { ancestors, bytes } => Ok(Act::Request {
-            payload: write_rev(alloc, row, ancestors.as_slice(), bytes.as_slice())?,
-            no_reply: false,
-        }),
+        Body::Rev { ancestors, bytes } => {
+            let payload = rev_message(alloc, row, ancestors.as_slice(), bytes);
+            drop(ancestors);
+            Ok(Act::Request {
+                payload: payload?,
+                no_reply: false,
+            })
+        }
         Body::Removed => Ok(Act::Request {
             payload: write_rev(alloc, row, &[], REMOVED)?,
             no_reply: false,
@@ -72,20 +76,26 @@ fn body(alloc: Global, row: &Row, answer: &Body) -> Result<Act, Memory>
     }
 }
 
+/// Puts the message for a row that the device wants at the end.
+fn push_body(alloc: Global, row: &Row, answer: Body, acts: &mut Vec<Act>) -> Result<(), Memory>
+    ensures { OnOk result (acts.new.items ≡ acts.old.items ++ body_act row.now answer ∷ []) }
+{
+    acts.push(body(alloc, row, answer)?)?;
+    Ok(())
+}
+
 /// The messages for rows that the device wants, by their answers.
-pub(crate) fn bodies(alloc: Global, rows: &[Row], answers: &[Body]) -> Result<Vec<Act>, Memory>
-    ensures { IfOk result (λ acts. acts.items ≡ body_acts rows.now answers.now) }
+pub(crate) fn bodies(alloc: Global, rows: &[Row], answers: Vec<Body>) -> Result<Vec<Act>, Memory>
+    ensures { IfOk result (λ acts. acts.items ≡ body_acts rows.now answers.items) }
 {
     let mut acts = Vec::new(alloc);
     let mut rows = rows;
-    let mut answers = answers;
-    while let [row, later_rows @ ..] = rows {
-        let [answer, later_answers @ ..] = answers else {
+    for answer in answers {
+        let [row, later_rows @ ..] = rows else {
             return Ok(acts);
         };
-        acts.push(body(alloc, row, answer)?)?;
+        push_body(alloc, row, answer, &mut acts)?;
         rows = later_rows;
-        answers = later_answers;
     }
     Ok(acts)
 }

@@ -156,34 +156,33 @@ impl Core {
         ensures err { OnErr result (self.new ≡ self.old) }
     {
         match event {
-            Event::Whole(message) => {
-                let acts = self.take_message(alloc, &message);
+            Event::Whole(mut message) => {
+                let acts = self.take_message(alloc, &mut message);
                 drop(message);
                 acts
             }
             Event::Idle { front } => self.take_idle(alloc, front),
             Event::Fed(fed) => self.take_fed(alloc, fed),
-            Event::Bodies(bodies) => {
-                let acts = self.take_bodies(alloc, &bodies);
-                drop(bodies);
-                acts
-            }
+            Event::Bodies(bodies) => self.take_bodies(alloc, bodies),
             Event::Asked(_) | Event::Judged(_) | Event::Got(_) | Event::Set(_) => {
                 self.take_answer(alloc, event)
             }
         }
     }
 
-    fn take_message(&mut self, alloc: Global, message: &Message) -> Result<Acts, Memory>
+    fn take_message(&mut self, alloc: Global, message: &mut Message) -> Result<Acts, Memory>
         requires awaited { self.old.pending ≡ Pending.Nothing }
         requires room { self.old.requests ≤ most_requests }
         ensures ok { IfOk result (λ acts. IsDoneBy
-            (λ done. Does self.old (Event.Whole message.now) done) self.new acts) }
+            (λ done. Does self.old (Event.Whole message.old) done) self.new acts) }
         ensures few { OnOk result (self.new.requests ≤ self.old.requests + 1) }
         ensures err { OnErr result (self.new ≡ self.old) }
     {
         match message.kind {
-            Kind::Msg => self.take_request(alloc, message),
+            Kind::Msg => {
+                share_body(message)?;
+                self.take_request(alloc, message)
+            }
             Kind::Rpy | Kind::Err | Kind::AckMsg | Kind::AckRpy => self.take_reply(alloc, message),
         }
     }
@@ -547,11 +546,11 @@ impl Core {
         self.settle(feed.with_rows(rows, front), requests);
     }
 
-    fn take_bodies(&mut self, alloc: Global, answers: &Bodies) -> Result<Acts, Memory>
-        requires awaited { Awaits self.old (Event.Bodies answers.now) }
+    fn take_bodies(&mut self, alloc: Global, answers: Bodies) -> Result<Acts, Memory>
+        requires awaited { Awaits self.old (Event.Bodies answers) }
         requires room { self.old.requests ≤ most_requests }
         ensures ok { IfOk result
-            (λ acts. IsDone (on_bodies self.old answers.now self.old.pending) self.new acts) }
+            (λ acts. IsDone (on_bodies self.old answers self.old.pending) self.new acts) }
         ensures few { OnOk result (self.new.requests ≤ self.old.requests + most_puts) }
         ensures err { OnErr result (self.new ≡ self.old) }
     {
@@ -559,7 +558,7 @@ impl Core {
             unreachable!();
         };
         let count = rows.as_slice().len() as u64;
-        let acts = bodies(alloc, rows.as_slice(), answers.answers.as_slice())?;
+        let acts = bodies(alloc, rows.as_slice(), answers.answers.into_vec())?;
         self.answered(alloc, acts, count)
     }
 
@@ -602,6 +601,13 @@ impl Core {
         };
         Ok(self.ask(alloc, Pending::More, want))
     }
+}
+
+/// Lets what is read of a message share its body.
+fn share_body(message: &mut Message) -> Result<(), Memory>
+    ensures { message.new ≡ message.old }
+{
+    message.payload.body.share()
 }
 
 /// Sets this, and drops what was there.
