@@ -181,7 +181,7 @@ pub(crate) fn judge(
     program: &Resolved,
     by: Option<&Name>,
     strict: bool,
-    revision: Revision,
+    mut revision: Revision,
     doc: Doc,
 ) -> Result<Ready, Outcome>
     requires formed { IsWellFormed revision }
@@ -203,7 +203,7 @@ pub(crate) fn judge(
             return Err(outcome);
         }
     };
-    match accepted_of(alloc, program, by, &revision, doc, judged) {
+    match accepted_of(alloc, program, by, &mut revision, doc, judged) {
         Ok(accepted) => Ok(ready_with(revision, accepted)),
         Err(outcome) => {
             drop(revision);
