@@ -28,7 +28,7 @@ use repl_messages::Version;
 use session_core::{Acts, Core, Event, Want};
 use session_mux::{FrameWhy, Mux, Took};
 use sg_history::Name;
-use sg_outside::{Gave, Got, Memory, Wire};
+use sg_outside::{Bytes, Gave, Got, Memory, Wire};
 use std::alloc::Global;
 use write_path::{Ground, Resolved};
 
@@ -296,14 +296,14 @@ impl Session {
         ground: &mut G,
         program: &Resolved,
         wire: &mut W,
-        bytes: &[u8],
+        bytes: Bytes,
     ) -> Option<End>
         requires rest { IsAtRest self.old }
         requires room { self.old.core.requests + 3 * most_puts ≤ most_requests }
         requires count { self.old.frames < 18446744073709551615 }
         requires front { feed_front self.old.core.feed ≤ G.lowest_front ground.old }
         requires looks { CanLook (G.left ground.old) self.old.listing.spent }
-        ensures takes { Takes program.now self.old self.new (Got.Frame bytes.now)
+        ensures takes { Takes program.now self.old self.new (Got.Frame bytes)
             (moment (G.read ground.old) (G.lowest_front ground.old)
             (G.recorded ground.old) (G.checkpoints ground.old) (G.own ground.old))
             (moment (G.read ground.new) (G.lowest_front ground.new)
@@ -318,7 +318,9 @@ impl Session {
     {
         blip_mux::laws::replies();
         session_mux::laws::traffic();
-        match self.mux.take(bytes) {
+        let took = self.mux.take(bytes.as_slice());
+        drop(bytes);
+        match took {
             Took::Whole(message) => {
                 self.frames += 1;
                 self.exchange(alloc, ground, program, wire, Event::Whole(message))
@@ -405,7 +407,7 @@ impl Session {
         session_mux::laws::traffic();
         session_core::laws::conduct();
         match wire.recv() {
-            Got::Frame(bytes) => self.take_frame(alloc, ground, program, wire, bytes.as_slice()),
+            Got::Frame(bytes) => self.take_frame(alloc, ground, program, wire, bytes),
             Got::Text => Some(self.bad_frame(FrameWhy::NotBinary)),
             Got::Idle => self.take_idle(alloc, ground, program, wire),
             Got::End => Some(End::Closed),
