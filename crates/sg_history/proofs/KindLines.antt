@@ -1,13 +1,9 @@
 -- the fields behind the kind of a line that is no write's
-use Rattle.std.proofs.Common.{◌≡◌, ℕ, zero, suc, ◌-◌, ◌<◌, ◌≤◌, List, [], ◌∷◌, length, get_or, take, drop, map, refl, sym, ap, ◌∙◌, subst, arith, Bor, Option, Some, IsTrue, IsUtf8}
+use Rattle.std.proofs.Common.{◌≡◌, ℕ, zero, suc, ◌-◌, ◌<◌, ◌≤◌, List, [], ◌∷◌, length, get_or, take, drop, map, refl, sym, ap, ◌∙◌, subst, arith, Bor, IsTrue, IsUtf8}
 use Rattle.sg_names.specs.Grammar.{is_name}
 use Rattle.sg_names.specs.Channels.{channels_text, is_channels}
 use Rattle.sg_names.specs.Names.{names_text, is_names}
-use Rattle.sg_history.specs.declared.fault.LineFault.{LineFault}
-use Rattle.sg_history.specs.declared.fault.LineFault.TheVariants as line
 use Rattle.sg_history.specs.Journal.{IsPutUser, IsPutRole}
-use Rattle.sg_history.specs.Faults.{Grammar, IsFault, IsFaultUnder, IsFaultAmong, HasReason, IsBadAmong, grammars_of}
-use Rattle.sg_history.proofs.FaultLemmas.{bad_among}
 
 -- the bytes of fields
 abbrev pub texts : List (Bor (List ℕ)) → List (List ℕ)
@@ -30,15 +26,6 @@ two _ low high = absurd (omega arith)
 pub three : (fields : List (Bor (List ℕ))) → 3 ≤ length fields → length fields < 4 → texts fields ≡ nth fields 0 ∷ nth fields 1 ∷ nth fields 2 ∷ []
 three (a ∷ b ∷ c ∷ []) low high = refl
 three _ low high = absurd (omega arith)
-
--- a field behind this kind is outside its grammar
-pub bad_field_of : (kind : List ℕ) (gs : List Grammar) (ts us : List (List ℕ)) (e : LineFault) → grammars_of kind ≡ Some gs → ts ≡ us
-    → length us ≡ length gs → IsBadAmong 2 gs us e → HasReason (IsFault (kind ∷ ts)) e
-bad_field_of kind gs ts us (line.Bad why) known same many bad =
-    let among : IsFaultAmong gs us why = bad_among gs us (line.Bad why) many bad in
-    let under : IsFaultUnder (grammars_of kind) us why = subst (λ (o : Option (List Grammar)). IsFaultUnder o us why) (sym known) among in
-    subst (λ (vs : List (List ℕ)). IsFaultUnder (grammars_of kind) vs why) (sym same) under
-bad_field_of kind gs ts us line.Memory known same many bad = tt
 
 -- what is read of the fields of a put of a user
 pub user_read : (kind : List ℕ) (ts : List (List ℕ)) (a b c name : List ℕ) (channels roles : List (List ℕ)) → ts ≡ a ∷ b ∷ c ∷ []

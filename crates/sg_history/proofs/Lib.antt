@@ -1,6 +1,7 @@
 pub mod PieceLemmas
 pub mod WriteFields
 pub mod FaultLemmas
+pub mod DecidedTexts
 pub mod WriteParts
 pub mod KindLines
 pub mod LineTexts
@@ -13,5 +14,8 @@ pub mod Books
 pub mod Boards
 pub mod AloneWrites
 pub mod Places
+pub mod FileLaws
+pub mod FileTexts
 pub mod BadLines
+pub mod DecidedLines
 pub mod Appended

@@ -14,7 +14,7 @@ use Rattle.sg_history.specs.Line.{NoEntry, NoLine}
 use Rattle.sg_history.proofs.PieceLemmas.{pieces-lacking, pieces-cut, pieces-some}
 
 -- pieces that are joined are the pieces again
-pieces_joined : (at : ℕ) (fs : List (List ℕ)) → 0 < length fs → list_all (λ f. lacks at f) fs ≡ true → pieces at (join_with_byte at fs) ≡ fs
+pub pieces_joined : (at : ℕ) (fs : List (List ℕ)) → 0 < length fs → list_all (λ f. lacks at f) fs ≡ true → pieces at (join_with_byte at fs) ≡ fs
 pieces_joined at [] some h = absurd (omega arith)
 pieces_joined at (f ∷ []) some h = pieces-lacking at f (and_parts (lacks at f) true h).0
 pieces_joined at (f ∷ g ∷ fs) some h =

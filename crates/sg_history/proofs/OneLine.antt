@@ -37,15 +37,14 @@ by_same None (Some b) h g e = absurd (names_apart.is_no_dash b g (sym e))
 by_same (Some a) None h g e = absurd (names_apart.is_no_dash a h e)
 by_same (Some a) (Some b) h g e = ap Some e
 
-write_same : (w v : Write) → IsWrite w → IsWrite v → write_fields w ≡ write_fields v → w ≡ v
-write_same w v is it e =
+write_same_at : (w v : Write) (a b : List ℕ) → IsWrite w → IsWrite v → w.at ≡ v.at → write_fields_at w a ≡ write_fields_at v b → w ≡ v
+write_same_at w v a b is it at e =
     let doc : w.doc ≡ v.doc = cc in
     let rev_texts : rev_text w.rev ≡ rev_text v.rev = cc in
     let ancestors_texts : revs_text w.ancestors ≡ revs_text v.ancestors = cc in
     let deleted_texts : mark_text w.deleted ≡ mark_text v.deleted = cc in
     let body_texts : hex_text w.body ≡ hex_text v.body = cc in
     let by_texts : by_text w.by ≡ by_text v.by = cc in
-    let at_texts : decimal w.at ≡ decimal v.at = cc in
     let winner_texts : rev_text w.winner ≡ rev_text v.winner = cc in
     let channels_texts : channels_text w.channels ≡ channels_text v.channels = cc in
     let grants_texts : grants_text w.grants ≡ grants_text v.grants = cc in
@@ -55,7 +54,6 @@ write_same w v is it e =
     let deleted = mark_same w.deleted v.deleted deleted_texts in
     let body = hex_same w.body v.body (and_parts _ _ is.body).1 (and_parts _ _ it.body).1 body_texts in
     let by = by_same w.by v.by is.by.0 it.by.0 by_texts in
-    let at = decimal_injective w.at v.at is.at it.at at_texts in
     let winner = rev_has_one_text w.winner v.winner is.winner.0 it.winner.0 winner_texts in
     let channels = channels_same w.channels v.channels is.channels.0 it.channels.0 channels_texts in
     let grants = grants_same w.grants v.grants is.grants.0 it.grants.0 grants_texts in
@@ -74,11 +72,17 @@ write_same w v is it e =
       roles = roles i;
     }
 
+write_same : (w v : Write) → IsWrite w → IsWrite v → write_fields w ≡ write_fields v → w ≡ v
+write_same w v is it e =
+    let at_texts : decimal w.at ≡ decimal v.at = cc in
+    write_same_at w v (decimal w.at) (decimal v.at) is it (decimal_injective w.at v.at is.at it.at at_texts) e
+
 abbrev first : List (List ℕ) → List ℕ
 first [] = []
 first (f ∷ fs) = f
 
-fields_same : (e f : Entry) → IsEntry e → IsEntry f → fields_of e ≡ fields_of f → e ≡ f
+-- entries with the same fields are the same
+pub fields_same : (e f : Entry) → IsEntry e → IsEntry f → fields_of e ≡ fields_of f → e ≡ f
 fields_same (entry.Write w) (entry.Write v) is it e = let rest : write_fields w ≡ write_fields v = cc in ap entry.Write (write_same w v is it rest)
 fields_same (entry.PutUser n c r) (entry.PutUser m d s) is it e =
     let name : n ≡ m = cc in
@@ -114,6 +118,19 @@ large_apart fields None large = absurd large
 large_apart fields (Some w) large =
     let front = large.2 in
     (refl, λ e is spelled. no_write w front.0 e front.2 is (sym (large.1 ∙ ap (λ ts. codes "W" ∷ ts) front.3) ∙ spelled))
+
+tails_same : (f : List ℕ) (fs gs : List (List ℕ)) → f ∷ fs ≡ f ∷ gs → fs ≡ gs
+tails_same f fs gs e = cc
+
+-- writes with the same fields, of which the front is too large, are the same
+pub large_same_write : (fields : List (List ℕ)) (o p : Option Write) → IsLargeWrite fields o → IsLargeWrite fields p → o ≡ p
+large_same_write fields None p x y = absurd x
+large_same_write fields (Some w) None x y = absurd y
+large_same_write fields (Some w) (Some v) x y =
+    let front = x.2 in
+    let other = y.2 in
+    let texts = tails_same (codes "W") x.0 y.0 (sym x.1 ∙ y.1) in
+    ap Some (write_same_at w v front.0 other.0 front.1 other.1 (front.4 ∙ sym other.4) (sym front.3 ∙ texts ∙ other.3))
 
 -- entries with the same line are the same
 pub line_same : (e f : Entry) → IsEntry e → IsEntry f → line_of e ≡ line_of f → e ≡ f

@@ -1,70 +1,140 @@
--- lines that were read as entries
-use Rattle.std.proofs.Common.{◌≡◌, ℕ, ◌+◌, ◌-◌, ◌≤◌, true, List, [], ◌∷◌, ◌++◌, length, drop, refl, sym, ap, ◌∙◌, subst, arith, append_assoc, length-append, Option, Some, None}
-use Rattle.std.specs.Prelude.{is_some}
+-- lines that are read one after another
+use Rattle.std.proofs.Common.{◌≡◌, ◌≢◌, ℕ, ◌+◌, ◌-◌, ◌<◌, ◌≤◌, List, [], ◌∷◌, ◌++◌, length, drop, reverse, refl, sym, ap, ◌∙◌, subst, arith, inl, inr}
+use Rattle.std.specs.Prelude.{Result, Ok, Err, IsTrue, IfOk, IfErr}
+use Rattle.std.proofs.lemmas.List.{append-nil, drop-drop, drop_all}
 use Rattle.std.proofs.Math.Seq.{drop-append_seam}
-use Rattle.sg_history.specs.declared.entries.Entry.{Entry}
+use Rattle.sg_history.specs.declared.fault.BadLine.{BadLine}
+use Rattle.sg_history.specs.declared.fault.LineFault.{LineFault}
+use Rattle.sg_history.specs.declared.fault.LineFault.TheVariants as one
+use Rattle.sg_history.specs.declared.fault.ReadLog.{ReadLog}
+use Rattle.sg_history.specs.declared.fault.ReadLog.TheVariants as file
 use Rattle.sg_history.specs.declared.fault.Why.{Why}
-use Rattle.sg_history.specs.Reading.{AreAllLines, AreLines, BeginsWith, ReadsPart}
+use Rattle.sg_history.specs.declared.fault.Why.TheVariants as reason
+use Rattle.sg_history.specs.BadLine.{NamesLine, refusal_at}
+use Rattle.sg_history.specs.Faults.{HasReason}
+use Rattle.sg_history.specs.Files.{LineGrammar, AreSaid, Begins, Stops, IsBadBehind, IsBadFile, IsFileOf, AreAmong, IsBadAmong}
+use Rattle.sg_history.specs.Pieces.{pieces}
+use Rattle.sg_history.specs.Reading.{EndsAs, FailsIn, Reaches, StopsBehind}
+use Rattle.sg_history.proofs.FileLaws.{reversed}
+use Rattle.sg_history.proofs.PieceLemmas.{pieces-some}
 
-begins_at : (text rest : List ℕ) (e : Entry) (after : List ℕ) → text ≡ rest → BeginsWith rest e after → BeginsWith text e after
-begins_at text rest e after same begins =
-    record { line = begins.line; cut = same ∙ begins.cut; whole = begins.whole; fits = begins.fits; read = begins.read }
+module _ {X : Type 0} (g : LineGrammar X) where
+  -- one line more
+  begins_more : (older : List X) (lines : List (List ℕ)) (items : List X) (line next : List ℕ) (more : List (List ℕ)) (x : X)
+      → Begins g older lines items (line ∷ next ∷ more) → g.Says (reverse items ++ older) line x → Begins g older lines (items ++ x ∷ []) (next ∷ more)
+  begins_more older lines [] line next more x begun says =
+      subst (λ ls. Begins g older ls (x ∷ []) (next ∷ more)) (sym begun) (says, refl)
+  begins_more older [] (p ∷ items) line next more x begun says = absurd begun
+  begins_more older (end ∷ []) (p ∷ items) line next more x begun says = absurd begun
+  begins_more older (first ∷ second ∷ others) (p ∷ items) line next more x begun says =
+      (begun.0, begins_more (p ∷ older) (second ∷ others) items line next more x begun.1 (subst (λ o. g.Says o line x) (sym (reversed p items older)) says))
 
--- one line more
-lines_more : (text : List ℕ) (es : List Entry) (rest : List ℕ) (e : Entry) (after : List ℕ) → AreLines text es rest → BeginsWith rest e after
-    → AreLines text (es ++ e ∷ []) after
-lines_more text [] rest e after lines begins = (after, begins_at text rest e after lines begins, refl)
-lines_more text (x ∷ es) rest e after lines begins = (lines.0, lines.1, lines_more lines.0 es rest e after lines.2 begins)
+  -- a line in front
+  pub begins_first : (older : List X) (line : List ℕ) (after : List (List ℕ)) (x : X) (xs : List X) (left : List (List ℕ)) → 0 < length after
+      → g.Says older line x → Begins g (x ∷ older) after xs left → Begins g older (line ∷ after) (x ∷ xs) left
+  begins_first older line [] x xs left some says begun = absurd (omega (arith, some))
+  begins_first older line (next ∷ more) x xs left some says begun = (says, begun)
 
-lines_append : (text : List ℕ) (es : List Entry) (middle : List ℕ) (more : List Entry) (rest : List ℕ) → AreLines text es middle → AreLines middle more rest
-    → AreLines text (es ++ more) rest
-lines_append text [] middle more rest lines further = subst (λ t. AreLines t more rest) (sym lines) further
-lines_append text (x ∷ es) middle more rest lines further = (lines.0, lines.1, lines_append lines.0 es middle more rest lines.2 further)
+  begins_next : (lines : List (List ℕ)) (items : List X) (line : List ℕ) (after : List (List ℕ)) (x : X) → 0 < length after
+      → Begins g [] lines items (line ∷ after) → g.Says (reverse items) line x → Begins g [] lines (items ++ x ∷ []) after
+  begins_next lines items line [] x some begun says = absurd (omega (arith, some))
+  begins_next lines items line (next ∷ more) x some begun says =
+      begins_more [] lines items line next more x begun (subst (λ o. g.Says o line x) (sym (append-nil (reverse items))) says)
 
--- one line more
-pub part_more : (text : List ℕ) (before : List Entry) (rest : List ℕ) (entries : List Entry) (e : Entry) (after : List ℕ) (now : List Entry)
-    → ReadsPart text before rest None entries → BeginsWith rest e after → now ≡ entries ++ e ∷ [] → ReadsPart text before after None now
-part_more text before rest entries e after now part begins pushed = record {
-  more = part.more ++ e ∷ [];
-  appended = pushed ∙ ap (λ es. es ++ e ∷ []) part.appended ∙ append_assoc before part.more (e ∷ []);
-  lines = lines_more text part.more rest e after part.lines begins;
-  stops = tt;
-}
+  -- one line more was read
+  pub reaches_more : (before : List X) (text : List ℕ) (items now : List X) (passed further : ℕ) (line after : List ℕ) (x : X)
+      → Reaches g before text items (drop passed text) → drop passed text ≡ line ++ 10 ∷ after → pieces 10 (drop passed text) ≡ line ∷ pieces 10 after
+      → further ≡ passed + (length line + 1) → g.Says (reverse items) line x → now ≡ items ++ x ∷ [] → Reaches g before text now (drop further text)
+  reaches_more before text items now passed further line after x so_far cut cuts far says pushed = λ lines begun.
+      let left : drop further text ≡ after =
+      ap (λ n. drop n text) far ∙ sym (drop-drop (length line + 1) passed text) ∙ ap (drop (length line + 1)) cut
+      ∙ (let one : drop (length line + 1) (line ++ 10 ∷ after) ≡ drop 1 (drop (length line) (line ++ 10 ∷ after)) = sym (drop-drop 1 (length line) (line ++ 10 ∷ after)) in
+      one ∙ ap (drop 1) (drop-append_seam line (10 ∷ after)))
+      in
+      let here = subst (λ ls. Begins g [] lines items ls) cuts (so_far lines begun) in
+      let next = begins_next lines items line (pieces 10 after) x (pieces-some 10 after) here says in
+      rw (pushed, left) next
 
--- what was read before, and a part more
-pub lines_part : (text : List ℕ) (before : List Entry) (middle rest : List ℕ) (fault : Option Why) (after : List Entry)
-    → AreLines text before middle → ReadsPart middle before rest fault after → AreLines text after rest
-lines_part text before middle rest fault after lines part =
-    subst (λ es. AreLines text es rest) (sym part.appended) (lines_append text before middle part.more rest lines part.lines)
+  -- the line behind those that were read has a fault
+  pub fails_at : (before : List X) (text : List ℕ) (items now : List X) (left line after : List ℕ) (why : Why) → Reaches g before text items left
+      → pieces 10 left ≡ line ∷ pieces 10 after → g.Fails (reverse items) line why → now ≡ items → FailsIn g before text now why
+  fails_at before text items now left line after why so_far cuts fails same = rw same
+      (λ lines begun. (pieces 10 left, so_far lines begun, subst (λ ls. Stops g (reverse items) ls why) (sym cuts) (followed (pieces 10 after) (pieces-some 10 after))))
+    where
+      followed : (more : List (List ℕ)) → 0 < length more → Stops g (reverse items) (line ∷ more) why
+      followed [] some = absurd (omega (arith, some))
+      followed (next ∷ more) some = fails
 
--- the bytes in front of the rest, at least one for each line
-record HasFront (text : List ℕ) (count : ℕ) (rest : List ℕ) : Type 0 where
-  front : List ℕ
-  whole : text ≡ front ++ rest
-  long : count ≤ length front
+  -- it has no line feed
+  pub fails_unended : (before : List X) (text : List ℕ) (items : List X) (left : List ℕ) → Reaches g before text items left
+      → pieces 10 left ≡ left ∷ [] → left ≢ [] → FailsIn g before text items reason.Ending
+  fails_unended before text items left so_far cuts some =
+      λ lines begun. (pieces 10 left, so_far lines begun, subst (λ ls. Stops g (reverse items) ls reason.Ending) (sym cuts) (refl, λ both. some both.0))
 
-lines_front : (text : List ℕ) (es : List Entry) (rest : List ℕ) → AreLines text es rest → HasFront text (length es) rest
-lines_front text [] rest lines = record { front = []; whole = lines; long = omega arith }
-lines_front text (e ∷ es) rest lines =
-    let later = lines_front lines.0 es rest lines.2 in
-    let line = lines.1.line in
-    record {
-      front = line ++ 10 ∷ later.front;
-      whole = lines.1.cut ∙ ap (λ t. line ++ 10 ∷ t) later.whole ∙ sym (append_assoc line (10 ∷ later.front) rest);
-      long = omega (arith, later.long, length-append line (10 ∷ later.front));
-    }
+  -- the line behind those that were read has a fault, or memory ran out for it
+  pub fails_by : (before : List X) (text : List ℕ) (items now : List X) (left line after : List ℕ) (e : LineFault) → Reaches g before text items left
+      → pieces 10 left ≡ line ∷ pieces 10 after → HasReason (g.Fails (reverse items) line) e → now ≡ items → HasReason (FailsIn g before text now) e
+  fails_by before text items now left line after (one.Bad why) so_far cuts fails same = fails_at before text items now left line after why so_far cuts fails same
+  fails_by before text items now left line after one.Memory so_far cuts fails same = tt
 
--- the rest is at the end of the text
-pub rest_is : (text : List ℕ) (before : List Entry) (rest : List ℕ) (fault : Option Why) (after : List Entry) → ReadsPart text before rest fault after
-    → drop (length text - length rest) text ≡ rest
-rest_is text before rest fault after part =
-    let front = lines_front text part.more rest part.lines in
-    let long : length text - length rest ≡ length front.front = omega (arith, ap length front.whole, length-append front.front rest) in
-    (λ i. drop (long i) (front.whole i)) ∙ drop-append_seam front.front rest
+  -- a first line, and lines behind it
+  pub file_behind : (bytes : List ℕ) (rest : List (List ℕ)) (items : List X) → pieces 10 bytes ≡ g.title ∷ rest → AreSaid g rest items → IsFileOf g bytes items
+  file_behind bytes rest items cut said = subst (λ ls. AreAmong g ls items) (sym cut) (refl, said)
 
--- what was read before, and a part more, up to a fault
-pub lines_stop : (text : List ℕ) (before : List Entry) (middle rest : List ℕ) (fault : Option Why) (after : List Entry)
-    → AreLines text before middle → ReadsPart middle before rest fault after → is_some fault ≡ true → AreAllLines text after fault
-lines_stop text before middle rest None after lines part some = absurd (cc (some))
-lines_stop text before middle rest (Some why) after lines part some =
-    (rest, lines_part text before middle rest (Some why) after lines part, part.stops)
+  pub bad_behind : (bytes : List ℕ) (rest : List (List ℕ)) (bad : BadLine) → pieces 10 bytes ≡ g.title ∷ rest → 0 < length rest → IsBadBehind g rest bad
+      → IsBadFile g bytes bad
+  bad_behind bytes rest bad cut some is = subst (λ ls. IsBadAmong g ls bad) (sym cut) (followed rest some is)
+    where
+      followed : (more : List (List ℕ)) → 0 < length more → IsBadBehind g more bad → IsBadAmong g (g.title ∷ more) bad
+      followed [] some is = absurd (omega (arith, some))
+      followed (next ∷ more) some is = inr (refl, is)
+
+  -- the refusal of a line names it
+  pub refused_behind : (lines : List (List ℕ)) (items : List X) (place : ℕ) (e : LineFault) → place ≡ length items + 2 → HasReason (StopsBehind g lines items) e
+      → NamesLine (IsBadBehind g lines) (refusal_at place e)
+  refused_behind lines items place (one.Bad why) at stops = record { items = items; left = stops.0; begun = stops.1; place = at; fault = stops.2 }
+  refused_behind lines items place one.Memory at stops = tt
+
+  pub named_behind : (bytes : List ℕ) (rest : List (List ℕ)) (e : ReadLog) → pieces 10 bytes ≡ g.title ∷ rest → 0 < length rest
+      → NamesLine (IsBadBehind g rest) e → NamesLine (IsBadFile g bytes) e
+  named_behind bytes rest (file.Bad bad) cut some named = bad_behind bytes rest bad cut some named
+  named_behind bytes rest file.Memory cut some named = tt
+
+  -- the first line is another one
+  pub other_title : (bytes first : List ℕ) (more : List (List ℕ)) → pieces 10 bytes ≡ first ∷ more → 0 < length more → first ≢ g.title
+      → IsBadFile g bytes (record { place = 1; why = reason.Head })
+  other_title bytes first more cut some other = subst (λ ls. IsBadAmong g ls (record { place = 1; why = reason.Head })) (sym cut) (followed more some)
+    where
+      followed : (more : List (List ℕ)) → 0 < length more → IsBadAmong g (first ∷ more) (record { place = 1; why = reason.Head })
+      followed [] some = absurd (omega (arith, some))
+      followed (next ∷ more) some = inl (refl, refl, other)
+
+  -- where all of a text was passed over, nothing is left
+  pub reached_end : (before : List X) (text : List ℕ) (items : List X) (passed : ℕ) → Reaches g before text items (drop passed text) → length text ≤ passed
+      → (lines : List (List ℕ)) → Begins g [] lines before (pieces 10 text) → Begins g [] lines items ([] ∷ [])
+  reached_end before text items passed reaches all lines begun =
+      subst (λ left. Begins g [] lines items (pieces 10 left)) (drop_all passed text all) (reaches lines begun)
+
+  -- a line is refused behind those that were read
+  pub stops_from : (before : List X) (text : List ℕ) (items : List X) (e : LineFault) (lines : List (List ℕ)) → HasReason (FailsIn g before text items) e
+      → Begins g [] lines before (pieces 10 text) → HasReason (StopsBehind g lines items) e
+  stops_from before text items (one.Bad why) lines fails begun = fails lines begun
+  stops_from before text items one.Memory lines fails begun = tt
+
+  -- all lines were read, and a file may end there or not
+  pub ends_as : {T : Type 0} (lines : List (List ℕ)) (items : List X) (r : Result T LineFault) → Begins g [] lines items ([] ∷ [])
+      → IfOk r (λ _. IsTrue (g.may_end (reverse items))) → IfErr r (HasReason (Stops g (reverse items) ([] ∷ []))) → EndsAs g lines items r
+  ends_as lines items (Ok x) begun ends stops = (begun, ends)
+  ends_as lines items (Err (one.Bad why)) begun ends stops = ([] ∷ [], begun, stops)
+  ends_as lines items (Err one.Memory) begun ends stops = tt
+
+  -- nothing was said before the first line
+  pub begins_all : (items : List X) (lines : List (List ℕ)) → items ≡ [] → Begins g [] lines items lines
+  begins_all items lines none = subst (λ xs. Begins g [] lines xs lines) (sym none) refl
+
+  -- a text without its first line
+  pub dropped_title : (bytes slice dropped lines : List ℕ) (n : ℕ) → slice ≡ bytes → n ≡ length bytes → dropped ≡ drop (n - length lines) bytes
+      → pieces 10 slice ≡ g.title ∷ pieces 10 lines → drop (length slice - length lines) slice ≡ lines → pieces 10 bytes ≡ g.title ∷ pieces 10 dropped
+  dropped_title bytes slice dropped lines n same all is cut end =
+      let behind : dropped ≡ lines = is ∙ ap (λ m. drop (m - length lines) bytes) all ∙ subst (λ b. drop (length b - length lines) b ≡ lines) same end in
+      subst (λ b. pieces 10 b ≡ g.title ∷ pieces 10 lines) same cut ∙ ap (λ l. g.title ∷ pieces 10 l) (sym behind)

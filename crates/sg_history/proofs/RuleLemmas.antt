@@ -1,5 +1,5 @@
 -- the rules of writes, and the revisions that were written
-use Rattle.std.proofs.Common.{◌≡◌, ℕ, ◌+◌, ◌<◌, ◌-◌, ◌^◌, length, Bool, true, false, ◌&&◌, ◌||◌, not, List, ◌∷◌, ◌++◌, reverse, refl, sym, ap, ◌∙◌, arith, if◌then◌else◌, Option, Some, None}
+use Rattle.std.proofs.Common.{◌≡◌, ◌≢◌, ℕ, ◌+◌, ◌<◌, ◌-◌, ◌^◌, length, Bool, true, false, ◌&&◌, ◌||◌, not, List, ◌∷◌, refl, sym, ap, ◌∙◌, arith, if◌then◌else◌, Option, Some, None}
 use Rattle.std.specs.Prelude.{is_some, nat_lt}
 use Rattle.std.specs.List.{join_with_byte}
 use Rattle.std.proofs.lemmas.Bool.{and_parts, le-ltb}
@@ -9,16 +9,14 @@ use Rattle.sg_history.specs.declared.entries.Entry.{Entry}
 use Rattle.sg_history.specs.declared.entries.Entry.TheVariants as entry
 use Rattle.sg_history.specs.declared.entries.Write.{Write}
 use Rattle.sg_history.specs.declared.fault.Why.{Why}
-use Rattle.sg_history.specs.Current.{Sequenced, with_rev_or}
+use Rattle.sg_history.specs.Current.{Sequenced}
 use Rattle.sg_history.specs.History.{as_write}
 use Rattle.sg_history.specs.Journal.{IsEntry, IsNext, falls_from, fields_of, has_rev, line_of, may_follow, write_may_follow}
 use Rattle.sg_history.specs.Line.{AreRead, IsLargeWrite}
 use Rattle.sg_history.specs.Pieces.{pieces}
-use Rattle.sg_history.specs.Reading.{BeginsWith}
 use Rattle.sg_history.specs.Rules.{as_fault, rule_fault, write_fault}
-use Rattle.sg_history.proofs.JournalTexts.{NoNext}
 use Rattle.sg_history.proofs.LineTexts.{joined_pieces, no_line}
-use Rattle.sg_history.proofs.OneLine.{large_apart, line_same}
+use Rattle.sg_history.proofs.OneLine.{fields_same, large_apart, large_same_write, line_same}
 
 chosen : (same right : Bool) (w : Sequenced) (other : Option Sequenced) → is_some (if same then (if right then Some w else other) else other) ≡ ((same && right) || is_some other)
 chosen true true w other = refl
@@ -102,17 +100,40 @@ fine_entry older line e true low read none = (read.0, line_is line e read.1)
 fine_entry older line e false low read none = absurd (large_breaks older (pieces 9 line) (as_write e) low read none)
 
 -- a line of an entry that breaks no rule
-pub next_is : (older : List Entry) (text : List ℕ) (e : Entry) (after : List ℕ) → length older < 2 ^ 64 - 2 → BeginsWith text e after
-    → rule_fault older e true ≡ None → IsNext older e × (text ≡ line_of e ++ 10 ∷ after)
-next_is older text e after low begins none =
-    let fine = fine_entry older begins.line e begins.fits low begins.read none in
-    (record { grammar = fine.0; rules = follows older (as_write e) none }, begins.cut ∙ ap (λ line. line ++ 10 ∷ after) fine.1)
+pub next_is : (older : List Entry) (line : List ℕ) (e : Entry) (fits : Bool) → length older < 2 ^ 64 - 2 → AreRead (pieces 9 line) e fits
+    → rule_fault older e true ≡ None → IsNext older e × (line ≡ line_of e)
+next_is older line e fits low read none =
+    let fine = fine_entry older line e fits low read none in
+    (record { grammar = fine.0; rules = follows older (as_write e) none }, fine.1)
+
+pub next_fits : (older : List Entry) (line : List ℕ) (e : Entry) → AreRead (pieces 9 line) e true → rule_fault older e true ≡ None
+    → IsNext older e × (line ≡ line_of e)
+next_fits older line e read none = (record { grammar = read.0; rules = follows older (as_write e) none }, line_is line e read.1)
+
+always_late : (a b d : Bool) → ¬ (as_fault (if a then Some 3 else if not b then Some 4 else if not false then Some 8 else if not d then Some 9 else None) ≡ None)
+always_late true b d e = cc (e)
+always_late false false d e = cc (e)
+always_late false true d e = cc (e)
+
+-- a front that is too large breaks its rule, if not an earlier one is broken
+pub large_breaks_alone : (older : List Entry) (fields : List (List ℕ)) (o : Option Write) → IsLargeWrite fields o → ¬ (write_fault older o false ≡ None)
+large_breaks_alone older fields None large none = large
+large_breaks_alone older fields (Some w) large none =
+    always_late (has_rev older w.doc w.rev) (falls_from w.rev.generation w.ancestors) (same_rev w.winner w.rev || has_rev older w.doc w.winner) none
 
 -- a line of an entry that breaks a rule is no line that may be the next
-pub broken_next : (entries : List Entry) (line : List ℕ) (e : Entry) (fits : Bool) (why : Why) → AreRead (pieces 9 line) e fits
-    → rule_fault (reverse entries) e fits ≡ Some why → NoNext entries line
-broken_next entries line e true why read broken f next spelled =
+pub broken_next : (older : List Entry) (line : List ℕ) (e : Entry) (fits : Bool) (why : Why) → AreRead (pieces 9 line) e fits
+    → rule_fault older e fits ≡ Some why → (f : Entry) → IsNext older f → line ≢ line_of f
+broken_next older line e true why read broken f next spelled =
     let same : e ≡ f = line_same e f read.0 next.grammar (sym (line_is line e read.1) ∙ spelled) in
-    breaks (reverse entries) (as_write e) why broken (ap (may_follow (reverse entries)) same ∙ next.rules)
-broken_next entries line e false why read broken f next spelled =
+    breaks older (as_write e) why broken (ap (may_follow older) same ∙ next.rules)
+broken_next older line e false why read broken f next spelled =
     no_line line (pieces 9 line) refl (large_apart (pieces 9 line) (as_write e) read).1 f next.grammar spelled
+
+-- the fields of a line break one rule at most
+pub rule_one : (older : List Entry) (fields : List (List ℕ)) (e f : Entry) (a b : Bool) → AreRead fields e a → AreRead fields f b
+    → rule_fault older e a ≡ rule_fault older f b
+rule_one older fields e f true true x y = ap (λ (d : Entry). rule_fault older d true) (fields_same e f x.0 y.0 (sym x.1 ∙ y.1))
+rule_one older fields e f true false x y = absurd ((large_apart fields (as_write f) y).1 e x.0 x.1)
+rule_one older fields e f false true x y = absurd ((large_apart fields (as_write e) x).1 f y.0 y.1)
+rule_one older fields e f false false x y = ap (λ (o : Option Write). write_fault older o false) (large_same_write fields (as_write e) (as_write f) x y)

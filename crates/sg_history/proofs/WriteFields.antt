@@ -7,6 +7,7 @@ use Rattle.std.proofs.lemmas.Fmt.{IsAscii-decimal}
 use Rattle.std.proofs.lemmas.Str.{IsUtf8-from_ascii}
 use Rattle.sg_names.proofs.Decimals.{is_decimal-decimal}
 use Rattle.sg_names.proofs.OneText.{hex_is}
+use Rattle.sg_names.specs.Decimal.{is_decimal}
 use Rattle.sg_names.specs.Hex.{hex_digit, hex_text, is_hex, is_hex_digit}
 use Rattle.sg_names.specs.Grammar.{is_doc_id}
 use Rattle.sg_names.specs.RevId.{rev_text, is_rev}
@@ -20,13 +21,13 @@ use Rattle.sg_history.specs.Journal.{IsWrite, is_body, is_by, by_text, mark_text
 use Rattle.sg_history.specs.Line.{texts_of, IsLargeFront, ReadsWrite}
 use Rattle.sg_history.specs.Faults.{AreTexts, write_grammars}
 
-body_is : (body : List ℕ) → is_body body ≡ true → is_hex (hex_text body) ≡ true
+pub body_is : (body : List ℕ) → is_body body ≡ true → is_hex (hex_text body) ≡ true
 body_is [] h = absurd (cc (h))
 body_is (b ∷ bs) h = hex_is b bs (and_parts (nat_lt 0 (length (b ∷ bs))) (list_all (λ c. nat_lt c 256) (b ∷ bs)) h).1
 
--- the fields of a write are in their grammars
-pub write_texts : (w : Write) → IsWrite w → AreTexts write_grammars (write_fields w)
-write_texts w is = (
+-- the fields of a write are in their grammars, and so they are with another decimal as its front
+pub write_texts_at : (w : Write) (at : List ℕ) → IsWrite w → IsUtf8 at × IsTrue (is_decimal at) → AreTexts write_grammars (write_fields_at w at)
+write_texts_at w at is front = (
   (is.doc.1, is.doc.0),
   (
     (is.rev.1, w.rev, is.rev.0, refl),
@@ -39,7 +40,7 @@ write_texts w is = (
           (
             (is.by.1, w.by, is.by.0, refl),
             (
-              (IsUtf8-from_ascii (decimal w.at) (IsAscii-decimal w.at is.at), is_decimal-decimal w.at is.at),
+              front,
               (
                 (is.winner.1, w.winner, is.winner.0, refl),
                 (
@@ -54,6 +55,10 @@ write_texts w is = (
     ),
   ),
 )
+
+pub write_texts : (w : Write) → IsWrite w → AreTexts write_grammars (write_fields w)
+write_texts w is =
+    write_texts_at w (decimal w.at) is (IsUtf8-from_ascii (decimal w.at) (IsAscii-decimal w.at is.at), is_decimal-decimal w.at is.at)
 
 -- the digit of what is below 16
 digit_small : (n : ℕ) → is_hex_digit (hex_digit n) ≡ true → n < 16
@@ -76,10 +81,14 @@ bytes_of_hex (b ∷ bs) h =
     let high = digit_small (b / 16) outer.0 in
     and_from _ _ (lt-ltb b 256 (omega arith)) (bytes_of_hex bs inner.1)
 
-body_from_hex : (body : List ℕ) → is_hex (hex_text body) ≡ true → is_body body ≡ true
+pub body_from_hex : (body : List ℕ) → is_hex (hex_text body) ≡ true → is_body body ≡ true
 body_from_hex [] h = absurd (cc (h))
 body_from_hex (b ∷ bs) h =
     and_from _ _ (lt-ltb 0 (length (b ∷ bs)) (omega arith)) (bytes_of_hex (b ∷ bs) (and_parts _ _ h).1)
+
+-- what was read of a text is a body
+pub body_read : (text body : List ℕ) → text ≡ hex_text body → is_hex text ≡ true → is_body body ≡ true
+body_read text body is hex = body_from_hex body (sym (ap is_hex is) ∙ hex)
 
 -- what was read of the fields other than the front
 pub record HoldsFields (t : WriteTexts) (w : Write) : Type 0 where

@@ -1,14 +1,15 @@
 -- The first bad line of a text that is no journal.
-use Rattle.std.specs.Prelude.{◌≡◌, ◌≢◌, ◌⊎◌, ℕ, ◌+◌, Bool, List, [], ◌∷◌, ◌++◌, length, reverse, codes, Some, IsTrue}
-use Rattle.sg_names.specs.Grammar.{lacks}
+use Rattle.std.specs.Prelude.{◌≡◌, ◌⊎◌, ℕ, Bool, true, List, codes, Some}
 use Rattle.sg_history.specs.declared.entries.Entry.{Entry}
 use Rattle.sg_history.specs.declared.fault.BadLine.{BadLine}
+use Rattle.sg_history.specs.declared.fault.LineFault.{LineFault}
+use Rattle.sg_history.specs.declared.fault.LineFault.TheVariants as line
 use Rattle.sg_history.specs.declared.fault.ReadLog.{ReadLog}
 use Rattle.sg_history.specs.declared.fault.ReadLog.TheVariants as file
 use Rattle.sg_history.specs.declared.fault.Why.{Why}
-use Rattle.sg_history.specs.declared.fault.Why.TheVariants.{Head, Ending}
 use Rattle.sg_history.specs.Faults.{IsFault}
-use Rattle.sg_history.specs.Journal.{IsRecord, header, lines_of}
+use Rattle.sg_history.specs.Files.{LineGrammar, IsBadFile}
+use Rattle.sg_history.specs.Journal.{IsNext, line_of}
 use Rattle.sg_history.specs.Line.{AreRead}
 use Rattle.sg_history.specs.Pieces.{pieces}
 use Rattle.sg_history.specs.Rules.{rule_fault}
@@ -19,38 +20,31 @@ BreaksRule older fields why = (e : Entry) × (fits : Bool) × AreRead fields e f
 
 -- what is wrong with a line after older entries: its kind, the number of its fields or the first bad field; else the first rule that it breaks
 abbrev pub IsLineFault : List Entry → List ℕ → Why → Type 0
-IsLineFault older line why = IsFault (pieces 9 line) why ⊎ BreaksRule older (pieces 9 line) why
-
--- what is wrong with the next line: it has no line feed, or the line before the line feed has a fault
-abbrev pub IsRestFault : List Entry → List ℕ → Why → Type 0
-IsRestFault older rest why =
-    ((why ≡ Ending) × (rest ≢ []) × IsTrue (lacks 10 rest))
-    ⊎ ((line : List ℕ) × (after : List ℕ) × (rest ≡ line ++ 10 ∷ after) × IsTrue (lacks 10 line) × IsLineFault older line why)
-
--- the lines of a history, which may have none, and then a line with this fault
-pub record IsBadAfter (lines : List ℕ) (bad : BadLine) : Type 0 where
-  pub entries : List Entry
-  pub rest : List ℕ
-  pub lawful : IsRecord (reverse entries)
-  pub spelled : lines ≡ lines_of entries ++ rest
-  pub place : bad.place ≡ length entries + 2
-  pub fault : IsRestFault (reverse entries) rest bad.why
+IsLineFault older text why = IsFault (pieces 9 text) why ⊎ BreaksRule older (pieces 9 text) why
 
 -- the first line, without its line feed
 abbrev pub title : List ℕ
 title = codes "sgjournal 1"
 
--- what is wrong with the first line: it has no line feed, or it is another line
-abbrev pub IsHeadFault : List ℕ → Why → Type 0
-IsHeadFault bytes why =
-    ((why ≡ Ending) × (bytes ≡ title)) ⊎ ((why ≡ Head) × (bytes ≢ title) × ((rest : List ℕ) → bytes ≢ header ++ rest))
+-- the lines of a journal: each is that of an entry that may be the next after those before it
+abbrev pub journal_lines : LineGrammar Entry
+journal_lines = record {
+  title = title;
+  Says = λ older text e. IsNext older e × (text ≡ line_of e);
+  Fails = IsLineFault;
+  may_end = λ older. true;
+}
 
 -- the text is no journal, and this is its first bad line
 abbrev pub IsBadJournal : List ℕ → BadLine → Type 0
-IsBadJournal bytes bad =
-    ((bad.place ≡ 1) × IsHeadFault bytes bad.why) ⊎ ((lines : List ℕ) × (bytes ≡ header ++ lines) × IsBadAfter lines bad)
+IsBadJournal bytes bad = IsBadFile journal_lines bytes bad
 
 -- a refusal of a file other than that memory ran out names such a line
 abbrev pub NamesLine : (BadLine → Type 0) → ReadLog → Type 0
 NamesLine P (file.Bad bad) = P bad
 NamesLine P file.Memory = Unit {0}
+
+-- a refusal of the line at this place, as one of a file
+abbrev pub refusal_at : ℕ → LineFault → ReadLog
+refusal_at place (line.Bad why) = file.Bad (record { place = place; why = why })
+refusal_at place line.Memory = file.Memory

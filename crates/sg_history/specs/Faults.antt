@@ -1,5 +1,5 @@
 -- What is wrong with a line: its kind, the number of its fields, or the first field outside its grammar.
-use Rattle.std.specs.Prelude.{◌≡◌, ◌≢◌, ℕ, zero, suc, ◌+◌, ◌-◌, ◌≤◌, Bool, List, [], ◌∷◌, length, codes, Option, Some, None, IsTrue, IsUtf8, if◌then◌else◌}
+use Rattle.std.specs.Prelude.{◌≡◌, ℕ, ◌+◌, Bool, List, [], ◌∷◌, codes, Option, Some, None, IsTrue, IsUtf8, if◌then◌else◌}
 use Rattle.std.specs.Str.{bytes_eq}
 use Rattle.sg_names.specs.declared.rev_id.RevId.{RevId}
 use Rattle.sg_names.specs.declared.grants.Grant.{Grant}
@@ -17,6 +17,7 @@ use Rattle.sg_history.specs.declared.fault.Why.{Why}
 use Rattle.sg_history.specs.declared.fault.Why.TheVariants as reason
 use Rattle.sg_history.specs.declared.fault.LineFault.{LineFault}
 use Rattle.sg_history.specs.declared.fault.LineFault.TheVariants as line
+use Rattle.sg_history.specs.FieldFaults.{FitAll, IsFirstUnfit, IsFieldsFault}
 use Rattle.sg_history.specs.Journal.{mark_text, by_text, is_by}
 
 -- the grammars of fields
@@ -79,48 +80,15 @@ grammars_of kind =
 
 -- each text is in the grammar at its place, and there are as many
 abbrev pub AreTexts : List Grammar → List (List ℕ) → Type 0
-AreTexts [] [] = Unit {0}
-AreTexts [] (text ∷ texts) = ⊥
-AreTexts (grammar ∷ grammars) [] = ⊥
-AreTexts (grammar ∷ grammars) (text ∷ texts) = IsText grammar text × AreTexts grammars texts
+AreTexts grammars texts = FitAll IsText grammars texts
 
 -- this many texts are in their grammars, and the next one is not in its own
 abbrev pub IsFirstBad : List Grammar → List (List ℕ) → ℕ → Type 0
-IsFirstBad [] texts n = ⊥
-IsFirstBad (grammar ∷ grammars) [] n = ⊥
-IsFirstBad (grammar ∷ grammars) (text ∷ texts) zero = ¬ (IsText grammar text)
-IsFirstBad (grammar ∷ grammars) (text ∷ texts) (suc n) = IsText grammar text × IsFirstBad grammars texts n
+IsFirstBad grammars texts n = IsFirstUnfit IsText grammars texts n
 
--- what is wrong with texts that are to be in these grammars: there are not as many, or the first one outside its grammar, where the kind is field 1
-abbrev pub IsFaultAmong : List Grammar → List (List ℕ) → Why → Type 0
-IsFaultAmong grammars texts reason.Head = ⊥
-IsFaultAmong grammars texts reason.Ending = ⊥
-IsFaultAmong grammars texts reason.Kind = ⊥
-IsFaultAmong grammars texts reason.Fields = length texts ≢ length grammars
-IsFaultAmong grammars texts (reason.Field n) = (length texts ≡ length grammars) × (2 ≤ n) × IsFirstBad grammars texts (n - 2)
-IsFaultAmong grammars texts (reason.Rule n) = ⊥
-IsFaultAmong grammars texts reason.Long = ⊥
-IsFaultAmong grammars texts (reason.Config path why) = ⊥
-
--- what is wrong with texts under a kind, which may be none
-abbrev pub IsFaultUnder : Option (List Grammar) → List (List ℕ) → Why → Type 0
-IsFaultUnder None texts why = why ≡ reason.Kind
-IsFaultUnder (Some grammars) texts why = IsFaultAmong grammars texts why
-
--- what is wrong with the fields of a line: the first is no kind, or else what follows it
+-- what is wrong with the fields of a journal's line
 abbrev pub IsFault : List (List ℕ) → Why → Type 0
-IsFault [] why = why ≡ reason.Kind
-IsFault (kind ∷ texts) why = IsFaultUnder (grammars_of kind) texts why
-
--- the texts that follow a kind, which must be one
-abbrev pub AreTextsUnder : Option (List Grammar) → List (List ℕ) → Type 0
-AreTextsUnder None texts = ⊥
-AreTextsUnder (Some grammars) texts = AreTexts grammars texts
-
--- the fields of a line of which nothing is wrong: a kind, and as many texts as follow it, each in its grammar
-abbrev pub AreFields : List (List ℕ) → Type 0
-AreFields [] = ⊥
-AreFields (kind ∷ texts) = AreTextsUnder (grammars_of kind) texts
+IsFault fields why = IsFieldsFault IsText grammars_of fields why
 
 -- a refusal other than that memory ran out has such a reason
 abbrev pub HasReason : (Why → Type 0) → LineFault → Type 0

@@ -20,6 +20,8 @@ pub mod Reading
 pub mod Refusal
 pub mod Rules
 pub mod Written
+pub mod FieldFaults
 pub mod Faults
+pub mod Files
 pub mod BadLine
 pub mod CountedLog

@@ -1,50 +1,44 @@
--- reading a journal line by line. Only proofs need this.
-use Rattle.std.specs.Prelude.{◌≡◌, ◌≢◌, ◌⊎◌, ℕ, Bool, List, [], ◌∷◌, ◌++◌, reverse, Option, Some, None, IsTrue}
-use Rattle.sg_names.specs.Grammar.{lacks}
+-- reading a file line by line. Only proofs need this.
+use Rattle.std.specs.Prelude.{ℕ, Bool, true, false, List, [], reverse, MatchResult, Result, Ok, Err}
 use Rattle.sg_history.specs.declared.entries.Entry.{Entry}
+use Rattle.sg_history.specs.declared.fault.LineFault.{LineFault}
+use Rattle.sg_history.specs.declared.fault.LineFault.TheVariants as line
 use Rattle.sg_history.specs.declared.fault.Why.{Why}
-use Rattle.sg_history.specs.declared.fault.Why.TheVariants.{Ending}
-use Rattle.sg_history.specs.Faults.{IsFault}
-use Rattle.sg_history.specs.Journal.{IsRecord, lines_of}
+use Rattle.sg_history.specs.BadLine.{title}
+use Rattle.sg_history.specs.Faults.{HasReason, IsFault}
+use Rattle.sg_history.specs.Files.{LineGrammar, AreSaid, Begins, Stops}
 use Rattle.sg_history.specs.Line.{AreRead}
 use Rattle.sg_history.specs.Pieces.{pieces}
 
--- the lines are those of this history
-abbrev pub SpellsLines : List ℕ → List Entry → Type 0
-SpellsLines lines es = IsRecord (reverse es) × (lines ≡ lines_of es)
+-- the first lines say these items, and the one behind them has this fault
+abbrev pub StopsBehind : {X : Type 0} → LineGrammar X → List (List ℕ) → List X → Why → Type 0
+StopsBehind g lines items why = (left : List (List ℕ)) × Begins g [] lines items left × Stops g (reverse items) left why
 
--- a text is a line that is read as this entry, its line feed, and what is after it
-pub record BeginsWith (text : List ℕ) (e : Entry) (after : List ℕ) : Type 0 where
-  pub line : List ℕ
-  pub cut : text ≡ line ++ 10 ∷ after
-  pub whole : IsTrue (lacks 10 line)
-  pub fits : Bool
-  pub read : AreRead (pieces 9 line) e fits
+-- the lines say these items up to their end, or to a line that is refused
+abbrev pub EndsAs : {X T : Type 0} → LineGrammar X → List (List ℕ) → List X → Result T LineFault → Type 0
+EndsAs g lines items end = MatchResult end (λ _. AreSaid g lines items) (HasReason (StopsBehind g lines items))
 
--- a text is lines that are read as these entries, each with its line feed, and then this rest
-abbrev pub AreLines : List ℕ → List Entry → List ℕ → Type 0
-AreLines text [] rest = text ≡ rest
-AreLines text (e ∷ es) rest = (after : List ℕ) × BeginsWith text e after × AreLines after es rest
+-- memory ran out
+abbrev pub ran_out : {T : Type 0} → Result T LineFault → Bool
+ran_out (Ok x) = false
+ran_out (Err (line.Bad why)) = false
+ran_out (Err line.Memory) = true
 
--- what is wrong with the next line, whatever was written before: it has no line feed, or its fields have a fault
-abbrev pub IsTextFault : List ℕ → Why → Type 0
-IsTextFault rest why =
-    ((why ≡ Ending) × (rest ≢ []) × IsTrue (lacks 10 rest))
-    ⊎ ((line : List ℕ) × (after : List ℕ) × (rest ≡ line ++ 10 ∷ after) × IsTrue (lacks 10 line) × IsFault (pieces 9 line) why)
+-- wherever these items were said before this text, those are said before what is left of it
+abbrev pub Reaches : {X : Type 0} → LineGrammar X → List X → List ℕ → List X → List ℕ → Type 0
+Reaches g before text after left =
+    (lines : List (List ℕ)) → Begins g [] lines before (pieces 10 text) → Begins g [] lines after (pieces 10 left)
 
--- this is wrong with the next line, where anything is
-abbrev pub StopsAt : List ℕ → Option Why → Type 0
-StopsAt rest None = Unit {0}
-StopsAt rest (Some why) = IsTextFault rest why
+-- wherever these items were said before this text, those are said before a line with this fault
+abbrev pub FailsIn : {X : Type 0} → LineGrammar X → List X → List ℕ → List X → Why → Type 0
+FailsIn g before text after why =
+    (lines : List (List ℕ)) → Begins g [] lines before (pieces 10 text) → StopsBehind g lines after why
 
--- lines of a text were read as entries, which were put behind those before, up to this rest
-pub record ReadsPart (text : List ℕ) (before : List Entry) (rest : List ℕ) (fault : Option Why) (after : List Entry) : Type 0 where
-  pub more : List Entry
-  pub appended : after ≡ before ++ more
-  pub lines : AreLines text more rest
-  pub stops : StopsAt rest fault
-
--- a text is lines that are read as these entries, up to its end, or to a line with this fault
-abbrev pub AreAllLines : List ℕ → List Entry → Option Why → Type 0
-AreAllLines text es None = AreLines text es []
-AreAllLines text es (Some why) = (rest : List ℕ) × AreLines text es rest × IsTextFault rest why
+-- the lines of a journal as they are read, whatever rules they break: a line is read as an entry, of which a front may be too large for its type
+abbrev pub journal_texts : LineGrammar Entry
+journal_texts = record {
+  title = title;
+  Says = λ older text e. (fits : Bool) × AreRead (pieces 9 text) e fits;
+  Fails = λ older text why. IsFault (pieces 9 text) why;
+  may_end = λ older. true;
+}

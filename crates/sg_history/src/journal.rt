@@ -3,152 +3,83 @@
 //! First the lines are read as entries, up to one that is none's; then the first entry is looked for that breaks a rule.
 //! So the text may be let go, piece by piece, while it is read.
 
-ghost use Rattle.std.specs.Prelude.{◌≡◌, ◌⊎◌, ◌++◌, ◌+◌, ◌≤◌, ◌<◌, ◌-◌, ◌^◌, List, ℕ, [], None, length, IsTrue, IfOk, IfErr};
-ghost use Rattle.sg_names.specs.Grammar.{lacks};
+ghost use Rattle.std.specs.Prelude.{◌≡◌, ◌++◌, ◌∷◌, ◌+◌, ◌-◌, ◌<◌, ◌^◌, List, ℕ, [], length, IfOk, IfErr};
+ghost use Rattle.sg_history.specs.BadLine.{IsBadJournal, NamesLine, journal_lines};
+ghost use Rattle.sg_history.specs.Files.{AreSaid, IsBadBehind};
 ghost use Rattle.sg_history.specs.History.{History, history, entries_of};
-ghost use Rattle.sg_history.specs.Journal.{Spells, header};
-ghost use Rattle.sg_history.specs.Reading.{AreAllLines, ReadsPart, SpellsLines};
+ghost use Rattle.sg_history.specs.Journal.{Spells};
+ghost use Rattle.sg_history.specs.Reading.{EndsAs, journal_texts, ran_out};
 ghost use Rattle.sg_history.specs.Refusal.{RefusesLog};
-ghost use Rattle.sg_history.specs.BadLine.{IsBadAfter, IsBadJournal, IsHeadFault, NamesLine};
 
-use crate::entries::{Entries, Log};
+use crate::entries::{Entries, Entry, Log};
 use crate::fault::{BadLine, LineFault, ReadLog, Why};
 use crate::line::read_line;
-use crate::pieces::cut;
+use crate::line_reader::{ReadsLines, behind_title, read_lines, refuse, take_lines};
 use crate::rules::first_broken;
 use sg_outside::Bytes;
-use std::alloc::{AllocError, Global};
+use std::alloc::Global;
 
 /// The first line of a journal.
 const HEADER: &str = "sgjournal 1";
 
-fn bad(place: u64, why: Why) -> ReadLog
-    ensures { result ≡ ReadLog.Bad (record { place = place; why = why }) }
-{
-    ReadLog::Bad(BadLine { place, why })
-}
+/// Entries as the lines of a journal say them; whether they keep the rules is not asked.
+impl ReadsLines for Entries {
+    type Item = Entry;
 
-/// What was not read of a text, and what is wrong with its first line, where that is no entry's.
-#[derive(Drop)]
-struct Part<'a> {
-    rest: &'a [u8],
-    fault: Option<Why>,
-}
+    ghost grammar = { journal_texts };
 
-/// Reads lines as entries, which are put at the end, until so many bytes are passed over or a line is no entry's.
-fn read_part<'a>(
-    alloc: Global,
-    text: &'a [u8],
-    enough: usize,
-    entries: &mut Entries,
-) -> Result<Part<'a>, AllocError>
-    ensures read { IfOk result (λ part. ReadsPart text.now entries.old.list
-        part.rest.now part.fault entries.new.list) }
-    ensures passed { IfOk result (λ part. part.fault ≡ None
-        → (part.rest.now ≡ []) ⊎ (enough + length part.rest.now ≤ length text.now)) }
-{
-    let mut rest = text;
-    'lines: while !rest.is_empty() && text.len() - rest.len() < enough {
-        let Some((line, after)) = cut(rest, b'\n') else {
-            return Ok(Part {
-                rest,
-                fault: Some(Why::Ending),
-            });
-        };
-        match read_line(alloc, line) {
-            Ok(read) => entries.push(read.entry)?,
-            Err(LineFault::Bad(why)) => {
-                return Ok(Part {
-                    rest,
-                    fault: Some(why),
-                });
-            }
-            Err(LineFault::Memory) => return Err(AllocError),
-        }
-        rest = after;
+    ghost items = { λ e. e.list };
+
+    fn title() -> &'static [u8] {
+        HEADER.as_bytes()
     }
-    Ok(Part { rest, fault: None })
-}
 
-/// The entries of lines up to one that is none's, and what is wrong with that one.
-#[derive(Drop)]
-struct Lines {
-    entries: Entries,
-    fault: Option<Why>,
-}
-
-/// Reads lines. What was read of them is let go, each time that it is half of what there was.
-fn read_lines(alloc: Global, lines: Bytes) -> Result<Lines, AllocError>
-    ensures { IfOk result (λ read. AreAllLines lines read.entries.list read.fault) }
-{
-    let mut entries = Entries::new(alloc);
-    let mut rest = lines;
-    'parts: while !rest.is_empty() {
-        let part = read_part(alloc, rest.as_slice(), rest.len() / 2 + 1, &mut entries)?;
-        let Part { rest: left, fault } = part;
-        if fault.is_some() {
-            return Ok(Lines { entries, fault });
-        }
-        let passed = rest.len() - left.len();
-        rest.drop_front(passed);
+    fn read_line(&mut self, alloc: Global, line: &[u8]) -> Result<(), LineFault> {
+        let read = read_line(alloc, line)?;
+        self.push(read.entry)?;
+        Ok(())
     }
-    Ok(Lines {
-        entries,
-        fault: None,
-    })
+
+    fn may_end(&self) -> bool {
+        true
+    }
+
+    fn next_place(&self) -> u64 {
+        self.as_slice().len() as u64 + 2
+    }
 }
 
-/// Reads lines that stay.
-fn read_borrowed(alloc: Global, lines: &[u8]) -> Result<Lines, AllocError>
-    ensures { IfOk result (λ read. AreAllLines lines.now read.entries.list read.fault) }
+fn is_out(end: &Result<(), LineFault>) -> bool
+    ensures { result ≡ ran_out end.now }
 {
-    let mut entries = Entries::new(alloc);
-    let Part { rest: _, fault } = read_part(alloc, lines, lines.len(), &mut entries)?;
-    Ok(Lines { entries, fault })
+    matches!(end, Err(LineFault::Memory))
 }
 
 /// The log of lines that were read, if none of them breaks a rule.
-fn log_of(alloc: Global, read: Lines) -> Result<Log, ReadLog>
-    requires { length read.entries.list < 2 ^ 64 - 2 }
-    ensures ok { (lines : List ℕ) → AreAllLines lines read.entries.list read.fault
-        → IfOk result (λ log. SpellsLines lines (entries_of log)) }
-    ensures line { (lines : List ℕ) → AreAllLines lines read.entries.list read.fault
-        → IfErr result (NamesLine (IsBadAfter lines)) }
+fn log_of(alloc: Global, entries: Entries, end: Result<(), LineFault>) -> Result<Log, ReadLog>
+    ensures ok { (lines : List (List ℕ)) → EndsAs journal_texts lines entries.list end
+        → IfOk result (λ log. AreSaid journal_lines lines (entries_of log)) }
+    ensures line { (lines : List (List ℕ)) → EndsAs journal_texts lines entries.list end
+        → IfErr result (NamesLine (IsBadBehind journal_lines lines)) }
 {
-    let Lines { entries, fault } = read;
+    let next = entries.next_place();
+    if is_out(&end) {
+        return Err(ReadLog::Memory);
+    }
     if let Some(line) = first_broken(alloc, entries.as_slice())? {
         return Err(ReadLog::Bad(line));
     }
-    match fault {
-        Some(why) => Err(bad(entries.len() as u64 + 2, why)),
-        None => Ok(Log { entries }),
+    match end {
+        Ok(()) => Ok(Log { entries }),
+        Err(fault) => Err(refuse(next, fault)),
     }
 }
 
-/// What is wrong with a text of one line that has no line feed.
-fn fault_of_title(line: &[u8]) -> Why
-    requires { IsTrue (lacks 10 line.now) }
-    ensures { IsHeadFault line.now result }
+/// The refusal of a first line.
+fn bad_title(why: Why) -> ReadLog
+    ensures { result ≡ ReadLog.Bad (record { place = 1; why = why }) }
 {
-    if line == HEADER.as_bytes() {
-        Why::Ending
-    } else {
-        Why::Head
-    }
-}
-
-/// The lines behind the header, or what is wrong with the first line.
-fn behind_header(bytes: &[u8]) -> Result<&[u8], Why>
-    ensures ok { IfOk result (λ lines. bytes.now ≡ header ++ lines.now) }
-    ensures bad { IfErr result (IsHeadFault bytes.now) }
-{
-    let Some((first, lines)) = cut(bytes, b'\n') else {
-        return Err(fault_of_title(bytes));
-    };
-    if first != HEADER.as_bytes() {
-        return Err(Why::Head);
-    }
-    Ok(lines)
+    ReadLog::Bad(BadLine { place: 1, why })
 }
 
 /// Reads a journal, or names its first bad line and what is wrong with it, which is the first of: `Head` (line 1 is not
@@ -158,9 +89,13 @@ pub fn read_journal(alloc: Global, bytes: &[u8]) -> Result<Log, ReadLog>
     ensures bad { IfErr result (λ e. RefusesLog e ((h : History) → ¬ (Spells bytes.now h))) }
     ensures line { IfErr result (NamesLine (IsBadJournal bytes.now)) }
 {
-    match behind_header(bytes) {
-        Ok(lines) => log_of(alloc, read_borrowed(alloc, lines)?),
-        Err(why) => Err(bad(1, why)),
+    match behind_title::<Entries>(bytes) {
+        Ok(lines) => {
+            let mut entries = Entries::new(alloc);
+            let end = read_lines(alloc, lines, &mut entries);
+            log_of(alloc, entries, end)
+        }
+        Err(why) => Err(bad_title(why)),
     }
 }
 
@@ -170,11 +105,13 @@ pub fn take_journal(alloc: Global, bytes: Bytes) -> Result<Log, ReadLog>
     ensures bad { IfErr result (λ e. RefusesLog e ((h : History) → ¬ (Spells bytes h))) }
     ensures line { IfErr result (NamesLine (IsBadJournal bytes)) }
 {
-    let passed = match behind_header(bytes.as_slice()) {
+    let passed = match behind_title::<Entries>(bytes.as_slice()) {
         Ok(lines) => bytes.len() - lines.len(),
-        Err(why) => return Err(bad(1, why)),
+        Err(why) => return Err(bad_title(why)),
     };
     let mut lines = bytes;
     lines.drop_front(passed);
-    log_of(alloc, read_lines(alloc, lines)?)
+    let mut entries = Entries::new(alloc);
+    let end = take_lines(alloc, lines, &mut entries);
+    log_of(alloc, entries, end)
 }

@@ -1,9 +1,11 @@
 //! What holds of journals, books and boards. The calls do nothing.
 
-ghost use Rattle.std.specs.Prelude.{◌≡◌, ◌≤◌, List, ℕ, length, Some};
+ghost use Rattle.std.specs.Prelude.{◌≡◌, ◌⊎◌, ◌≤◌, List, ℕ, length, Some};
 ghost use Rattle.sg_names.specs.declared.rev_id.RevId.{RevId};
 ghost use Rattle.sg_history.specs.declared.book.Waiting.{Waiting};
 ghost use Rattle.sg_history.specs.declared.entries.Entry.{Entry};
+ghost use Rattle.sg_history.specs.declared.fault.BadLine.{BadLine};
+ghost use Rattle.sg_history.specs.BadLine.{IsBadJournal};
 ghost use Rattle.sg_history.specs.Board.{BoardState, After};
 ghost use Rattle.sg_history.specs.Book.{Book, book_of, book_with, Later, IsLastWrite, writes_up_to, last_write_up_to, write_of_rev_up_to};
 ghost use Rattle.sg_history.specs.Current.{Sequenced, writes_to, last_write, write_of_rev};
@@ -18,6 +20,16 @@ pub fn lines()
 /// A text is that of one history.
 pub fn journals()
     ensures { (bytes : List ℕ) (g h : History) → Spells bytes g → Spells bytes h → g ≡ h }
+{}
+
+/// A text has one first bad line at most, and none where it is a journal. Each text is a journal or has one.
+pub fn bad_lines()
+    ensures one { (bytes : List ℕ) (a b : BadLine) → IsBadJournal bytes a → IsBadJournal bytes b
+        → a ≡ b }
+    ensures apart { (bytes : List ℕ) (bad : BadLine) → IsBadJournal bytes bad → (h : History)
+        → ¬ (Spells bytes h) }
+    ensures either { (bytes : List ℕ) → ((h : History) × Spells bytes h)
+        ⊎ ((bad : BadLine) × IsBadJournal bytes bad) }
 {}
 
 /// Books and histories that are later than others. A history that extends another is later; and a history whose book is later than

@@ -11,6 +11,7 @@ mod journal;
 mod journal_text;
 pub mod laws;
 mod line;
+pub mod line_reader;
 mod log_reads;
 pub mod number;
 mod pieces;

@@ -2,7 +2,7 @@
 
 ghost use Rattle.std.specs.Prelude.{◌≡◌, ◌<◌, unwrap_or, IsTrue, IfOk, IfErr};
 ghost use Rattle.sg_history.specs.Line.{texts_of, ReadsWrite};
-ghost use Rattle.sg_history.specs.Faults.{IsFaultAmong, HasReason, write_grammars};
+ghost use Rattle.sg_history.specs.Faults.{IsBadAmong, write_grammars};
 
 use crate::entries::Write;
 use crate::fault::LineFault;
@@ -42,7 +42,7 @@ fn front_of(at: Option<u64>) -> u64
 /// Reads the fields of a write, from the first one on.
 pub fn read_write(alloc: Global, texts: WriteTexts<'_>) -> Result<ReadWrite, LineFault>
     ensures ok { IfOk result (λ read. ReadsWrite (texts_of texts.entry) read) }
-    ensures reason { IfErr result (HasReason (IsFaultAmong write_grammars (texts_of texts.entry))) }
+    ensures reason { IfErr result (IsBadAmong 2 write_grammars (texts_of texts.entry)) }
 {
     let revision = read_three(alloc, texts.doc, texts.rev, texts.ancestors, 2)?;
     // What was read is dropped by hand: on the way out of a `?` its proof would cost twice as much.

@@ -1,8 +1,8 @@
 use Rattle.std.proofs.Common.{[], ◌∷◌, arith, codes, refl}
 use Rattle.std.proofs.lemmas.Result.{err_from_is_err_and}
 use Rattle.sg_history.specs.Faults.{drop_grammars, name}
-use Rattle.sg_history.proofs.FaultLemmas.{bad_alone}
-use Rattle.sg_history.proofs.KindLines.{drop_read, bad_field_of, nth, one, texts}
+use Rattle.sg_history.proofs.FaultLemmas.{bad_alone, bad_field_of}
+use Rattle.sg_history.proofs.KindLines.{drop_read, nth, one, texts}
 use Rattle.sg_history.proofs.line.read_drop_user.Goals as goal
 
 pub returns-clause-ok : goal.returns-clause-ok

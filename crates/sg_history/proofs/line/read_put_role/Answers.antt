@@ -1,7 +1,8 @@
 use Rattle.std.proofs.Common.{[], ◌∷◌, arith, codes, refl}
 use Rattle.std.proofs.lemmas.Result.{err_from_is_err_and}
 use Rattle.sg_history.specs.Faults.{role_grammars}
-use Rattle.sg_history.proofs.KindLines.{role_read, bad_field_of, nth, two, texts}
+use Rattle.sg_history.proofs.FaultLemmas.{bad_field_of}
+use Rattle.sg_history.proofs.KindLines.{role_read, nth, two, texts}
 use Rattle.sg_history.proofs.line.read_put_role.Goals as goal
 
 pub returns-clause-ok : goal.returns-clause-ok

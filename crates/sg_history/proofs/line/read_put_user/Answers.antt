@@ -1,7 +1,8 @@
 use Rattle.std.proofs.Common.{[], ◌∷◌, arith, codes, refl}
 use Rattle.std.proofs.lemmas.Result.{err_from_is_err_and}
 use Rattle.sg_history.specs.Faults.{user_grammars}
-use Rattle.sg_history.proofs.KindLines.{user_read, bad_field_of, nth, three, texts}
+use Rattle.sg_history.proofs.FaultLemmas.{bad_field_of}
+use Rattle.sg_history.proofs.KindLines.{user_read, nth, three, texts}
 use Rattle.sg_history.proofs.line.read_put_user.Goals as goal
 
 pub returns-clause-ok : goal.returns-clause-ok
