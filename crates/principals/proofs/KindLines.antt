@@ -1,14 +1,15 @@
 -- what is wrong with the fields behind the kind of a line
-use Rattle.std.proofs.Common.{◌≡◌, ℕ, zero, suc, ◌+◌, ◌-◌, List, [], ◌∷◌, length, map, refl, sym, ap, ◌∙◌, subst, arith, Option, Some}
-use Rattle.sg_history.specs.declared.fault.Why.{Why}
+use Rattle.std.proofs.Common.{◌≡◌, ℕ, zero, suc, ◌+◌, List, [], ◌∷◌, length, map, refl, ◌∙◌, ap, arith, Some}
 use Rattle.sg_history.specs.declared.fault.Why.TheVariants as reason
 use Rattle.sg_history.specs.declared.fault.LineFault.{LineFault}
 use Rattle.sg_history.specs.declared.fault.LineFault.TheVariants as line
 use Rattle.sg_history.specs.Faults as journal
 use Rattle.sg_history.specs.Faults.{Grammar, HasReason, IsBadAmong, IsBadField, IsText}
-use Rattle.principals.specs.Faults.{Part, field, parent, IsPart, IsFault, IsFaultAmong, IsFaultUnder, IsFirstBad, parts_of}
+use Rattle.sg_history.specs.FieldFaults.{IsFirstUnfit}
+use Rattle.sg_history.proofs.FaultLemmas.{fault_at}
+use Rattle.principals.specs.Faults.{Part, field, parent, IsPart, IsFault, parts_of}
 
-first_of_parts : (gs : List Grammar) (ts : List (List ℕ)) (n : ℕ) → journal.IsFirstBad gs ts n → IsFirstBad (map field gs) ts n
+first_of_parts : (gs : List Grammar) (ts : List (List ℕ)) (n : ℕ) → journal.IsFirstBad gs ts n → IsFirstUnfit IsPart (map field gs) ts n
 first_of_parts [] ts n bad = bad
 first_of_parts (g ∷ gs) [] n bad = bad
 first_of_parts (g ∷ gs) (t ∷ ts) zero bad = bad
@@ -18,36 +19,24 @@ first_of_parts (g ∷ gs) (t ∷ ts) (suc n) bad = (bad.0, first_of_parts gs ts 
 pub bad_field_of : (kind : List ℕ) (gs : List Grammar) (ts us : List (List ℕ)) (e : LineFault) → parts_of kind ≡ Some (map field gs) → ts ≡ us
     → length us ≡ length (map field gs) → IsBadAmong 2 gs us e → HasReason (IsFault (kind ∷ ts)) e
 bad_field_of kind gs ts us (line.Bad why) known same many bad =
-    let place : bad.0 ≡ 2 + bad.0 - 2 = omega arith in
-    let first : IsFirstBad (map field gs) us (2 + bad.0 - 2) = subst (IsFirstBad (map field gs) us) place (first_of_parts gs us bad.0 bad.2) in
-    let among : IsFaultAmong (map field gs) us why = subst (IsFaultAmong (map field gs) us) (sym bad.1) (many, omega arith, first) in
-    let under : IsFaultUnder (parts_of kind) us why = subst (λ (o : Option (List Part)). IsFaultUnder o us why) (sym known) among in
-    subst (λ (vs : List (List ℕ)). IsFaultUnder (parts_of kind) vs why) (sym same) under
+    let place : 2 + bad.0 ≡ bad.0 + 2 = omega arith in
+    fault_at IsPart parts_of kind (map field gs) ts us bad.0 why known same many (bad.1 ∙ ap reason.Field place) (first_of_parts gs us bad.0 bad.2)
 bad_field_of kind gs ts us line.Memory known same many bad = tt
 
 -- the fields of a revision's line after its kind
 abbrev doc_parts : List Part
 doc_parts = field journal.document ∷ parent ∷ field journal.mark ∷ field journal.body ∷ []
 
-bad_part : (kind : List ℕ) (ts us : List (List ℕ)) (n : ℕ) (why : Why) → parts_of kind ≡ Some doc_parts → ts ≡ us → length us ≡ 4
-    → why ≡ reason.Field (n + 2) → IsFirstBad doc_parts us n → IsFault (kind ∷ ts) why
-bad_part kind ts us n why known same many named bad =
-    let place : n ≡ n + 2 - 2 = omega arith in
-    let first : IsFirstBad doc_parts us (n + 2 - 2) = subst (IsFirstBad doc_parts us) place bad in
-    let among : IsFaultAmong doc_parts us why = subst (IsFaultAmong doc_parts us) (sym named) (many, omega arith, first) in
-    let under : IsFaultUnder (parts_of kind) us why = subst (λ (o : Option (List Part)). IsFaultUnder o us why) (sym known) among in
-    subst (λ (vs : List (List ℕ)). IsFaultUnder (parts_of kind) vs why) (sym same) under
-
 -- the document of a revision's line is outside its grammar
 pub bad_doc : (kind : List ℕ) (ts : List (List ℕ)) (a b c d : List ℕ) (e : LineFault) → parts_of kind ≡ Some doc_parts → ts ≡ a ∷ b ∷ c ∷ d ∷ []
     → IsBadField 2 journal.document a e → HasReason (IsFault (kind ∷ ts)) e
-bad_doc kind ts a b c d (line.Bad why) known same bad = bad_part kind ts (a ∷ b ∷ c ∷ d ∷ []) 0 why known same refl bad.0 bad.1
+bad_doc kind ts a b c d (line.Bad why) known same bad = fault_at IsPart parts_of kind doc_parts ts (a ∷ b ∷ c ∷ d ∷ []) 0 why known same refl bad.0 bad.1
 bad_doc kind ts a b c d line.Memory known same bad = tt
 
 -- its parent is
 pub bad_parent : (kind : List ℕ) (ts : List (List ℕ)) (a b c d : List ℕ) (e : LineFault) → parts_of kind ≡ Some doc_parts → ts ≡ a ∷ b ∷ c ∷ d ∷ []
     → IsText journal.document a → HasReason (λ why. (why ≡ reason.Field 3) × ¬ (IsPart parent b)) e → HasReason (IsFault (kind ∷ ts)) e
-bad_parent kind ts a b c d (line.Bad why) known same doc bad = bad_part kind ts (a ∷ b ∷ c ∷ d ∷ []) 1 why known same refl bad.0 (doc, bad.1)
+bad_parent kind ts a b c d (line.Bad why) known same doc bad = fault_at IsPart parts_of kind doc_parts ts (a ∷ b ∷ c ∷ d ∷ []) 1 why known same refl bad.0 (doc, bad.1)
 bad_parent kind ts a b c d line.Memory known same doc bad = tt
 
 -- its mark or its body is
@@ -55,6 +44,6 @@ pub bad_content : (kind : List ℕ) (ts : List (List ℕ)) (a b c d : List ℕ) 
     → IsText journal.document a → IsPart parent b → IsBadAmong 4 (journal.mark ∷ journal.body ∷ []) (c ∷ d ∷ []) e → HasReason (IsFault (kind ∷ ts)) e
 bad_content kind ts a b c d (line.Bad why) known same doc its_parent bad =
     let place : 4 + bad.0 ≡ suc (suc bad.0) + 2 = omega arith in
-    bad_part kind ts (a ∷ b ∷ c ∷ d ∷ []) (suc (suc bad.0)) why known same refl (bad.1 ∙ ap reason.Field place)
+    fault_at IsPart parts_of kind doc_parts ts (a ∷ b ∷ c ∷ d ∷ []) (suc (suc bad.0)) why known same refl (bad.1 ∙ ap reason.Field place)
     (doc, (its_parent, first_of_parts (journal.mark ∷ journal.body ∷ []) (c ∷ d ∷ []) bad.0 bad.2))
 bad_content kind ts a b c d line.Memory known same doc its_parent bad = tt

@@ -1,5 +1,4 @@
 pub mod Texts
-pub mod Bodies
 pub mod FaultLemmas
 pub mod Scripts
 pub mod Either

@@ -47,7 +47,7 @@ plain_mark : (mark : Bool) → is_plain (mark_text mark) ≡ true
 plain_mark true = refl
 plain_mark false = refl
 
-parent_rev : (rev : RevId) → is_parent (Some rev) ≡ true → is_rev rev ≡ true
+pub parent_rev : (rev : RevId) → is_parent (Some rev) ≡ true → is_rev rev ≡ true
 parent_rev rev h = (and_parts (is_rev rev) (nat_lt rev.generation 4294967295) h).0
 
 plain_parent : (parent : Option RevId) → is_parent parent ≡ true → is_plain (parent_text parent) ≡ true

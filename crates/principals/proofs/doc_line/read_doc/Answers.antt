@@ -1,7 +1,7 @@
 use Rattle.sg_history.proofs.KindLines.{nth, texts}
 use Rattle.std.proofs.lemmas.Result.{err_from_is_err_and}
 use Rattle.std.proofs.Common.{◌∙◌, [], ◌∷◌, Bor, List, ℕ, ap, arith, codes, map, refl, subst, sym, IsUtf8}
-use Rattle.principals.proofs.Bodies.{body_read}
+use Rattle.sg_history.proofs.WriteFields.{body_read}
 use Rattle.principals.proofs.FaultLemmas.{four}
 use Rattle.principals.proofs.KindLines.{bad_doc, bad_parent, bad_content}
 use Rattle.principals.proofs.doc_line.read_doc.Goals as goal

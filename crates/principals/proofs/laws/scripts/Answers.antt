@@ -1,5 +1,5 @@
+use Rattle.principals.proofs.Either.{script_or_bad}
 use Rattle.principals.proofs.Scripts.{bad_one, script_apart, script_same}
-use Rattle.principals.proofs.Either.{never_neither}
 use Rattle.principals.proofs.laws.scripts.Goals as goal
 
 pub returns-clause-one : goal.returns-clause-one
@@ -12,4 +12,4 @@ pub returns-clause-apart : goal.returns-clause-apart
 returns-clause-apart c = script_apart
 
 pub returns-clause-either : goal.returns-clause-either
-returns-clause-either c = never_neither
+returns-clause-either c = script_or_bad

@@ -1,19 +1,11 @@
-use Rattle.std.proofs.Common.{inl, refl}
-use Rattle.principals.proofs.Scripts.{named_behind, none_spelled, script_apart, spelled_behind}
+use Rattle.std.proofs.lemmas.Result.{err_from_is_err_and}
+use Rattle.principals.proofs.Scripts.{none_spelled, spelled_file}
 use Rattle.principals.proofs.script.read_admin.Goals as goal
 
-pub returns-in-Ok-clause-ok : goal.returns-in-Ok-clause-ok
-returns-in-Ok-clause-ok c = spelled_behind c.read_lines.result c.args.bytes.now c.in-Ok.lines.now c.in-Ok.ensures.ok c.read_lines.ensures.ok
+pub returns-clause-ok : goal.returns-clause-ok
+returns-clause-ok c = spelled_file c.args.bytes.now c.read_file.new.into.lines c.in_ok-read_file.ensures.ok
 
-pub returns-in-Ok-clause-bad : goal.returns-in-Ok-clause-bad
-returns-in-Ok-clause-bad c =
-    none_spelled c.read_lines.result c.args.bytes.now
-    (named_behind c.read_lines.result c.args.bytes.now c.in-Ok.lines.now c.in-Ok.ensures.ok c.read_lines.ensures.line)
-
-pub returns-in-Ok-clause-line : goal.returns-in-Ok-clause-line
-returns-in-Ok-clause-line c =
-    named_behind c.read_lines.result c.args.bytes.now c.in-Ok.lines.now c.in-Ok.ensures.ok c.read_lines.ensures.line
-
-pub returns-in-Err-clause-bad : goal.returns-in-Err-clause-bad
-returns-in-Err-clause-bad c =
-    rw c.bad.ensures (λ ls. script_apart c.args.bytes.now (record { place = 1; why = c.in-Err.why }) ls (inl (refl, c.in-Err.ensures.bad)))
+pub returns-in_err-read_file-clause-bad : goal.returns-in_err-read_file-clause-bad
+returns-in_err-read_file-clause-bad c =
+    let exit = err_from_is_err_and c.from_residual.result c.from_residual.ensures.1 in
+    rw (exit.1, exit.2) (none_spelled c.in_err-read_file.field-0.0 c.args.bytes.now c.in_err-read_file.ensures.line)
