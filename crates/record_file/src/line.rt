@@ -6,10 +6,20 @@ ghost use Rattle.record_file.specs.Record.{item_text, is_item};
 ghost use Rattle.record_file.specs.Faults.{frame_fault, item_fault, NamesReason};
 
 use crate::item::Item;
+use repl_messages::Version;
 use sg_history::fault::LineFault;
-use sg_history::{Why, cut};
+use sg_history::{Name, Why, cut};
 use sg_outside::Bytes;
 use std::alloc::Global;
+
+/// A line behind the first.
+#[derive(Drop)]
+pub enum Line {
+    /// Whose session it is, and the version that its device speaks.
+    Owner(Name, Version),
+    /// What one call of `recv` gave.
+    Item(Item),
+}
 
 /// Reads a frame: at least one byte, in lower-case hexadecimal.
 fn read_frame(alloc: Global, line: &[u8]) -> Result<Bytes, LineFault>

@@ -1,20 +1,19 @@
 //! A recorded session, read from its file.
 
-ghost use Rattle.std.specs.Prelude.{◌≡◌, ◌++◌, ◌∷◌, [], None, Some, MatchResult, IsTrue, IsUtf8, IfOk, IfErr};
-ghost use Rattle.std.specs.List.{list_all};
-ghost use Rattle.sg_history.specs.Pieces.{pieces};
+ghost use Rattle.std.specs.Prelude.{◌≡◌, IfOk, IfErr};
+ghost use Rattle.sg_history.specs.BadLine.{NamesLine};
 ghost use Rattle.sg_history.specs.Refusal.{RefusesLog};
-ghost use Rattle.sg_names.specs.Grammar.{is_name};
 ghost use Rattle.record_file.specs.declared.record.Recorded.{Recorded};
-ghost use Rattle.record_file.specs.Record.{Spells, items_text, owner_text, is_item};
-ghost use Rattle.record_file.specs.Faults.{bad_among, bad_item, bad_line, bad_owner, refusal_at, NamesBadLine};
+ghost use Rattle.record_file.specs.Lines.{IsBadRecord, lines_in, record_lines};
+ghost use Rattle.record_file.specs.Record.{Spells};
 
 use crate::item::Items;
-use crate::line::read_item;
+use crate::line::{Line, read_item};
 use crate::owner::{Owner, read_owner};
 use repl_messages::Version;
 use sg_history::fault::LineFault;
-use sg_history::{BadLine, Name, ReadLog, Why, cut};
+use sg_history::line_reader::{ReadsLines, read_file};
+use sg_history::{BadLine, Name, ReadLog, Why};
 use std::alloc::Global;
 
 /// The first line of a recorded session.
@@ -28,79 +27,46 @@ pub struct Recorded {
     pub items: Items,
 }
 
-fn bad(place: u64, why: Why) -> ReadLog
-    ensures { result ≡ ReadLog.Bad (record { place = place; why = why }) }
-{
-    ReadLog::Bad(BadLine { place, why })
+/// What was read of a session, once it was said whose it is.
+#[derive(Drop)]
+struct Reading {
+    session: Option<Recorded>,
 }
 
-/// The refusal of the line at this place.
-fn refuse(place: u64, fault: LineFault) -> ReadLog
-    ensures { result ≡ refusal_at place fault }
-{
-    match fault {
-        LineFault::Bad(why) => bad(place, why),
-        LineFault::Memory => ReadLog::Memory,
+impl ReadsLines for Reading {
+    type Item = Line;
+
+    ghost grammar = { record_lines };
+
+    ghost items = { λ r. lines_in r.session };
+
+    fn title() -> &'static [u8] {
+        HEADER.as_bytes()
     }
-}
 
-/// Reads the lines of what the wire gave, of which the first is line 3.
-fn read_items(alloc: Global, lines: &[u8]) -> Result<Items, ReadLog>
-    ensures ok { IfOk result (λ items. (lines.now ≡ items_text items)
-        × IsTrue (list_all (λ i. is_item i) items)) }
-    ensures line { MatchResult result (λ _. bad_item 3 (pieces 10 lines.now) ≡ None)
-        (NamesBadLine (bad_item 3 (pieces 10 lines.now))) }
-{
-    let mut items = Items::new(alloc);
-    let mut place = 3;
-    let mut rest = lines;
-    while !rest.is_empty() {
-        let Some((line, after)) = cut(rest, b'\n') else {
-            return Err(bad(place, Why::Ending));
-        };
-        match read_item(alloc, line) {
-            Ok(item) => items.push(item)?,
-            Err(fault) => return Err(refuse(place, fault)),
+    fn read_line(&mut self, alloc: Global, line: &[u8]) -> Result<(), LineFault> {
+        if let Some(session) = &mut self.session {
+            session.items.push(read_item(alloc, line)?)?;
+            return Ok(());
         }
-        rest = after;
-        place += 1;
+        let Owner { user, version } = read_owner(alloc, line)?;
+        self.session = Some(Recorded {
+            user,
+            version,
+            items: Items::new(alloc),
+        });
+        Ok(())
     }
-    Ok(items)
-}
 
-/// Reads the lines after the header.
-fn read_lines(alloc: Global, lines: &[u8]) -> Result<Recorded, ReadLog>
-    ensures ok { IfOk result
-        (λ r. lines.now ≡ owner_text r.user r.version ++ 10 ∷ items_text r.items) }
-    ensures user { IfOk result (λ r. IsTrue (is_name r.user) × IsUtf8 r.user) }
-    ensures items { IfOk result (λ r. IsTrue (list_all (λ i. is_item i) r.items)) }
-    ensures line { MatchResult result (λ _. bad_owner (pieces 10 lines.now) ≡ None)
-        (NamesBadLine (bad_owner (pieces 10 lines.now))) }
-{
-    let Some((line, further)) = cut(lines, b'\n') else {
-        return Err(bad(2, Why::Ending));
-    };
-    let owner = match read_owner(alloc, line) {
-        Ok(owner) => owner,
-        Err(fault) => return Err(refuse(2, fault)),
-    };
-    let items = read_items(alloc, further)?;
-    let Owner { user, version } = owner;
-    Ok(Recorded {
-        user,
-        version,
-        items,
-    })
-}
+    fn may_end(&self) -> bool {
+        self.session.is_some()
+    }
 
-/// What is wrong with a text of one line that has no line feed.
-fn fault_of_header(line: &[u8]) -> Why
-    ensures { bad_among (line.now ∷ []) ≡ Some (record { place = 1; why = result }) }
-{
-    if line == HEADER.as_bytes() {
-        Why::Ending
-    } else {
-        Why::Head
+    fn next_place(&self) -> u64 {
+        match &self.session {
+            Some(session) => session.items.as_slice().len() as u64 + 3,
+            None => 2,
+        }
     }
 }
 
@@ -111,14 +77,15 @@ fn fault_of_header(line: &[u8]) -> Why
 pub fn read_record(alloc: Global, bytes: &[u8]) -> Result<Recorded, ReadLog>
     ensures ok { IfOk result (λ r. Spells bytes.now r) }
     ensures bad { IfErr result (λ e. RefusesLog e ((r : Recorded) → ¬ (Spells bytes.now r))) }
-    ensures line { MatchResult result
-        (λ _. bad_line bytes.now ≡ None) (NamesBadLine (bad_line bytes.now)) }
+    ensures line { IfErr result (NamesLine (IsBadRecord bytes.now)) }
 {
-    let Some((first, lines)) = cut(bytes, b'\n') else {
-        return Err(bad(1, fault_of_header(bytes)));
-    };
-    if first != HEADER.as_bytes() {
-        return Err(bad(1, Why::Head));
+    let mut reading = Reading { session: None };
+    read_file(alloc, bytes, &mut reading)?;
+    match reading.session {
+        Some(session) => Ok(session),
+        None => Err(ReadLog::Bad(BadLine {
+            place: 2,
+            why: Why::Ending,
+        })),
     }
-    read_lines(alloc, lines)
 }
