@@ -18,7 +18,7 @@ use Rattle.principals.specs.Script as script
 use Rattle.principals.specs.Faults.{IsBadScript}
 use Rattle.record_file.specs.declared.record.Recorded.{Recorded}
 use Rattle.record_file.specs.Record as record_file
-use Rattle.record_file.specs.Faults.{NamesBadLine, bad_line}
+use Rattle.record_file.specs.Lines.{IsBadRecord}
 use Rattle.feed_command.specs.declared.status.Status.{Status}
 use Rattle.feed_command.specs.declared.status.Status.TheVariants as status
 use Rattle.gateway_app.specs.Inputs.{AreSessionsIn, Contents, HaveFiles, IsBadAdmin, IsBadAmong, IsBadConfig, IsBadSession, IsConfigIn, IsScriptIn, IsSessionIn}
@@ -92,9 +92,9 @@ no_script bytes loaded place why same fits bad none = (
   λ ls is. none ls (subst (λ (b : List ℕ). script.Spells b ls) (sym same) is.1),
 )
 
-no_session : (bytes loaded : List ℕ) (place : ℕ) (why : Why) → loaded ≡ bytes → length bytes ≤ largest_file → bad_line loaded ≡ Some (record { place = place; why = why }) → ((r : Recorded) → ¬ record_file.Spells loaded r) → IsBadSession bytes place why × ((r : Recorded) → ¬ IsSessionIn bytes r)
+no_session : (bytes loaded : List ℕ) (place : ℕ) (why : Why) → loaded ≡ bytes → length bytes ≤ largest_file → IsBadRecord loaded (record { place = place; why = why }) → ((r : Recorded) → ¬ record_file.Spells loaded r) → IsBadSession bytes place why × ((r : Recorded) → ¬ IsSessionIn bytes r)
 no_session bytes loaded place why same fits bad none = (
-  inr (fits, subst (λ (b : List ℕ). bad_line b ≡ Some (record { place = place; why = why })) same bad),
+  inr (fits, subst (λ (b : List ℕ). IsBadRecord b (record { place = place; why = why })) same bad),
   λ r is. none r (subst (λ (b : List ℕ). record_file.Spells b r) (sym same) is.1),
 )
 
@@ -125,12 +125,12 @@ refused_script bytes loaded fault s same fits refused line bad =
     (subst (λ (f : ReadLog). NamesLine (IsBadScript loaded) f) is line)
     (subst (λ (f : ReadLog). RefusesLog f ((ls : List AdminLine) → ¬ script.Spells loaded ls)) is bad))
 
-pub refused_session : (number : ℕ) (bytes loaded : List ℕ) (fault : ReadLog) (s : Status) → loaded ≡ bytes → length bytes ≤ largest_file → IsRefused number fault s → NamesBadLine (bad_line loaded) fault → RefusesLog fault ((r : Recorded) → ¬ record_file.Spells loaded r) → IsSessionRead number bytes (Err s)
+pub refused_session : (number : ℕ) (bytes loaded : List ℕ) (fault : ReadLog) (s : Status) → loaded ≡ bytes → length bytes ≤ largest_file → IsRefused number fault s → NamesLine (IsBadRecord loaded) fault → RefusesLog fault ((r : Recorded) → ¬ record_file.Spells loaded r) → IsSessionRead number bytes (Err s)
 refused_session number bytes loaded fault s same fits refused line bad =
     refused_read (λ (r : Recorded). r) (IsSessionIn bytes) (IsBadSession bytes) number fault s refused
     (λ place why is.
     no_session bytes loaded place why same fits
-    (subst (λ (f : ReadLog). NamesBadLine (bad_line loaded) f) is line)
+    (subst (λ (f : ReadLog). NamesLine (IsBadRecord loaded) f) is line)
     (subst (λ (f : ReadLog). RefusesLog f ((r : Recorded) → ¬ record_file.Spells loaded r)) is bad))
 
 -- ---- the recorded sessions

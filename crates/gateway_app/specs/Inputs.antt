@@ -11,7 +11,7 @@ use Rattle.principals.specs.Script as script
 use Rattle.principals.specs.Faults.{IsBadScript}
 use Rattle.record_file.specs.declared.record.Recorded.{Recorded}
 use Rattle.record_file.specs.Record as record_file
-use Rattle.record_file.specs.Faults.{bad_line}
+use Rattle.record_file.specs.Lines.{IsBadRecord}
 use Rattle.feed_command.specs.Run.{HasFile}
 use Rattle.feed_command.specs.declared.status.Status.{Status}
 use Rattle.feed_command.specs.Loads.{EndsLoads}
@@ -87,7 +87,7 @@ IsBadAdmin bytes place why = IsBadFile bytes (IsBadScript bytes (record { place 
 
 -- the recorded session's first bad line
 abbrev pub IsBadSession : List ℕ → ℕ → Why → Type 0
-IsBadSession bytes place why = IsBadFile bytes (bad_line bytes ≡ Some (record { place = place; why = why })) place why
+IsBadSession bytes place why = IsBadFile bytes (IsBadRecord bytes (record { place = place; why = why })) place why
 
 -- the first bad one of recorded sessions, of which the first has this number among the files
 abbrev pub IsBadAmong : ℕ → List (List ℕ) → ℕ → ℕ → Why → Type 0
