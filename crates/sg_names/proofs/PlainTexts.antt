@@ -80,7 +80,7 @@ plain_channel n h =
     let whole = (and_parts (is_plain_text n) (lacks 44 n) (and_parts (is_plain_text n && lacks 44 n) (not (is_dash n)) h).0).0 in
     (and_parts (nat_lt 0 (length n) && nat_le (length n) 250) (is_plain n) whole).1
 
-plain_name : (n : List ℕ) → is_name n ≡ true → is_plain n ≡ true
+pub plain_name : (n : List ℕ) → is_name n ≡ true → is_plain n ≡ true
 plain_name n h = plain_channel n (name_channel n h)
 
 plain_grantee : (g : Grantee) → is_grantee g ≡ true → is_plain (grantee_text g) ≡ true

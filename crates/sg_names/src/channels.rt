@@ -3,10 +3,10 @@
 ghost use Rattle.std.specs.Prelude.{◌≡◌, ◌≢◌, ◌++◌, ◌∷◌, List, ℕ, [], IsTrue, IfOk, OnOk, OnErr};
 ghost use Rattle.sg_names.specs.Channels.{channels_text, is_channels};
 
-use crate::channel_name::ChannelName;
 use crate::fault::TextFault;
 use crate::item_list;
 use crate::list::List;
+use crate::named_texts::ChannelName;
 use sg_outside::{Bytes, Memory};
 use std::alloc::Global;
 

@@ -7,11 +7,10 @@ ghost use Rattle.sg_names.specs.ItemList.{HasItem};
 ghost use Rattle.sg_names.specs.declared.grants.Grantee.{Grantee};
 ghost use Rattle.std.specs.Cmp.Lexicographic.{slice_cmp};
 
-use crate::channel_name::ChannelName;
 use crate::fault::TextFault;
 use crate::item_list::{self, Item, Rising};
 use crate::list::List;
-use crate::name::Name;
+use crate::named_texts::{ChannelName, Name};
 use crate::{grammar, pieces};
 use sg_outside::{Bytes, Memory};
 use std::alloc::{AllocError, Global};

@@ -6,7 +6,7 @@ ghost use Rattle.sg_names.specs.Names.{names_text, is_names};
 use crate::fault::TextFault;
 use crate::item_list;
 use crate::list::List;
-use crate::name::Name;
+use crate::named_texts::Name;
 use sg_outside::{Bytes, Memory};
 use std::alloc::Global;
 

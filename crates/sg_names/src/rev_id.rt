@@ -3,10 +3,10 @@
 ghost use Rattle.std.specs.Prelude.{◌≡◌, ◌≢◌, ◌++◌, ◌∷◌, ◌<◌, ◌≤◌, ◌^◌, List, ℕ, [], ◌↔◌, IsTrue, IfOk, OnOk, OnErr, IfSome, IfNone, decimal};
 
 use crate::decimal::read_decimal;
-use crate::digest::Digest;
 use crate::fault::TextFault;
 use crate::item_list::{self, Item};
 use crate::list::List;
+use crate::named_texts::Digest;
 use crate::{grammar, pieces};
 use itoa::Buffer;
 use sg_outside::{Bytes, Memory};

@@ -5,7 +5,7 @@ ghost use Rattle.std.specs.Prelude.{◌≡◌, ◌≢◌, ◌++◌, ◌∷◌, L
 use crate::fault::TextFault;
 use crate::item_list::{self, Item, Rising};
 use crate::list::List;
-use crate::name::Name;
+use crate::named_texts::Name;
 use crate::{grammar, pieces};
 use sg_outside::{Bytes, Memory};
 use std::alloc::{AllocError, Global};

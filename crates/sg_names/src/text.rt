@@ -1,68 +1,75 @@
-//! Names of channels.
+//! Texts of a grammar.
 
-ghost use Rattle.std.specs.Prelude.{◌≡◌, ◌↔◌, ◌++◌, IsTrue, IfOk, OnOk, OnErr};
+ghost use Rattle.std.specs.Prelude.{◌≡◌, ◌↔◌, ◌++◌, List, ℕ, Bool, IsTrue, IfOk, OnOk, OnErr};
 ghost use Rattle.std.specs.Str.{bytes_eq};
 ghost use Rattle.std.specs.Ordering.{nat_cmp};
 ghost use Rattle.std.specs.Cmp.Lexicographic.{slice_cmp};
-ghost use Rattle.sg_names.specs.Grammar.{is_channel_name};
 
 use crate::fault::TextFault;
-use crate::grammar;
 use crate::item_list::{Item, Rising};
 use sg_outside::{Bytes, Memory};
 use std::alloc::{AllocError, Global};
 use std::cmp::Ordering;
-use std::marker::Model;
+use std::marker::{Model, PhantomData};
 
-/// The name of a channel: 1 to 250 bytes of UTF-8 without a comma and control characters, and not `-`.
-/// `!` is the channel of every user, and `*` has every document.
-#[derive(Drop)]
-pub struct ChannelName {
-    text: String,
+/// A grammar of texts, by the test of a text's bytes.
+pub trait TextGrammar {
+    ghost admits: { List ℕ → Bool };
+
+    /// Whether the text is in the grammar. Allocates nothing.
+    fn is_text(text: &[u8]) -> bool
+        ensures { result ≡ admits text.now };
 }
 
-impl Model for ChannelName {
+/// A text of UTF-8 in a grammar. Contracts see its bytes.
+#[derive(Drop)]
+pub struct Text<G: TextGrammar> {
+    text: String,
+    of: PhantomData<G>,
+}
+
+impl<G: TextGrammar> Model for Text<G> {
     ghost use Rattle.std.specs.Prelude.{List, ℕ, IsTrue, string_bytes};
-    ghost use Rattle.sg_names.specs.Grammar.{is_channel_name};
 
     ghost Value = { List ℕ };
 
     ghost view = { λ n. string_bytes n.text };
 
-    ghost invariant = { λ n. IsTrue (is_channel_name (string_bytes n.text)) };
+    ghost invariant = { λ n. IsTrue (G.admits (string_bytes n.text)) };
 }
 
-impl ChannelName {
+impl<G: TextGrammar> Text<G> {
     /// Reads one: `Bad` where the text is outside the grammar.
-    pub fn parse(alloc: Global, text: &str) -> Result<ChannelName, TextFault>
-        ensures ok { IfOk result (λ n. (n ≡ text.now) × IsTrue (is_channel_name text.now)) }
-        ensures bad { result ≡ Err TextFault.Bad → ¬ IsTrue (is_channel_name text.now) }
-        ensures outside { ¬ IsTrue (is_channel_name text.now) → result ≡ Err TextFault.Bad }
+    pub fn parse(alloc: Global, text: &str) -> Result<Text<G>, TextFault>
+        ensures ok { IfOk result (λ n. (n ≡ text.now) × IsTrue (G.admits text.now)) }
+        ensures bad { result ≡ Err TextFault.Bad → ¬ IsTrue (G.admits text.now) }
+        ensures outside { ¬ IsTrue (G.admits text.now) → result ≡ Err TextFault.Bad }
     {
-        if !grammar::is_channel_name(text.as_bytes()) {
+        if !G::is_text(text.as_bytes()) {
             return Err(TextFault::Bad);
         }
-        Ok(ChannelName {
+        Ok(Text {
             text: String::from_str(alloc, text)?,
+            of: PhantomData,
         })
     }
 
     pub fn as_str(&self) -> &str
         ensures value { result.now ≡ self.now }
-        ensures grammar { IsTrue (is_channel_name self.now) }
+        ensures grammar { IsTrue (G.admits self.now) }
     {
         self.text.as_str()
     }
 
     pub fn as_bytes(&self) -> &[u8]
         ensures value { result.now ≡ self.now }
-        ensures grammar { IsTrue (is_channel_name self.now) }
+        ensures grammar { IsTrue (G.admits self.now) }
     {
         self.text.as_bytes()
     }
 
     /// Whether both are the same, byte by byte.
-    pub fn equals(&self, other: &ChannelName) -> bool
+    pub fn equals(&self, other: &Text<G>) -> bool
         ensures value { result ≡ bytes_eq self.now other.now }
         ensures same { IsTrue result ↔ (self.now ≡ other.now) }
     {
@@ -70,35 +77,36 @@ impl ChannelName {
     }
 
     /// The order by bytes.
-    pub fn order(&self, other: &ChannelName) -> Ordering
+    pub fn order(&self, other: &Text<G>) -> Ordering
         ensures { result ≡ slice_cmp nat_cmp self.now other.now }
     {
         self.text.as_bytes().cmp(other.text.as_bytes())
     }
 
-    pub fn copy(&self, alloc: Global) -> Result<ChannelName, AllocError>
+    pub fn copy(&self, alloc: Global) -> Result<Text<G>, AllocError>
         ensures { IfOk result (λ n. n ≡ self.now) }
     {
-        Ok(ChannelName {
+        Ok(Text {
             text: String::from_str(alloc, self.text.as_str())?,
+            of: PhantomData,
         })
     }
 }
 
-impl Item for ChannelName {
+impl<G: TextGrammar> Item for Text<G> {
     ghost text = { λ n. n };
 
-    ghost admits = { λ n. is_channel_name n };
+    ghost admits = { λ n. G.admits n };
 
     fn is_text(piece: &str) -> bool {
-        grammar::is_channel_name(piece.as_bytes())
+        G::is_text(piece.as_bytes())
     }
 
-    fn read(alloc: Global, piece: &str) -> Result<ChannelName, TextFault> {
-        ChannelName::parse(alloc, piece)
+    fn read(alloc: Global, piece: &str) -> Result<Text<G>, TextFault> {
+        Text::parse(alloc, piece)
     }
 
-    fn duplicate(&self, alloc: Global) -> Result<ChannelName, AllocError> {
+    fn duplicate(&self, alloc: Global) -> Result<Text<G>, AllocError> {
         self.copy(alloc)
     }
 
@@ -107,7 +115,7 @@ impl Item for ChannelName {
     }
 }
 
-impl Rising for ChannelName {
+impl<G: TextGrammar> Rising for Text<G> {
     ghost order = { slice_cmp nat_cmp };
 
     fn compare_texts(one: &str, other: &str) -> Ordering {
