@@ -129,20 +129,12 @@ fn winner_of(alloc: Global, tree: &Tree) -> Result<RevId, AllocError>
     }
 }
 
-/// What the write of a body has besides, which then is one that copies share.
-fn parts_of(
-    alloc: Global,
-    by: Option<&Name>,
-    body: &mut Bytes,
-    tree: &Tree,
-) -> Result<Parts, AllocError>
+fn parts_of(alloc: Global, by: Option<&Name>, body: &[u8], tree: &Tree) -> Result<Parts, AllocError>
     requires { tree.now ≢ [] }
-    ensures parts { IfOk result (ArePartsOf (option_copied by.entry) body.old tree.now) }
-    ensures same { body.new ≡ body.old }
+    ensures { IfOk result (ArePartsOf (option_copied by.entry) body.now tree.now) }
 {
-    body.share()?;
     let winner = winner_of(alloc, tree)?;
-    let braces = match braces_for(alloc, body.as_slice()) {
+    let braces = match braces_for(alloc, body) {
         Ok(braces) => braces,
         Err(fault) => {
             drop(winner);
@@ -186,17 +178,16 @@ fn effects_of(
 fn accepted_with(
     alloc: Global,
     by: Option<&Name>,
-    revision: &mut Revision,
+    revision: &Revision,
     judged: Judged,
     effects: Effects,
 ) -> Result<Accepted, Outcome>
     requires tree { judged.tree ≢ [] }
-    ensures same { revision.new ≡ revision.old }
     ensures accepted { IfOk result (λ a. IsAcceptedOn judged a × (a.effects ≡ effects)
-        × ArePartsOf (option_copied by.entry) revision.old.body judged.tree a.parts) }
+        × ArePartsOf (option_copied by.entry) revision.now.body judged.tree a.parts) }
     ensures memory { IfErr result (λ outcome. outcome ≡ outcomes.Memory507) }
 {
-    match parts_of(alloc, by, &mut revision.body, &judged.tree) {
+    match parts_of(alloc, by, revision.body.as_slice(), &judged.tree) {
         Ok(parts) => {
             let Judged {
                 at,
@@ -229,21 +220,20 @@ pub fn accepted_of(
     alloc: Global,
     program: &Resolved,
     by: Option<&Name>,
-    revision: &mut Revision,
+    revision: &Revision,
     doc: Doc,
     judged: Judged,
 ) -> Result<Accepted, Outcome>
-    requires document { IsDocument revision.old.body (node_tree doc) }
+    requires document { IsDocument revision.now.body (node_tree doc) }
     requires old { IfSome judged.basis.old (λ body. HasDocument body) }
     requires tree { judged.tree ≢ [] }
-    ensures same { revision.new ≡ revision.old }
     ensures from { IfOk result (IsAcceptedOn judged) }
     ensures parts { IfOk result
-        (λ a. ArePartsOf (option_copied by.entry) revision.old.body judged.tree a.parts) }
+        (λ a. ArePartsOf (option_copied by.entry) revision.now.body judged.tree a.parts) }
     ensures effects { IfOk result (λ a. AreEffects a.effects) }
     ensures said { IfOk result
-        (λ a. IsSaidOn program.now revision.old judged.basis (Ok a.effects)) }
-    ensures denied { IfErr result (IsDeniedOn program.now revision.old judged.basis judged.at) }
+        (λ a. IsSaidOn program.now revision.now judged.basis (Ok a.effects)) }
+    ensures denied { IfErr result (IsDeniedOn program.now revision.now judged.basis judged.at) }
 {
     sync_meaning::laws::effects();
     match effects_of(alloc, program, revision, doc, &judged.basis, judged.at) {

@@ -21,7 +21,7 @@ pub use bodies::bodies_at;
 pub use command::command_to;
 pub use feed::feed_at;
 pub use fresh::commit_fresh;
-pub use propose::{document_of, extension_of, propose_to};
+pub use propose::{extension_of, propose_to, share_and_read};
 pub use refused::no_room_outcome;
 pub use retry::{Ready, Retried, propose_again, store_at_fresh};
 pub use trying::store_or_retry;

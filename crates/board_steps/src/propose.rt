@@ -51,7 +51,7 @@ fn are_revs(revs: &[RevId]) -> bool
 }
 
 /// The document of a revision that is well formed, or its refusal: of its names, its size, or its body.
-pub fn document_of(alloc: Global, revision: &Revision) -> Result<Doc, Outcome>
+fn document_of(alloc: Global, revision: &Revision) -> Result<Doc, Outcome>
     ensures formed { IfOk result (λ doc. IsWellFormed revision.now) }
     ensures document { IfOk result (λ doc. IsDocument revision.now.body (node_tree doc)) }
     ensures refusal { IfErr result (IsRefusal revision.now) }
@@ -72,6 +72,19 @@ pub fn document_of(alloc: Global, revision: &Revision) -> Result<Doc, Outcome>
     match document_in(alloc, revision.body.as_slice()) {
         Ok(Some(doc)) => Ok(doc),
         Ok(None) => Err(Outcome::Bad400 { field: Field::Body }),
+        Err(_) => Err(Outcome::Memory507),
+    }
+}
+
+/// The same for a revision whose body copies then share.
+pub fn share_and_read(alloc: Global, revision: &mut Revision) -> Result<Doc, Outcome>
+    ensures same { revision.new ≡ revision.old }
+    ensures formed { IfOk result (λ doc. IsWellFormed revision.old) }
+    ensures document { IfOk result (λ doc. IsDocument revision.old.body (node_tree doc)) }
+    ensures refusal { IfErr result (IsRefusal revision.old) }
+{
+    match revision.body.share() {
+        Ok(()) => document_of(alloc, revision),
         Err(_) => Err(Outcome::Memory507),
     }
 }
@@ -181,7 +194,7 @@ pub(crate) fn judge(
     program: &Resolved,
     by: Option<&Name>,
     strict: bool,
-    mut revision: Revision,
+    revision: Revision,
     doc: Doc,
 ) -> Result<Ready, Outcome>
     requires formed { IsWellFormed revision }
@@ -203,7 +216,7 @@ pub(crate) fn judge(
             return Err(outcome);
         }
     };
-    match accepted_of(alloc, program, by, &mut revision, doc, judged) {
+    match accepted_of(alloc, program, by, &revision, doc, judged) {
         Ok(accepted) => Ok(ready_with(revision, accepted)),
         Err(outcome) => {
             drop(revision);
@@ -290,7 +303,7 @@ pub fn propose_to(
     program: &Resolved,
     by: Option<&Name>,
     strict: bool,
-    revision: Revision,
+    mut revision: Revision,
 ) -> Outcome
     requires pending { board.old.pending ≡ [] }
     requires rooms { board.old.rooms ≡ [] }
@@ -301,7 +314,7 @@ pub fn propose_to(
         revision result }
 {
     let strict = strict || revision.noconflicts;
-    match document_of(alloc, &revision) {
+    match share_and_read(alloc, &mut revision) {
         Ok(doc) => propose_formed(alloc, board, program, by, strict, revision, doc),
         Err(refusal) => {
             drop(revision);

@@ -58,17 +58,16 @@ fn decide<R: Wait>(
     program: &Resolved,
     by: Option<&Name>,
     strict: bool,
-    revision: &mut Revision,
+    revision: &Revision,
     doc: Doc,
 ) -> (Pass<Shelf>, Result<Accepted, Outcome>)
     requires here { pass.gate ≡ gate.now }
     requires rests { Rests pass.knows }
-    requires formed { IsWellFormed revision.old }
-    requires document { IsDocument revision.old.body (node_tree doc) }
+    requires formed { IsWellFormed revision.now }
+    requires document { IsDocument revision.now.body (node_tree doc) }
     ensures gate { result.0.gate ≡ pass.gate }
-    ensures same { revision.new ≡ revision.old }
     ensures decided { (s : State) × IsLookTurn pass.knows result.0.knows (board_of s)
-        × IsDecidedAt s program.now strict (option_copied by.entry) revision.old result.1 }
+        × IsDecidedAt s program.now strict (option_copied by.entry) revision.now result.1 }
 {
     rev_tree::laws::extensions();
     let (pass, judged) = extension_in_turn(rt, gate, pass, revision, strict, by);
@@ -183,7 +182,7 @@ pub(crate) fn propose_in_turns<R: Wait>(
     program: &Resolved,
     by: Option<&Name>,
     strict: bool,
-    mut revision: Revision,
+    revision: Revision,
     doc: Doc,
 ) -> (Pass<Shelf>, Outcome)
     requires here { pass.gate ≡ gate.now }
@@ -197,7 +196,7 @@ pub(crate) fn propose_in_turns<R: Wait>(
 {
     sg_history::laws::boards();
     crate::laws::reads();
-    let (pass, decided) = decide(rt, gate, pass, alloc, program, by, strict, &mut revision, doc);
+    let (pass, decided) = decide(rt, gate, pass, alloc, program, by, strict, &revision, doc);
     let accepted = match decided {
         Ok(accepted) => accepted,
         Err(outcome) => {

@@ -22,7 +22,7 @@ use crate::looking::{ask_in_turn, bodies_in_turn, checkpoint_in_turn, feed_in_tu
 use crate::proposing::propose_in_turns;
 use crate::shelf::Shelf;
 use crate::storing::{command_in_turns, set_in_turn};
-use board_steps::document_of;
+use board_steps::share_and_read;
 use doc_board::{Kept0, Outcome, SetAnswer};
 use principals::Command;
 use repl_messages::{Asked, Bodies, Fed, Offer, Revision};
@@ -215,7 +215,7 @@ impl<'g, R: Wait> Ground for SharedGround<'g, R> {
         program: &Resolved,
         by: Option<&Name>,
         strict: bool,
-        revision: Revision,
+        mut revision: Revision,
     ) -> Outcome
         requires draws { 2 ≤ self.old.knows.left }
         ensures stores { Stores self.old.knows.read self.new.knows.read
@@ -231,7 +231,7 @@ impl<'g, R: Wait> Ground for SharedGround<'g, R> {
         ensures in_turns { MayDrawInTurn self.old.knows self.new.knows revision.doc }
     {
         let strict = strict || revision.noconflicts;
-        match document_of(alloc, &revision) {
+        match share_and_read(alloc, &mut revision) {
             Ok(doc) => {
                 let pass = self.pass.take().unwrap();
                 let (pass, outcome) = propose_in_turns(
