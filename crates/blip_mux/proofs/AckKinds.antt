@@ -1,5 +1,5 @@
 -- The kinds of acknowledgements.
-use Rattle.std.proofs.Common.{◌≡◌, ℕ, ◌+◌, Bool, true, false, ◌++◌, Option, Some, None, Result, Ok, Err, refl, subst, if◌then◌else◌, length, nat_le}
+use Rattle.std.proofs.Common.{◌≡◌, ℕ, ◌+◌, ◌-◌, Bool, true, false, ◌&&◌, ◌++◌, Option, Some, None, Result, Ok, Err, refl, subst, if◌then◌else◌, length, nat_le, ltb}
 use Rattle.blip_frame.specs.Frame.{FrameParts, has_checksum}
 use Rattle.blip_frame.specs.Varint.{number_at}
 use Rattle.blip_frame.specs.declared.frame.Kind.{Kind}
@@ -10,7 +10,7 @@ use Rattle.blip_mux.specs.declared.inbox.Taken.TheVariants as takens
 use Rattle.blip_mux.specs.declared.inbox.TakeFault.{TakeFault}
 use Rattle.blip_mux.specs.declared.inbox.TakeFault.TheVariants as faults
 use Rattle.blip_mux.specs.Begun.{Begun}
-use Rattle.blip_mux.specs.Joining.{begun_or, may_come, given_by, part_by, message_by, whole, answer_to, acknowledged, acknowledges, acknowledge_after, count_in}
+use Rattle.blip_mux.specs.Joining.{begun_or, with_frame, longest_message, most_held, held_by, may_come, given_by, within, part_by, message_by, whole, answer_to, acknowledged, acknowledges, acknowledge_after, count_in}
 
 -- the kind of the acknowledgement that has come or is owed, where one was
 abbrev ack_kind_of : Result Taken TakeFault → Option Kind
@@ -48,15 +48,24 @@ ack_kind : (f : FrameParts) (o : Option ℕ) → has_checksum f.kind ≡ false �
 ack_kind f None e = tt
 ack_kind f (Some bytes) e = e
 
-answer_kind : (requests : ℕ) (awaited : Bool) (o : Option Begun) (f : FrameParts) → IsAckKind (ack_kind_of (answer_to requests awaited o f))
-answer_kind requests awaited o f =
-    (elim (has_checksum f.kind) as (λ b. has_checksum f.kind ≡ b → IsAckKind (ack_kind_of (if b then (if may_come requests awaited o f then given_by (begun_or o f) f else Err (faults.OutOfOrder f.number)) else acknowledged f (count_in (number_at f.payload))))) [
-      | true ↦ λ is. elim (may_come requests awaited o f) as (λ b. IsAckKind (ack_kind_of (if b then given_by (begun_or o f) f else Err (faults.OutOfOrder f.number)))) [ true ↦ given_kind (begun_or o f) f | false ↦ tt ]
+within_kind : (held : ℕ) (o : Option Begun) (f : FrameParts) → IsAckKind (ack_kind_of (within held o f))
+within_kind held o f =
+    elim (ltb longest_message (length ((begun_or o f).bytes ++ f.payload))) as (λ long. IsAckKind (ack_kind_of (if long then Err (faults.TooLong f.number)
+    else (if f.more && ltb most_held (held - held_by o + held_by (Some (with_frame (begun_or o f) f))) then Err (faults.Full f.number) else given_by (begun_or o f) f)))) [
+      | true ↦ tt
+      | false ↦ elim (f.more && ltb most_held (held - held_by o + held_by (Some (with_frame (begun_or o f) f)))) as (λ full. IsAckKind (ack_kind_of (if full then Err (faults.Full f.number) else given_by (begun_or o f) f)))
+          [ true ↦ tt | false ↦ given_kind (begun_or o f) f ]
+    ]
+
+answer_kind : (requests : ℕ) (awaited : Bool) (held : ℕ) (o : Option Begun) (f : FrameParts) → IsAckKind (ack_kind_of (answer_to requests awaited held o f))
+answer_kind requests awaited held o f =
+    (elim (has_checksum f.kind) as (λ b. has_checksum f.kind ≡ b → IsAckKind (ack_kind_of (if b then (if may_come requests awaited o f then within held o f else Err (faults.OutOfOrder f.number)) else acknowledged f (count_in (number_at f.payload))))) [
+      | true ↦ λ is. elim (may_come requests awaited o f) as (λ b. IsAckKind (ack_kind_of (if b then within held o f else Err (faults.OutOfOrder f.number)))) [ true ↦ within_kind held o f | false ↦ tt ]
       | false ↦ λ is. ack_kind f (count_in (number_at f.payload)) is
     ]) refl
 
-pub acked_kind : (requests : ℕ) (awaited : Bool) (o : Option Begun) (f : FrameParts) (kind : Kind) (number bytes : ℕ) → answer_to requests awaited o f ≡ Ok (takens.Ack kind number bytes) → has_checksum kind ≡ false
-acked_kind requests awaited o f kind number bytes e = subst (λ r. IsAckKind (ack_kind_of r)) e (answer_kind requests awaited o f)
+pub acked_kind : (requests : ℕ) (awaited : Bool) (held : ℕ) (o : Option Begun) (f : FrameParts) (kind : Kind) (number bytes : ℕ) → answer_to requests awaited held o f ≡ Ok (takens.Ack kind number bytes) → has_checksum kind ≡ false
+acked_kind requests awaited held o f kind number bytes e = subst (λ r. IsAckKind (ack_kind_of r)) e (answer_kind requests awaited held o f)
 
-pub owed_kind : (requests : ℕ) (awaited : Bool) (o : Option Begun) (f : FrameParts) (kind : Kind) (number bytes : ℕ) → answer_to requests awaited o f ≡ Ok (takens.Owed kind number bytes) → has_checksum kind ≡ false
-owed_kind requests awaited o f kind number bytes e = subst (λ r. IsAckKind (ack_kind_of r)) e (answer_kind requests awaited o f)
+pub owed_kind : (requests : ℕ) (awaited : Bool) (held : ℕ) (o : Option Begun) (f : FrameParts) (kind : Kind) (number bytes : ℕ) → answer_to requests awaited held o f ≡ Ok (takens.Owed kind number bytes) → has_checksum kind ≡ false
+owed_kind requests awaited held o f kind number bytes e = subst (λ r. IsAckKind (ack_kind_of r)) e (answer_kind requests awaited held o f)

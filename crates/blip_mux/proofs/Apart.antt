@@ -20,12 +20,13 @@ use Rattle.blip_mux.specs.declared.inbox.TakeFault.TheVariants as faults
 use Rattle.blip_mux.specs.Apart.{HasCome, AreApart}
 use Rattle.blip_mux.specs.Begun.{Begun}
 use Rattle.blip_mux.specs.Cutting.{with_message}
-use Rattle.blip_mux.specs.Joining.{is_request, is_reply, begun_or, with_frame, may_come, given_by, part_by, message_by, whole, read_as, with_fault, acknowledged, acknowledges, acknowledge_after, count_in}
+use Rattle.blip_mux.specs.Joining.{is_request, is_reply, begun_or, with_frame, may_come, given_by, within, part_by, message_by, whole, read_as, with_fault, acknowledged, acknowledges, acknowledge_after, count_in}
 use Rattle.blip_mux.specs.Remembered.{InboxState, Unfinished}
 use Rattle.blip_mux.specs.Sending.{Waiting, Sending, is_reply_to, is_of, acked, acked_in, taken_out, may_send, chosen, back, has_more, without_piece, picked_from, after_picked}
-use Rattle.blip_mux.specs.InboxStates.{begun_after, so_far_at, answer_at, taken_after}
+use Rattle.blip_mux.specs.InboxStates.{begun_after, held_after, so_far_at, answer_at, taken_after}
 use Rattle.blip_mux.specs.Acknowledgements.{Acknowledgement}
 use Rattle.blip_mux.proofs.Joins.{got}
+use Rattle.blip_mux.proofs.Within.{inside}
 
 -- ---- what waits
 
@@ -164,8 +165,10 @@ request_kind kinds.AckRpy e = absurd (false≢true e)
 came_by : (s : InboxState) (f : FrameParts) (taken : Taken) → has_checksum f.kind ≡ true → answer_at s f ≡ Ok taken
     → (may_come s.requests (set.contains s.expected f.number) (so_far_at s f) f ≡ true) × (given_by (begun_or (so_far_at s f) f) f ≡ Ok taken)
 came_by s f taken checked e =
-    ok_only (may_come s.requests (set.contains s.expected f.number) (so_far_at s f) f) (given_by (begun_or (so_far_at s f) f) f) f.number taken
-    (sym (ap (λ b. if b then (if may_come s.requests (set.contains s.expected f.number) (so_far_at s f) f then given_by (begun_or (so_far_at s f) f) f else Err (faults.OutOfOrder f.number)) else acknowledged f (count_in (number_at f.payload))) checked) ∙ e)
+    let by : (may_come s.requests (set.contains s.expected f.number) (so_far_at s f) f ≡ true) × (within s.held (so_far_at s f) f ≡ Ok taken) =
+    ok_only (may_come s.requests (set.contains s.expected f.number) (so_far_at s f) f) (within s.held (so_far_at s f) f) f.number taken
+    (sym (ap (λ b. if b then (if may_come s.requests (set.contains s.expected f.number) (so_far_at s f) f then within s.held (so_far_at s f) f else Err (faults.OutOfOrder f.number)) else acknowledged f (count_in (number_at f.payload))) checked) ∙ e) in
+    (by.0, inside s.held (so_far_at s f) f taken by.1)
 
 -- the request that a frame is of has no reply that waits
 no_reply_waits : (s : InboxState) (out : Sending) (f : FrameParts) (taken : Taken) → f.kind ≡ kinds.Msg → answer_at s f ≡ Ok taken → AreApart s out → list_any (is_reply_to f.number) out.waiting ≡ true → ⊥
@@ -195,10 +198,10 @@ request_taken s out f taken n kind e apart waits = (
 
 pub take_apart : (s : InboxState) (out : Sending) (f : FrameParts) (taken : Taken) → answer_at s f ≡ Ok taken → AreApart s out → AreApart (taken_after s f) out
 take_apart s out f taken e apart n waits =
-    (elim (is_request f.kind) as (λ b. is_request f.kind ≡ b → HasCome (if b then record s { requests = max f.number s.requests; requests_begun = begun_after s.requests_begun f }
-    else if is_reply f.kind then record s { expected = (if f.more then s.expected else set.remove s.expected f.number); replies_begun = begun_after s.replies_begun f } else s) n) [
+    (elim (is_request f.kind) as (λ b. is_request f.kind ≡ b → HasCome (if b then record s { requests = max f.number s.requests; requests_begun = begun_after s.requests_begun f; held = held_after s.held (so_far_at s f) f }
+    else if is_reply f.kind then record s { expected = (if f.more then s.expected else set.remove s.expected f.number); replies_begun = begun_after s.replies_begun f; held = held_after s.held (so_far_at s f) f } else s) n) [
       | true ↦ λ is. request_taken s out f taken n (request_kind f.kind is) e apart waits
-      | false ↦ λ is. elim (is_reply f.kind) as (λ b. HasCome (if b then record s { expected = (if f.more then s.expected else set.remove s.expected f.number); replies_begun = begun_after s.replies_begun f } else s) n)
+      | false ↦ λ is. elim (is_reply f.kind) as (λ b. HasCome (if b then record s { expected = (if f.more then s.expected else set.remove s.expected f.number); replies_begun = begun_after s.replies_begun f; held = held_after s.held (so_far_at s f) f } else s) n)
           [ true ↦ apart n waits | false ↦ apart n waits ]
     ]) refl
 
@@ -253,7 +256,7 @@ of_request requests awaited (Some b) f may is = kind_zero f.kind (sym (eqb-true 
 checked_by : (b : Bool) (s : InboxState) (f : FrameParts) (message : Message) → has_checksum f.kind ≡ b → answer_at s f ≡ Ok (takens.Whole message) → has_checksum f.kind ≡ true
 checked_by true s f message is e = is
 checked_by false s f message is e =
-    absurd (false≢true (sym (acknowledged_not_whole f (count_in (number_at f.payload))) ∙ ap is_whole (sym (ap (λ b. if b then (if may_come s.requests (set.contains s.expected f.number) (so_far_at s f) f then given_by (begun_or (so_far_at s f) f) f else Err (faults.OutOfOrder f.number)) else acknowledged f (count_in (number_at f.payload))) is) ∙ e)))
+    absurd (false≢true (sym (acknowledged_not_whole f (count_in (number_at f.payload))) ∙ ap is_whole (sym (ap (λ b. if b then (if may_come s.requests (set.contains s.expected f.number) (so_far_at s f) f then within s.held (so_far_at s f) f else Err (faults.OutOfOrder f.number)) else acknowledged f (count_in (number_at f.payload))) is) ∙ e)))
 
 remove_same : (m : Unfinished) (k : ℕ) (more : Bool) (b : Begun) → more ≡ false → map.get (if more then map.insert m k b else map.remove m k) k ≡ None
 remove_same m k more b is = got more m k k b ∙ ap (λ (t : Bool). cond t (cond (eqb k k) (Some b) (map.get m k)) (cond (eqb k k) None (map.get m k))) is ∙ ap (λ (t : Bool). cond t None (map.get m k)) (eq-eqb k k refl)
@@ -266,8 +269,8 @@ whole_frame s f message e request =
 
 whole_come : (s : InboxState) (f : FrameParts) → f.kind ≡ kinds.Msg → f.more ≡ false → HasCome (taken_after s f) f.number
 whole_come s f kind last =
-    subst (λ b. HasCome (if b then record s { requests = max f.number s.requests; requests_begun = begun_after s.requests_begun f }
-    else if is_reply f.kind then record s { expected = (if f.more then s.expected else set.remove s.expected f.number); replies_begun = begun_after s.replies_begun f } else s) f.number) (sym (ap is_request kind))
+    subst (λ b. HasCome (if b then record s { requests = max f.number s.requests; requests_begun = begun_after s.requests_begun f; held = held_after s.held (so_far_at s f) f }
+    else if is_reply f.kind then record s { expected = (if f.more then s.expected else set.remove s.expected f.number); replies_begun = begun_after s.replies_begun f; held = held_after s.held (so_far_at s f) f } else s) f.number) (sym (ap is_request kind))
     (omega arith, remove_same s.requests_begun f.number f.more (with_frame (begun_or (map.get s.requests_begun f.number) f) f) last)
 
 -- no reply to a request waits that comes whole, and it has come then

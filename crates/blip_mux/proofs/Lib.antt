@@ -1,8 +1,11 @@
 pub mod Sets
 pub mod Maps
-pub mod Joins
 pub mod Classes
+pub mod Within
+pub mod Held
+pub mod Joins
 pub mod Orders
+pub mod Bounds
 pub mod Pieces
 pub mod Payloads
 pub mod Paused

@@ -1,7 +1,7 @@
 -- The order of the messages that come.
-use Rattle.std.proofs.Common.{◌≡◌, ℕ, ◌+◌, ◌≤◌, Bool, true, false, ◌&&◌, ◌||◌, cond, eqb, ltb, leb, List, [], ◌∷◌, ◌++◌, length, Result, Ok, Err, Some, None, refl, sym, ap, subst, ◌∙◌, arith, ◌⊎◌, inl, inr}
+use Rattle.std.proofs.Common.{◌≡◌, ℕ, ◌+◌, ◌-◌, ◌≤◌, Bool, true, false, ◌&&◌, ◌||◌, cond, eqb, ltb, leb, List, [], ◌∷◌, ◌++◌, length, Result, Ok, Err, Some, None, refl, sym, ap, subst, ◌∙◌, arith, ◌⊎◌, inl, inr}
 use Rattle.std.specs.Prelude.{not, max, Option}
-use Rattle.std.proofs.lemmas.Bool.{eqb-true, eq-eqb, ltb-true, lt-ltb, le-ltb}
+use Rattle.std.proofs.lemmas.Bool.{eqb-true, eq-eqb, ltb-true, ltb-false, lt-ltb, le-ltb}
 use Rattle.blip_frame.specs.Frame.{FrameParts, has_checksum}
 use Rattle.blip_frame.specs.Payload.{payload_at}
 use Rattle.blip_frame.specs.Props.{Pair}
@@ -14,7 +14,7 @@ use Rattle.blip_mux.specs.declared.inbox.Taken.TheVariants as takens
 use Rattle.blip_mux.specs.declared.inbox.TakeFault.{TakeFault}
 use Rattle.blip_mux.specs.declared.inbox.TakeFault.TheVariants as faults
 use Rattle.blip_mux.specs.Begun.{Begun}
-use Rattle.blip_mux.specs.Joining.{Event, came, expected, is_request, is_reply, acknowledges, acknowledge_after, begun_or, brought_by, count_in, acknowledged, with_fault, read_as, part_by, whole, may_come, answer_to, frames_of, so_far_in, requests_in, is_awaited, Joined, followed_by, joined_after, joined}
+use Rattle.blip_mux.specs.Joining.{Event, came, expected, is_request, is_reply, acknowledges, acknowledge_after, longest_message, most_held, begun_or, with_frame, brought_by, held_by, held_in, count_in, acknowledged, with_fault, read_as, part_by, whole, may_come, answer_to, frames_of, so_far_in, requests_in, is_awaited, Joined, followed_by, joined_after, joined}
 use Rattle.blip_mux.proofs.Classes.{same_kind, no_request, no_reply}
 use Rattle.blip_mux.specs.Order.{messages_in, times_in, times_expected, is_among, beginnings, CountsFrom}
 
@@ -26,29 +26,32 @@ kind_kept r a None f e = refl
 kind_kept r a (Some b) f e = same_kind b.kind f.kind e
 
 -- what holds of the messages after a frame, by what the frame gave
-by_message : (P : List Message → Type 0) (r : ℕ) (a : Bool) (o : Option Begun) (f : FrameParts) (rest : Joined)
+by_message : (P : List Message → Type 0) (r : ℕ) (a : Bool) (h : ℕ) (o : Option Begun) (f : FrameParts) (rest : Joined)
     → ((fault : TakeFault) → P [])
     → (has_checksum f.kind ≡ false → P (messages_in rest.0))
     → (may_come r a o f ≡ true → f.more ≡ true → P (messages_in rest.0))
     → (may_come r a o f ≡ true → f.more ≡ false → (m : Message) → m.number ≡ f.number → m.kind ≡ f.kind → P (m ∷ messages_in rest.0))
-    → P (messages_in (followed_by (answer_to r a o f) rest).0)
-by_message P r a o f rest bad ack part last = go (has_checksum f.kind) (may_come r a o f) f.more (count_in (number_at f.payload)) (payload_at ((begun_or o f).bytes ++ f.payload)) ack part
+    → P (messages_in (followed_by (answer_to r a h o f) rest).0)
+by_message P r a h o f rest bad ack part last =
+    go (has_checksum f.kind) (may_come r a o f) (ltb longest_message (length ((begun_or o f).bytes ++ f.payload))) (ltb most_held (h - held_by o + held_by (Some (with_frame (begun_or o f) f)))) f.more (count_in (number_at f.payload)) (payload_at ((begun_or o f).bytes ++ f.payload)) ack part
     (λ may more read. last may more (record { number = f.number; kind = (begun_or o f).kind; urgent = (begun_or o f).urgent; no_reply = (begun_or o f).no_reply; payload = record { props = read.0; body = read.1 } }) refl (kind_kept r a o f may)) where
       owed : (b : Bool) (n : ℕ) → P (messages_in rest.0) → P (messages_in ((cond b (takens.Owed (acknowledges f.kind) f.number n) takens.Nothing) ∷ rest.0))
       owed true n p = p
       owed false n p = p
 
-      go : (checksum may more : Bool) (count : Option ℕ) (read : Result (List Pair × List ℕ) PayloadFault)
+      go : (checksum may long full more : Bool) (count : Option ℕ) (read : Result (List Pair × List ℕ) PayloadFault)
           → (checksum ≡ false → P (messages_in rest.0))
           → (may ≡ true → more ≡ true → P (messages_in rest.0))
           → (may ≡ true → more ≡ false → (x : List Pair × List ℕ) → P ((record { number = f.number; kind = (begun_or o f).kind; urgent = (begun_or o f).urgent; no_reply = (begun_or o f).no_reply; payload = record { props = x.0; body = x.1 } }) ∷ messages_in rest.0))
-          → P (messages_in (followed_by (cond checksum (cond may (cond more (Ok (part_by (begun_or o f) f)) (whole (read_as f.number (begun_or o f) (with_fault read)))) (Err (faults.OutOfOrder f.number))) (acknowledged f count)) rest).0)
-      go false may more (Some n) read ack part last = ack refl
-      go false may more None read ack part last = bad faults.BadAckPayload
-      go true false more count read ack part last = bad (faults.OutOfOrder f.number)
-      go true true true count read ack part last = owed (leb acknowledge_after ((begun_or o f).unacknowledged + length f.payload)) (length ((begun_or o f).bytes ++ f.payload)) (part refl refl)
-      go true true false count (Err fault) ack part last = bad (faults.Payload fault)
-      go true true false count (Ok x) ack part last = last refl refl x
+          → P (messages_in (followed_by (cond checksum (cond may (cond long (Err (faults.TooLong f.number)) (cond (more && full) (Err (faults.Full f.number)) (cond more (Ok (part_by (begun_or o f) f)) (whole (read_as f.number (begun_or o f) (with_fault read)))))) (Err (faults.OutOfOrder f.number))) (acknowledged f count)) rest).0)
+      go false may long full more (Some n) read ack part last = ack refl
+      go false may long full more None read ack part last = bad faults.BadAckPayload
+      go true false long full more count read ack part last = bad (faults.OutOfOrder f.number)
+      go true true true full more count read ack part last = bad (faults.TooLong f.number)
+      go true true false true true count read ack part last = bad (faults.Full f.number)
+      go true true false false true count read ack part last = owed (leb acknowledge_after ((begun_or o f).unacknowledged + length f.payload)) (length ((begun_or o f).bytes ++ f.payload)) (part refl refl)
+      go true true false full false count (Err fault) ack part last = bad (faults.Payload fault)
+      go true true false full false count (Ok x) ack part last = last refl refl x
 
 -- ---- requests come whole once
 
@@ -236,7 +239,7 @@ once_from q before (came f ∷ events) =
     let r = requests_in before in
     let t = eqb q f.number in
     let rest = once_from q (came f ∷ before) events in
-    by_message (λ x. times_in is_request q x ≤ cond (ltb r q || has_some fs) 1 0) r (is_awaited before f.number) (so_far_in before f) f (joined_after (came f ∷ before) events)
+    by_message (λ x. times_in is_request q x ≤ cond (ltb r q || has_some fs) 1 0) r (is_awaited before f.number) (held_in before) (so_far_in before f) f (joined_after (came f ∷ before) events)
     (λ _. omega arith)
     (λ none. once_ack f.kind t f.more f fs q f.number r (times_in is_request q ms) (no_request f.kind none) rest)
     (λ may more. once_part f.kind t f fs q f.number r (times_in is_request q ms) (eqb-true q f.number)
@@ -316,7 +319,7 @@ replies_from q before (came f ∷ events) sound =
     let ms = messages_in (joined_after (came f ∷ before) events).0 in
     let a = is_awaited before q in
     let t = eqb q f.number in
-    by_message (λ x. times_in is_reply q x ≤ times_expected q events + cond a 1 0) (requests_in before) (is_awaited before f.number) (so_far_in before f) f (joined_after (came f ∷ before) events)
+    by_message (λ x. times_in is_reply q x ≤ times_expected q events + cond a 1 0) (requests_in before) (is_awaited before f.number) (held_in before) (so_far_in before f) f (joined_after (came f ∷ before) events)
     (λ _. omega arith)
     (λ none. reply_ack f.kind t f.more a (times_in is_reply q ms) (times_expected q events) (no_reply f.kind none) (replies_from q (came f ∷ before) events (sound_acknowledged before f sound none)))
     (λ may more. reply_part f.kind t a (times_in is_reply q ms) (times_expected q events)
@@ -333,18 +336,22 @@ replied q events = let h = replies_from q [] events sound_start in omega arith
 -- ---- requests begin in order
 
 -- where no frame is refused, the first may come and the others are not refused
-accepted : (r : ℕ) (a : Bool) (o : Option Begun) (f : FrameParts) (rest : Joined) → (followed_by (answer_to r a o f) rest).1 ≡ None
-    → (rest.1 ≡ None) × (has_checksum f.kind ≡ true → may_come r a o f ≡ true)
-accepted r a o f rest = go (has_checksum f.kind) (may_come r a o f) f.more (count_in (number_at f.payload)) (payload_at ((begun_or o f).bytes ++ f.payload)) where
-  go : (checksum may more : Bool) (count : Option ℕ) (read : Result (List Pair × List ℕ) PayloadFault)
-      → (followed_by (cond checksum (cond may (cond more (Ok (part_by (begun_or o f) f)) (whole (read_as f.number (begun_or o f) (with_fault read)))) (Err (faults.OutOfOrder f.number))) (acknowledged f count)) rest).1 ≡ None
-      → (rest.1 ≡ None) × (checksum ≡ true → may ≡ true)
-  go false may more (Some n) read e = (e, λ h. absurd cc)
-  go false may more None read e = absurd cc
-  go true false more count read e = absurd cc
-  go true true true count read e = (e, λ h. refl)
-  go true true false count (Err fault) e = absurd cc
-  go true true false count (Ok x) e = (e, λ h. refl)
+pub accepted : (r : ℕ) (a : Bool) (h : ℕ) (o : Option Begun) (f : FrameParts) (rest : Joined) → (followed_by (answer_to r a h o f) rest).1 ≡ None
+    → (rest.1 ≡ None) × (has_checksum f.kind ≡ true → (may_come r a o f ≡ true) × (f.more ≡ true → h - held_by o + held_by (Some (with_frame (begun_or o f) f)) ≤ most_held))
+accepted r a h o f rest =
+    go (has_checksum f.kind) (may_come r a o f) (ltb longest_message (length ((begun_or o f).bytes ++ f.payload))) (ltb most_held (h - held_by o + held_by (Some (with_frame (begun_or o f) f)))) f.more (count_in (number_at f.payload)) (payload_at ((begun_or o f).bytes ++ f.payload))
+    (ltb-false most_held (h - held_by o + held_by (Some (with_frame (begun_or o f) f)))) where
+      go : (checksum may long full more : Bool) (count : Option ℕ) (read : Result (List Pair × List ℕ) PayloadFault) {P : Type 0} → (full ≡ false → P)
+          → (followed_by (cond checksum (cond may (cond long (Err (faults.TooLong f.number)) (cond (more && full) (Err (faults.Full f.number)) (cond more (Ok (part_by (begun_or o f) f)) (whole (read_as f.number (begun_or o f) (with_fault read)))))) (Err (faults.OutOfOrder f.number))) (acknowledged f count)) rest).1 ≡ None
+          → (rest.1 ≡ None) × (checksum ≡ true → (may ≡ true) × (more ≡ true → P))
+      go false may long full more (Some n) read room e = (e, λ h. absurd cc)
+      go false may long full more None read room e = absurd cc
+      go true false long full more count read room e = absurd cc
+      go true true true full more count read room e = absurd cc
+      go true true false true true count read room e = absurd cc
+      go true true false false true count read room e = (e, λ h. (refl, λ more. room refl))
+      go true true false full false count (Err fault) room e = absurd cc
+      go true true false full false count (Ok x) room e = (e, λ h. (refl, λ more. absurd cc))
 
 -- these numbers are those of the requests that have begun
 record AreBegun (begun : List ℕ) (r : ℕ) : Type 0 where
@@ -409,15 +416,15 @@ in_order_from : (before events : List Event) (begun : List ℕ) → IsSound befo
     → CountsFrom (requests_in before + 1) (beginnings begun events)
 in_order_from before [] begun sound are none = tt
 in_order_from before (came f ∷ events) begun sound are none =
-    let taken = accepted (requests_in before) (is_awaited before f.number) (so_far_in before f) f (joined_after (came f ∷ before) events) none in
+    let taken = accepted (requests_in before) (is_awaited before f.number) (held_in before) (so_far_in before f) f (joined_after (came f ∷ before) events) none in
     begins f.kind f begun (requests_in before) events are
     (λ is. elim (by_checksum (has_checksum f.kind)) [
-      | inl one ↦ elim (request_comes before f is (taken.1 one)) [ inl h ↦ inl (sound.requests f.number h) | inr e ↦ inr e ]
+      | inl one ↦ elim (request_comes before f is (taken.1 one).0) [ inl h ↦ inl (sound.requests f.number h) | inr e ↦ inr e ]
       | inr none_kept ↦ false_true (is_request f.kind) _ (no_request f.kind none_kept) is
     ])
     (λ others are_others. in_order_from (came f ∷ before) events others
     (elim (by_checksum (has_checksum f.kind)) [
-      | inl one ↦ sound_came before f sound (taken.1 one)
+      | inl one ↦ sound_came before f sound (taken.1 one).0
       | inr none_kept ↦ sound_acknowledged before f sound none_kept
     ]) are_others taken.0)
 in_order_from before (expected n ∷ events) begun sound are none = in_order_from (expected n ∷ before) events begun (sound_expected before n sound) are none

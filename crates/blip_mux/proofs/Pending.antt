@@ -1,11 +1,12 @@
 -- Messages under way from an outbox to an inbox.
-use Rattle.std.proofs.Common.{◌^◌, ◌≡◌, ℕ, ◌+◌, ◌<◌, Bool, true, false, ◌&&◌, ◌||◌, cond, eqb, List, [], ◌∷◌, ◌++◌, length, take, drop, Result, Ok, Err, Some, None, refl, sym, ap, subst, ◌∙◌, arith}
+use Rattle.std.proofs.Common.{◌^◌, ◌≡◌, ℕ, ◌+◌, ◌-◌, ◌<◌, ◌≤◌, Bool, true, false, ◌&&◌, ◌||◌, cond, eqb, ltb, List, [], ◌∷◌, ◌++◌, length, take, drop, Result, Ok, Err, Some, None, refl, sym, ap, subst, ◌∙◌, arith}
 use Rattle.std.specs.Prelude.{not, Option}
-use Rattle.std.proofs.lemmas.Bool.{eq-eqb, ltb-false}
-use Rattle.std.proofs.lemmas.List.{take_all, take-append-drop, drop-drop}
+use Rattle.std.proofs.lemmas.Bool.{eq-eqb, ltb-false, le-ltb}
+use Rattle.std.proofs.lemmas.List.{take_all, take-append-drop, drop-drop, length-append, length-take, length-drop}
 use Rattle.std.proofs.Math.Seq.{take-add}
 use Rattle.blip_frame.specs.Frame.{FrameParts, kind_number, has_checksum, largest_written}
 use Rattle.blip_frame.specs.Props.{Pair}
+use Rattle.blip_frame.specs.Varint.{varint}
 use Rattle.blip_frame.specs.Payload.{AreProps, block_of, payload_at, payload_text}
 use Rattle.blip_frame.specs.declared.frame.Kind.{Kind}
 use Rattle.blip_frame.specs.declared.frame.Kind.TheVariants as kinds
@@ -16,7 +17,8 @@ use Rattle.blip_mux.specs.declared.inbox.TakeFault.{TakeFault}
 use Rattle.blip_mux.specs.declared.inbox.TakeFault.TheVariants as faults
 use Rattle.blip_mux.specs.Begun.{Begun}
 use Rattle.blip_mux.proofs.Classes.{other_class}
-use Rattle.blip_mux.specs.Joining.{Event, came, expected, is_request, is_reply, begun_by, begun_or, with_frame, brought_by, with_fault, read_as, part_by, whole, message_by, given_by, may_come, answer_in, acknowledged, count_in, frames_of, requests_in, is_awaited}
+use Rattle.blip_mux.proofs.Held.{held_came}
+use Rattle.blip_mux.specs.Joining.{Event, came, expected, is_request, is_reply, begun_by, begun_or, with_frame, brought_by, with_fault, read_as, part_by, whole, message_by, given_by, longest_message, most_held, held_by, within, may_come, answer_in, held_in, acknowledged, count_in, frames_of, requests_in, is_awaited}
 use Rattle.blip_frame.specs.Varint.{number_at}
 use Rattle.blip_mux.specs.Sending.{Waiting, has_more, first_piece, without_piece}
 use Rattle.blip_mux.specs.Between.{CanBeRead}
@@ -78,18 +80,42 @@ may_come_next before p is turn = go (got before p.message) is.begun where
       (λ request. eq-eqb p.message.number (requests_in before + 1) (turn request none)) is.awaited
   go (Some b) some = eq-eqb (kind_number b.kind) (kind_number p.message.kind) (ap kind_number some.1)
 
-answer_is : (before : List Event) (p : Pending) → has_checksum p.message.kind ≡ true → may_come (requests_in before) (is_awaited before p.message.number) (got before p.message) (first_piece (waits p)) ≡ true
-    → answer_in before (first_piece (waits p)) ≡ given_by (begun_or (got before p.message) (first_piece (waits p))) (first_piece (waits p))
-answer_is before p carried may =
-    let f = first_piece (waits p) in
-    ap (λ (b : Bool). cond b (cond (may_come (requests_in before) (is_awaited before p.message.number) (got before p.message) f) (given_by (begun_or (got before p.message) f) f) (Err (faults.OutOfOrder p.message.number))) (acknowledged f (count_in (number_at f.payload)))) carried
-    ∙ ap (λ (b : Bool). cond b (given_by (begun_or (got before p.message) f) f) (Err (faults.OutOfOrder p.message.number))) may
+-- its next frame does not make it too long, and has room among the messages that are not whole
+pub record HasRoom (before : List Event) (p : Pending) : Type 0 where
+  pub short : ltb longest_message (length ((begun_or (got before p.message) (first_piece (waits p))).bytes ++ take largest_written (drop p.sent (text p.message)))) ≡ false
+  pub room : (has_more (waits p) && ltb most_held (held_in before - held_by (got before p.message) + held_by (Some (with_frame (begun_or (got before p.message) (first_piece (waits p))) (first_piece (waits p)))))) ≡ false
 
-pub answer_more : (before : List Event) (p : Pending) → has_checksum p.message.kind ≡ true → may_come (requests_in before) (is_awaited before p.message.number) (got before p.message) (first_piece (waits p)) ≡ true
-    → has_more (waits p) ≡ true → answer_in before (first_piece (waits p)) ≡ Ok (part_by (begun_or (got before p.message) (first_piece (waits p))) (first_piece (waits p)))
-answer_more before p carried may more =
+no_longer : (o : Option Begun) (p : Pending) → IsGot o p.message p.sent → length ((begun_or o (first_piece (waits p))).bytes ++ take largest_written (drop p.sent (text p.message))) ≤ length (text p.message)
+no_longer None p is = omega (arith, length-take largest_written (drop p.sent (text p.message)), length-drop p.sent (text p.message))
+no_longer (Some b) p is =
+    omega (arith, length-append b.bytes (take largest_written (drop p.sent (text p.message))), ap length is.4, length-take p.sent (text p.message), length-take largest_written (drop p.sent (text p.message)), length-drop p.sent (text p.message))
+
+room_by : (more : Bool) (others now : ℕ) → others + cond more now 0 ≤ most_held → (more && ltb most_held (others + now)) ≡ false
+room_by true others now h = le-ltb most_held (others + now) h
+room_by false others now h = refl
+
+pub has_room : (before : List Event) (p : Pending) → IsPending before p → held_in (came (first_piece (waits p)) ∷ before) ≤ most_held → HasRoom before p
+has_room before p is low = record {
+  short = le-ltb longest_message (length ((begun_or (got before p.message) (first_piece (waits p))).bytes ++ take largest_written (drop p.sent (text p.message)))) (omega (arith, no_longer (got before p.message) p is.begun, is.readable.1));
+  room = room_by (has_more (waits p)) (held_in before - held_by (got before p.message)) (held_by (Some (with_frame (begun_or (got before p.message) (first_piece (waits p))) (first_piece (waits p)))))
+      (subst (λ (n : ℕ). n ≤ most_held) (held_came before (first_piece (waits p)) is.carried) low);
+}
+
+answer_is : (before : List Event) (p : Pending) → has_checksum p.message.kind ≡ true → HasRoom before p → may_come (requests_in before) (is_awaited before p.message.number) (got before p.message) (first_piece (waits p)) ≡ true
+    → answer_in before (first_piece (waits p)) ≡ given_by (begun_or (got before p.message) (first_piece (waits p))) (first_piece (waits p))
+answer_is before p carried has may =
     let f = first_piece (waits p) in
-    answer_is before p carried may
+    let o = got before p.message in
+    ap (λ (b : Bool). cond b (cond (may_come (requests_in before) (is_awaited before p.message.number) o f) (within (held_in before) o f) (Err (faults.OutOfOrder p.message.number))) (acknowledged f (count_in (number_at f.payload)))) carried
+    ∙ ap (λ (b : Bool). cond b (within (held_in before) o f) (Err (faults.OutOfOrder p.message.number))) may
+    ∙ ap (λ (b : Bool). cond b (Err (faults.TooLong p.message.number)) (cond (has_more (waits p) && ltb most_held (held_in before - held_by o + held_by (Some (with_frame (begun_or o f) f)))) (Err (faults.Full p.message.number)) (given_by (begun_or o f) f))) has.short
+    ∙ ap (λ (b : Bool). cond b (Err (faults.Full p.message.number)) (given_by (begun_or o f) f)) has.room
+
+pub answer_more : (before : List Event) (p : Pending) → has_checksum p.message.kind ≡ true → HasRoom before p → may_come (requests_in before) (is_awaited before p.message.number) (got before p.message) (first_piece (waits p)) ≡ true
+    → has_more (waits p) ≡ true → answer_in before (first_piece (waits p)) ≡ Ok (part_by (begun_or (got before p.message) (first_piece (waits p))) (first_piece (waits p)))
+answer_more before p carried has may more =
+    let f = first_piece (waits p) in
+    answer_is before p carried has may
     ∙ ap (λ (b : Bool). cond b (Ok (part_by (begun_or (got before p.message) f) f)) (whole (message_by (begun_or (got before p.message) f) f))) more
 
 -- the law of payloads
@@ -115,15 +141,20 @@ marks (Some x) p props body is a b =
     ap (λ (ps : List Pair). read_as p.message.number x (Ok (ps, body))) a ∙ ap (λ (bs : List ℕ). read_as p.message.number x (Ok (p.message.payload.props, bs))) b
     ∙ ap (λ (k : Kind). of k x.urgent x.no_reply) is.1 ∙ ap (λ (u : Bool). of p.message.kind u x.no_reply) is.2 ∙ ap (λ (n : Bool). of p.message.kind p.message.urgent n) is.3
 
-pub answer_last : ReadsAgain → (before : List Event) (p : Pending) → IsPending before p → may_come (requests_in before) (is_awaited before p.message.number) (got before p.message) (first_piece (waits p)) ≡ true
+-- the block of a payload that is not too long
+block_fits : (props : List Pair) (body : List ℕ) → length (payload_text props body) ≤ longest_message → length (block_of props) < 2 ^ 64
+block_fits props body h = omega (arith, h, length-append (varint (length (block_of props))) (block_of props ++ body), length-append (block_of props) body)
+
+pub answer_last : ReadsAgain → (before : List Event) (p : Pending) → IsPending before p → HasRoom before p → may_come (requests_in before) (is_awaited before p.message.number) (got before p.message) (first_piece (waits p)) ≡ true
     → has_more (waits p) ≡ false → answer_in before (first_piece (waits p)) ≡ Ok (takens.Whole p.message)
-answer_last again before p is may last =
+answer_last again before p is has may last =
     let f = first_piece (waits p) in
     let b = begun_or (got before p.message) f in
-    answer_is before p is.carried may
+    answer_is before p is.carried has may
     ∙ ap (λ (t : Bool). cond t (Ok (part_by b f)) (whole (message_by b f))) last
     ∙ ap (λ (xs : List ℕ). whole (read_as p.message.number b (with_fault (payload_at xs)))) (all_come (got before p.message) p is.begun last)
-    ∙ ap (λ (x : Result (List Pair × List ℕ) PayloadFault). whole (read_as p.message.number b (with_fault x))) (again p.message.payload.props p.message.payload.body is.readable.1 is.readable.0)
+    ∙ ap (λ (x : Result (List Pair × List ℕ) PayloadFault). whole (read_as p.message.number b (with_fault x)))
+    (again p.message.payload.props p.message.payload.body (block_fits p.message.payload.props p.message.payload.body is.readable.1) is.readable.0)
     ∙ ap whole (marks (got before p.message) p p.message.payload.props p.message.payload.body is.begun refl refl)
 
 next_of_kind : (k : Kind) (t more : Bool) (f : FrameParts) (xs ys : List FrameParts) → has_checksum k ≡ true → t ≡ true → more ≡ true

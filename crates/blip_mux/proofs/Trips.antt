@@ -15,7 +15,7 @@ use Rattle.blip_mux.specs.declared.inbox.Taken.TheVariants as takens
 use Rattle.blip_mux.specs.declared.inbox.TakeFault.{TakeFault}
 use Rattle.blip_mux.specs.declared.inbox.TakeFault.TheVariants as faults
 use Rattle.blip_mux.specs.Begun.{Begun}
-use Rattle.blip_mux.specs.Joining.{Event, came, expected, is_request, is_reply, begun_or, brought_by, acknowledges, acknowledge_after, given_by, part_by, may_come, answer_in, acknowledged, count_in, frames_of, so_far_in, requests_in, is_awaited, Joined, followed_by, joined_after, joined}
+use Rattle.blip_mux.specs.Joining.{Event, came, expected, is_request, is_reply, begun_or, brought_by, acknowledges, acknowledge_after, part_by, most_held, held_in, within, may_come, answer_in, acknowledged, count_in, frames_of, so_far_in, requests_in, is_awaited, Joined, followed_by, joined_after, joined}
 use Rattle.blip_mux.specs.Order.{messages_in, CountsFrom}
 use Rattle.blip_mux.specs.Acknowledgements.{Acknowledgement, ack_frame}
 use Rattle.blip_mux.specs.Sending.{Waiting, Sending, new_sending, has_more, first_piece, without_piece, back, chosen, next_piece, after_piece, picked, after_picked, is_of, acked, acked_in}
@@ -26,7 +26,7 @@ use Rattle.blip_mux.proofs.Orders.{IsSound, sound_start, sound_came, sound_ackno
 use Rattle.blip_mux.proofs.Classes.{no_request}
 use Rattle.blip_mux.proofs.Classes as classes
 use Rattle.blip_mux.proofs.Shares.{times-append, times_split, times_after}
-use Rattle.blip_mux.proofs.Pending.{Pending, waits, further, got, IsGot, IsPending, class_of, ReadsAgain, may_come_next, answer_more, answer_last, pending_further, pending_beside, pending_expected, pending_acked}
+use Rattle.blip_mux.proofs.Pending.{Pending, waits, further, got, IsGot, IsPending, has_room, class_of, ReadsAgain, may_come_next, answer_more, answer_last, pending_further, pending_beside, pending_expected, pending_acked}
 use Rattle.blip_mux.proofs.Choices.{map-append, is_fresh, fresh, fresh-append, Choice, choice, split_of, goes_back, back_is, counts-append, fresh_before, fresh_after}
 
 -- ---- lists of messages under way
@@ -312,7 +312,7 @@ answer_acked : VarintsAgain → (before : List Event) (a : Acknowledgement) → 
     → answer_in before (ack_frame a) ≡ Ok (takens.Ack a.kind a.number a.bytes)
 answer_acked again before a none small =
     let f = ack_frame a in
-    ap (λ (b : Bool). cond b (cond (may_come (requests_in before) (is_awaited before a.number) (so_far_in before f) f) (given_by (begun_or (so_far_in before f) f) f) (Err (faults.OutOfOrder a.number))) (acknowledged f (count_in (number_at (varint a.bytes))))) none
+    ap (λ (b : Bool). cond b (cond (may_come (requests_in before) (is_awaited before a.number) (so_far_in before f) f) (within (held_in before) (so_far_in before f) f) (Err (faults.OutOfOrder a.number))) (acknowledged f (count_in (number_at (varint a.bytes))))) none
     ∙ ap (λ (x : Result (ℕ × List ℕ) VarintFault). acknowledged f (count_in x)) (ap number_at (sym (append-nil (varint a.bytes))) ∙ again a.bytes [] small)
 
 held_sent_ack : (requests : ℕ) (ps : List Pending) (before : List Event) (a : Acknowledgement) → has_checksum a.kind ≡ false → Holds requests ps before → Holds requests ps (came (ack_frame a) ∷ before)
@@ -538,12 +538,13 @@ part_gives class q b f = go (leb acknowledge_after (b.unacknowledged + length f.
   go false = refl
 
 -- a frame of a message is sent
-carried_message : ReadsAgain → (requests replies : ℕ) (ps : List Pending) (before : List Event) (c : Choice ps) (holds : Holds requests ps before) (steps : List Step)
+carried_message : ReadsAgain → (requests replies : ℕ) (ps : List Pending) (before : List Event) (c : Choice ps) (holds : Holds requests ps before) (steps : List Step) → held_in (came (first_piece (waits c.it)) ∷ before) ≤ most_held
     → Carries (sending_of requests replies [] (then requests ps before c holds)) (came (first_piece (waits c.it)) ∷ before) (then requests ps before c holds) steps
     → Carries (sending_of requests replies [] ps) before ps (send ∷ steps)
-carried_message again requests replies ps before c holds steps rest =
+carried_message again requests replies ps before c holds steps low rest =
     let f = first_piece (waits c.it) in
     let is = (parts requests ps before c holds).1 in
+    let has = has_room before c.it is low in
     let next : next_piece (map waits ps) ≡ Some f = ap (option_map (λ found. first_piece found.0)) c.taken in
     let left : map waits (then requests ps before c holds) ≡ after_piece (map waits ps) =
     then_waits requests ps before c holds ∙ ap (λ (o : Found). option_map_or (λ found. found.1 ++ back found.0) o (map waits ps)) (sym c.taken) in
@@ -551,7 +552,7 @@ carried_message again requests replies ps before c holds steps rest =
     elim (cases_Bool (has_more (waits c.it))) [
       | inl more ↦
           carried_by (sending_of requests replies [] ps) before ps (then requests ps before c holds) steps f (part_by (begun_or (got before c.it.message) f) f) next
-          (answer_more before c.it is.carried (may requests ps before c holds) more)
+          (answer_more before c.it is.carried has (may requests ps before c holds) more)
           (λ b q. (of_it requests ps before c holds b q).1
           ∙ sym (of-append (class_of b) q (messages (c.front ++ c.rear)) (c.it.message ∷ []))
           ∙ ap (messages_of (class_of b) q) (sym (messages-append (c.front ++ c.rear) (further c.it ∷ [])))
@@ -560,7 +561,7 @@ carried_message again requests replies ps before c holds steps rest =
           on
       | inr last ↦
           carried_by (sending_of requests replies [] ps) before ps (then requests ps before c holds) steps f (takens.Whole c.it.message) next
-          (answer_last again before c.it is (may requests ps before c holds) last)
+          (answer_last again before c.it is has (may requests ps before c holds) last)
           (λ b q. (of_it requests ps before c holds b q).0
           ∙ ap (λ (qs : List Pending). messages_of (class_of b) q (c.it.message ∷ []) ++ messages_of (class_of b) q (messages qs)) (sym (append-nil (c.front ++ c.rear)))
           ∙ ap (λ (t : Bool). messages_of (class_of b) q (c.it.message ∷ []) ++ messages_of (class_of b) q (messages ((c.front ++ c.rear) ++ cond t (further c.it ∷ []) []))) (sym last))
@@ -601,6 +602,12 @@ allowed_message requests replies ps before c holds steps allowed =
     ap (λ (o : Found). option_map_or (λ found. found.1 ++ back found.0) o (map waits ps)) c.taken ∙ sym (then_waits requests ps before c holds) in
     subst (λ (ws : List Waiting). AreAllowed (record { requests = requests; replies = replies; acknowledgements = []; waiting = ws }) (came (first_piece (waits c.it)) ∷ before) steps) left
     (subst (λ (o : Option FrameParts). AreAllowed (after_picked (sending_of requests replies [] ps)) (sent_to o before) steps) next allowed)
+
+-- what a frame of a message that is sent leaves held
+allowed_held : (ps : List Pending) (before : List Event) (c : Choice ps) → held_in (sent_to (next_piece (map waits ps)) before) ≤ most_held → held_in (came (first_piece (waits c.it)) ∷ before) ≤ most_held
+allowed_held ps before c low =
+    let next : next_piece (map waits ps) ≡ Some (first_piece (waits c.it)) = ap (option_map (λ found. first_piece found.0)) c.taken in
+    subst (λ (o : Option FrameParts). held_in (sent_to o before) ≤ most_held) next low
 
 -- what waits once a message is put
 put_waits : (ps : List Pending) (m : Message) → map waits (with_last ps m) ≡ map waits ps ++ waiting_of m ∷ []
@@ -647,7 +654,7 @@ carried again varints requests replies (a ∷ waiting_acks) ps before are holds 
 carried again varints requests replies [] ps before are holds (send ∷ steps) allowed = elim (choice ps) [
   | inl none ↦ carried_none requests replies ps before steps none (carried again varints requests replies [] ps before tt holds steps (allowed_none requests replies ps before steps none allowed.1))
   | inr c ↦
-      carried_message again requests replies ps before c holds steps
+      carried_message again requests replies ps before c holds steps (allowed_held ps before c allowed.0)
       (carried again varints requests replies [] (then requests ps before c holds) (came (first_piece (waits c.it)) ∷ before) tt (held_sent requests ps before c holds) steps (allowed_message requests replies ps before c holds steps allowed.1))
 ]
 carried again varints requests replies waiting_acks ps before are holds (expect n ∷ steps) allowed =

@@ -1,11 +1,11 @@
 -- From an outbox to an inbox.
-use Rattle.std.specs.Prelude.{◌≡◌, ℕ, ◌+◌, ◌^◌, ◌<◌, Bool, true, false, ◌&&◌, List, [], ◌∷◌, length, Option, Some, None, ◌==◌, if◌then◌else◌}
+use Rattle.std.specs.Prelude.{◌≡◌, ℕ, ◌+◌, ◌^◌, ◌<◌, ◌≤◌, Bool, true, false, ◌&&◌, List, [], ◌∷◌, length, Option, Some, None, ◌==◌, if◌then◌else◌}
 use Rattle.blip_frame.specs.Frame.{FrameParts, has_checksum}
-use Rattle.blip_frame.specs.Payload.{AreProps, block_of, payload_text}
+use Rattle.blip_frame.specs.Payload.{AreProps, payload_text}
 use Rattle.blip_frame.specs.declared.frame.Kind.{Kind}
 use Rattle.blip_frame.specs.declared.frame.Kind.TheVariants as kinds
 use Rattle.blip_mux.specs.declared.message.Message.{Message}
-use Rattle.blip_mux.specs.Joining.{Event, came, expected, is_awaited, is_reply}
+use Rattle.blip_mux.specs.Joining.{Event, came, expected, is_awaited, is_reply, longest_message, most_held, held_in}
 use Rattle.blip_mux.specs.Acknowledgements.{Acknowledgement}
 use Rattle.blip_mux.specs.Sending.{Waiting, Sending, unsent, picked, after_picked, acked_in}
 use Rattle.blip_mux.specs.Cutting.{with_message, with_acknowledgement, times_waiting}
@@ -69,9 +69,9 @@ abbrev pub messages_of : (Kind → Bool) → ℕ → List Message → List Messa
 messages_of class number [] = []
 messages_of class number (m ∷ messages) = if class m.kind && number == m.number then m ∷ messages_of class number messages else messages_of class number messages
 
--- what was written of it is read again
+-- what was written of it is read again, and is not too long
 abbrev pub CanBeRead : Message → Type 0
-CanBeRead m = AreProps m.payload.props × (length (block_of m.payload.props) < 2 ^ 64)
+CanBeRead m = AreProps m.payload.props × (length (payload_text m.payload.props m.payload.body) ≤ longest_message)
 
 -- a request has the next number and is not urgent; a reply is awaited, and none of its number waits
 abbrev pub HasItsTurn : Sending → List Event → Message → Kind → Type 0
@@ -81,12 +81,12 @@ HasItsTurn s before m kinds.Err = (is_awaited before m.number ≡ true) × (time
 HasItsTurn s before m kinds.AckMsg = ⊥
 HasItsTurn s before m kinds.AckRpy = ⊥
 
--- what may be done
+-- what may be done; the messages that are not whole don't hold too much with a frame that is sent
 abbrev pub IsAllowed : Sending → List Event → Step → Type 0
 IsAllowed s before (put m) = CanBeRead m × HasItsTurn s before m m.kind
 IsAllowed s before (owe a) = (has_checksum a.kind ≡ false) × (a.bytes < 2 ^ 64)
 IsAllowed s before (take_ack kind number bytes) = Unit {0}
-IsAllowed s before send = Unit {0}
+IsAllowed s before send = held_in (sent_to (picked s) before) ≤ most_held
 IsAllowed s before (expect number) = Unit {0}
 
 abbrev pub AreAllowed : Sending → List Event → List Step → Type 0

@@ -1,5 +1,5 @@
 -- The messages that frames give.
-use Rattle.std.specs.Prelude.{ℕ, ◌+◌, Bool, true, false, not, ◌&&◌, ◌||◌, List, [], ◌∷◌, ◌++◌, length, max, nat_le, Option, Some, None, Result, Ok, Err, unwrap_or, ◌==◌, if◌then◌else◌}
+use Rattle.std.specs.Prelude.{ℕ, zero, suc, ◌+◌, ◌-◌, Bool, true, false, not, ◌&&◌, ◌||◌, List, [], ◌∷◌, ◌++◌, length, max, nat_le, nat_lt, Option, Some, None, Result, Ok, Err, unwrap_or, ◌==◌, if◌then◌else◌}
 use Rattle.blip_frame.specs.Frame.{FrameParts, kind_number, has_checksum}
 use Rattle.blip_frame.specs.Payload.{payload_at}
 use Rattle.blip_frame.specs.Props.{Pair}
@@ -110,6 +110,27 @@ part_by b f =
 abbrev pub given_by : Begun → FrameParts → Result Taken TakeFault
 given_by b f = if f.more then Ok (part_by b f) else whole (message_by b f)
 
+-- ---- what messages that are not whole hold
+
+-- the most bytes of a message
+abbrev pub longest_message : ℕ
+longest_message = 25165824
+
+-- the most that messages hold together which are not whole
+abbrev pub most_held : ℕ
+most_held = 134217728
+
+-- what a message holds of which so much has come: its bytes and 64
+abbrev pub held_by : Option Begun → ℕ
+held_by None = 0
+held_by (Some b) = length b.bytes + 64
+
+-- What a frame gives that may come, or its first fault: where messages that are not whole hold so much, and so much of its message has come.
+abbrev pub within : ℕ → Option Begun → FrameParts → Result Taken TakeFault
+within held so_far f =
+    if nat_lt longest_message (length ((begun_or so_far f).bytes ++ f.payload)) then Err (faults.TooLong f.number)
+    else (if f.more && nat_lt most_held (held - held_by so_far + held_by (Some (with_frame (begun_or so_far f) f))) then Err (faults.Full f.number) else given_by (begun_or so_far f) f)
+
 -- Whether a frame may begin a message: a request with the number after the last one's, or a reply that is awaited.
 abbrev pub may_begin : ℕ → Bool → FrameParts → Bool
 may_begin requests awaited f = (is_request f.kind && f.number == requests + 1) || (is_reply f.kind && awaited)
@@ -119,12 +140,21 @@ abbrev pub may_come : ℕ → Bool → Option Begun → FrameParts → Bool
 may_come requests awaited (Some b) f = kind_number b.kind == kind_number f.kind
 may_come requests awaited None f = may_begin requests awaited f
 
--- What a frame gives, or its first fault: where so many requests have begun, a reply of its number is awaited or is not, and so much of its message has come.
-abbrev pub answer_to : ℕ → Bool → Option Begun → FrameParts → Result Taken TakeFault
-answer_to requests awaited so_far f =
+-- What a frame gives, or its first fault: where so many requests have begun, a reply of its number is awaited or is not, messages that are not whole hold so much, and so much of its message has come.
+abbrev pub answer_to : ℕ → Bool → ℕ → Option Begun → FrameParts → Result Taken TakeFault
+answer_to requests awaited held so_far f =
     if has_checksum f.kind
-    then (if may_come requests awaited so_far f then given_by (begun_or so_far f) f else Err (faults.OutOfOrder f.number))
+    then (if may_come requests awaited so_far f then within held so_far f else Err (faults.OutOfOrder f.number))
     else acknowledged f (count_in (number_at f.payload))
+
+-- a fault that needs no memory to be found: that a frame may not come, or has no room
+abbrev pub IsEarly : TakeFault → Type 0
+IsEarly (faults.OutOfOrder number) = Unit {0}
+IsEarly (faults.TooLong number) = Unit {0}
+IsEarly (faults.Full number) = Unit {0}
+IsEarly (faults.Payload fault) = ⊥
+IsEarly faults.BadAckPayload = ⊥
+IsEarly faults.Memory = ⊥
 
 -- ---- over all that has come
 
@@ -156,9 +186,28 @@ frames_of class number (expected other ∷ before) = frames_of class number befo
 abbrev pub so_far_in : List Event → FrameParts → Option Begun
 so_far_in before f = brought_by (if is_request f.kind then frames_of is_request f.number before else frames_of is_reply f.number before)
 
+-- the greatest number of a frame among events
+abbrev pub greatest_in : List Event → ℕ
+greatest_in [] = 0
+greatest_in (came f ∷ before) = max f.number (greatest_in before)
+greatest_in (expected number ∷ before) = greatest_in before
+
+-- what the message of this class and this number holds
+abbrev pub held_at : (Kind → Bool) → ℕ → List Event → ℕ
+held_at class number before = held_by (brought_by (frames_of class number before))
+
+-- what those of a class hold together whose numbers are up to this one
+abbrev pub held_up_to : (Kind → Bool) → ℕ → List Event → ℕ
+held_up_to class zero before = held_at class zero before
+held_up_to class (suc number) before = held_at class (suc number) before + held_up_to class number before
+
+-- what all hold together that are not whole
+abbrev pub held_in : List Event → ℕ
+held_in before = held_up_to is_request (greatest_in before) before + held_up_to is_reply (greatest_in before) before
+
 -- what a frame gives after these events, or its first fault
 abbrev pub answer_in : List Event → FrameParts → Result Taken TakeFault
-answer_in before f = answer_to (requests_in before) (is_awaited before f.number) (so_far_in before f) f
+answer_in before f = answer_to (requests_in before) (is_awaited before f.number) (held_in before) (so_far_in before f) f
 
 -- what each frame gives, and the fault that ends them where there is one
 abbrev pub Joined : Type 0

@@ -2,6 +2,7 @@ pub mod Begun
 pub mod Remembered
 pub mod Joining
 pub mod InboxStates
+pub mod Room
 pub mod Owing
 pub mod Owed
 pub mod Order

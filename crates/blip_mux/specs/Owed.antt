@@ -1,5 +1,5 @@
 -- What is owed for a frame that is not the last of its message. Only proofs need this.
-use Rattle.std.specs.Prelude.{ℕ, ◌+◌, List, ◌++◌, length, nat_le, Option, Some, None, if◌then◌else◌}
+use Rattle.std.specs.Prelude.{ℕ, ◌+◌, ◌++◌, length, nat_le, Option, Some, None, if◌then◌else◌}
 use Rattle.blip_frame.specs.Frame.{FrameParts}
 use Rattle.blip_mux.specs.declared.inbox.Taken.{Taken}
 use Rattle.blip_mux.specs.declared.inbox.Taken.TheVariants as takens

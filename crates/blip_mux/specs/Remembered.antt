@@ -12,12 +12,13 @@ use Rattle.blip_mux.specs.Begun.{Begun}
 abbrev pub Unfinished : Type 0
 Unfinished = map.FinMap nat_cmp Begun
 
--- the greatest number of the requests that have begun, the numbers of the sent requests whose reply is expected and has not come whole, and what has arrived of requests and of replies
+-- the greatest number of the requests that have begun, the numbers of the sent requests whose reply is expected and has not come whole, what has arrived of requests and of replies, and what these hold
 pub record InboxState : Type 0 where
   pub requests : ℕ
   pub expected : set.FinSet nat_cmp
   pub requests_begun : Unfinished
   pub replies_begun : Unfinished
+  pub held : ℕ
 
 -- what has arrived of a message is stored as the tuple of its fields
 abbrev pub begun_code : Coded Begun
@@ -30,4 +31,4 @@ unfinished_code = map.code coded_ℕ begun_code
 -- and so is the state of an inbox
 abbrev pub inbox_code : Coded InboxState
 inbox_code =
-    code_by (ℕ × (set.FinSet nat_cmp × (Unfinished × Unfinished))) (coded× coded_ℕ (coded× (set.code coded_ℕ) (coded× unfinished_code unfinished_code))) (λ s. (s.requests, (s.expected, (s.requests_begun, s.replies_begun)))) (λ p. record { requests = p.0; expected = p.1.0; requests_begun = p.1.1.0; replies_begun = p.1.1.1 }) (λ _. refl)
+    code_by (ℕ × (set.FinSet nat_cmp × (Unfinished × (Unfinished × ℕ)))) (coded× coded_ℕ (coded× (set.code coded_ℕ) (coded× unfinished_code (coded× unfinished_code coded_ℕ)))) (λ s. (s.requests, (s.expected, (s.requests_begun, (s.replies_begun, s.held))))) (λ p. record { requests = p.0; expected = p.1.0; requests_begun = p.1.1.0; replies_begun = p.1.1.1.0; held = p.1.1.1.1 }) (λ _. refl)

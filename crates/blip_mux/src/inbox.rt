@@ -1,12 +1,13 @@
 //! Messages that come, of many frames each, however these are interleaved.
 
-ghost use Rattle.std.specs.Prelude.{◌≡◌, ◌≢◌, false, true, option_map, Ok, Err, IfOk, IfErr, OnOk, OnErr};
+ghost use Rattle.std.specs.Prelude.{◌≡◌, ◌≢◌, ◌≤◌, ◌-◌, false, true, option_map, unwrap_or, Ok, Err, IfOk, IfErr, OnOk, OnErr};
 ghost use Rattle.std.specs.FinSet as set;
 ghost use Rattle.std.specs.FinMap as map;
 ghost use Rattle.blip_frame.specs.Frame.{parts_of, has_checksum};
 ghost use Rattle.blip_frame.specs.Varint.{number_at};
-ghost use Rattle.blip_mux.specs.Joining.{begun_or, given_by, may_begin, may_come, acknowledged, count_in};
-ghost use Rattle.blip_mux.specs.InboxStates.{new_inbox, expecting, so_far_at, answer_at, taken_after};
+ghost use Rattle.blip_mux.specs.Joining.{begun_or, given_by, may_begin, may_come, acknowledged, count_in, longest_message, most_held, IsEarly};
+ghost use Rattle.blip_mux.specs.InboxStates.{new_inbox, expecting, so_far_at, answer_at, held_after, taken_after};
+ghost use Rattle.blip_mux.specs.Room.{bytes_come, held_for, room_for};
 
 use crate::class::{Class, class_of};
 use crate::message::Message;
@@ -16,6 +17,15 @@ use blip_frame::{Frame, Kind, PayloadFault, read_varint};
 use sg_outside::Memory;
 use std::alloc::{AllocError, Global};
 use std::marker::Model;
+
+/// The most bytes of a message.
+const LONGEST_MESSAGE: u64 = 25_165_824;
+
+/// The most that messages hold together which are not whole.
+const MOST_HELD: u64 = 134_217_728;
+
+/// What such a message holds beside its bytes.
+const HELD_BESIDE: u64 = 64;
 
 /// What a frame gave.
 #[derive(Drop)]
@@ -35,6 +45,10 @@ pub enum Taken {
 pub enum TakeFault {
     /// The frame is of no message that may come now.
     OutOfOrder { number: u64 },
+    /// Its message would have more than 25,165,824 bytes.
+    TooLong { number: u64 },
+    /// The messages that are not whole would hold more than 134,217,728, each its bytes and 64.
+    Full { number: u64 },
     /// The payload of the message is none. Never with lack of memory.
     Payload(PayloadFault),
     /// The payload of an acknowledgement is not one varint.
@@ -44,23 +58,29 @@ pub enum TakeFault {
 }
 
 /// What has come in one direction. Contracts see which requests have begun, the numbers of the sent
-/// requests whose reply is expected, and what has arrived of the messages that are not whole.
+/// requests whose reply is expected, what has arrived of the messages that are not whole, and how
+/// much these hold.
 #[derive(Drop)]
 pub struct Inbox {
     requests: u64,
     expected: Numbers,
     requests_begun: Parts,
     replies_begun: Parts,
+    held: u64,
 }
 
 impl Model for Inbox {
+    ghost use Rattle.std.specs.Prelude.{◌≤◌};
+    ghost use Rattle.blip_mux.specs.Joining.{most_held};
     ghost use Rattle.blip_mux.specs.Remembered.{InboxState, inbox_code};
 
     ghost Value = { InboxState };
 
     ghost coded = { inbox_code };
 
-    ghost view = { λ i. record { requests = i.requests; expected = i.expected; requests_begun = i.requests_begun; replies_begun = i.replies_begun } };
+    ghost view = { λ i. record { requests = i.requests; expected = i.expected; requests_begun = i.requests_begun; replies_begun = i.replies_begun; held = i.held } };
+
+    ghost invariant = { λ i. i.held ≤ most_held };
 }
 
 impl Inbox {
@@ -73,6 +93,7 @@ impl Inbox {
             expected: Numbers::new(alloc),
             requests_begun: Parts::new(alloc),
             replies_begun: Parts::new(alloc),
+            held: 0,
         }
     }
 
@@ -100,10 +121,8 @@ impl Inbox {
         // What allocates nothing.
         ensures acknowledgement { has_checksum frame.now.kind ≡ false
             → result ≡ answer_at self.old (parts_of frame.now) }
-        ensures order { has_checksum frame.now.kind ≡ true
-            → may_come self.old.requests (set.contains self.old.expected frame.now.number)
-            (so_far_at self.old (parts_of frame.now)) (parts_of frame.now) ≡ false
-            → result ≡ Err (TakeFault.OutOfOrder frame.now.number) }
+        ensures early { (fault : TakeFault) → IsEarly fault
+            → answer_at self.old (parts_of frame.now) ≡ Err fault → result ≡ Err fault }
     {
         if !frame.kind.has_checksum() {
             return acknowledgement_of(frame);
@@ -113,7 +132,8 @@ impl Inbox {
                 number: frame.number,
             });
         }
-        self.take_part(frame)
+        let held = room_for(self.held, self.bytes_come(frame), frame)?;
+        self.take_part(frame, held)
     }
 
     fn may_take(&self, frame: &Frame<'_>) -> bool
@@ -153,9 +173,25 @@ impl Inbox {
         }
     }
 
-    /// Takes a frame that may come.
-    fn take_part(&mut self, frame: &Frame<'_>) -> Result<Taken, TakeFault>
+    /// How many bytes have come of the message that a frame is part of.
+    #[tactic(auto, using(crate::proofs::Classes::of_class))]
+    fn bytes_come(&self, frame: &Frame<'_>) -> Option<usize>
         requires { has_checksum frame.now.kind ≡ true }
+        ensures { result ≡ bytes_come (so_far_at self.now (parts_of frame.now)) }
+    {
+        match class_of(frame.kind) {
+            Class::Request => self.requests_begun.bytes_come(frame.number),
+            Class::Reply => self.replies_begun.bytes_come(frame.number),
+        }
+    }
+
+    /// Takes a frame that may come and has room; the messages that are not whole then hold `held`.
+    fn take_part(&mut self, frame: &Frame<'_>, held: u64) -> Result<Taken, TakeFault>
+        requires message { has_checksum frame.now.kind ≡ true }
+        requires most { held ≤ most_held }
+        requires held { held
+            ≡ held_after self.old.held (so_far_at self.old (parts_of frame.now))
+            (parts_of frame.now) }
         ensures taken { IfOk result
             (λ taken. given_by (begun_or (so_far_at self.old (parts_of frame.now))
             (parts_of frame.now)) (parts_of frame.now) ≡ Ok taken) }
@@ -170,15 +206,53 @@ impl Inbox {
             let taken = self.requests_begun.take(frame);
             if taken.is_ok() {
                 self.requests = self.requests.max(frame.number);
+                self.held = held;
             }
             return taken;
         }
         let taken = self.replies_begun.take(frame);
-        if taken.is_ok() && !frame.more {
-            self.expected.remove(frame.number);
+        if taken.is_ok() {
+            self.held = held;
+            if !frame.more {
+                self.expected.remove(frame.number);
+            }
         }
         taken
     }
+}
+
+/// What messages hold that are not whole, without the one of which so many bytes have come.
+fn others_hold(held: u64, come: Option<usize>) -> u64
+    requires { unwrap_or come 0 ≤ longest_message }
+    ensures { result ≡ held - held_for come }
+{
+    match come {
+        Some(bytes) => held.saturating_sub(bytes as u64 + HELD_BESIDE),
+        None => held,
+    }
+}
+
+/// What messages hold that are not whole, once a frame was taken, where they hold so much and so many
+/// bytes of its message have come; or why it has no room.
+fn room_for(held: u64, come: Option<usize>, frame: &Frame<'_>) -> Result<u64, TakeFault>
+    requires { held ≤ most_held }
+    ensures room { result ≡ room_for held come (parts_of frame.now) }
+    ensures most { IfOk result (λ then. then ≤ most_held) }
+{
+    let number = frame.number;
+    let bytes = (come.unwrap_or(0) as u64).saturating_add(frame.payload.len() as u64);
+    if bytes > LONGEST_MESSAGE {
+        return Err(TakeFault::TooLong { number });
+    }
+    let others = others_hold(held, come);
+    if !frame.more {
+        return Ok(others);
+    }
+    let held = others + (bytes + HELD_BESIDE);
+    if held > MOST_HELD {
+        return Err(TakeFault::Full { number });
+    }
+    Ok(held)
 }
 
 /// What an acknowledgement says.

@@ -1,6 +1,6 @@
 //! Laws of joining and cutting. Each function says one, and does nothing.
 
-ghost use Rattle.std.specs.Prelude.{◌≡◌, ◌≤◌, ◌++◌, ◌∷◌, true, false, [], length, take, nat_le, None, List, ℕ, Ok, IsOkAnd};
+ghost use Rattle.std.specs.Prelude.{◌≡◌, ◌≤◌, ◌++◌, ◌∷◌, true, false, [], length, take, reverse, nat_le, None, List, ℕ, Ok, IsOkAnd};
 ghost use Rattle.std.specs.List.{list_any, AllByRecursion};
 ghost use Rattle.blip_frame.specs.Frame.{FrameParts, has_checksum};
 ghost use Rattle.blip_frame.specs.declared.frame.Kind.{Kind};
@@ -8,7 +8,7 @@ ghost use Rattle.blip_mux.specs.declared.message.Message.{Message};
 ghost use Rattle.blip_mux.specs.declared.inbox.Taken.{Taken};
 ghost use Rattle.blip_mux.specs.Remembered.{InboxState};
 ghost use Rattle.blip_mux.specs.InboxStates.{new_inbox, expecting, answer_at, taken_after, taken_from, StandsFor};
-ghost use Rattle.blip_mux.specs.Joining.{Event, came, expected, answer_in, joined, is_request, is_reply, acknowledge_after};
+ghost use Rattle.blip_mux.specs.Joining.{Event, came, expected, answer_in, joined, is_request, is_reply, acknowledge_after, most_held, held_in};
 ghost use Rattle.blip_mux.specs.Owing.{bytes_in, answer_after, owes, NoneOwed};
 ghost use Rattle.blip_mux.specs.Arriving.{Arrival, AreSentAfter, events_at};
 ghost use Rattle.blip_mux.specs.Order.{messages_in, times_in, times_expected, beginnings, CountsFrom};
@@ -77,6 +77,13 @@ pub fn owing()
     ensures all { (before : List FrameParts) (f : FrameParts) (kind : Kind) (number bytes : ℕ)
         → answer_after before f ≡ Taken.Owed kind number bytes
         → bytes ≡ bytes_in (f ∷ before) }
+{}
+
+/// Where no frame is refused, messages that are not whole hold together at most 134,217,728, each its
+/// bytes and 64.
+pub fn held()
+    ensures { (events : List Event) → (joined events).1 ≡ None
+        → held_in (reverse events) ≤ most_held }
 {}
 
 /// Whatever is put, acknowledged and sent, of no message that waits more than 128,000 + 16,384 bytes

@@ -60,6 +60,13 @@ impl Part {
         self.kind
     }
 
+    /// How many bytes have come.
+    pub(crate) fn len(&self) -> usize
+        ensures { result ≡ length self.now.bytes }
+    {
+        self.bytes.len()
+    }
+
     /// Takes a frame that is not the last. Answers how many bytes have come, where an acknowledgement of
     /// them is owed.
     pub(crate) fn take(&mut self, frame: &Frame<'_>) -> Result<Option<u64>, Memory>

@@ -6,6 +6,7 @@ ghost use Rattle.blip_frame.specs.Frame.{parts_of};
 ghost use Rattle.blip_mux.specs.Joining.{begun_by, begun_or, with_frame, message_by, given_by};
 ghost use Rattle.blip_mux.specs.InboxStates.{begun_after};
 ghost use Rattle.blip_mux.specs.Owed.{owed_by};
+ghost use Rattle.blip_mux.specs.Room.{bytes_come};
 
 use crate::inbox::{TakeFault, Taken};
 use crate::message::Message;
@@ -51,6 +52,16 @@ impl Parts {
     {
         match self.parts.get(&number) {
             Some(part) => Some(part.kind()),
+            None => None,
+        }
+    }
+
+    /// How many bytes of a message have come.
+    pub(crate) fn bytes_come(&self, number: u64) -> Option<usize>
+        ensures { result ≡ bytes_come (map.get self.now number) }
+    {
+        match self.parts.get(&number) {
+            Some(part) => Some(part.len()),
             None => None,
         }
     }
