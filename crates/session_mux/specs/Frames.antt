@@ -23,6 +23,8 @@ why_of (frame_faults.BadChecksum kept computed) = why.BadChecksum kept computed
 -- the fault of a frame among those before it; lack of memory is none
 abbrev pub IsFault : TakeFault → FrameWhy → Type 0
 IsFault (take_faults.OutOfOrder number) w = w ≡ why.OutOfOrder number
+IsFault (take_faults.TooLong number) w = w ≡ why.TooLong number
+IsFault (take_faults.Full number) w = w ≡ why.Full number
 IsFault (take_faults.Payload fault) w = w ≡ why.Payload fault
 IsFault take_faults.BadAckPayload w = w ≡ why.BadAckPayload
 IsFault take_faults.Memory w = ⊥

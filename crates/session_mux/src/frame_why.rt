@@ -20,6 +20,10 @@ pub enum FrameWhy {
     BadChecksum { kept: u32, computed: u32 },
     /// A frame of this number may not come now.
     OutOfOrder { number: u64 },
+    /// The message of this number would be too long.
+    TooLong { number: u64 },
+    /// With the message of this number those that are not whole would hold too much.
+    Full { number: u64 },
     /// The payload of its message is none.
     Payload(PayloadFault),
     /// The payload of an acknowledgement is not one varint.

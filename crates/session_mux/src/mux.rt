@@ -61,6 +61,8 @@ fn took_fault(fault: TakeFault) -> Took
 {
     match fault {
         TakeFault::OutOfOrder { number } => Took::Bad(FrameWhy::OutOfOrder { number }),
+        TakeFault::TooLong { number } => Took::Bad(FrameWhy::TooLong { number }),
+        TakeFault::Full { number } => Took::Bad(FrameWhy::Full { number }),
         TakeFault::Payload(fault) => Took::Bad(FrameWhy::Payload(fault)),
         TakeFault::BadAckPayload => Took::Bad(FrameWhy::BadAckPayload),
         TakeFault::Memory => Took::Memory,
