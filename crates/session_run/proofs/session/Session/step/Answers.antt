@@ -3,7 +3,6 @@ use Rattle.sg_outside.specs.Wire.{ReceivesIfRecorded}
 use Rattle.sg_outside.specs.declared.wire.Got.TheVariants as got
 use Rattle.session_mux.specs.declared.frame_why.FrameWhy.TheVariants as why
 use Rattle.session_run.specs.declared.ended.End.TheVariants as end
-use Rattle.session_run.specs.Held.{Takes}
 use Rattle.session_run.specs.Served.{IsServed}
 use Rattle.session_run.proofs.Ending.{not_memory, run_ends, result_taken, rest_after, front_after, few_after}
 use Rattle.session_run.proofs.Turning.{read_nothing}
@@ -18,29 +17,25 @@ returns-in-Frame-clause-runs g c setup start traffic count same runs below =
     (read_nothing (record { read = g.G.Ground.read c.args.ground.now; lowest = g.G.Ground.lowest_front c.args.ground.now; recorded = g.G.Ground.recorded c.args.ground.now; checkpoints = g.G.Ground.checkpoints c.args.ground.now; own = g.G.Ground.own c.args.ground.now }))
     (c.traffic.ensures.received (g.W.Wire.recorded c.args.wire.now) (g.W.Wire.recorded c.recv.new.self) (got.Frame c.in-Frame.bytes)
     (subst (λ r. ReceivesIfRecorded (g.W.Wire.recorded c.args.wire.now) r (g.W.Wire.recorded c.recv.new.self)) c.in-Frame.is c.recv.ensures.recorded) (not_memory (got.Frame c.in-Frame.bytes) refl))
-    (subst (λ b. Takes c.args.program.now c.args.self.now c.take_frame.new.self (got.Frame b) (record { read = g.G.Ground.read c.args.ground.now; lowest = g.G.Ground.lowest_front c.args.ground.now; recorded = g.G.Ground.recorded c.args.ground.now; checkpoints = g.G.Ground.checkpoints c.args.ground.now; own = g.G.Ground.own c.args.ground.now })
-    (record { read = g.G.Ground.read c.take_frame.new.ground; lowest = g.G.Ground.lowest_front c.take_frame.new.ground; recorded = g.G.Ground.recorded c.take_frame.new.ground; checkpoints = g.G.Ground.checkpoints c.take_frame.new.ground; own = g.G.Ground.own c.take_frame.new.ground }) (g.W.Wire.recorded c.recv.new.self) (g.W.Wire.recorded c.take_frame.new.wire) c.take_frame.result) c.as_slice.ensures c.take_frame.ensures.takes) c.take_frame.ensures.draws.few runs
+    c.take_frame.ensures.takes c.take_frame.ensures.draws.few runs
 
 pub returns-in-Frame-clause-rest : goal.returns-in-Frame-clause-rest
 returns-in-Frame-clause-rest g c =
     rest_after c.args.program.now c.args.self.now c.take_frame.new.self (got.Frame c.in-Frame.bytes) (record { read = g.G.Ground.read c.args.ground.now; lowest = g.G.Ground.lowest_front c.args.ground.now; recorded = g.G.Ground.recorded c.args.ground.now; checkpoints = g.G.Ground.checkpoints c.args.ground.now; own = g.G.Ground.own c.args.ground.now })
     (record { read = g.G.Ground.read c.take_frame.new.ground; lowest = g.G.Ground.lowest_front c.take_frame.new.ground; recorded = g.G.Ground.recorded c.take_frame.new.ground; checkpoints = g.G.Ground.checkpoints c.take_frame.new.ground; own = g.G.Ground.own c.take_frame.new.ground })
-    (g.W.Wire.recorded c.recv.new.self) (g.W.Wire.recorded c.take_frame.new.wire) c.take_frame.result (subst (λ b. Takes c.args.program.now c.args.self.now c.take_frame.new.self (got.Frame b) (record { read = g.G.Ground.read c.args.ground.now; lowest = g.G.Ground.lowest_front c.args.ground.now; recorded = g.G.Ground.recorded c.args.ground.now; checkpoints = g.G.Ground.checkpoints c.args.ground.now; own = g.G.Ground.own c.args.ground.now })
-    (record { read = g.G.Ground.read c.take_frame.new.ground; lowest = g.G.Ground.lowest_front c.take_frame.new.ground; recorded = g.G.Ground.recorded c.take_frame.new.ground; checkpoints = g.G.Ground.checkpoints c.take_frame.new.ground; own = g.G.Ground.own c.take_frame.new.ground }) (g.W.Wire.recorded c.recv.new.self) (g.W.Wire.recorded c.take_frame.new.wire) c.take_frame.result) c.as_slice.ensures c.take_frame.ensures.takes)
+    (g.W.Wire.recorded c.recv.new.self) (g.W.Wire.recorded c.take_frame.new.wire) c.take_frame.result c.take_frame.ensures.takes
 
 pub returns-in-Frame-clause-front : goal.returns-in-Frame-clause-front
 returns-in-Frame-clause-front g c =
     front_after c.args.program.now c.args.self.now c.take_frame.new.self (got.Frame c.in-Frame.bytes) (record { read = g.G.Ground.read c.args.ground.now; lowest = g.G.Ground.lowest_front c.args.ground.now; recorded = g.G.Ground.recorded c.args.ground.now; checkpoints = g.G.Ground.checkpoints c.args.ground.now; own = g.G.Ground.own c.args.ground.now })
     (record { read = g.G.Ground.read c.take_frame.new.ground; lowest = g.G.Ground.lowest_front c.take_frame.new.ground; recorded = g.G.Ground.recorded c.take_frame.new.ground; checkpoints = g.G.Ground.checkpoints c.take_frame.new.ground; own = g.G.Ground.own c.take_frame.new.ground })
-    (g.W.Wire.recorded c.recv.new.self) (g.W.Wire.recorded c.take_frame.new.wire) c.take_frame.result (subst (λ b. Takes c.args.program.now c.args.self.now c.take_frame.new.self (got.Frame b) (record { read = g.G.Ground.read c.args.ground.now; lowest = g.G.Ground.lowest_front c.args.ground.now; recorded = g.G.Ground.recorded c.args.ground.now; checkpoints = g.G.Ground.checkpoints c.args.ground.now; own = g.G.Ground.own c.args.ground.now })
-    (record { read = g.G.Ground.read c.take_frame.new.ground; lowest = g.G.Ground.lowest_front c.take_frame.new.ground; recorded = g.G.Ground.recorded c.take_frame.new.ground; checkpoints = g.G.Ground.checkpoints c.take_frame.new.ground; own = g.G.Ground.own c.take_frame.new.ground }) (g.W.Wire.recorded c.recv.new.self) (g.W.Wire.recorded c.take_frame.new.wire) c.take_frame.result) c.as_slice.ensures c.take_frame.ensures.takes)
+    (g.W.Wire.recorded c.recv.new.self) (g.W.Wire.recorded c.take_frame.new.wire) c.take_frame.result c.take_frame.ensures.takes
 
 pub returns-in-Frame-clause-few : goal.returns-in-Frame-clause-few
 returns-in-Frame-clause-few g c =
     few_after c.args.program.now c.args.self.now c.take_frame.new.self (got.Frame c.in-Frame.bytes) (record { read = g.G.Ground.read c.args.ground.now; lowest = g.G.Ground.lowest_front c.args.ground.now; recorded = g.G.Ground.recorded c.args.ground.now; checkpoints = g.G.Ground.checkpoints c.args.ground.now; own = g.G.Ground.own c.args.ground.now })
     (record { read = g.G.Ground.read c.take_frame.new.ground; lowest = g.G.Ground.lowest_front c.take_frame.new.ground; recorded = g.G.Ground.recorded c.take_frame.new.ground; checkpoints = g.G.Ground.checkpoints c.take_frame.new.ground; own = g.G.Ground.own c.take_frame.new.ground })
-    (g.W.Wire.recorded c.recv.new.self) (g.W.Wire.recorded c.take_frame.new.wire) c.take_frame.result (subst (λ b. Takes c.args.program.now c.args.self.now c.take_frame.new.self (got.Frame b) (record { read = g.G.Ground.read c.args.ground.now; lowest = g.G.Ground.lowest_front c.args.ground.now; recorded = g.G.Ground.recorded c.args.ground.now; checkpoints = g.G.Ground.checkpoints c.args.ground.now; own = g.G.Ground.own c.args.ground.now })
-    (record { read = g.G.Ground.read c.take_frame.new.ground; lowest = g.G.Ground.lowest_front c.take_frame.new.ground; recorded = g.G.Ground.recorded c.take_frame.new.ground; checkpoints = g.G.Ground.checkpoints c.take_frame.new.ground; own = g.G.Ground.own c.take_frame.new.ground }) (g.W.Wire.recorded c.recv.new.self) (g.W.Wire.recorded c.take_frame.new.wire) c.take_frame.result) c.as_slice.ensures c.take_frame.ensures.takes)
+    (g.W.Wire.recorded c.recv.new.self) (g.W.Wire.recorded c.take_frame.new.wire) c.take_frame.result c.take_frame.ensures.takes
 
 pub returns-in-Text-clause-runs : goal.returns-in-Text-clause-runs
 returns-in-Text-clause-runs g c setup start traffic count same runs below =
