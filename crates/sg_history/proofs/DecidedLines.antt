@@ -39,9 +39,9 @@ user_read (a ∷ b ∷ c ∷ []) h =
       entry = entry.PutUser a v.1 w.1;
       fits = true;
       read = (
-          record { name = (h.0.1, h.0.0); channels = (v.2, subst IsUtf8 v.3 v.0); roles = (w.2, subst IsUtf8 w.3 w.0) },
-          λ i. codes "U" ∷ a ∷ v.3 i ∷ w.3 i ∷ [],
-        );
+        record { name = (h.0.1, h.0.0); channels = (v.2, subst IsUtf8 v.3 v.0); roles = (w.2, subst IsUtf8 w.3 w.0) },
+        λ i. codes "U" ∷ a ∷ v.3 i ∷ w.3 i ∷ [],
+      );
     }
 user_read (a ∷ b ∷ c ∷ d ∷ more) h = absurd h.1.1.1
 
@@ -110,22 +110,22 @@ write_read (a ∷ b ∷ c ∷ d ∷ e ∷ f ∷ g ∷ h ∷ i ∷ j ∷ k ∷ []
       roles = (roles.2, subst IsUtf8 roles.3 roles.0);
     } in
     let spelled : (n : ℕ) → a ∷ b ∷ c ∷ d ∷ e ∷ f ∷ g ∷ h ∷ i ∷ j ∷ k ∷ [] ≡ write_fields_at (at n) g = λ n. λ x.
-      a ∷ rev.3 x ∷ ancestors.3 x ∷ deleted.1 x ∷ bytes.1 x ∷ by.3 x ∷ g ∷ winner.3 x ∷ its_channels.3 x ∷ its_grants.3 x ∷ roles.3 x ∷ [] in
+    a ∷ rev.3 x ∷ ancestors.3 x ∷ deleted.1 x ∷ bytes.1 x ∷ by.3 x ∷ g ∷ winner.3 x ∷ its_channels.3 x ∷ its_grants.3 x ∷ roles.3 x ∷ [] in
     elim (number_below (2 ^ 64) g (omega arith)) [
       | inl found ↦ record {
-          entry = entry.Write (at found.0);
-          fits = true;
-          read = (is found.0 found.1, ap (λ (ts : List (List ℕ)). codes "W" ∷ ts) (spelled found.0 ∙ ap (write_fields_at (at found.0)) found.2));
-        }
+        entry = entry.Write (at found.0);
+        fits = true;
+        read = (is found.0 found.1, ap (λ (ts : List (List ℕ)). codes "W" ∷ ts) (spelled found.0 ∙ ap (write_fields_at (at found.0)) found.2));
+      }
       | inr none ↦ record {
-          entry = entry.Write (at 18446744073709551615);
-          fits = false;
-          read = (
-              a ∷ b ∷ c ∷ d ∷ e ∷ f ∷ g ∷ h ∷ i ∷ j ∷ k ∷ [],
-              refl,
-              (g, is 18446744073709551615 (omega arith), (front.0, front.1, none), spelled 18446744073709551615, refl),
-            );
-        }
+        entry = entry.Write (at 18446744073709551615);
+        fits = false;
+        read = (
+          a ∷ b ∷ c ∷ d ∷ e ∷ f ∷ g ∷ h ∷ i ∷ j ∷ k ∷ [],
+          refl,
+          (g, is 18446744073709551615 (omega arith), (front.0, front.1, none), spelled 18446744073709551615, refl),
+        );
+      }
     ]
 write_read _ many t = absurd (omega (arith, many))
 

@@ -178,10 +178,10 @@ module _ {X : Type 0} (text : X → List ℕ) (admits : X → Bool) (apart : Are
     | inl one ↦ elim (items_of parts) [
       | inr none ↦ inr (λ h. none (further_items part parts h.items h.admitted h.spelled))
       | inl more ↦ inl (record {
-          items = one.item ∷ more.items;
-          admitted = and_from (admits one.item) (list_all admits more.items) one.admitted more.admitted;
-          spelled = λ i. one.spelled i ∷ more.spelled i;
-        })
+        items = one.item ∷ more.items;
+        admitted = and_from (admits one.item) (list_all admits more.items) one.admitted more.admitted;
+        spelled = λ i. one.spelled i ∷ more.spelled i;
+      })
     ]
   ]
 
@@ -226,11 +226,11 @@ module _ {X : Type 0} (text : X → List ℕ) (admits : X → Bool) (apart : Are
     | inr none ↦ inr (λ h. none (record { items = h.items; admitted = h.admitted; spelled = parts_of_list h.items whole h.admitted other h.spelled }))
     | inl found ↦ elim (cases_Bool (test found.items)) [
       | inl passes ↦ inl (record {
-          items = found.items;
-          admitted = found.admitted;
-          tested = passes;
-          spelled = sym (joined_pieces 44 whole) ∙ sym (joined_list (pieces 44 whole) (pieces-some 44 whole)) ∙ ap list_text found.spelled;
-        })
+        items = found.items;
+        admitted = found.admitted;
+        tested = passes;
+        spelled = sym (joined_pieces 44 whole) ∙ sym (joined_list (pieces 44 whole) (pieces-some 44 whole)) ∙ ap list_text found.spelled;
+      })
       | inr fails ↦
           inr (λ h. false≢true (sym fails
           ∙ ap test (items_same found.items h.items found.admitted h.admitted (sym found.spelled ∙ parts_of_list h.items whole h.admitted other h.spelled)) ∙ h.tested))
@@ -315,10 +315,10 @@ grant_of part = elim (cut_at 61 part) [
   | inl lacking ↦ inr (λ h. lacks_seam 61 part (grantee_text h.item.to) h.item.channel lacking h.spelled)
   | inr cut ↦ elim (both _ _ (grantee_of cut.whole) (truth (is_channel_name cut.after))) [
     | inl is ↦ inl (record {
-        item = record { to = is.0.item; channel = cut.after };
-        admitted = and_from _ _ is.0.admitted is.1;
-        spelled = cut.is ∙ ap (λ f. f ++ 61 ∷ cut.after) is.0.spelled;
-      })
+      item = record { to = is.0.item; channel = cut.after };
+      admitted = and_from _ _ is.0.admitted is.1;
+      spelled = cut.is ∙ ap (λ f. f ++ 61 ∷ cut.after) is.0.spelled;
+    })
     | inr none ↦
         inr (λ h. let parts = grant_parts h.item h.admitted in
         let same = grant_cut part cut.whole cut.after h.item cut.is cut.lacking h.admitted h.spelled in

@@ -174,13 +174,19 @@ module _ {X : Type 0} (g : LineGrammar X) (decided : IsDecided g) where
   behind_either : (first next : List ℕ) (more : List (List ℕ)) → first ≡ g.title → Either (first ∷ next ∷ more)
   behind_either first next more same = elim (fine_or_stopped [] next more) [
     | inl fine ↦ inl (fine.0, (same, (fine.1, ap g.may_end (sym (append-nil (reverse fine.0))) ∙ fine.2)))
-    | inr stopped ↦ inr (record { place = length stopped.0 + 2; why = stopped.2 }, inr (same, record {
-        items = stopped.0;
-        left = stopped.1;
-        begun = stopped.3;
-        place = refl;
-        fault = subst (λ o. Stops g o stopped.1 stopped.2) (append-nil (reverse stopped.0)) stopped.4;
-      }))
+    | inr stopped ↦ inr (
+      record { place = length stopped.0 + 2; why = stopped.2 },
+      inr (
+        same,
+        record {
+          items = stopped.0;
+          left = stopped.1;
+          begun = stopped.3;
+          place = refl;
+          fault = subst (λ o. Stops g o stopped.1 stopped.2) (append-nil (reverse stopped.0)) stopped.4;
+        },
+      ),
+    )
   ]
 
   among_either : (lines : List (List ℕ)) → 0 < length lines → Either lines

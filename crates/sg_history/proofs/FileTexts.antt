@@ -10,7 +10,6 @@ use Rattle.sg_history.proofs.ReadLines.{begins_first}
 
 module _ {X : Type 0} (g : LineGrammar X) (text : X → List ℕ) (texts : List X → List ℕ) (none : texts [] ≡ [])
     (more_text : (x : X) (xs : List X) → texts (x ∷ xs) ≡ text x ++ 10 ∷ texts xs) where
-
   -- where a line that says an item is the item's text, lines that say items are the items' texts
   said_text : (spells : (older : List X) (line : List ℕ) (x : X) → g.Says older line x → line ≡ text x) (older xs : List X) (lines : List (List ℕ))
       → Begins g older lines xs ([] ∷ []) → join_with_byte 10 lines ≡ texts xs

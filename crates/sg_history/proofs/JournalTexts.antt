@@ -1,9 +1,6 @@
 -- a journal's lines and its entries
-use Rattle.std.proofs.Common.{◌≡◌, ◌≢◌, ℕ, Bool, true, false, not, List, [], ◌∷◌, ◌++◌, length, reverse, refl, sym, ◌∙◌, subst, append_assoc}
-use Rattle.std.specs.Prelude.{nat_eq}
-use Rattle.std.specs.Str.{bytes_eq}
+use Rattle.std.proofs.Common.{◌≡◌, ℕ, true, List, [], ◌∷◌, ◌++◌, reverse, refl, sym, ◌∙◌, subst, append_assoc}
 use Rattle.std.proofs.lemmas.List.{append-nil}
-use Rattle.std.proofs.lemmas.Slice.Eq.{bytes_eq-Decides}
 use Rattle.std.proofs.lemmas.List.Concat.{flat_map-cons}
 use Rattle.sg_names.specs.Grammar.{lacks}
 use Rattle.sg_history.specs.declared.entries.Entry.{Entry}
@@ -52,21 +49,3 @@ pub file_spelled : (bytes : List ℕ) (h : History) → Spells bytes h → IsFil
 file_spelled bytes h is =
     file_said journal_lines line_of lines_of refl lines_cons DoFollow next_of bytes h.entries is.1 refl
     (subst IsRecord (sym (append-nil (reverse h.entries))) is.0) refl
-
-pub some_rest : (rest : List ℕ) → nat_eq (length rest) 0 ≡ false → rest ≢ []
-some_rest [] h e = cc (h)
-some_rest (b ∷ bs) h e = cc (e)
-
-pub other_bytes : (a b c : List ℕ) → true ≡ not (bytes_eq a b) → b ≡ c → a ≢ c
-other_bytes a b c h is e = cc (h, (bytes_eq-Decides a b).1 (e ∙ sym is))
-
-not_false : (t : Bool) → false ≡ not t → t ≡ true
-not_false true e = refl
-not_false false e = cc (e)
-
-pub same_bytes : (a b c : List ℕ) → false ≡ not (bytes_eq a b) → b ≡ c → a ≡ c
-same_bytes a b c h is = (bytes_eq-Decides a b).0 (not_false (bytes_eq a b) h) ∙ is
-
-pub appended_same : (front a b : List ℕ) → front ++ a ≡ front ++ b → a ≡ b
-appended_same [] a b e = e
-appended_same (x ∷ front) a b e = appended_same front a b (cc)

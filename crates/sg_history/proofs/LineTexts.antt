@@ -4,8 +4,8 @@ use Rattle.std.specs.Prelude.{nat_eq, nat_lt, nat_le}
 use Rattle.std.specs.List.{list_all, join_with_byte}
 use Rattle.std.proofs.lemmas.Bool.{and_parts, and_from, cases_Bool, eqb-true}
 use Rattle.std.proofs.lemmas.List.Folds.{list_all-append}
-use Rattle.sg_names.proofs.PlainTexts.{plain_decimal, plain_hex, plain_rev, plain_channels, plain_names, plain_revs, plain_grants, plain_role_grants, plain_lacks}
-use Rattle.sg_names.specs.Grammar.{lacks, is_plain, is_plain_text, is_channel_name, is_name, is_doc_id, is_dash, begins_with_underscore}
+use Rattle.sg_names.proofs.PlainTexts.{plain_decimal, plain_hex, plain_name, plain_rev, plain_channels, plain_names, plain_revs, plain_grants, plain_role_grants, plain_lacks}
+use Rattle.sg_names.specs.Grammar.{lacks, is_plain, is_plain_text, is_doc_id, begins_with_underscore}
 use Rattle.sg_history.specs.declared.entries.Entry.{Entry}
 use Rattle.sg_history.specs.declared.entries.Entry.TheVariants as entry
 use Rattle.sg_history.specs.Pieces.{pieces, begin_with}
@@ -44,16 +44,9 @@ joined_pieces at (b ∷ bs) =
           ∙ joined_begun at b (pieces at bs) (pieces-some at bs) ∙ ap (λ rest. b ∷ rest) again
     ]
 
-plain_from_text : (text : List ℕ) → is_plain_text text ≡ true → is_plain text ≡ true
-plain_from_text text h = (and_parts (nat_lt 0 (length text) && nat_le (length text) 250) (is_plain text) h).1
-
-plain_name : (name : List ℕ) → is_name name ≡ true → is_plain name ≡ true
-plain_name name h =
-    let channel = (and_parts (is_channel_name name) (lacks 58 name) (and_parts (is_channel_name name && lacks 58 name) (lacks 61 name) h).0).0 in
-    plain_from_text name (and_parts (is_plain_text name) (lacks 44 name) (and_parts (is_plain_text name && lacks 44 name) (not (is_dash name)) channel).0).0
-
-plain_doc : (doc : List ℕ) → is_doc_id doc ≡ true → is_plain doc ≡ true
-plain_doc doc h = plain_from_text doc (and_parts (is_plain_text doc) (not (begins_with_underscore doc)) h).0
+pub plain_doc : (doc : List ℕ) → is_doc_id doc ≡ true → is_plain doc ≡ true
+plain_doc doc h =
+    (and_parts (nat_lt 0 (length doc) && nat_le (length doc) 250) (is_plain doc) (and_parts (is_plain_text doc) (not (begins_with_underscore doc)) h).0).1
 
 plain_mark : (mark : Bool) → is_plain (mark_text mark) ≡ true
 plain_mark true = refl
@@ -98,6 +91,14 @@ joined_lack c at apart (f ∷ g ∷ fs) h =
     let parts = and_parts (lacks c f) (list_all (λ x. lacks c x) (g ∷ fs)) h in
     list_all-append (λ b. not (nat_eq b c)) f (at ∷ join_with_byte at (g ∷ fs))
     ∙ and_from _ _ parts.0 (and_from _ _ apart (joined_lack c at apart (g ∷ fs) parts.1))
+
+-- fields without control characters are the pieces of their line
+pub fields_pieces : (fs : List (List ℕ)) → 0 < length fs → list_all (λ f. is_plain f) fs ≡ true → pieces 9 (join_with_byte 9 fs) ≡ fs
+fields_pieces fs some plain = pieces_joined 9 fs some (all_lack 9 (omega arith) fs plain)
+
+-- their line has no line feed
+pub fields_whole : (fs : List (List ℕ)) → list_all (λ f. is_plain f) fs ≡ true → lacks 10 (join_with_byte 9 fs) ≡ true
+fields_whole fs plain = joined_lack 10 9 refl fs (all_lack 10 (omega arith) fs plain)
 
 -- the pieces of an entry's line are its fields
 pub line_pieces : (e : Entry) → IsEntry e → pieces 9 (line_of e) ≡ fields_of e

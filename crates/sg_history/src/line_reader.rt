@@ -49,7 +49,7 @@ fn bad(place: u64, why: Why) -> ReadLog
 }
 
 /// The refusal of the line at this place.
-pub fn refuse(place: u64, fault: LineFault) -> ReadLog
+pub(crate) fn refuse(place: u64, fault: LineFault) -> ReadLog
     ensures { result ≡ refusal_at place fault }
 {
     match fault {
@@ -96,7 +96,11 @@ fn end<L: ReadsLines>(into: &L) -> Result<(), LineFault>
 }
 
 /// Reads lines that stay.
-pub fn read_lines<L: ReadsLines>(alloc: Global, lines: &[u8], into: &mut L) -> Result<(), LineFault>
+pub(crate) fn read_lines<L: ReadsLines>(
+    alloc: Global,
+    lines: &[u8],
+    into: &mut L,
+) -> Result<(), LineFault>
     requires { L.items into.old ≡ [] }
     ensures { EndsAs L.grammar (pieces 10 lines.now) (L.items into.new) result }
 {
@@ -105,7 +109,11 @@ pub fn read_lines<L: ReadsLines>(alloc: Global, lines: &[u8], into: &mut L) -> R
 }
 
 /// Reads lines. What was read of them is let go, each time that it is half of what there was.
-pub fn take_lines<L: ReadsLines>(alloc: Global, lines: Bytes, into: &mut L) -> Result<(), LineFault>
+pub(crate) fn take_lines<L: ReadsLines>(
+    alloc: Global,
+    lines: Bytes,
+    into: &mut L,
+) -> Result<(), LineFault>
     requires { L.items into.old ≡ [] }
     ensures { EndsAs L.grammar (pieces 10 lines) (L.items into.new) result }
 {
@@ -130,7 +138,7 @@ fn fault_of_title<L: ReadsLines>(line: &[u8]) -> Why
 }
 
 /// The lines behind the first one, or what is wrong with that.
-pub fn behind_title<L: ReadsLines>(bytes: &[u8]) -> Result<&[u8], Why>
+pub(crate) fn behind_title<L: ReadsLines>(bytes: &[u8]) -> Result<&[u8], Why>
     ensures ok { IfOk result
         (λ lines. pieces 10 bytes.now ≡ L.grammar.title ∷ pieces 10 lines.now) }
     ensures end { IfOk result
