@@ -1,47 +1,26 @@
 -- the fields of a script's line and its text
-use Rattle.std.proofs.Common.{◌≡◌, ◌≢◌, ℕ, codes, ◌*◌, ◌+◌, ◌<◌, Bool, true, false, ◌&&◌, not, List, [], ◌∷◌, length, refl, sym, ap, ◌∙◌, arith, Option, Some, None}
-use Rattle.std.specs.Prelude.{nat_eq, nat_lt, nat_le, Result, Ok, Err, IfOk}
+use Rattle.std.proofs.Common.{◌≡◌, ◌≢◌, ℕ, codes, ◌*◌, ◌+◌, ◌<◌, Bool, true, false, List, [], ◌∷◌, length, refl, sym, ap, ◌∙◌, arith, Option, Some, None}
+use Rattle.std.specs.Prelude.{nat_lt, Result, Ok, Err, IfOk}
 use Rattle.sg_history.specs.declared.fault.LineFault.{LineFault}
 use Rattle.std.specs.List.{list_all, join_with_byte}
 use Rattle.std.proofs.lemmas.Bool.{and_parts, and_from}
-use Rattle.std.proofs.lemmas.List.Folds.{list_all-append}
 use Rattle.sg_names.proofs.ItemTexts.{rev_has_one_text, rev_is_no_dash}
 use Rattle.sg_names.proofs.OneText.{channels_same, names_same, hex_same}
-use Rattle.sg_names.proofs.PlainTexts.{plain_hex, plain_rev, plain_channels, plain_names, plain_lacks}
+use Rattle.sg_names.proofs.PlainTexts.{plain_hex, plain_name, plain_rev, plain_channels, plain_names}
 use Rattle.sg_names.specs.declared.rev_id.RevId.{RevId}
-use Rattle.sg_names.specs.Grammar.{lacks, is_plain, is_plain_text, is_channel_name, is_name, is_doc_id, is_dash, begins_with_underscore}
+use Rattle.sg_names.specs.Grammar.{lacks, is_plain}
 use Rattle.sg_names.specs.RevId.{is_rev}
 use Rattle.sg_names.specs.Channels.{channels_text}
 use Rattle.sg_names.specs.Hex.{hex_text}
 use Rattle.sg_names.specs.Names.{names_text}
 use Rattle.sg_history.specs.Journal.{IsEntry, mark_text}
 use Rattle.sg_history.specs.Pieces.{pieces}
-use Rattle.sg_history.proofs.LineTexts.{joined_pieces}
-use Rattle.sg_history.proofs.PieceLemmas.{pieces-cut, pieces-lacking}
+use Rattle.sg_history.proofs.LineTexts.{fields_pieces, fields_whole, joined_pieces, plain_doc}
 use Rattle.principals.specs.declared.command.Command.{Command}
 use Rattle.principals.specs.declared.command.Command.TheVariants as command
 use Rattle.principals.specs.declared.admin_line.AdminLine.{AdminLine}
 use Rattle.principals.specs.declared.admin_line.AdminLine.TheVariants as line
 use Rattle.principals.specs.Script.{IsDoc, IsLine, command_fields, entry_of, fields_of, is_parent, line_of, parent_text}
-
--- pieces that are joined are the pieces again
-pieces_joined : (at : ℕ) (fs : List (List ℕ)) → 0 < length fs → list_all (λ f. lacks at f) fs ≡ true → pieces at (join_with_byte at fs) ≡ fs
-pieces_joined at [] some h = absurd (omega arith)
-pieces_joined at (f ∷ []) some h = pieces-lacking at f (and_parts (lacks at f) true h).0
-pieces_joined at (f ∷ g ∷ fs) some h =
-    let parts = and_parts (lacks at f) (list_all (λ x. lacks at x) (g ∷ fs)) h in
-    pieces-cut at f (join_with_byte at (g ∷ fs)) parts.0 ∙ ap (λ rest. f ∷ rest) (pieces_joined at (g ∷ fs) (omega arith) parts.1)
-
-plain_from_text : (text : List ℕ) → is_plain_text text ≡ true → is_plain text ≡ true
-plain_from_text text h = (and_parts (nat_lt 0 (length text) && nat_le (length text) 250) (is_plain text) h).1
-
-plain_name : (name : List ℕ) → is_name name ≡ true → is_plain name ≡ true
-plain_name name h =
-    let channel = (and_parts (is_channel_name name) (lacks 58 name) (and_parts (is_channel_name name && lacks 58 name) (lacks 61 name) h).0).0 in
-    plain_from_text name (and_parts (is_plain_text name) (lacks 44 name) (and_parts (is_plain_text name && lacks 44 name) (not (is_dash name)) channel).0).0
-
-plain_doc : (doc : List ℕ) → is_doc_id doc ≡ true → is_plain doc ≡ true
-plain_doc doc h = plain_from_text doc (and_parts (is_plain_text doc) (not (begins_with_underscore doc)) h).0
 
 plain_mark : (mark : Bool) → is_plain (mark_text mark) ≡ true
 plain_mark true = refl
@@ -75,27 +54,13 @@ some_fields (line.Command (command.DropUser name)) = omega arith
 some_fields (line.Command (command.DropRole name)) = omega arith
 some_fields (line.Doc doc parent deleted body) = omega arith
 
-all_lack : (c : ℕ) → c < 32 → (fs : List (List ℕ)) → list_all (λ f. is_plain f) fs ≡ true → list_all (λ f. lacks c f) fs ≡ true
-all_lack c low [] h = refl
-all_lack c low (f ∷ fs) h =
-    let parts = and_parts (is_plain f) (list_all (λ x. is_plain x) fs) h in
-    and_from _ _ (plain_lacks c f low parts.0) (all_lack c low fs parts.1)
-
-joined_lack : (c at : ℕ) → not (nat_eq at c) ≡ true → (fs : List (List ℕ)) → list_all (λ f. lacks c f) fs ≡ true → lacks c (join_with_byte at fs) ≡ true
-joined_lack c at apart [] h = refl
-joined_lack c at apart (f ∷ []) h = (and_parts (lacks c f) true h).0
-joined_lack c at apart (f ∷ g ∷ fs) h =
-    let parts = and_parts (lacks c f) (list_all (λ x. lacks c x) (g ∷ fs)) h in
-    list_all-append (λ b. not (nat_eq b c)) f (at ∷ join_with_byte at (g ∷ fs))
-    ∙ and_from _ _ parts.0 (and_from _ _ apart (joined_lack c at apart (g ∷ fs) parts.1))
-
 -- the pieces of a line are its fields
 pub line_pieces : (l : AdminLine) → IsLine l → pieces 9 (line_of l) ≡ fields_of l
-line_pieces l is = pieces_joined 9 (fields_of l) (some_fields l) (all_lack 9 (omega arith) (fields_of l) (fields_plain l is))
+line_pieces l is = fields_pieces (fields_of l) (some_fields l) (fields_plain l is)
 
 -- a line has no line feed
 pub line_whole : (l : AdminLine) → IsLine l → lacks 10 (line_of l) ≡ true
-line_whole l is = joined_lack 10 9 refl (fields_of l) (all_lack 10 (omega arith) (fields_of l) (fields_plain l is))
+line_whole l is = fields_whole (fields_of l) (fields_plain l is)
 
 -- a line whose pieces are these fields
 pub line_is : (text : List ℕ) (l : AdminLine) → pieces 9 text ≡ fields_of l → text ≡ line_of l
