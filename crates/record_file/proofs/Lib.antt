@@ -1,5 +1,4 @@
 pub mod Lines
 pub mod Owners
-pub mod Refusals
 pub mod Records
 pub mod Found

@@ -12,20 +12,20 @@ use Rattle.sg_history.specs.BadLine.{NamesLine}
 use Rattle.sg_history.specs.Files.{AreAmong, IsDecided, IsFileOf, IsLawful}
 use Rattle.sg_history.specs.Pieces.{pieces}
 use Rattle.sg_history.specs.Refusal.{RefusesLog}
+use Rattle.sg_history.proofs.FaultLemmas.{fault_one}
 use Rattle.sg_history.proofs.FileLaws.{file_apart, file_either, file_one_bad, file_same}
 use Rattle.sg_history.proofs.FileTexts.{file_are, file_said, file_text}
-use Rattle.sg_history.proofs.LineTexts.{joined_pieces}
 use Rattle.repl_messages.specs.declared.request.Version.{Version}
 use Rattle.record_file.specs.declared.item.Item.{Item}
 use Rattle.record_file.specs.declared.line.Line.{Line}
 use Rattle.record_file.specs.declared.line.Line.TheVariants as kinds
 use Rattle.record_file.specs.declared.record.Recorded.{Recorded}
 use Rattle.record_file.specs.Record.{header, is_item, item_text, items_text, owner_text, Spells}
-use Rattle.record_file.specs.Faults.{item_fault, owner_fault}
-use Rattle.record_file.specs.Lines.{IsBadRecord, Says, has_owner, line_fault, lines_in, record_lines}
-use Rattle.record_file.proofs.Found.{item_found, owner_found}
+use Rattle.record_file.specs.Faults.{IsPart, item_fault, parts_of}
+use Rattle.record_file.specs.Lines.{Fails, IsBadRecord, Says, has_owner, lines_in, record_lines}
+use Rattle.record_file.proofs.Found.{item_found}
 use Rattle.record_file.proofs.Lines.{item_fine, item_lacks, item_same}
-use Rattle.record_file.proofs.Owners.{owner_fine, owner_lacks, owner_same}
+use Rattle.record_file.proofs.Owners.{owner_apart, owner_either, owner_lacks, owner_same}
 
 says_one : (older : List Line) (text : List ℕ) (x y : Line) → Says older text x → Says older text y → x ≡ y
 says_one [] text (kinds.Owner u v) (kinds.Owner w z) a b =
@@ -37,34 +37,43 @@ says_one (l ∷ older) text (kinds.Owner u v) y a b = absurd a
 says_one (l ∷ older) text (kinds.Item i) (kinds.Owner w z) a b = absurd b
 says_one (l ∷ older) text (kinds.Item i) (kinds.Item j) a b = ap kinds.Item (item_same i j a.1 b.1 (sym a.0 ∙ b.0))
 
+item_apart : (text : List ℕ) (i : Item) (why : Why) → text ≡ item_text i → is_item i ≡ true → ¬ (item_fault text ≡ Some why)
+item_apart text i why spelled is e = cc (sym (ap item_fault spelled ∙ item_fine i is) ∙ e)
+
+says_apart : (older : List Line) (text : List ℕ) (x : Line) (why : Why) → Says older text x → ¬ (Fails older text why)
+says_apart [] text (kinds.Owner u v) why a e = owner_apart text u v why a.0 a.1 a.2 e
+says_apart [] text (kinds.Item i) why a e = a
+says_apart (l ∷ older) text (kinds.Owner u v) why a e = a
+says_apart (l ∷ older) text (kinds.Item i) why a e = item_apart text i why a.0 a.1 e
+
 some_one : (a b : Why) → Some a ≡ Some b → a ≡ b
 some_one a b e = cc
 
-no_fault : (fault : Option Why) (why : Why) → fault ≡ None → ¬ (fault ≡ Some why)
-no_fault fault why none e = cc (sym none ∙ e)
-
-says_apart : (older : List Line) (text : List ℕ) (x : Line) (why : Why) → Says older text x → ¬ (line_fault older text ≡ Some why)
-says_apart [] text (kinds.Owner u v) why a e =
-    no_fault (owner_fault (pieces 9 text)) why (ap (λ t. owner_fault (pieces 9 t)) a.0 ∙ owner_fine u v a.1 a.2) e
-says_apart [] text (kinds.Item i) why a e = a
-says_apart (l ∷ older) text (kinds.Owner u v) why a e = a
-says_apart (l ∷ older) text (kinds.Item i) why a e = no_fault (item_fault text) why (ap item_fault a.0 ∙ item_fine i a.1) e
+fails_one : (older : List Line) (text : List ℕ) (a b : Why) → Fails older text a → Fails older text b → a ≡ b
+fails_one [] text a b x y = fault_one IsPart parts_of (pieces 9 text) a b x y
+fails_one (l ∷ older) text a b x y = some_one a b (sym x ∙ y)
 
 lawful : IsLawful record_lines
-lawful = record { one = says_one; one_fault = λ older text a b x y. some_one a b (sym x ∙ y); apart = says_apart }
+lawful = record { one = says_one; one_fault = fails_one; apart = says_apart }
 
-decide_by : (older : List Line) (text : List ℕ) (fault : Option Why) → line_fault older text ≡ fault
-    → ((x : Line) × Says older text x) ⊎ ((why : Why) × (line_fault older text ≡ Some why))
-decide_by older text (Some why) is = inr (why, is)
-decide_by [] text None is =
-    let owner = owner_found (pieces 9 text) is in
-    inl (kinds.Owner owner.user owner.version, (sym (joined_pieces 9 text) ∙ owner.text, owner.name.0, owner.name.1))
-decide_by (l ∷ older) text None is =
+abbrev Either : List Line → List ℕ → Type 0
+Either older text = ((x : Line) × Says older text x) ⊎ ((why : Why) × Fails older text why)
+
+item_either : (l : Line) (older : List Line) (text : List ℕ) (fault : Option Why) → item_fault text ≡ fault → Either (l ∷ older) text
+item_either l older text (Some why) is = inr (why, is)
+item_either l older text None is =
     let item = item_found text is in
     inl (kinds.Item item.item, (item.text, item.is))
 
+either : (older : List Line) (text : List ℕ) → Either older text
+either [] text = elim (owner_either text) [
+  | inl owner ↦ inl (kinds.Owner owner.user owner.version, (owner.text, owner.name.0, owner.name.1))
+  | inr fault ↦ inr fault
+]
+either (l ∷ older) text = item_either l older text (item_fault text) refl
+
 decided : IsDecided record_lines
-decided = record { either = λ older text. decide_by older text (line_fault older text) refl }
+decided = record { either = either }
 
 abbrev line_text : Line → List ℕ
 line_text (kinds.Owner user version) = owner_text user version
@@ -209,28 +218,15 @@ pub none_spelled : (e : ReadLog) (bytes : List ℕ) → NamesLine (IsBadRecord b
 none_spelled (file.Bad bad) bytes named = λ r. record_apart bytes bad r named
 none_spelled file.Memory bytes named = tt
 
--- a file that was read says whose session it is
-pub some_session : (bytes : List ℕ) → ¬ (IsFileOf record_lines bytes [])
-some_session bytes is = false≢true (ends_of (pieces 10 bytes) [] is)
-
 -- a line behind others says what a call gave
 says_behind : (ls : List Line) (o : Line) (text : List ℕ) (i : Item) → (text ≡ item_text i) × IsTrue (is_item i) → Says (ls ++ o ∷ []) text (kinds.Item i)
 says_behind [] o text i h = h
 says_behind (l ∷ ls) o text i h = h
 
-fault_behind : (ls : List Line) (o : Line) (text : List ℕ) → line_fault (ls ++ o ∷ []) text ≡ item_fault text
-fault_behind [] o text = refl
-fault_behind (l ∷ ls) o text = refl
-
 pub says_item : (r : Recorded) (text : List ℕ) (i : Item) → (text ≡ item_text i) × IsTrue (is_item i) → Says (reverse (lines_in (Some r))) text (kinds.Item i)
 says_item r text i h =
     subst (λ older. Says older text (kinds.Item i)) (sym (reverse-append (kinds.Owner r.user r.version ∷ []) (map (λ x. kinds.Item x) r.items)))
     (says_behind (reverse (map (λ x. kinds.Item x) r.items)) (kinds.Owner r.user r.version) text i h)
-
-pub fault_of_item : (r : Recorded) (text : List ℕ) → line_fault (reverse (lines_in (Some r))) text ≡ item_fault text
-fault_of_item r text =
-    ap (λ older. line_fault older text) (reverse-append (kinds.Owner r.user r.version ∷ []) (map (λ x. kinds.Item x) r.items))
-    ∙ fault_behind (reverse (map (λ x. kinds.Item x) r.items)) (kinds.Owner r.user r.version) text
 
 -- one more line, of what a call gave
 pub more_lines : (o : Option Recorded) (r : Recorded) (text : List ℕ) (i : Item) (now : List Item) → o ≡ Some r → (text ≡ item_text i) × IsTrue (is_item i)

@@ -1,37 +1,35 @@
 -- What is wrong with a line of a recorded session.
-use Rattle.std.specs.Prelude.{◌≡◌, ℕ, ◌&&◌, ◌||◌, List, [], ◌∷◌, codes, Option, Some, None, if◌then◌else◌}
-use Rattle.std.specs.Str.{bytes_eq, is_utf8}
-use Rattle.sg_names.specs.Grammar.{is_name, lacks}
+use Rattle.std.specs.Prelude.{◌≡◌, ℕ, List, [], ◌∷◌, codes, Option, Some, None, if◌then◌else◌}
+use Rattle.std.specs.Str.{bytes_eq}
+use Rattle.sg_names.specs.Grammar.{lacks}
 use Rattle.sg_names.specs.Hex.{is_hex}
 use Rattle.sg_history.specs.declared.fault.Why.{Why}
 use Rattle.sg_history.specs.declared.fault.Why.TheVariants as reason
 use Rattle.sg_history.specs.declared.fault.LineFault.{LineFault}
 use Rattle.sg_history.specs.declared.fault.LineFault.TheVariants as line
+use Rattle.sg_history.specs.Faults as journal
+use Rattle.sg_history.specs.Faults.{Grammar, IsText}
+use Rattle.sg_history.specs.FieldFaults.{IsFieldsFault}
+use Rattle.repl_messages.specs.declared.request.Version.{Version}
+use Rattle.record_file.specs.Record.{version_text}
 
--- the second field is a user's name
-abbrev pub name_fault : List ℕ → Option Why
-name_fault name = if is_utf8 name && is_name name then None else Some (reason.Field 2)
+-- the grammars of the second line's fields: those of a journal's, and a version
+pub data Part : Type 0 where
+  field : Grammar → Part
+  version : Part
 
--- the third field is a version
-abbrev pub version_fault : List ℕ → Option Why
-version_fault version = if bytes_eq version (codes "2") || bytes_eq version (codes "3") then None else Some (reason.Field 3)
+-- a text in a grammar
+abbrev pub IsPart : Part → List ℕ → Type 0
+IsPart (field grammar) text = IsText grammar text
+IsPart version text = (v : Version) × (text ≡ version_text v)
 
--- the first of two faults
-abbrev pub first_fault : Option Why → Option Why → Option Why
-first_fault (Some why) later = Some why
-first_fault None later = later
+-- the fields that follow the kind of the second line; none where this is no kind
+abbrev pub parts_of : List ℕ → Option (List Part)
+parts_of kind = if bytes_eq kind (codes "user") then Some (field journal.name ∷ version ∷ []) else None
 
--- two fields follow the kind `user`
-abbrev pub fields_fault : List (List ℕ) → Option Why
-fields_fault [] = Some reason.Fields
-fields_fault (name ∷ []) = Some reason.Fields
-fields_fault (name ∷ version ∷ []) = first_fault (name_fault name) (version_fault version)
-fields_fault (name ∷ version ∷ other ∷ more) = Some reason.Fields
-
--- what is wrong with the fields of the second line
-abbrev pub owner_fault : List (List ℕ) → Option Why
-owner_fault [] = Some reason.Kind
-owner_fault (kind ∷ fields) = if bytes_eq kind (codes "user") then fields_fault fields else Some reason.Kind
+-- what is wrong with the fields of the second line: its kind, their number, or the first one outside its grammar
+abbrev pub IsOwnerFault : List (List ℕ) → Why → Type 0
+IsOwnerFault fields why = IsFieldsFault IsPart parts_of fields why
 
 -- a frame's line is at least one byte in lower-case hexadecimal
 abbrev pub frame_fault : List ℕ → Option Why

@@ -9,7 +9,7 @@ use Rattle.record_file.specs.declared.line.Line.{Line}
 use Rattle.record_file.specs.declared.line.Line.TheVariants as kinds
 use Rattle.record_file.specs.declared.record.Recorded.{Recorded}
 use Rattle.record_file.specs.Record.{header, is_item, item_text, owner_text}
-use Rattle.record_file.specs.Faults.{item_fault, owner_fault}
+use Rattle.record_file.specs.Faults.{IsOwnerFault, item_fault}
 
 -- the lines of a session, of which nothing may be read yet
 abbrev pub lines_in : Option Recorded → List Line
@@ -24,9 +24,9 @@ Says (l ∷ older) text (kinds.Owner user version) = ⊥
 Says (l ∷ older) text (kinds.Item i) = (text ≡ item_text i) × IsTrue (is_item i)
 
 -- what is wrong with a line behind these
-abbrev pub line_fault : List Line → List ℕ → Option Why
-line_fault [] text = owner_fault (pieces 9 text)
-line_fault (l ∷ older) text = item_fault text
+abbrev pub Fails : List Line → List ℕ → Why → Type 0
+Fails [] text why = IsOwnerFault (pieces 9 text) why
+Fails (l ∷ older) text why = item_fault text ≡ Some why
 
 -- whose session it is was said
 abbrev pub has_owner : List Line → Bool
@@ -35,7 +35,7 @@ has_owner (l ∷ older) = true
 
 -- the lines of a recorded session
 abbrev pub record_lines : LineGrammar Line
-record_lines = record { title = header; Says = Says; Fails = λ older text why. line_fault older text ≡ Some why; may_end = has_owner }
+record_lines = record { title = header; Says = Says; Fails = Fails; may_end = has_owner }
 
 -- the text is no recorded session, and this is its first bad line
 abbrev pub IsBadRecord : List ℕ → BadLine → Type 0
