@@ -80,6 +80,24 @@ fn carries_by_script(alloc: Global) -> Result<bool, AllocError> {
     Ok(carries(&mut wire, b"failed") && wire.faults() == 1)
 }
 
+/// Whether so many bytes are those of their copy once they are shared, and stay so when the copy grows.
+fn shares(alloc: Global, len: usize) -> Result<bool, AllocError> {
+    let mut bytes = Bytes::from_vec(vec![in alloc; b'a'; len]?);
+    bytes.share()?;
+    let mut copy = bytes.copy(alloc)?;
+    let same = copy.equals(&bytes);
+    copy.push(b'b')?;
+    Ok(same && bytes.len() == len && copy.as_slice().last() == Some(&b'b'))
+}
+
+#[test]
+fn bytes_that_copies_share(rt: HostRuntime) -> Result<(), Fail> {
+    for len in [0usize, 1, 1_023, 1_024, 20_971_520] {
+        assert!(rt; shares(rt.alloc(), len)?);
+    }
+    Ok(())
+}
+
 #[test]
 fn files_sinks_and_wires_in_memory(rt: HostRuntime) -> Result<(), Fail> {
     let alloc = rt.alloc();
