@@ -142,8 +142,10 @@ class Device:
         return self.number
 
     def step(self):
-        """Takes the next frame; where that makes a message whole, does what a device does with it."""
-        frame = self.socket.receive()
+        self.take(self.socket.receive())
+
+    def take(self, frame):
+        """Takes a frame; where that makes a message whole, does what a device does with it."""
         number, rest = record.take_varint(frame)
         flags, rest = record.take_varint(rest)
         kind = flags & 7
