@@ -1,5 +1,6 @@
 pub mod BatchSizes
 pub mod Batching
+pub mod Ending
 pub mod Opening
 pub mod Orders
 pub mod Places

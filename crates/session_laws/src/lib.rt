@@ -1,6 +1,7 @@
-//! Laws of the feeds of whole sessions, and of what a device and a session exchange.
+//! Laws of the feeds of whole sessions, of what a device and a session exchange, and of how sessions end.
 #![tactic(auto)]
 
 pub mod batches;
+pub mod ends;
 pub mod exchanges;
 pub mod laws;
