@@ -30,7 +30,7 @@ use Rattle.session_run.specs.declared.serve.Setup.{Setup}
 use Rattle.session_run.specs.Answered.{Moment}
 use Rattle.session_run.specs.Served.{are_frames, bytes_of, IsBadAfter, IsBad, most_results, EndsBy, IsSentAt, IsClosedAt, IsSession}
 use Rattle.session_run.specs.Spent.{most_looks, spent_of}
-use Rattle.session_run.specs.Turns.{SessionTurn, steps_of, frames_of, events_of, AreLed}
+use Rattle.session_run.specs.Turns.{SessionTurn, steps_of, frames_of, AreLed}
 use Rattle.session_laws.specs.Ends.{is_faulty, AreInOrder, AreAcksInOrder}
 use Rattle.session_laws.specs.Exchanges.{asked_by, replied, owed}
 
