@@ -16,7 +16,7 @@ const ASK: &[u8] = b"\x01\0\x1bProfile\0subChanges\0since\x000\0\x95\x2c\x1f\xb6
 const COMPRESSED: &[u8] = b"\x01\x08";
 
 /// A ground with an empty history.
-fn ground(alloc: Global) -> Result<SoloGround, Fail> {
+pub fn ground(alloc: Global) -> Result<SoloGround, Fail> {
     let board = Board::new(alloc)?;
     Ok(SoloGround::new(Shelf::new(board)?))
 }

@@ -8,7 +8,11 @@ mod checkpoints;
 #[cfg(test)]
 mod ends;
 #[cfg(test)]
+mod failing;
+#[cfg(test)]
 mod fresh;
+#[cfg(test)]
+mod full;
 #[cfg(test)]
 mod machine;
 #[cfg(test)]
