@@ -7,12 +7,12 @@ ghost use Rattle.doc_board.specs.Lawful.{AreLawful};
 use crate::stop::Stop;
 use doc_board::laws::recorded;
 use doc_board::{Board, Outcome};
-use repl_messages::{Body, Fed, Revision};
+use repl_messages::{Bodies, Body, Fed, Revision};
 use sg_history::{
     ChannelName, Channels, Digest, DocId, Key, Log, Name, Options, RevId, Revs, Row, Rows,
     take_journal,
 };
-use sg_outside::Bytes;
+use sg_outside::{Bytes, Memory};
 use std::alloc::Global;
 use sync_resolve::{Resolved, resolve};
 use sync_syntax::{Program, parse};
@@ -121,14 +121,24 @@ fn stored(
     Ok(count)
 }
 
-/// How many of these rows are answered with a body, or as removed.
-pub fn bodies(
+/// What a look for the bodies of these rows answers.
+pub fn look<G: Ground>(
     alloc: Global,
-    ground: &mut SoloGround,
+    ground: &mut G,
+    user: &Name,
+    rows: &[Row],
+) -> Result<Bodies, Memory> {
+    ground.bodies(alloc, user, &OPTIONS, rows, ANCESTORS)
+}
+
+/// How many of these rows are answered with a body, or as removed.
+pub fn bodies<G: Ground>(
+    alloc: Global,
+    ground: &mut G,
     user: &Name,
     rows: &[Row],
 ) -> Result<u64, Stop> {
-    let found = ground.bodies(alloc, user, &OPTIONS, rows, ANCESTORS)?;
+    let found = look(alloc, ground, user, rows)?;
     let mut count = 0u64;
     for answer in found.answers.as_slice() {
         if !matches!(answer, Body::NoRev) {
@@ -139,9 +149,9 @@ pub fn bodies(
 }
 
 /// The rows of all documents after a key.
-pub fn rows_of(
+pub fn rows_of<G: Ground>(
     alloc: Global,
-    ground: &mut SoloGround,
+    ground: &mut G,
     user: &Name,
     since: &Key,
 ) -> Result<Rows, Stop> {

@@ -1,10 +1,11 @@
-//! Does work of histories, gates and the sync language, so that what it takes can be measured from outside. The first word is the
-//! job. `draw`, `turn` and `lock` take how many threads and how often; `set` and `get` besides how many clients have checkpoints for each
+//! Does work of histories, gates and the sync language, so that what it takes can be measured from outside. The first word is the job.
+//! `draw`, `turn` and `lock` take how many threads and how often; `set` and `get` besides how many clients have checkpoints for each
 //! thread, and `keep` how many bytes they have and how many there are. All others take a file: `entries`, `apply`, `channels`, `roles` and
-//! `periods` a journal and how often; `propose`, `pull`, `lose`, `filter` and `names` a journal and how many; `extend`, `repeat`, `deny`,
-//! `offer` and `bodies` besides a leaf of its document `d`; `share`, `share_costly` and `wait` besides how many threads; `parse`, `print`,
-//! `resolve` and `fault` a function and how often; `judge`, `judge_user`, `judge_change` and `judge_both` besides a document, `member` the
-//! name of a member, how often and a document, and `plain_channels`, `plain_count` and `plain_pass` any file, how often and a document.
+//! `periods` a journal and how often, `look` too; `propose`, `pull`, `lose`, `filter` and `names` a journal and how many; `extend`,
+//! `repeat`, `deny`, `offer` and `bodies` besides a leaf of its document `d`; `share`, `share_costly` and `wait` besides how many threads;
+//! `parse`, `print`, `resolve` and `fault` a function and how often; `judge`, `judge_user`, `judge_change` and `judge_both` besides a
+//! document, `member` the name of a member, how often and a document, and `plain_channels`, `plain_count` and `plain_pass` any file, how
+//! often and a document.
 #![tactic(auto)]
 
 mod checkpoints;
@@ -80,7 +81,7 @@ fn judged_by_two<R: Threads + Sync, F: Files>(
     text_of(alloc, u64::from(found))
 }
 
-/// How many revisions are stored that threads propose at grounds of one gate; or how long one is waited for.
+/// How many revisions are stored that threads propose at grounds of one gate; or how long one is waited for, or a look takes.
 fn shared<R: Threads + Wait + Clock + Sync, F: Files>(
     rt: &R,
     alloc: Global,
@@ -88,6 +89,10 @@ fn shared<R: Threads + Wait + Clock + Sync, F: Files>(
     asked: &Asked,
 ) -> Result<String, Stop> {
     let journal = load(alloc, files, asked.of.as_str())?;
+    if asked.job.as_str() == "look" {
+        let found = sharing::longest_look(rt, alloc, journal, asked.count)?;
+        return text_of(alloc, found);
+    }
     let threads = number_of(asked.document.as_str());
     let found = sharing::counted(rt, alloc, journal, asked.job.as_str(), threads, asked.count)?;
     text_of(alloc, found)
@@ -168,7 +173,7 @@ fn run<R: Threads + Wait + Clock + Sync, F: Files>(
         "draw" | "turn" | "lock" => Ok(of_passes(rt, alloc, asked)?),
         "set" | "get" | "keep" => of_checkpoints(rt, alloc, asked),
         "judge_both" => judged_by_two(rt, alloc, files, asked),
-        "share" | "share_costly" | "wait" => shared(rt, alloc, files, asked),
+        "share" | "share_costly" | "wait" | "look" => shared(rt, alloc, files, asked),
         _ => of_file(alloc, files, asked),
     }
 }

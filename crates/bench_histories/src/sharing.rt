@@ -1,22 +1,23 @@
 //! A board of a journal that threads share behind a gate: each proposes revisions at a ground of its own; or one does, and another pass
-//! takes turn after turn, which tells how long a turn is held.
+//! takes turn after turn, which tells how long a turn is held; or one looks for bodies, a turn each.
 
 ghost use Rattle.std.specs.Prelude.{◌≡◌, ◌≤◌, ◌^◌, [], length, IfOk};
 ghost use Rattle.write_path.specs.Shared.{Rests};
 
-use crate::grounds::{FUNCTION, is_stored, log_of, program_of};
+use crate::grounds::{FUNCTION, START, bodies, is_stored, log_of, look, program_of, rows_of};
 use crate::stop::Stop;
 use doc_board::Board;
 use seq_gate::laws::turns;
 use seq_gate::{Gate, Pass, open};
-use sg_history::Name;
+use sg_history::{Name, Row};
 use sg_outside::Bytes;
 use std::alloc::Global;
+use std::io;
 use std::sync::Wait;
 use std::thread::{JoinHandle, Scope, Threads, join, scope, scope_env};
 use std::time::{Clock, Instant};
 use sync_resolve::Resolved;
-use write_path::{SharedGround, Shelf};
+use write_path::{Ground, SharedGround, Shelf};
 
 /// A sync function that takes some 1,000 visits.
 const COSTLY: &str =
@@ -123,6 +124,15 @@ struct Waiting<'g, R: Clock + Wait + Sync> {
     ghost here: { pass.gate ≡ gate.now },
 }
 
+/// How many microseconds have passed since then; none where the clock can't be read.
+fn passed_since<R: Clock>(rt: &R, then: io::Result<Instant>) -> u64 {
+    let passed = match then {
+        Ok(start) => start.elapsed(rt).map_or(0, |time| time.as_micros()),
+        Err(_) => 0,
+    };
+    u64::try_from(passed).unwrap_or(u64::MAX)
+}
+
 /// Takes a turn, and tells how many microseconds it was waited for.
 fn turn_after<R: Clock + Wait>(rt: &R, gate: &Gate<Shelf>, pass: Pass<Shelf>) -> (Pass<Shelf>, u64)
     requires { pass.gate ≡ gate.now }
@@ -131,11 +141,8 @@ fn turn_after<R: Clock + Wait>(rt: &R, gate: &Gate<Shelf>, pass: Pass<Shelf>) ->
     turns();
     let before = Instant::now(rt);
     let turn = pass.enter(rt, gate);
-    let waited = match before {
-        Ok(start) => start.elapsed(rt).map_or(0, |time| time.as_micros()),
-        Err(_) => 0,
-    };
-    (turn.leave(gate), u64::try_from(waited).unwrap_or(u64::MAX))
+    let waited = passed_since(rt, before);
+    (turn.leave(gate), waited)
 }
 
 impl<'g, R: Clock + Wait + Sync> Job for Waiting<'g, R> {
@@ -274,4 +281,51 @@ pub fn counted<R: Threads + Wait + Clock + Sync>(
         return Ok(wait_beside(rt, alloc, &gate, pass, &work));
     }
     Ok(by_threads(rt, alloc, &gate, pass, &work, threads))
+}
+
+/// How many microseconds a look for the bodies of these rows takes.
+fn look_time<R: Clock, G: Ground>(
+    rt: &R,
+    alloc: Global,
+    ground: &mut G,
+    user: &Name,
+    rows: &[Row],
+) -> Result<u64, Stop> {
+    let before = Instant::now(rt);
+    let found = look(alloc, ground, user, rows);
+    let took = passed_since(rt, before);
+    drop(found?);
+    Ok(took)
+}
+
+/// The most microseconds that one of so many looks for the bodies of all rows takes, behind a first one, which reads the log.
+fn longest_of<R: Clock, G: Ground>(
+    rt: &R,
+    alloc: Global,
+    ground: &mut G,
+    user: &Name,
+    count: u64,
+) -> Result<u64, Stop> {
+    let rows = rows_of(alloc, ground, user, &START)?;
+    if bodies(alloc, ground, user, rows.as_slice())? != rows.as_slice().len() as u64 {
+        return Err(Stop::Board);
+    }
+    let mut longest = 0u64;
+    for _ in 0..count {
+        longest = longest.max(look_time(rt, alloc, ground, user, rows.as_slice())?);
+    }
+    Ok(longest)
+}
+
+/// The most microseconds that one of so many looks takes for the bodies of all rows of a journal, each of which is one turn at a gate.
+pub fn longest_look<R: Wait + Clock>(
+    rt: &R,
+    alloc: Global,
+    journal: Bytes,
+    count: u64,
+) -> Result<u64, Stop> {
+    let user = Name::parse(alloc, "ann")?;
+    let (gate, pass) = open(alloc, shelf_of(alloc, journal)?)?;
+    let mut ground = SharedGround::new(rt, &gate, pass);
+    longest_of(rt, alloc, &mut ground, &user, count)
 }
