@@ -11,7 +11,7 @@ const ALL_ONES: u32 = 0xffff_ffff;
 
 /// CRC-32 (IEEE 802.3: reflected, polynomial EDB88320, start and final exclusive or FFFFFFFF) of
 /// all payloads of messages, replies and errors that went in one direction so far.
-#[derive(Clone, Copy, Debug, PartialEq, Eq)]
+#[derive(Clone, Copy, PartialEq, Eq)]
 pub struct Crc {
     pub value: u32,
 }

@@ -25,7 +25,7 @@ pub enum Kind {
 }
 
 /// One frame. The payload is a piece of a message, or an acknowledgement's count as a varint.
-#[derive(Clone, Copy, Debug)]
+#[derive(Clone, Copy)]
 pub struct Frame<'a> {
     /// The number of the message; a reply has that of its request.
     pub number: u64,

@@ -8,14 +8,14 @@ use std::alloc::Global;
 use std::marker::Model;
 
 /// One property.
-#[derive(Debug, Drop)]
+#[derive(Drop)]
 pub struct Prop {
     pub key: String,
     pub value: String,
 }
 
 /// Properties, in the order in which they stand. Contracts see a list of pairs of bytes.
-#[derive(Debug, Drop)]
+#[derive(Drop)]
 pub struct Props {
     items: Vec<Prop>,
 }

@@ -37,7 +37,7 @@ impl From<AllocError> for DocFault {
 }
 
 /// A document: an object, which contracts see as its node.
-#[derive(Debug, Drop)]
+#[derive(Drop)]
 pub struct Doc {
     object: Node,
 }

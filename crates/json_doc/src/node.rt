@@ -15,7 +15,7 @@ use std::collections::btree_map::Iter;
 /// integer between -9007199254740991 and 9007199254740991: one written with a fraction or an
 /// exponent, `-0`, or a greater one.
 #[cycle(node)]
-#[derive(Debug, Drop)]
+#[derive(Drop)]
 pub enum Node {
     Null,
     Bool(bool),
@@ -28,7 +28,7 @@ pub enum Node {
 
 /// A list of nodes, which `nodes_trees` shows as trees.
 #[cycle(node)]
-#[derive(Debug, Drop)]
+#[derive(Drop)]
 pub struct Nodes {
     items: Vec<Node>,
 }
@@ -36,7 +36,7 @@ pub struct Nodes {
 /// The members of an object, which `members_fields` shows: each name once, in the order of the
 /// names' bytes.
 #[cycle(node)]
-#[derive(Debug, Drop)]
+#[derive(Drop)]
 pub struct Members {
     map: BTreeMap<String, Node>,
 }

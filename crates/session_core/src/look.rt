@@ -3,7 +3,7 @@
 use sg_names::List;
 
 /// What a look is for.
-#[derive(Clone, Copy, Debug, PartialEq, Eq)]
+#[derive(Clone, Copy, PartialEq, Eq)]
 pub enum Purpose {
     /// The rows of a feed.
     Feed,
@@ -16,7 +16,7 @@ pub enum Purpose {
 }
 
 /// A look at the history: the length that it had then, and what the look was for.
-#[derive(Clone, Copy, Debug, PartialEq, Eq)]
+#[derive(Clone, Copy, PartialEq, Eq)]
 pub struct Look {
     pub front: u64,
     pub purpose: Purpose,

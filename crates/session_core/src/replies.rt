@@ -19,7 +19,7 @@ use sg_outside::Memory;
 use std::alloc::{AllocError, Global};
 
 /// Who is answered: the number of a request and its marks.
-#[derive(Clone, Copy, Debug, PartialEq, Eq)]
+#[derive(Clone, Copy, PartialEq, Eq)]
 pub struct Asker {
     pub number: u64,
     pub urgent: bool,
@@ -27,7 +27,7 @@ pub struct Asker {
 }
 
 /// What a request is answered by.
-#[derive(Clone, Copy, Debug, PartialEq, Eq)]
+#[derive(Clone, Copy, PartialEq, Eq)]
 pub enum Awaited {
     /// What is known of the revisions that it offers, by proposeChanges or by changes.
     Asked { proposed: bool },

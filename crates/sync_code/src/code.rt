@@ -8,7 +8,7 @@ use sync_tokens::Place;
 
 /// An expression.
 #[cycle(code)]
-#[derive(Debug, Drop)]
+#[derive(Drop)]
 pub enum Code {
     Undefined(Place),
     Null(Place),
@@ -29,7 +29,7 @@ pub enum Code {
 
 /// What may follow an expression.
 #[cycle(code)]
-#[derive(Debug, Drop)]
+#[derive(Drop)]
 pub enum Tail {
     /// `.name`
     Member(DocText),
@@ -40,14 +40,14 @@ pub enum Tail {
 }
 
 /// A variable where it is declared or written, and its place.
-#[derive(Debug, Drop)]
+#[derive(Drop)]
 pub struct Held {
     pub place: Place,
     pub slot: Slot,
 }
 
 /// Variables that are declared together, each with the value that it is given.
-#[derive(Debug, Drop)]
+#[derive(Drop)]
 pub struct Opening {
     pub place: Place,
     pub declares: Declares,
@@ -55,7 +55,7 @@ pub struct Opening {
 }
 
 /// A statement that may stand in the head of a `for`.
-#[derive(Debug, Drop)]
+#[derive(Drop)]
 pub enum Plain {
     /// `name = value`, `name += value` or `name -= value`
     Write(Held, Writes, Boxed<Code>),
@@ -67,14 +67,14 @@ pub enum Plain {
 }
 
 /// How a `for` begins.
-#[derive(Debug, Drop)]
+#[derive(Drop)]
 pub enum Begin {
     Declare(Opening),
     Simple(Plain),
 }
 
 /// A statement.
-#[derive(Debug, Drop)]
+#[derive(Drop)]
 pub enum Step {
     Block(Place, Items<Step>),
     /// `;`

@@ -17,7 +17,7 @@ use sync_tokens::Place;
 
 /// The code of a program: its parameters, its body, how many slots its variables have, and how many
 /// of its texts are numbered.
-#[derive(Debug, Drop)]
+#[derive(Drop)]
 pub struct ProgramCode {
     pub first: Slot,
     pub second: Option<Slot>,

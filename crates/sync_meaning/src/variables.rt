@@ -15,7 +15,7 @@ use sync_values::{Text, Value};
 /// A variable where it is used: its name, its number and its slot. The function's own variables,
 /// which are the parameters and those of `var`, have the number 0, and each `let` and `const` has
 /// another.
-#[derive(Debug, Drop)]
+#[derive(Drop)]
 pub struct Slot {
     pub name: DocText,
     pub number: u64,
@@ -25,7 +25,7 @@ pub struct Slot {
 }
 
 /// A text of the program where it is used, and its number among the longer ones.
-#[derive(Debug, Drop)]
+#[derive(Drop)]
 pub struct Literal {
     pub text: DocText,
     /// Nothing rests on this but whether a copy that the run has is found.

@@ -19,7 +19,7 @@ use std::alloc::Global;
 use std::marker::Model;
 
 /// A program that a text is, which contracts see as its tree.
-#[derive(Debug, Drop)]
+#[derive(Drop)]
 pub struct Program {
     tree: tree::Program,
 }

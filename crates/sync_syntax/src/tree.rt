@@ -32,7 +32,7 @@ pub enum Prefix {
 
 /// An expression. One that begins with another has that one's place.
 #[cycle(tree)]
-#[derive(Debug, Drop)]
+#[derive(Drop)]
 pub enum Expr {
     Undefined(Place),
     Null(Place),
@@ -53,7 +53,7 @@ pub enum Expr {
 
 /// What may follow an expression.
 #[cycle(tree)]
-#[derive(Debug, Drop)]
+#[derive(Drop)]
 pub enum Suffix {
     /// `.name`
     Member(DocText),
@@ -64,7 +64,7 @@ pub enum Suffix {
 }
 
 /// A name where it is declared, and its place.
-#[derive(Debug, Drop)]
+#[derive(Drop)]
 pub struct Named {
     pub place: Place,
     pub name: DocText,
@@ -79,7 +79,7 @@ pub enum Declares {
 }
 
 /// Variables that are declared together, each with the value that it is given.
-#[derive(Debug, Drop)]
+#[derive(Drop)]
 pub struct Declaration {
     pub place: Place,
     pub declares: Declares,
@@ -87,7 +87,7 @@ pub struct Declaration {
 }
 
 /// How a variable is written.
-#[derive(Clone, Copy, Debug, PartialEq, Eq)]
+#[derive(Clone, Copy, PartialEq, Eq)]
 pub enum Writes {
     Set,
     Add,
@@ -95,7 +95,7 @@ pub enum Writes {
 }
 
 /// A statement that may stand in the head of a `for`.
-#[derive(Debug, Drop)]
+#[derive(Drop)]
 pub enum Simple {
     /// `name = value`, `name += value` or `name -= value`
     Write(Named, Writes, Boxed<Expr>),
@@ -107,13 +107,13 @@ pub enum Simple {
 }
 
 /// How a `for` begins.
-#[derive(Debug, Drop)]
+#[derive(Drop)]
 pub enum Start {
     Declare(Declaration),
     Simple(Simple),
 }
 
-#[derive(Debug, Drop)]
+#[derive(Drop)]
 pub enum Statement {
     Block(Place, Items<Statement>),
     /// `;`
@@ -130,7 +130,7 @@ pub enum Statement {
 }
 
 /// A function of one or two parameters, with the place of its body.
-#[derive(Debug, Drop)]
+#[derive(Drop)]
 pub struct Program {
     pub name: Option<DocText>,
     pub first: Named,

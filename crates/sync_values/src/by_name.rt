@@ -15,7 +15,7 @@ use std::marker::Model;
 
 /// What stands under names, which contracts see as the list of both, in the order in which they were
 /// pushed. Of two of one name the later counts. Where the names rise, one is found by halves.
-#[derive(Debug, Drop)]
+#[derive(Drop)]
 pub struct ByName<T> {
     items: Items<(DocText, T)>,
     rising: bool,

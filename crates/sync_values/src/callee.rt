@@ -3,7 +3,7 @@
 use crate::value::Value;
 
 /// A method of values.
-#[derive(Clone, Copy, Debug, PartialEq, Eq)]
+#[derive(Clone, Copy, PartialEq, Eq)]
 pub enum Method {
     IndexOf,
     Concat,
@@ -11,7 +11,7 @@ pub enum Method {
 }
 
 /// A function that is built in.
-#[derive(Clone, Copy, Debug, PartialEq, Eq)]
+#[derive(Clone, Copy, PartialEq, Eq)]
 pub enum Builtin {
     Channel,
     Access,
@@ -24,7 +24,7 @@ pub enum Builtin {
 }
 
 /// What an expression evaluates to. All but `Value` come where a call follows.
-#[derive(Debug, Drop)]
+#[derive(Drop)]
 pub enum Target {
     Value(Value),
     Method(Value, Method),

@@ -8,7 +8,7 @@ use std::marker::Model;
 use std::rc::Rc;
 
 /// An `Rc` that contracts see as its value.
-#[derive(Debug, Drop)]
+#[derive(Drop)]
 pub struct Shared<T> {
     inner: Rc<T>,
 }

@@ -38,7 +38,7 @@ fn units(text: &[u8]) -> usize
 }
 
 /// A text with how many units of UTF-16 it has, which contracts see as the text.
-#[derive(Debug, Drop)]
+#[derive(Drop)]
 struct Counted {
     text: DocText,
     count: usize,
@@ -77,7 +77,7 @@ impl Counted {
 }
 
 /// How a text is kept: a short one in its place, a longer one with its other owners.
-#[derive(Debug, Drop)]
+#[derive(Drop)]
 enum Kept {
     Short(ArrayString<16>),
     Long(Shared<Counted>),
@@ -85,7 +85,7 @@ enum Kept {
 
 /// A text, which contracts see as its bytes in UTF-8. One of at most 16 bytes takes no memory but
 /// its place, and of a longer one no copy is made, and its units are counted once.
-#[derive(Debug, Drop)]
+#[derive(Drop)]
 pub struct Text {
     kept: Kept,
 }

@@ -15,7 +15,7 @@ use std::alloc::Global;
 
 /// A value. Of an opaque number nothing is known but that it is a number. Of two members of one
 /// name the later counts. Its lists, members and longer texts are shared, so that no copy of them is made.
-#[derive(Debug, Drop)]
+#[derive(Drop)]
 pub enum Value {
     Undefined,
     Null,
