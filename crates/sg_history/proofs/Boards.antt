@@ -32,6 +32,7 @@ side_again a b c first second text old there =
 pub after_itself : (b : BoardState) → After b b
 after_itself b =
     record {
+      limit = refl;
       book = later_itself (board_book b);
       log = extends_itself b.log;
       count = omega arith;
@@ -43,6 +44,7 @@ after_itself b =
 pub after_again : (a b c : BoardState) → After a b → After b c → After a c
 after_again a b c first second =
     record {
+      limit = first.limit ∙ second.limit;
       book = later_again (board_book a) (board_book b) (board_book c) first.book second.book;
       log = extends_again a.log b.log c.log first.log second.log;
       count = sums.0;

@@ -1,6 +1,9 @@
 -- books of histories, and later books
-use Rattle.std.proofs.Common.{◌≡◌, ℕ, zero, suc, ◌+◌, ◌<◌, ◌≤◌, ◌≢◌, List, [], ◌∷◌, ◌++◌, length, take, reverse, refl, sym, ap, ◌∙◌, subst, arith, Option, Some, None}
+use Rattle.std.proofs.Common.{◌≡◌, ℕ, zero, suc, ◌+◌, ◌<◌, ◌≤◌, ◌≢◌, Bool, true, false, ◌||◌, List, [], ◌∷◌, ◌++◌, length, take, reverse, refl, sym, ap, ◌∙◌, subst, arith, Option, Some, None, IsTrue, if◌then◌else◌}
 use Rattle.std.specs.Prelude.{slice_get}
+use Rattle.std.specs.Str.{bytes_eq}
+use Rattle.std.specs.Cmp.Lexicographic.{bytes_decides}
+use Rattle.std.proofs.lemmas.Bool.{false≢true}
 use Rattle.std.proofs.Math.Seq.{take-suc}
 use Rattle.std.proofs.lemmas.List.{reverse-append, length-reverse, length-take-le, take_all}
 use Rattle.std.proofs.lemmas.Option.{none-some, slice_get_within, get_or_from_slice_get}
@@ -8,9 +11,9 @@ use Rattle.sg_names.specs.declared.rev_id.RevId.{RevId}
 use Rattle.sg_history.specs.declared.book.Waiting.{Waiting}
 use Rattle.sg_history.specs.declared.entries.Entry.{Entry}
 use Rattle.sg_history.specs.declared.entries.Write.{Write}
-use Rattle.sg_history.specs.History.{past, Extends, write_to}
+use Rattle.sg_history.specs.History.{past, Extends, as_write, of_document, write_to}
 use Rattle.sg_history.specs.Current.{Sequenced, sequenced_before, writes_to, last_write, sequenced_or, write_of_rev, with_rev_or}
-use Rattle.sg_history.specs.Book.{Book, book_of, waiting_at, entry_or, book_with, write_at, written_in, Keeps, Later, IsLastWrite, writes_up_to, first_write, first_of_rev, last_write_up_to, write_of_rev_up_to}
+use Rattle.sg_history.specs.Book.{Book, book_of, waiting_at, entry_or, book_with, write_at, written_in, same_written, tied, Keeps, Later, IsLastWrite, writes_up_to, first_write, first_of_rev, last_write_up_to, write_of_rev_up_to}
 
 -- what is kept is written as it was
 write_kept : (earlier later : Book) (doc : List ℕ) (number : ℕ) (w : Write) → Keeps earlier later → write_at earlier doc number ≡ Some w → write_at later doc number ≡ Some w
@@ -22,18 +25,58 @@ write_kept earlier later doc number w keeps h = go (earlier number) refl h
 
 pub later_itself : (book : Book) → Later book book
 later_itself book =
-    record { kept = λ number e h. h; above = λ doc old new w v h none g. absurd (none-some _ (sym none ∙ g)) }
+    record { kept = λ number e h. h; above = λ number e none at old other there tie. absurd (none-some _ (sym none ∙ at)) }
 
 pub later_again : (a b c : Book) → Later a b → Later b c → Later a c
 later_again a b c first second =
     record {
       kept = λ number e h. second.kept number e (first.kept number e h);
-      above = λ doc old new w v h none g. go doc old new w v h none g (write_at b doc new) refl;
+      above = λ number e none at old other there tie. go number e none at old other there tie (b number) refl;
     }
   where
-    go : (doc : List ℕ) (old new : ℕ) (w v : Write) → write_at a doc old ≡ Some w → write_at a doc new ≡ None → write_at c doc new ≡ Some v → (o : Option Write) → write_at b doc new ≡ o → old < new
-    go doc old new w v h none g None is = second.above doc old new w v (write_kept a b doc old w first.kept h) is g
-    go doc old new w v h none g (Some u) is = first.above doc old new w u h none is
+    go : (number : ℕ) (e : Entry) → a number ≡ None → c number ≡ Some e → (old : ℕ) (other : Entry) → a old ≡ Some other → IsTrue (tied other e)
+        → (o : Option Entry) → b number ≡ o → old < number
+    go number e none at old other there tie None is = second.above number e is at old other (first.kept old other there) tie
+    go number e none at old other there tie (Some u) is =
+        first.above number e none (is ∙ sym (second.kept number u is) ∙ at) old other there tie
+
+-- what is seen of the entries of a later book that are tied to each other stands above what was seen of the earlier one
+pub tied_above : {V : Type 0} (earlier later : Book) (view : Option Entry → Option V) → Later earlier later → view None ≡ None
+    → ((a b : Entry) (v w : V) → view (Some a) ≡ Some v → view (Some b) ≡ Some w → tied a b ≡ true)
+    → (old new : ℕ) (v w : V) → view (earlier old) ≡ Some v → view (earlier new) ≡ None → view (later new) ≡ Some w → old < new
+tied_above earlier later view is_later none tie old new v w there free at = go (earlier old) refl (earlier new) refl (later new) refl
+  where
+    go : (p : Option Entry) → earlier old ≡ p → (q : Option Entry) → earlier new ≡ q → (r : Option Entry) → later new ≡ r → old < new
+    go None is q same r now = absurd (none-some _ (sym (ap view is ∙ none) ∙ there))
+    go (Some a) is (Some u) same r now = absurd (none-some _ (sym free ∙ ap view same ∙ ap view (sym (is_later.kept new u same)) ∙ at))
+    go (Some a) is None same None now = absurd (none-some _ (sym (ap view now ∙ none) ∙ at))
+    go (Some a) is None same (Some e) now =
+        is_later.above new e same now old a is (tie a e v w (sym (ap view is) ∙ there) (sym (ap view now) ∙ at))
+
+chosen_some : (b : Bool) (x w : Write) → (if b then Some x else None) ≡ Some w → b ≡ true
+chosen_some true x w h = refl
+chosen_some false x w h = absurd (none-some _ h)
+
+same_documents : (o p : Option Write) (doc : List ℕ) (w v : Write) → of_document o doc ≡ Some w → of_document p doc ≡ Some v → same_written o p ≡ true
+same_documents None p doc w v h g = absurd (none-some _ h)
+same_documents (Some x) None doc w v h g = absurd (none-some _ g)
+same_documents (Some x) (Some y) doc w v h g =
+    let one = (bytes_decides x.doc doc).0 (chosen_some (bytes_eq x.doc doc) x w h) in
+    let other = (bytes_decides y.doc doc).0 (chosen_some (bytes_eq y.doc doc) y v g) in
+    (bytes_decides x.doc y.doc).1 (one ∙ sym other)
+
+tied_first : (a b c : Bool) → a ≡ true → (a || b || c) ≡ true
+tied_first true b c h = refl
+tied_first false b c h = absurd (false≢true h)
+
+tied_writes : (doc : List ℕ) (a b : Entry) (w v : Write) → write_to a doc ≡ Some w → write_to b doc ≡ Some v → tied a b ≡ true
+tied_writes doc a b w v h g = tied_first _ _ _ (same_documents (as_write a) (as_write b) doc w v h g)
+
+-- in a later book, a write of a document that the earlier one lacks stands above each that it has
+pub write_above : (earlier later : Book) → Later earlier later → (doc : List ℕ) (old new : ℕ) (w v : Write) → write_at earlier doc old ≡ Some w
+    → write_at earlier doc new ≡ None → write_at later doc new ≡ Some v → old < new
+write_above earlier later is_later doc old new w v there free at =
+    tied_above earlier later (λ (o : Option Entry). written_in o doc) is_later refl (tied_writes doc) old new w v there free at
 
 -- the same entry in a longer list
 get_more : {X : Type 0} (xs ys : List X) (k : ℕ) (x : X) → slice_get xs k ≡ Some x → slice_get (xs ++ ys) k ≡ Some x
@@ -71,16 +114,12 @@ beyond h (suc place) low is = omega (arith, past_of_none h place is)
 pub later_extended : (g h : List Entry) → Extends g h → Later (book_of g) (book_of h)
 later_extended g h more =
     subst (λ (later : List Entry). Later (book_of g) (book_of later)) (sym more.1)
-    (record { kept = book_kept g more.0; above = λ doc old new w v is none at. go doc old new w v is none at })
+    (record { kept = book_kept g more.0; above = λ number e none at old other there tie. go number e none at old other there })
   where
-    go : (doc : List ℕ) (old new : ℕ) (w v : Write) → write_at (book_of g) doc old ≡ Some w → write_at (book_of g) doc new ≡ None → write_at (book_of (g ++ more.0)) doc new ≡ Some v → old < new
-    go doc old new w v is none at =
-        beside (book_of g new) refl
-      where
-        beside : (o : Option Entry) → book_of g new ≡ o → old < new
-        beside None at_new = omega (arith, (write_within g doc old w is).1, beyond g new (write_within (g ++ more.0) doc new v at).0 at_new)
-        beside (Some e) at_new =
-            absurd (none-some _ (sym none ∙ ap (λ (o : Option Entry). written_in o doc) at_new ∙ ap (λ (o : Option Entry). written_in o doc) (sym (book_kept g more.0 new e at_new)) ∙ at))
+    go : (number : ℕ) (e : Entry) → book_of g number ≡ None → book_of (g ++ more.0) number ≡ Some e → (old : ℕ) (other : Entry) → book_of g old ≡ Some other
+        → old < number
+    go number e none at old other there =
+        omega (arith, (within g old other there).1, beyond g number (within (g ++ more.0) number e at).0 none)
 
 shifted : (e f : Entry) (log h : List Entry) → Keeps (book_of (e ∷ log)) (book_of (f ∷ h)) → Keeps (book_of log) (book_of h)
 shifted e f log h keeps zero x is = absurd (none-some _ is)
@@ -125,7 +164,7 @@ same_writes earlier later doc last is_later is_last (suc number) low =
   where
     none : (o : Option Write) → write_at later doc (suc number) ≡ o → write_at earlier doc (suc number) ≡ None → write_at later doc (suc number) ≡ None
     none None is h = is
-    none (Some v) is h = absurd (omega (arith, low, is_later.above doc last.seq (suc number) last.write v is_last.there h is))
+    none (Some v) is h = absurd (omega (arith, low, write_above earlier later is_later doc last.seq (suc number) last.write v is_last.there h is))
 
     same : (o : Option Write) → write_at earlier doc (suc number) ≡ o → write_at later doc (suc number) ≡ write_at earlier doc (suc number)
     same None h = none (write_at later doc (suc number)) refl h ∙ sym h

@@ -1,5 +1,5 @@
 -- each text is in a grammar or it is not
-use Rattle.std.proofs.Common.{◌≡◌, ◌≢◌, ◌⊎◌, ℕ, ◌+◌, ◌-◌, ◌*◌, ◌/◌, ◌%◌, ◌<◌, ◌≤◌, ◌^◌, Bool, true, false, ◌&&◌, ◌||◌, not, List, [], ◌∷◌, ◌++◌, length, get_or, map, arith, refl, sym, ap, ◌∙◌, inl, inr, codes, decimal, IsUtf8, Option, Some, None}
+use Rattle.std.proofs.Common.{◌≡◌, ◌≢◌, ◌⊎◌, ℕ, ◌+◌, ◌-◌, ◌*◌, ◌/◌, ◌%◌, ◌<◌, ◌≤◌, ◌^◌, Bool, true, false, ◌&&◌, ◌||◌, not, List, [], ◌∷◌, ◌++◌, length, get_or, map, arith, refl, sym, ap, ◌∙◌, subst, inl, inr, codes, decimal, IsUtf8, Option, Some, None}
 use Rattle.std.specs.Prelude.{nat_eq, nat_lt, nat_le, if◌then◌else◌}
 use Rattle.std.specs.List.{join_with_byte, list_all}
 use Rattle.std.specs.Ordering.{nat_cmp}
@@ -29,11 +29,13 @@ use Rattle.sg_names.specs.declared.grants.Grantee.{Grantee}
 use Rattle.sg_names.specs.declared.grants.Grantee.TheVariants.{User, Role}
 use Rattle.sg_names.specs.declared.rev_id.RevId.{RevId}
 use Rattle.sg_names.specs.declared.role_grants.RoleGrant.{RoleGrant}
-use Rattle.sg_history.specs.Faults.{Grammar, IsText, document, revision, revisions, mark, body, writer, number, name, names, channels, grants, role_grants}
-use Rattle.sg_history.specs.Journal.{by_text, is_by, mark_text}
+use Rattle.sg_history.specs.Faults.{Grammar, IsText, document, revision, revisions, deleted, body, writer, number, name, names, channels, grants, role_grants, sync_text}
+use Rattle.sg_history.specs.Journal.{by_text, is_by, deleted_text}
+use Rattle.sg_history.specs.SyncText.{is_sync_text}
 use Rattle.sg_history.specs.Pieces.{pieces}
 use Rattle.sg_history.proofs.LineTexts.{joined_pieces, pieces_joined}
 use Rattle.sg_history.proofs.PieceLemmas.{pieces-some}
+use Rattle.sg_history.proofs.SyncTexts.{same_sync, sync_is_hex}
 
 -- a statement holds, or it does not
 abbrev pub Decided : Type 0 → Type 0
@@ -262,16 +264,16 @@ names_of admits apart text =
     record { items = h.0; admitted = parts.0; tested = parts.1; spelled = h.2 ∙ ap list_text (sym (map_id h.0)) })
     (list_of (λ n. n) admits apart (one_text admits) (λ v. rises (slice_cmp nat_cmp) v) refl text)
 
-mark_of : (text : List ℕ) → Decided ((v : Bool) × (text ≡ mark_text v))
-mark_of text = elim (same_text text (mark_text false)) [
+deleted_of : (text : List ℕ) → Decided ((v : Bool) × (text ≡ deleted_text v))
+deleted_of text = elim (same_text text (deleted_text false)) [
   | inl is ↦ inl (false, is)
-  | inr apart_from ↦ elim (same_text text (mark_text true)) [
+  | inr apart_from ↦ elim (same_text text (deleted_text true)) [
     | inl is ↦ inl (true, is)
     | inr none ↦ inr (λ h. neither h.0 apart_from none h.1)
   ]
 ]
   where
-    neither : (v : Bool) → text ≢ mark_text false → text ≢ mark_text true → text ≢ mark_text v
+    neither : (v : Bool) → text ≢ deleted_text false → text ≢ deleted_text true → text ≢ deleted_text v
     neither false apart_from none e = apart_from e
     neither true apart_from none e = none e
 
@@ -352,34 +354,6 @@ with_utf8 Is Spells text found = elim (utf8 text) [
   ]
 ]
 
--- each text is in a grammar or it is not
-pub text_decided : (g : Grammar) (text : List ℕ) → Decided (IsText g text)
-text_decided document text = both _ _ (utf8 text) (truth (is_doc_id text))
-text_decided revision text = with_utf8 (λ v. is_rev v ≡ true) (λ v. text ≡ rev_text v) text (revision_of text)
-text_decided revisions text =
-    with_utf8 (λ v. is_revs v ≡ true) (λ v. text ≡ revs_text v) text
-    (either_way _ ((v : List RevId) × (is_revs v ≡ true) × (text ≡ revs_text v)) (λ l. (l.items, l.admitted, l.spelled))
-    (λ h. record { items = h.0; admitted = h.1; tested = refl; spelled = h.2 }) (list_of rev_text is_rev revs_apart rev_item (λ v. true) refl text))
-text_decided mark text = mark_of text
-text_decided body text = truth (is_hex text)
-text_decided writer text = with_utf8 (λ v. is_by v ≡ true) (λ v. text ≡ by_text v) text (writer_of text)
-text_decided number text = both _ _ (utf8 text) (truth (is_decimal text))
-text_decided name text = both _ _ (utf8 text) (truth (is_name text))
-text_decided names text = with_utf8 (λ v. is_names v ≡ true) (λ v. text ≡ names_text v) text (names_of is_name names_apart text)
-text_decided channels text = with_utf8 (λ v. is_channels v ≡ true) (λ v. text ≡ channels_text v) text (names_of is_channel_name channels_apart text)
-text_decided grants text =
-    with_utf8 (λ v. is_grants v ≡ true) (λ v. text ≡ grants_text v) text
-    (either_way _ ((v : List Grant) × (is_grants v ≡ true) × (text ≡ grants_text v)) (λ l. (l.items, and_from _ _ l.admitted l.tested, l.spelled))
-    (λ h. let parts = and_parts (list_all is_grant h.0) (rises grant_cmp h.0) h.1 in
-    record { items = h.0; admitted = parts.0; tested = parts.1; spelled = h.2 })
-    (list_of grant_text is_grant grants_apart grant_of (λ v. rises grant_cmp v) refl text))
-text_decided role_grants text =
-    with_utf8 (λ v. is_role_grants v ≡ true) (λ v. text ≡ role_grants_text v) text
-    (either_way _ ((v : List RoleGrant) × (is_role_grants v ≡ true) × (text ≡ role_grants_text v)) (λ l. (l.items, and_from _ _ l.admitted l.tested, l.spelled))
-    (λ h. let parts = and_parts (list_all is_role_grant h.0) (rises role_grant_cmp h.0) h.1 in
-    record { items = h.0; admitted = parts.0; tested = parts.1; spelled = h.2 })
-    (list_of role_grant_text is_role_grant role_grants_apart role_grant_of (λ v. rises role_grant_cmp v) refl text))
-
 -- hexadecimal digits are those of bytes
 abbrev digit_of : ℕ → ℕ
 digit_of c = if nat_lt c 58 then c - 48 else c - 87
@@ -422,3 +396,52 @@ hex_of text h =
     let parts = and_parts (nat_lt 0 (length text) && nat_eq (length text % 2) 0) (list_all (λ b. is_hex_digit b) text) h in
     let even = (and_parts (nat_lt 0 (length text)) (nat_eq (length text % 2) 0) parts.0).1 in
     pairs text (grind (arith, even)) parts.1
+
+number_of : (text : List ℕ) → Decided ((v : ℕ) × (v < 2 ^ 64) × (text ≡ decimal v))
+number_of text = elim (number_below (2 ^ 64) text (omega arith)) [
+  | inl found ↦ inl found
+  | inr none ↦ inr (λ h. none h.0 h.1 h.2)
+]
+
+-- the text of a sync function that a text spells, if it spells one
+sync_text_of : (text : List ℕ) → Decided ((v : List ℕ) × (is_sync_text v ≡ true) × IsUtf8 v × (text ≡ hex_text v))
+sync_text_of text = elim (cases_Bool (is_hex text)) [
+  | inr other ↦ inr (λ h. false≢true (sym other ∙ ap is_hex h.3 ∙ sync_is_hex h.0 h.1))
+  | inl is ↦
+      let bytes = hex_of text is in
+      elim (both _ _ (truth (is_sync_text bytes.0)) (utf8 bytes.0)) [
+        | inl fits ↦ inl (bytes.0, fits.0, fits.1, bytes.1)
+        | inr none ↦
+            inr (λ h. let same = same_sync text bytes.0 h.0 is bytes.1 h.1 h.3 in
+            none (sym (ap is_sync_text same) ∙ h.1, subst IsUtf8 same h.2))
+      ]
+]
+
+-- each text is in a grammar or it is not
+pub text_decided : (g : Grammar) (text : List ℕ) → Decided (IsText g text)
+text_decided document text = both _ _ (utf8 text) (truth (is_doc_id text))
+text_decided revision text = with_utf8 (λ v. is_rev v ≡ true) (λ v. text ≡ rev_text v) text (revision_of text)
+text_decided revisions text =
+    with_utf8 (λ v. is_revs v ≡ true) (λ v. text ≡ revs_text v) text
+    (either_way _ ((v : List RevId) × (is_revs v ≡ true) × (text ≡ revs_text v)) (λ l. (l.items, l.admitted, l.spelled))
+    (λ h. record { items = h.0; admitted = h.1; tested = refl; spelled = h.2 }) (list_of rev_text is_rev revs_apart rev_item (λ v. true) refl text))
+text_decided deleted text = deleted_of text
+text_decided body text = truth (is_hex text)
+text_decided writer text = with_utf8 (λ v. is_by v ≡ true) (λ v. text ≡ by_text v) text (writer_of text)
+text_decided number text = number_of text
+text_decided name text = both _ _ (utf8 text) (truth (is_name text))
+text_decided names text = with_utf8 (λ v. is_names v ≡ true) (λ v. text ≡ names_text v) text (names_of is_name names_apart text)
+text_decided channels text = with_utf8 (λ v. is_channels v ≡ true) (λ v. text ≡ channels_text v) text (names_of is_channel_name channels_apart text)
+text_decided grants text =
+    with_utf8 (λ v. is_grants v ≡ true) (λ v. text ≡ grants_text v) text
+    (either_way _ ((v : List Grant) × (is_grants v ≡ true) × (text ≡ grants_text v)) (λ l. (l.items, and_from _ _ l.admitted l.tested, l.spelled))
+    (λ h. let parts = and_parts (list_all is_grant h.0) (rises grant_cmp h.0) h.1 in
+    record { items = h.0; admitted = parts.0; tested = parts.1; spelled = h.2 })
+    (list_of grant_text is_grant grants_apart grant_of (λ v. rises grant_cmp v) refl text))
+text_decided role_grants text =
+    with_utf8 (λ v. is_role_grants v ≡ true) (λ v. text ≡ role_grants_text v) text
+    (either_way _ ((v : List RoleGrant) × (is_role_grants v ≡ true) × (text ≡ role_grants_text v)) (λ l. (l.items, and_from _ _ l.admitted l.tested, l.spelled))
+    (λ h. let parts = and_parts (list_all is_role_grant h.0) (rises role_grant_cmp h.0) h.1 in
+    record { items = h.0; admitted = parts.0; tested = parts.1; spelled = h.2 })
+    (list_of role_grant_text is_role_grant role_grants_apart role_grant_of (λ v. rises role_grant_cmp v) refl text))
+text_decided sync_text text = sync_text_of text

@@ -1,23 +1,27 @@
 -- what is wrong with a line, and the lines of entries
-use Rattle.std.proofs.Common.{◌≡◌, ◌≢◌, ◌⊎◌, ℕ, zero, suc, ◌+◌, ◌-◌, Bool, true, false, List, [], ◌∷◌, ◌++◌, ◌<◌, length, arith, refl, sym, ap, ◌∙◌, subst, inl, inr, Option, Some, None, codes}
+use Rattle.std.proofs.Common.{◌≡◌, ◌≢◌, ◌⊎◌, ℕ, zero, suc, ◌+◌, ◌-◌, ◌*◌, ◌/◌, ◌%◌, ◌≤◌, true, List, [], ◌∷◌, ◌++◌, ◌<◌, length, arith, refl, sym, ap, ◌∙◌, subst, inl, inr, Option, Some, None, codes, append_assoc, length-append}
 use Rattle.std.specs.Prelude.{nat_eq}
 use Rattle.std.proofs.lemmas.Bool.{cases_Bool, eq-eqb, eqb-true, false≢true}
+use Rattle.std.proofs.lemmas.List.{append-nil}
+use Rattle.sg_names.specs.Channels.{channels_text}
 use Rattle.sg_names.specs.Grammar.{lacks}
+use Rattle.sg_names.specs.Grants.{grants_text}
+use Rattle.sg_names.specs.RevId.{rev_text}
+use Rattle.sg_names.specs.RoleGrants.{role_grants_text}
 use Rattle.sg_history.specs.declared.entries.Entry.{Entry}
 use Rattle.sg_history.specs.declared.entries.Entry.TheVariants as entry
-use Rattle.sg_history.specs.declared.entries.Write.{Write}
+use Rattle.sg_history.specs.declared.entries.Mark.{Mark}
 use Rattle.sg_history.specs.declared.fault.Why.{Why}
 use Rattle.sg_history.specs.declared.fault.Why.TheVariants as reason
 use Rattle.sg_history.specs.declared.fault.LineFault.{LineFault}
 use Rattle.sg_history.specs.declared.fault.LineFault.TheVariants as line
 use Rattle.sg_history.specs.FieldFaults.{FitAll, IsFirstUnfit, IsTextsFault, IsKindFault, IsFieldsFault, FitKind, AreFit}
-use Rattle.sg_history.specs.Faults.{Grammar, AreTexts, IsFirstBad, IsFault, IsText, grammars_of, HasReason, IsBadField, IsBadAmong}
-use Rattle.sg_history.specs.History.{as_write}
-use Rattle.sg_history.specs.Journal.{IsEntry, fields_of}
-use Rattle.sg_history.specs.Line.{AreRead, IsLargeWrite, NoEntry}
+use Rattle.sg_history.specs.Faults.{Grammar, AreTexts, IsFirstBad, IsFault, IsText, grammars_of, mark_grammars, marks_grammars, sync_grammars, sync_text, HasReason, IsBadField, IsBadAmong}
+use Rattle.sg_history.specs.Journal.{AreMarks, IsEntry, IsMark, IsSync, fields_of, marks_fields}
+use Rattle.sg_history.specs.Line.{NoEntry}
 use Rattle.sg_history.specs.Pieces.{pieces}
 use Rattle.sg_history.proofs.PieceLemmas.{pieces-cut, pieces-lacking}
-use Rattle.sg_history.proofs.WriteFields.{write_texts, write_texts_at}
+use Rattle.sg_history.proofs.WriteFields.{write_texts}
 
 module _ {G : Type 0} (Fits : G → List ℕ → Type 0) where
   pub as_many : (grammars : List G) (texts : List (List ℕ)) → FitAll Fits grammars texts → length texts ≡ length grammars
@@ -158,7 +162,34 @@ pub one_field : (line : List ℕ) (n : ℕ) → lacks 9 line ≡ true → 0 < n 
 one_field line n lacking some many = omega (arith, some, many, ap length (pieces-lacking 9 line lacking))
 
 abbrev AreFields : List (List ℕ) → Type 0
-AreFields fields = AreFit IsText grammars_of fields
+AreFields fields = AreFit IsText (grammars_of (length fields)) fields
+
+marks_length : (marks : List Mark) → length (marks_fields marks) ≡ 5 * length marks
+marks_length [] = refl
+marks_length (mark ∷ marks) = omega (arith, marks_length marks)
+
+-- the fields of marks are in their grammars
+pub marks_texts : (marks : List Mark) → AreMarks marks → AreTexts (marks_grammars (length marks)) (marks_fields marks)
+marks_texts [] are = tt
+marks_texts (mark ∷ marks) are =
+    let is = are.0 in (
+      (is.doc.1, is.doc.0),
+      (
+        (is.rev.1, mark.rev, is.rev.0, refl),
+        (
+          (is.channels.1, mark.channels, is.channels.0, refl),
+          (
+            (is.grants.1, mark.grants, is.grants.0, refl),
+            ((is.roles.1, mark.roles, is.roles.0, refl), marks_texts marks are.1),
+          ),
+        ),
+      ),
+    )
+
+sync_fields : (text : List ℕ) (marks : List Mark) → IsSync (record { text = text; marks = marks }) → AreFields (fields_of (entry.Sync text marks))
+sync_fields text marks is =
+    let count : length marks ≡ (length (fields_of (entry.Sync text marks)) - 2) / 5 = omega (arith, marks_length marks) in
+    ((text, is.text.0, is.text.1, refl), subst (λ (n : ℕ). AreTexts (marks_grammars n) (marks_fields marks)) count (marks_texts marks is.marks))
 
 entry_fields : (e : Entry) → IsEntry e → AreFields (fields_of e)
 entry_fields (entry.Write w) is = write_texts w is
@@ -167,22 +198,12 @@ entry_fields (entry.PutUser name channels roles) is =
 entry_fields (entry.PutRole name channels) is = ((is.name.1, is.name.0), ((is.channels.1, channels, is.channels.0, refl), tt))
 entry_fields (entry.DropUser name) is = ((is.1, is.0), tt)
 entry_fields (entry.DropRole name) is = ((is.1, is.0), tt)
+entry_fields (entry.Sync text marks) is = sync_fields text marks is
 entry_fields entry.Unused is = tt
 
 -- fields with a fault are no entry's
 pub no_entry : (fields : List (List ℕ)) (why : Why) → IsFault fields why → NoEntry fields
-no_entry fields why fault e is spelled = apart IsText grammars_of fields why fault (subst AreFields (sym spelled) (entry_fields e is))
-
-large_fields : (fields : List (List ℕ)) (o : Option Write) → IsLargeWrite fields o → AreFields fields
-large_fields fields None large = absurd large
-large_fields fields (Some w) large =
-    let front = large.2 in
-    subst AreFields (sym (large.1 ∙ ap (λ (ts : List (List ℕ)). codes "W" ∷ ts) front.3)) (write_texts_at w front.0 front.1 (front.2.0, front.2.1))
-
--- fields with a fault are not read as an entry
-pub no_read : (fields : List (List ℕ)) (why : Why) (e : Entry) (fits : Bool) → IsFault fields why → ¬ (AreRead fields e fits)
-no_read fields why e true fault read = no_entry fields why fault e read.0 read.1
-no_read fields why e false fault read = apart IsText grammars_of fields why fault (large_fields fields (as_write e) read)
+no_entry fields why fault e is spelled = apart IsText (grammars_of (length fields)) fields why fault (subst AreFields (sym spelled) (entry_fields e is))
 
 first_in : (gs hs : List Grammar) (ts us : List (List ℕ)) (n : ℕ) → IsFirstBad gs ts n → IsFirstBad (gs ++ hs) (ts ++ us) n
 first_in [] hs ts us n bad = absurd bad
@@ -218,9 +239,94 @@ bad_behind n m gs hs ts us (line.Bad why) front at bad =
 bad_behind n m gs hs ts us line.Memory front at bad = tt
 
 -- a field behind this kind is outside its grammar
-pub bad_field_of : (kind : List ℕ) (gs : List Grammar) (ts us : List (List ℕ)) (e : LineFault) → grammars_of kind ≡ Some gs → ts ≡ us
+pub bad_field_of : (kind : List ℕ) (gs : List Grammar) (ts us : List (List ℕ)) (e : LineFault) → grammars_of (length (kind ∷ ts)) kind ≡ Some gs → ts ≡ us
     → length us ≡ length gs → IsBadAmong 2 gs us e → HasReason (IsFault (kind ∷ ts)) e
 bad_field_of kind gs ts us (line.Bad why) known same many bad =
     let place : 2 + bad.0 ≡ bad.0 + 2 = omega arith in
-    fault_at IsText grammars_of kind gs ts us bad.0 why known same many (bad.1 ∙ ap reason.Field place) bad.2
+    fault_at IsText (grammars_of (length (kind ∷ ts))) kind gs ts us bad.0 why known same many (bad.1 ∙ ap reason.Field place) bad.2
 bad_field_of kind gs ts us line.Memory known same many bad = tt
+
+marks_count : (count : ℕ) → length (marks_grammars count) ≡ 5 * count
+marks_count zero = refl
+marks_count (suc count) = omega (arith, marks_count count)
+
+-- the kind `S` alone
+pub sync_alone : (kind : List ℕ) (texts : List (List ℕ)) → kind ≡ codes "S" → length texts ≡ 0 → IsFault (kind ∷ texts) reason.Fields
+sync_alone kind texts is none =
+    subst (λ (k : List ℕ). IsFault (k ∷ texts) reason.Fields) (sym is) (λ e. omega (arith, e, none))
+
+-- a number of fields that is none of a text and marks
+pub sync_miscounted : (texts : List (List ℕ)) → length texts % 5 ≢ 1 → IsFault (codes "S" ∷ texts) reason.Fields
+sync_miscounted texts other = λ e. other (omega (arith, e, marks_count ((length (codes "S" ∷ texts) - 2) / 5)))
+
+-- the text of a sync function is outside its grammar
+pub sync_text_bad : (count : ℕ) (text : List ℕ) (more : List (List ℕ)) (e : LineFault) → length more ≡ 5 * count → IsBadField 2 sync_text text e
+    → HasReason (IsFault (codes "S" ∷ text ∷ more)) e
+sync_text_bad count text more e many bad =
+    let n = (length (codes "S" ∷ text ∷ more) - 2) / 5 in
+    let all : length (text ∷ more) ≡ length (sync_grammars n) = omega (arith, many, marks_count n) in
+    bad_field_of (codes "S") (sync_grammars n) (text ∷ more) (text ∷ more) e refl refl all
+    (bad_in_front 2 (sync_text ∷ []) (marks_grammars n) (text ∷ []) more e (bad_alone 2 sync_text text e bad))
+
+-- a field of a mark is outside its grammar
+pub sync_marks_bad : (count : ℕ) (text : List ℕ) (more : List (List ℕ)) (e : LineFault) → length more ≡ 5 * count → IsText sync_text text
+    → IsBadAmong 3 (marks_grammars count) more e → HasReason (IsFault (codes "S" ∷ text ∷ more)) e
+sync_marks_bad count text more e many fits bad =
+    let n = (length (codes "S" ∷ text ∷ more) - 2) / 5 in
+    let all : length (text ∷ more) ≡ length (sync_grammars n) = omega (arith, many, marks_count n) in
+    let same : count ≡ n = omega (arith, many) in
+    let among : IsBadAmong 3 (marks_grammars n) more e = subst (λ (k : ℕ). IsBadAmong 3 (marks_grammars k) more e) same bad in
+    bad_field_of (codes "S") (sync_grammars n) (text ∷ more) (text ∷ more) e refl refl all
+    (bad_behind 2 3 (sync_text ∷ []) (marks_grammars n) (text ∷ []) more e (fits, tt) refl among)
+
+marks_split : (count rest : ℕ) → marks_grammars (count + suc rest) ≡ marks_grammars count ++ (mark_grammars ++ marks_grammars rest)
+marks_split zero rest = let one : zero + suc rest ≡ suc rest = omega arith in ap marks_grammars one
+marks_split (suc count) rest =
+    let one : suc count + suc rest ≡ suc (count + suc rest) = omega arith in
+    ap marks_grammars one ∙ ap (λ (gs : List Grammar). mark_grammars ++ gs) (marks_split count rest)
+
+-- a field of the mark behind those that were read is outside its grammar
+pub mark_bad : (count i : ℕ) (ms : List Mark) (all texts left : List (List ℕ)) (e : LineFault) → AreMarks ms → length ms ≡ i → i < count
+    → all ≡ marks_fields ms ++ (texts ++ left) → IsBadAmong (5 * i + 3) mark_grammars texts e → IsBadAmong 3 (marks_grammars count) all e
+mark_bad count i ms all texts left e are many inside is bad =
+    let rest = count - (length ms + 1) in
+    let whole : length ms + suc rest ≡ count = omega (arith, many, inside) in
+    let place : 5 * i + 3 ≡ 3 + length (marks_grammars (length ms)) = omega (arith, many, marks_count (length ms)) in
+    let behind = bad_in_front (5 * i + 3) mark_grammars (marks_grammars rest) texts left e bad in
+    let found = bad_behind 3 (5 * i + 3) (marks_grammars (length ms)) (mark_grammars ++ marks_grammars rest) (marks_fields ms) (texts ++ left) e (marks_texts ms are) place behind in
+    let grammars = sym (marks_split (length ms) rest) ∙ ap marks_grammars whole in
+    subst (λ (gs : List Grammar). IsBadAmong 3 gs all e) grammars
+    (subst (λ (ts : List (List ℕ)). IsBadAmong 3 (marks_grammars (length ms) ++ (mark_grammars ++ marks_grammars rest)) ts e) (sym is) found)
+
+pub marks_more : (ms : List Mark) (mark : Mark) → AreMarks ms → IsMark mark → AreMarks (ms ++ mark ∷ [])
+marks_more [] mark are is = (is, tt)
+marks_more (m ∷ ms) mark are is = (are.0, marks_more ms mark are.1 is)
+
+pub fields_more : (ms : List Mark) (mark : Mark) → marks_fields (ms ++ mark ∷ []) ≡ marks_fields ms ++ marks_fields (mark ∷ [])
+fields_more [] mark = refl
+fields_more (m ∷ ms) mark =
+    ap (λ (fs : List (List ℕ)). m.doc ∷ rev_text m.rev ∷ channels_text m.channels ∷ grants_text m.grants ∷ role_grants_text m.roles ∷ fs) (fields_more ms mark)
+
+-- one mark more was read
+pub fields_next : (ms : List Mark) (mark : Mark) (all texts left : List (List ℕ)) → all ≡ marks_fields ms ++ (texts ++ left) → texts ≡ marks_fields (mark ∷ [])
+    → all ≡ marks_fields (ms ++ mark ∷ []) ++ left
+fields_next ms mark all texts left is read =
+    is ∙ ap (λ (ts : List (List ℕ)). marks_fields ms ++ (ts ++ left)) read ∙ sym (append_assoc (marks_fields ms) (marks_fields (mark ∷ [])) left)
+    ∙ ap (λ (fs : List (List ℕ)). fs ++ left) (sym (fields_more ms mark))
+
+none_left : (fields : List (List ℕ)) → length fields ≡ 0 → fields ≡ []
+none_left [] h = refl
+none_left (field ∷ fields) h = absurd (omega (arith, h))
+
+-- all marks were read
+pub fields_whole : (count : ℕ) (ms : List Mark) (all left : List (List ℕ)) → length all ≡ 5 * count → length ms ≡ count → all ≡ marks_fields ms ++ left
+    → all ≡ marks_fields ms
+fields_whole count ms all left long many is =
+    let none : length left ≡ 0 = omega (arith, long, many, marks_length ms, ap length is, length-append (marks_fields ms) left) in
+    is ∙ ap (λ (l : List (List ℕ)). marks_fields ms ++ l) (none_left left none) ∙ append-nil (marks_fields ms)
+
+-- there is a mark's fields left
+pub fields_enough : (count i : ℕ) (ms : List Mark) (all left : List (List ℕ)) → length all ≡ 5 * count → length ms ≡ i → i < count → all ≡ marks_fields ms ++ left
+    → 5 ≤ length left
+fields_enough count i ms all left long many inside is =
+    omega (arith, long, many, inside, marks_length ms, ap length is, length-append (marks_fields ms) left)

@@ -1,8 +1,6 @@
 -- a text is one file or has one first bad line, and not both
 use Rattle.std.proofs.Common.{◌≡◌, ◌⊎◌, ℕ, suc, ◌+◌, ◌<◌, Bool, true, false, List, [], ◌∷◌, ◌++◌, length, reverse, refl, sym, ap, ◌∙◌, subst, arith, inl, inr, append_assoc}
-use Rattle.std.specs.Str.{bytes_eq}
-use Rattle.std.specs.Cmp.Lexicographic.{bytes_decides}
-use Rattle.std.proofs.lemmas.Bool.{cases_Bool, false≢true}
+use Rattle.std.proofs.lemmas.Bool.{false≢true}
 use Rattle.std.proofs.lemmas.List.{reverse-append, append-nil}
 use Rattle.sg_history.specs.declared.fault.BadLine.{BadLine}
 use Rattle.sg_history.specs.declared.fault.Why.{Why}
@@ -75,7 +73,7 @@ module _ {X : Type 0} (g : LineGrammar X) (lawful : IsLawful g) where
       let more_same = said_one (q ∷ older) (next ∷ more) xs ys (subst (λ o. Begins g (o ∷ older) (next ∷ more) xs ([] ∷ [])) same h.1) k.1 in
       λ i. same i ∷ more_same i
 
-  head_one : (first : List ℕ) (a b : Why) → IsTitleFault g.title first a → IsTitleFault g.title first b → a ≡ b
+  head_one : (first : List ℕ) (a b : Why) → IsTitleFault g.IsTitle first a → IsTitleFault g.IsTitle first b → a ≡ b
   head_one first a b x y = elim x [
     | inl ending ↦ elim y [
       | inl other ↦ ending.0 ∙ sym other.0
@@ -171,13 +169,13 @@ module _ {X : Type 0} (g : LineGrammar X) (decided : IsDecided g) where
   abbrev Either : List (List ℕ) → Type 0
   Either lines = ((xs : List X) × AreAmong g lines xs) ⊎ ((bad : BadLine) × IsBadAmong g lines bad)
 
-  behind_either : (first next : List ℕ) (more : List (List ℕ)) → first ≡ g.title → Either (first ∷ next ∷ more)
-  behind_either first next more same = elim (fine_or_stopped [] next more) [
-    | inl fine ↦ inl (fine.0, (same, (fine.1, ap g.may_end (sym (append-nil (reverse fine.0))) ∙ fine.2)))
+  behind_either : (first next : List ℕ) (more : List (List ℕ)) → g.IsTitle first → Either (first ∷ next ∷ more)
+  behind_either first next more is = elim (fine_or_stopped [] next more) [
+    | inl fine ↦ inl (fine.0, (is, (fine.1, ap g.may_end (sym (append-nil (reverse fine.0))) ∙ fine.2)))
     | inr stopped ↦ inr (
       record { place = length stopped.0 + 2; why = stopped.2 },
       inr (
-        same,
+        is,
         record {
           items = stopped.0;
           left = stopped.1;
@@ -191,13 +189,13 @@ module _ {X : Type 0} (g : LineGrammar X) (decided : IsDecided g) where
 
   among_either : (lines : List (List ℕ)) → 0 < length lines → Either lines
   among_either [] some = absurd (omega arith)
-  among_either (first ∷ []) some = elim (cases_Bool (bytes_eq first g.title)) [
-    | inl same ↦ inr (record { place = 1; why = reason.Ending }, (refl, inl (refl, (bytes_decides first g.title).0 same)))
-    | inr other ↦ inr (record { place = 1; why = reason.Head }, (refl, inr (refl, λ e. false≢true (sym other ∙ (bytes_decides first g.title).1 e))))
+  among_either (first ∷ []) some = elim (decided.title first) [
+    | inl is ↦ inr (record { place = 1; why = reason.Ending }, (refl, inl (refl, is)))
+    | inr other ↦ inr (record { place = 1; why = reason.Head }, (refl, inr (refl, other)))
   ]
-  among_either (first ∷ next ∷ more) some = elim (cases_Bool (bytes_eq first g.title)) [
-    | inl same ↦ behind_either first next more ((bytes_decides first g.title).0 same)
-    | inr other ↦ inr (record { place = 1; why = reason.Head }, inl (refl, refl, λ e. false≢true (sym other ∙ (bytes_decides first g.title).1 e)))
+  among_either (first ∷ next ∷ more) some = elim (decided.title first) [
+    | inl is ↦ behind_either first next more is
+    | inr other ↦ inr (record { place = 1; why = reason.Head }, inl (refl, refl, other))
   ]
 
   -- it is a file or has one

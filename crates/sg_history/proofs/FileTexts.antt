@@ -1,5 +1,5 @@
 -- a file, and the texts of its items
-use Rattle.std.proofs.Common.{◌≡◌, ℕ, true, List, [], ◌∷◌, ◌++◌, reverse, refl, sym, ap, ◌∙◌, subst}
+use Rattle.std.proofs.Common.{◌≡◌, ℕ, true, List, [], ◌∷◌, ◌++◌, reverse, sym, ap, ◌∙◌, subst}
 use Rattle.std.specs.List.{join_with_byte}
 use Rattle.sg_names.specs.Grammar.{lacks}
 use Rattle.sg_history.specs.Files.{LineGrammar, AreAmong, Begins, IsFileOf}
@@ -11,7 +11,7 @@ use Rattle.sg_history.proofs.ReadLines.{begins_first}
 module _ {X : Type 0} (g : LineGrammar X) (text : X → List ℕ) (texts : List X → List ℕ) (none : texts [] ≡ [])
     (more_text : (x : X) (xs : List X) → texts (x ∷ xs) ≡ text x ++ 10 ∷ texts xs) where
   -- where a line that says an item is the item's text, lines that say items are the items' texts
-  said_text : (spells : (older : List X) (line : List ℕ) (x : X) → g.Says older line x → line ≡ text x) (older xs : List X) (lines : List (List ℕ))
+  pub said_text : (spells : (older : List X) (line : List ℕ) (x : X) → g.Says older line x → line ≡ text x) (older xs : List X) (lines : List (List ℕ))
       → Begins g older lines xs ([] ∷ []) → join_with_byte 10 lines ≡ texts xs
   said_text spells older [] lines h = ap (join_with_byte 10) h ∙ sym none
   said_text spells older (x ∷ xs) [] h = absurd h
@@ -21,18 +21,24 @@ module _ {X : Type 0} (g : LineGrammar X) (text : X → List ℕ) (texts : List 
       let rest = said_text spells (x ∷ older) xs (next ∷ more) h.1 in
       (λ i. one i ++ 10 ∷ rest i) ∙ sym (more_text x xs)
 
+  -- a first line, and the texts of items behind it
+  abbrev pub IsTextOf : List ℕ → List X → Type 0
+  IsTextOf bytes xs = (first : List ℕ) × g.IsTitle first × (bytes ≡ first ++ 10 ∷ texts xs)
+
   among_text : (spells : (older : List X) (line : List ℕ) (x : X) → g.Says older line x → line ≡ text x) (lines : List (List ℕ)) (xs : List X)
-      → AreAmong g lines xs → join_with_byte 10 lines ≡ g.title ++ 10 ∷ texts xs
+      → AreAmong g lines xs → IsTextOf (join_with_byte 10 lines) xs
   among_text spells [] xs h = absurd h
   among_text spells (first ∷ []) [] h = absurd (cc (h.1.0))
   among_text spells (first ∷ []) (x ∷ xs) h = absurd h.1.0
   among_text spells (first ∷ next ∷ more) xs h =
       let rest = said_text spells [] xs (next ∷ more) h.1.0 in
-      λ i. h.0 i ++ 10 ∷ rest i
+      (first, h.0, ap (λ (l : List ℕ). first ++ 10 ∷ l) rest)
 
   pub file_text : (spells : (older : List X) (line : List ℕ) (x : X) → g.Says older line x → line ≡ text x) (bytes : List ℕ) (xs : List X)
-      → IsFileOf g bytes xs → bytes ≡ g.title ++ 10 ∷ texts xs
-  file_text spells bytes xs is = sym (joined_pieces 10 bytes) ∙ among_text spells (pieces 10 bytes) xs is
+      → IsFileOf g bytes xs → IsTextOf bytes xs
+  file_text spells bytes xs is =
+      let among = among_text spells (pieces 10 bytes) xs is in
+      (among.0, among.1, sym (joined_pieces 10 bytes) ∙ among.2)
 
   -- what holds of items that may follow each other holds of those that lines say
   pub said_are : (Are : List X → List X → Type 0) (base : (older : List X) → Are older [])
@@ -63,7 +69,8 @@ module _ {X : Type 0} (g : LineGrammar X) (text : X → List ℕ) (texts : List 
 
   pub file_said : (Are : List X → List X → Type 0)
       (next : (older : List X) (x : X) (xs : List X) → Are older (x ∷ xs) → (lacks 10 (text x) ≡ true) × g.Says older (text x) x × Are (x ∷ older) xs)
-      (bytes : List ℕ) (xs : List X) → bytes ≡ g.title ++ 10 ∷ texts xs → lacks 10 g.title ≡ true → Are [] xs → g.may_end (reverse xs) ≡ true → IsFileOf g bytes xs
-  file_said Are next bytes xs is whole are ends =
-      let cut = ap (pieces 10) is ∙ pieces-cut 10 g.title (texts xs) whole in
-      subst (λ ls. AreAmong g ls xs) (sym cut) (refl, (lines_say Are next [] xs are, ends))
+      (bytes first : List ℕ) (xs : List X) → bytes ≡ first ++ 10 ∷ texts xs → g.IsTitle first → lacks 10 first ≡ true → Are [] xs → g.may_end (reverse xs) ≡ true
+      → IsFileOf g bytes xs
+  file_said Are next bytes first xs is title whole are ends =
+      let cut = ap (pieces 10) is ∙ pieces-cut 10 first (texts xs) whole in
+      subst (λ ls. AreAmong g ls xs) (sym cut) (title, (lines_say Are next [] xs are, ends))

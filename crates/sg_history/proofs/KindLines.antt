@@ -1,5 +1,5 @@
 -- the fields behind the kind of a line that is no write's
-use Rattle.std.proofs.Common.{◌≡◌, ℕ, zero, suc, ◌-◌, ◌<◌, ◌≤◌, List, [], ◌∷◌, length, get_or, take, drop, map, refl, sym, ap, ◌∙◌, subst, arith, Bor, IsTrue, IsUtf8}
+use Rattle.std.proofs.Common.{◌≡◌, ℕ, ◌<◌, ◌≤◌, List, [], ◌∷◌, length, get_or, map, refl, sym, ap, ◌∙◌, subst, arith, Bor, IsTrue, IsUtf8}
 use Rattle.sg_names.specs.Grammar.{is_name}
 use Rattle.sg_names.specs.Channels.{channels_text, is_channels}
 use Rattle.sg_names.specs.Names.{names_text, is_names}
@@ -55,17 +55,3 @@ pub drop_read : (kind : List ℕ) (ts : List (List ℕ)) (a name : List ℕ) →
     → (IsTrue (is_name name) × IsUtf8 name) × (kind ∷ ts ≡ kind ∷ name ∷ [])
 drop_read kind ts a name same its_name =
     ((its_name.1, subst IsUtf8 (sym its_name.0) its_name.2), ap (λ (us : List (List ℕ)). kind ∷ us) (same ∙ (λ i. sym its_name.0 i ∷ [])))
-
-take_whole : {X : Type 0} (n : ℕ) (xs : List X) → n ≡ length xs → take n xs ≡ xs
-take_whole zero [] e = refl
-take_whole zero (x ∷ xs) e = absurd (omega arith)
-take_whole (suc n) [] e = absurd (omega arith)
-take_whole (suc n) (x ∷ xs) e = ap (λ ys. x ∷ ys) (take_whole n xs (omega arith))
-
--- the fields of a line are its kind and those behind it
-pub behind_kind : (kind : List ℕ) (fields : List (Bor (List ℕ))) → 1 ≤ length fields → nth fields 0 ≡ kind
-    → kind ∷ texts (take (length fields - 1) (drop 1 fields)) ≡ texts fields
-behind_kind kind [] low is = absurd (omega arith)
-behind_kind kind (a ∷ others) low is =
-    ap (λ (fields : List (Bor (List ℕ))). kind ∷ texts fields) (take_whole (length (a ∷ others) - 1) others (omega arith))
-    ∙ ap (λ (k : List ℕ). k ∷ texts others) (sym is)

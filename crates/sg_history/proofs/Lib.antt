@@ -1,7 +1,10 @@
 pub mod PieceLemmas
+pub mod Counted
 pub mod WriteFields
 pub mod FaultLemmas
+pub mod SyncTexts
 pub mod DecidedTexts
+pub mod Titles
 pub mod WriteParts
 pub mod KindLines
 pub mod LineTexts
@@ -11,6 +14,8 @@ pub mod OneLine
 pub mod JournalTexts
 pub mod ReadLines
 pub mod Books
+pub mod Syncs
+pub mod Currents
 pub mod Boards
 pub mod AloneWrites
 pub mod Places
@@ -19,3 +24,5 @@ pub mod FileTexts
 pub mod BadLines
 pub mod DecidedLines
 pub mod Appended
+pub mod LinesRead
+pub mod Tests

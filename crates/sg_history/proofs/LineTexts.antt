@@ -1,5 +1,5 @@
 -- the line of an entry and its fields
-use Rattle.std.proofs.Common.{◌≡◌, ℕ, ◌<◌, ◌≤◌, Bool, true, false, ◌&&◌, not, List, [], ◌∷◌, length, refl, sym, ap, ◌∙◌, arith, if◌then◌else◌, Option, Some, None, inl, inr}
+use Rattle.std.proofs.Common.{◌≡◌, ℕ, ◌<◌, Bool, true, false, ◌&&◌, not, List, [], ◌∷◌, length, refl, sym, ap, ◌∙◌, arith, if◌then◌else◌, Option, Some, None, inl, inr}
 use Rattle.std.specs.Prelude.{nat_eq, nat_lt, nat_le}
 use Rattle.std.specs.List.{list_all, join_with_byte}
 use Rattle.std.proofs.lemmas.Bool.{and_parts, and_from, cases_Bool, eqb-true}
@@ -8,8 +8,9 @@ use Rattle.sg_names.proofs.PlainTexts.{plain_decimal, plain_hex, plain_name, pla
 use Rattle.sg_names.specs.Grammar.{lacks, is_plain, is_plain_text, is_doc_id, begins_with_underscore}
 use Rattle.sg_history.specs.declared.entries.Entry.{Entry}
 use Rattle.sg_history.specs.declared.entries.Entry.TheVariants as entry
+use Rattle.sg_history.specs.declared.entries.Mark.{Mark}
 use Rattle.sg_history.specs.Pieces.{pieces, begin_with}
-use Rattle.sg_history.specs.Journal.{IsEntry, fields_of, line_of, mark_text, by_text, is_by}
+use Rattle.sg_history.specs.Journal.{AreMarks, IsEntry, fields_of, line_of, marks_fields, deleted_text, by_text, is_by}
 use Rattle.sg_history.specs.Line.{NoEntry, NoLine}
 use Rattle.sg_history.proofs.PieceLemmas.{pieces-lacking, pieces-cut, pieces-some}
 
@@ -48,19 +49,25 @@ pub plain_doc : (doc : List ℕ) → is_doc_id doc ≡ true → is_plain doc ≡
 plain_doc doc h =
     (and_parts (nat_lt 0 (length doc) && nat_le (length doc) 250) (is_plain doc) (and_parts (is_plain_text doc) (not (begins_with_underscore doc)) h).0).1
 
-plain_mark : (mark : Bool) → is_plain (mark_text mark) ≡ true
-plain_mark true = refl
-plain_mark false = refl
+plain_deleted : (mark : Bool) → is_plain (deleted_text mark) ≡ true
+plain_deleted true = refl
+plain_deleted false = refl
 
 plain_by : (by : Option (List ℕ)) → is_by by ≡ true → is_plain (by_text by) ≡ true
 plain_by None h = refl
 plain_by (Some name) h = plain_name name h
 
+marks_plain : (marks : List Mark) → AreMarks marks → list_all (λ f. is_plain f) (marks_fields marks) ≡ true
+marks_plain [] are = refl
+marks_plain (m ∷ ms) are =
+    and_from _ _ (plain_doc m.doc are.0.doc.0) (and_from _ _ (plain_rev m.rev are.0.rev.0) (and_from _ _ (plain_channels m.channels are.0.channels.0)
+    (and_from _ _ (plain_grants m.grants are.0.grants.0) (and_from _ _ (plain_role_grants m.roles are.0.roles.0) (marks_plain ms are.1)))))
+
 -- no field of an entry has a control character
 fields_plain : (e : Entry) → IsEntry e → list_all (λ f. is_plain f) (fields_of e) ≡ true
 fields_plain (entry.Write w) is =
     and_from _ _ (plain_doc w.doc is.doc.0) (and_from _ _ (plain_rev w.rev is.rev.0) (and_from _ _ (plain_revs w.ancestors is.ancestors.0)
-    (and_from _ _ (plain_mark w.deleted) (and_from _ _ (plain_hex w.body (and_parts _ _ is.body).1) (and_from _ _ (plain_by w.by is.by.0)
+    (and_from _ _ (plain_deleted w.deleted) (and_from _ _ (plain_hex w.body (and_parts _ _ is.body).1) (and_from _ _ (plain_by w.by is.by.0)
     (and_from _ _ (plain_decimal w.at is.at) (and_from _ _ (plain_rev w.winner is.winner.0) (and_from _ _ (plain_channels w.channels is.channels.0)
     (and_from _ _ (plain_grants w.grants is.grants.0) (and_from _ _ (plain_role_grants w.roles is.roles.0) refl))))))))))
 fields_plain (entry.PutUser name channels roles) is =
@@ -68,15 +75,17 @@ fields_plain (entry.PutUser name channels roles) is =
 fields_plain (entry.PutRole name channels) is = and_from _ _ (plain_name name is.name.0) (and_from _ _ (plain_channels channels is.channels.0) refl)
 fields_plain (entry.DropUser name) is = and_from _ _ (plain_name name is.0) refl
 fields_plain (entry.DropRole name) is = and_from _ _ (plain_name name is.0) refl
+fields_plain (entry.Sync text marks) is = and_from _ _ (plain_hex text (and_parts _ _ is.text.0).1) (marks_plain marks is.marks)
 fields_plain entry.Unused is = refl
 
-fields_count : (e : Entry) → (0 < length (fields_of e)) × (length (fields_of e) ≤ 12)
-fields_count (entry.Write w) = (omega arith, omega arith)
-fields_count (entry.PutUser name channels roles) = (omega arith, omega arith)
-fields_count (entry.PutRole name channels) = (omega arith, omega arith)
-fields_count (entry.DropUser name) = (omega arith, omega arith)
-fields_count (entry.DropRole name) = (omega arith, omega arith)
-fields_count entry.Unused = (omega arith, omega arith)
+fields_count : (e : Entry) → 0 < length (fields_of e)
+fields_count (entry.Write w) = omega arith
+fields_count (entry.PutUser name channels roles) = omega arith
+fields_count (entry.PutRole name channels) = omega arith
+fields_count (entry.DropUser name) = omega arith
+fields_count (entry.DropRole name) = omega arith
+fields_count (entry.Sync text marks) = omega arith
+fields_count entry.Unused = omega arith
 
 all_lack : (c : ℕ) → c < 32 → (fs : List (List ℕ)) → list_all (λ f. is_plain f) fs ≡ true → list_all (λ f. lacks c f) fs ≡ true
 all_lack c low [] h = refl
@@ -102,7 +111,7 @@ fields_whole fs plain = joined_lack 10 9 refl fs (all_lack 10 (omega arith) fs p
 
 -- the pieces of an entry's line are its fields
 pub line_pieces : (e : Entry) → IsEntry e → pieces 9 (line_of e) ≡ fields_of e
-line_pieces e is = pieces_joined 9 (fields_of e) (fields_count e).0 (all_lack 9 (omega arith) (fields_of e) (fields_plain e is))
+line_pieces e is = pieces_joined 9 (fields_of e) (fields_count e) (all_lack 9 (omega arith) (fields_of e) (fields_plain e is))
 
 -- an entry's line has no line feed
 pub line_whole : (e : Entry) → IsEntry e → lacks 10 (line_of e) ≡ true
@@ -111,3 +120,7 @@ line_whole e is = joined_lack 10 9 refl (fields_of e) (all_lack 10 (omega arith)
 -- fields that are no entry's make a line that is none's
 pub no_line : (line : List ℕ) (fields : List (List ℕ)) → fields ≡ pieces 9 line → NoEntry fields → NoLine line
 no_line line fields parts none e is spelled = none e is (parts ∙ ap (pieces 9) spelled ∙ line_pieces e is)
+
+-- a line whose fields are an entry's is the entry's
+pub line_is : (line : List ℕ) (e : Entry) → pieces 9 line ≡ fields_of e → line ≡ line_of e
+line_is line e read = sym (joined_pieces 9 line) ∙ ap (join_with_byte 9) read

@@ -1,6 +1,7 @@
 -- lines that are read one after another
-use Rattle.std.proofs.Common.{◌≡◌, ◌≢◌, ℕ, ◌+◌, ◌-◌, ◌<◌, ◌≤◌, List, [], ◌∷◌, ◌++◌, length, drop, reverse, refl, sym, ap, ◌∙◌, subst, arith, inl, inr}
+use Rattle.std.proofs.Common.{◌≡◌, ◌≢◌, ℕ, ◌+◌, ◌<◌, ◌≤◌, Bool, true, false, MatchBool, List, [], ◌∷◌, ◌++◌, length, drop, reverse, refl, sym, ap, ◌∙◌, subst, arith, inl, inr}
 use Rattle.std.specs.Prelude.{Result, Ok, Err, IsTrue, IfOk, IfErr}
+use Rattle.std.proofs.lemmas.Bool.{false≢true}
 use Rattle.std.proofs.lemmas.List.{append-nil, drop-drop, drop_all}
 use Rattle.std.proofs.Math.Seq.{drop-append_seam}
 use Rattle.sg_history.specs.declared.fault.BadLine.{BadLine}
@@ -12,7 +13,7 @@ use Rattle.sg_history.specs.declared.fault.Why.{Why}
 use Rattle.sg_history.specs.declared.fault.Why.TheVariants as reason
 use Rattle.sg_history.specs.BadLine.{NamesLine, refusal_at}
 use Rattle.sg_history.specs.Faults.{HasReason}
-use Rattle.sg_history.specs.Files.{LineGrammar, AreSaid, Begins, Stops, IsBadBehind, IsBadFile, IsFileOf, AreAmong, IsBadAmong}
+use Rattle.sg_history.specs.Files.{LineGrammar, AreSaid, Begins, Stops, IsBadBehind, IsBadFile, IsFileOf, AreAmong, IsBadAmong, IsTitleFault}
 use Rattle.sg_history.specs.Pieces.{pieces}
 use Rattle.sg_history.specs.Reading.{EndsAs, FailsIn, Reaches, StopsBehind}
 use Rattle.sg_history.proofs.FileLaws.{reversed}
@@ -78,16 +79,17 @@ module _ {X : Type 0} (g : LineGrammar X) where
   fails_by before text items now left line after one.Memory so_far cuts fails same = tt
 
   -- a first line, and lines behind it
-  pub file_behind : (bytes : List ℕ) (rest : List (List ℕ)) (items : List X) → pieces 10 bytes ≡ g.title ∷ rest → AreSaid g rest items → IsFileOf g bytes items
-  file_behind bytes rest items cut said = subst (λ ls. AreAmong g ls items) (sym cut) (refl, said)
+  pub file_behind : (bytes first : List ℕ) (rest : List (List ℕ)) (items : List X) → g.IsTitle first → pieces 10 bytes ≡ first ∷ rest → AreSaid g rest items
+      → IsFileOf g bytes items
+  file_behind bytes first rest items title cut said = subst (λ ls. AreAmong g ls items) (sym cut) (title, said)
 
-  pub bad_behind : (bytes : List ℕ) (rest : List (List ℕ)) (bad : BadLine) → pieces 10 bytes ≡ g.title ∷ rest → 0 < length rest → IsBadBehind g rest bad
-      → IsBadFile g bytes bad
-  bad_behind bytes rest bad cut some is = subst (λ ls. IsBadAmong g ls bad) (sym cut) (followed rest some is)
+  pub bad_behind : (bytes first : List ℕ) (rest : List (List ℕ)) (bad : BadLine) → g.IsTitle first → pieces 10 bytes ≡ first ∷ rest → 0 < length rest
+      → IsBadBehind g rest bad → IsBadFile g bytes bad
+  bad_behind bytes first rest bad title cut some is = subst (λ ls. IsBadAmong g ls bad) (sym cut) (followed rest some is)
     where
-      followed : (more : List (List ℕ)) → 0 < length more → IsBadBehind g more bad → IsBadAmong g (g.title ∷ more) bad
+      followed : (more : List (List ℕ)) → 0 < length more → IsBadBehind g more bad → IsBadAmong g (first ∷ more) bad
       followed [] some is = absurd (omega (arith, some))
-      followed (next ∷ more) some is = inr (refl, is)
+      followed (next ∷ more) some is = inr (title, is)
 
   -- the refusal of a line names it
   pub refused_behind : (lines : List (List ℕ)) (items : List X) (place : ℕ) (e : LineFault) → place ≡ length items + 2 → HasReason (StopsBehind g lines items) e
@@ -95,13 +97,13 @@ module _ {X : Type 0} (g : LineGrammar X) where
   refused_behind lines items place (one.Bad why) at stops = record { items = items; left = stops.0; begun = stops.1; place = at; fault = stops.2 }
   refused_behind lines items place one.Memory at stops = tt
 
-  pub named_behind : (bytes : List ℕ) (rest : List (List ℕ)) (e : ReadLog) → pieces 10 bytes ≡ g.title ∷ rest → 0 < length rest
+  pub named_behind : (bytes first : List ℕ) (rest : List (List ℕ)) (e : ReadLog) → g.IsTitle first → pieces 10 bytes ≡ first ∷ rest → 0 < length rest
       → NamesLine (IsBadBehind g rest) e → NamesLine (IsBadFile g bytes) e
-  named_behind bytes rest (file.Bad bad) cut some named = bad_behind bytes rest bad cut some named
-  named_behind bytes rest file.Memory cut some named = tt
+  named_behind bytes first rest (file.Bad bad) title cut some named = bad_behind bytes first rest bad title cut some named
+  named_behind bytes first rest file.Memory title cut some named = tt
 
   -- the first line is another one
-  pub other_title : (bytes first : List ℕ) (more : List (List ℕ)) → pieces 10 bytes ≡ first ∷ more → 0 < length more → first ≢ g.title
+  pub other_title : (bytes first : List ℕ) (more : List (List ℕ)) → pieces 10 bytes ≡ first ∷ more → 0 < length more → ¬ (g.IsTitle first)
       → IsBadFile g bytes (record { place = 1; why = reason.Head })
   other_title bytes first more cut some other = subst (λ ls. IsBadAmong g ls (record { place = 1; why = reason.Head })) (sym cut) (followed more some)
     where
@@ -132,9 +134,30 @@ module _ {X : Type 0} (g : LineGrammar X) where
   pub begins_all : (items : List X) (lines : List (List ℕ)) → items ≡ [] → Begins g [] lines items lines
   begins_all items lines none = subst (λ xs. Begins g [] lines xs lines) (sym none) refl
 
-  -- a text without its first line
-  pub dropped_title : (bytes slice dropped lines : List ℕ) (n : ℕ) → slice ≡ bytes → n ≡ length bytes → dropped ≡ drop (n - length lines) bytes
-      → pieces 10 slice ≡ g.title ∷ pieces 10 lines → drop (length slice - length lines) slice ≡ lines → pieces 10 bytes ≡ g.title ∷ pieces 10 dropped
-  dropped_title bytes slice dropped lines n same all is cut end =
-      let behind : dropped ≡ lines = is ∙ ap (λ m. drop (m - length lines) bytes) all ∙ subst (λ b. drop (length b - length lines) b ≡ lines) same end in
-      subst (λ b. pieces 10 b ≡ g.title ∷ pieces 10 lines) same cut ∙ ap (λ l. g.title ∷ pieces 10 l) (sym behind)
+  -- a first line that has no line feed
+  pub title_ended : (line : List ℕ) (r : Bool) → pieces 10 line ≡ line ∷ [] → MatchBool r (g.IsTitle line) (¬ (g.IsTitle line)) → r ≡ true
+      → IsBadFile g line (record { place = 1; why = reason.Ending })
+  title_ended line true cut is holds =
+      let bad : BadLine = record { place = 1; why = reason.Ending } in
+      let fault : IsTitleFault g.IsTitle line reason.Ending = inl (refl, is) in
+      let among : IsBadAmong g (line ∷ []) bad = (refl, fault) in
+      subst (λ (ls : List (List ℕ)). IsBadAmong g ls bad) (sym cut) among
+  title_ended line false cut is holds = absurd (false≢true holds)
+
+  -- another line that has no line feed
+  pub title_other : (line : List ℕ) (r : Bool) → pieces 10 line ≡ line ∷ [] → MatchBool r (g.IsTitle line) (¬ (g.IsTitle line)) → r ≡ false
+      → IsBadFile g line (record { place = 1; why = reason.Head })
+  title_other line true cut is fails = absurd (false≢true (sym fails))
+  title_other line false cut is fails =
+      let bad : BadLine = record { place = 1; why = reason.Head } in
+      let fault : IsTitleFault g.IsTitle line reason.Head = inr (refl, is) in
+      let among : IsBadAmong g (line ∷ []) bad = (refl, fault) in
+      subst (λ (ls : List (List ℕ)). IsBadAmong g ls bad) (sym cut) among
+
+  pub title_is : (line : List ℕ) (r : Bool) → MatchBool r (g.IsTitle line) (¬ (g.IsTitle line)) → r ≡ true → g.IsTitle line
+  title_is line true is holds = is
+  title_is line false is holds = absurd (false≢true holds)
+
+  pub title_not : (line : List ℕ) (r : Bool) → MatchBool r (g.IsTitle line) (¬ (g.IsTitle line)) → r ≡ false → ¬ (g.IsTitle line)
+  title_not line true is fails = absurd (false≢true (sym fails))
+  title_not line false is fails = is

@@ -1,13 +1,9 @@
 -- the fields of a write
-use Rattle.std.proofs.Common.{◌≡◌, ℕ, ◌+◌, ◌<◌, ◌^◌, ◌/◌, ◌%◌, Bool, true, ◌&&◌, cond, List, [], ◌∷◌, length, refl, sym, ap, ◌∙◌, subst, arith, inl, inr, unwrap_or, decimal, MatchOption, IsUtf8, IsTrue, Option, Some, None}
-use Rattle.std.specs.Prelude.{nat_lt, nat_le, is_some}
+use Rattle.std.proofs.Common.{◌≡◌, ℕ, ◌+◌, ◌<◌, ◌^◌, ◌/◌, ◌%◌, true, ◌&&◌, cond, List, [], ◌∷◌, length, refl, sym, ap, ◌∙◌, subst, arith, inl, inr, decimal, IsUtf8, IsTrue}
+use Rattle.std.specs.Prelude.{nat_lt, nat_le}
 use Rattle.std.specs.List.{list_all}
 use Rattle.std.proofs.lemmas.Bool.{and_parts, and_from, or_cases, lt-ltb, leb-true, cases_lt, le-ltb}
-use Rattle.std.proofs.lemmas.Fmt.{IsAscii-decimal}
-use Rattle.std.proofs.lemmas.Str.{IsUtf8-from_ascii}
-use Rattle.sg_names.proofs.Decimals.{is_decimal-decimal}
 use Rattle.sg_names.proofs.OneText.{hex_is}
-use Rattle.sg_names.specs.Decimal.{is_decimal}
 use Rattle.sg_names.specs.Hex.{hex_digit, hex_text, is_hex, is_hex_digit}
 use Rattle.sg_names.specs.Grammar.{is_doc_id}
 use Rattle.sg_names.specs.RevId.{rev_text, is_rev}
@@ -16,18 +12,18 @@ use Rattle.sg_names.specs.Channels.{channels_text, is_channels}
 use Rattle.sg_names.specs.Grants.{grants_text, is_grants}
 use Rattle.sg_names.specs.RoleGrants.{role_grants_text, is_role_grants}
 use Rattle.sg_history.specs.declared.entries.Write.{Write}
-use Rattle.sg_history.specs.declared.write_line.WriteTexts.{WriteTexts}
-use Rattle.sg_history.specs.Journal.{IsWrite, is_body, is_by, by_text, mark_text, write_fields, write_fields_at}
-use Rattle.sg_history.specs.Line.{texts_of, IsLargeFront, ReadsWrite}
+use Rattle.sg_history.specs.declared.line_of_write.WriteTexts.{WriteTexts}
+use Rattle.sg_history.specs.Journal.{IsWrite, is_body, is_by, by_text, deleted_text, write_fields}
+use Rattle.sg_history.specs.Line.{texts_of, ReadsWrite}
 use Rattle.sg_history.specs.Faults.{AreTexts, write_grammars}
 
 pub body_is : (body : List ℕ) → is_body body ≡ true → is_hex (hex_text body) ≡ true
 body_is [] h = absurd (cc (h))
 body_is (b ∷ bs) h = hex_is b bs (and_parts (nat_lt 0 (length (b ∷ bs))) (list_all (λ c. nat_lt c 256) (b ∷ bs)) h).1
 
--- the fields of a write are in their grammars, and so they are with another decimal as its front
-pub write_texts_at : (w : Write) (at : List ℕ) → IsWrite w → IsUtf8 at × IsTrue (is_decimal at) → AreTexts write_grammars (write_fields_at w at)
-write_texts_at w at is front = (
+-- the fields of a write are in their grammars
+pub write_texts : (w : Write) → IsWrite w → AreTexts write_grammars (write_fields w)
+write_texts w is = (
   (is.doc.1, is.doc.0),
   (
     (is.rev.1, w.rev, is.rev.0, refl),
@@ -40,7 +36,7 @@ write_texts_at w at is front = (
           (
             (is.by.1, w.by, is.by.0, refl),
             (
-              front,
+              (w.at, is.at, refl),
               (
                 (is.winner.1, w.winner, is.winner.0, refl),
                 (
@@ -55,10 +51,6 @@ write_texts_at w at is front = (
     ),
   ),
 )
-
-pub write_texts : (w : Write) → IsWrite w → AreTexts write_grammars (write_fields w)
-write_texts w is =
-    write_texts_at w (decimal w.at) is (IsUtf8-from_ascii (decimal w.at) (IsAscii-decimal w.at is.at), is_decimal-decimal w.at is.at)
 
 -- the digit of what is below 16
 digit_small : (n : ℕ) → is_hex_digit (hex_digit n) ≡ true → n < 16
@@ -90,43 +82,39 @@ body_from_hex (b ∷ bs) h =
 pub body_read : (text body : List ℕ) → text ≡ hex_text body → is_hex text ≡ true → is_body body ≡ true
 body_read text body is hex = body_from_hex body (sym (ap is_hex is) ∙ hex)
 
--- what was read of the fields other than the front
+-- what was read of the fields
 pub record HoldsFields (t : WriteTexts) (w : Write) : Type 0 where
   pub doc : (w.doc ≡ t.doc.now) × IsTrue (is_doc_id w.doc) × IsUtf8 t.doc.now
   pub rev : (t.rev.now ≡ rev_text w.rev) × IsTrue (is_rev w.rev) × IsUtf8 t.rev.now
   pub ancestors : (t.ancestors.now ≡ revs_text w.ancestors) × IsTrue (is_revs w.ancestors) × IsUtf8 t.ancestors.now
-  pub deleted : t.deleted.now ≡ mark_text w.deleted
+  pub deleted : t.deleted.now ≡ deleted_text w.deleted
   pub body : (t.body.now ≡ hex_text w.body) × IsTrue (is_hex t.body.now)
   pub by : (t.by.now ≡ by_text w.by) × IsTrue (is_by w.by) × IsUtf8 t.by.now
+  pub at : (w.at < 2 ^ 64) × (t.at.now ≡ decimal w.at)
   pub winner : (t.winner.now ≡ rev_text w.winner) × IsTrue (is_rev w.winner) × IsUtf8 t.winner.now
   pub channels : (t.channels.now ≡ channels_text w.channels) × IsTrue (is_channels w.channels) × IsUtf8 t.channels.now
   pub grants : (t.grants.now ≡ grants_text w.grants) × IsTrue (is_grants w.grants) × IsUtf8 t.grants.now
   pub roles : (t.roles.now ≡ role_grants_text w.roles) × IsTrue (is_role_grants w.roles) × IsUtf8 t.roles.now
 
-write_is : (t : WriteTexts) (w : Write) → HoldsFields t w → w.at < 2 ^ 64 → IsWrite w
-write_is t w holds low = record {
+write_is : (t : WriteTexts) (w : Write) → HoldsFields t w → IsWrite w
+write_is t w holds = record {
   doc = (holds.doc.1, subst IsUtf8 (sym holds.doc.0) holds.doc.2);
   rev = (holds.rev.1, subst IsUtf8 holds.rev.0 holds.rev.2);
   ancestors = (holds.ancestors.1, subst IsUtf8 holds.ancestors.0 holds.ancestors.2);
   body = body_from_hex w.body (sym (ap is_hex holds.body.0) ∙ holds.body.1);
   by = (holds.by.1, subst IsUtf8 holds.by.0 holds.by.2);
-  at = low;
+  at = holds.at.0;
   winner = (holds.winner.1, subst IsUtf8 holds.winner.0 holds.winner.2);
   channels = (holds.channels.1, subst IsUtf8 holds.channels.0 holds.channels.2);
   grants = (holds.grants.1, subst IsUtf8 holds.grants.0 holds.grants.2);
   roles = (holds.roles.1, subst IsUtf8 holds.roles.0 holds.roles.2);
 }
 
-fields_at : (t : WriteTexts) (w : Write) → HoldsFields t w → texts_of t ≡ write_fields_at w t.at.now
-fields_at t w holds = λ i.
-    sym holds.doc.0 i ∷ holds.rev.0 i ∷ holds.ancestors.0 i ∷ holds.deleted i ∷ holds.body.0 i ∷ holds.by.0 i ∷ t.at.now
+fields_are : (t : WriteTexts) (w : Write) → HoldsFields t w → texts_of t ≡ write_fields w
+fields_are t w holds = λ i.
+    sym holds.doc.0 i ∷ holds.rev.0 i ∷ holds.ancestors.0 i ∷ holds.deleted i ∷ holds.body.0 i ∷ holds.by.0 i ∷ holds.at.1 i
     ∷ holds.winner.0 i ∷ holds.channels.0 i ∷ holds.grants.0 i ∷ holds.roles.0 i ∷ []
 
 -- the fields are read as the write
-pub reads_write : (t : WriteTexts) (w : Write) (at : Option ℕ) (fits : Bool) → HoldsFields t w
-    → MatchOption at (IsLargeFront t.at.now) (λ n. (n < 2 ^ 64) × (t.at.now ≡ decimal n)) → w.at ≡ unwrap_or at 18446744073709551615 → fits ≡ is_some at
-    → ReadsWrite (texts_of t) (record { write = w; at_fits = fits })
-reads_write t w None fits holds front value e = rw e (t.at.now, write_is t w holds (omega (arith, value)), front, fields_at t w holds, value)
-reads_write t w (Some n) fits holds front value e =
-    let at : t.at.now ≡ decimal w.at = front.1 ∙ ap decimal (sym value) in
-    rw e (write_is t w holds (omega (arith, value, front.0)), fields_at t w holds ∙ ap (write_fields_at w) at)
+pub reads_write : (t : WriteTexts) (w : Write) → HoldsFields t w → ReadsWrite (texts_of t) w
+reads_write t w holds = (write_is t w holds, fields_are t w holds)

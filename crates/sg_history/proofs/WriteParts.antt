@@ -1,9 +1,9 @@
 -- the fields of a write, in the four parts in which they are read
 use Rattle.std.proofs.Common.{ℕ, List, [], ◌∷◌, refl}
 use Rattle.sg_history.specs.declared.fault.LineFault.{LineFault}
-use Rattle.sg_history.specs.declared.write_line.WriteTexts.{WriteTexts}
+use Rattle.sg_history.specs.declared.line_of_write.WriteTexts.{WriteTexts}
 use Rattle.sg_history.specs.Line.{texts_of}
-use Rattle.sg_history.specs.Faults.{Grammar, AreTexts, IsBadAmong, document, revision, revisions, mark, body, writer, number, channels, grants, role_grants, write_grammars}
+use Rattle.sg_history.specs.Faults.{Grammar, AreTexts, IsBadAmong, document, revision, revisions, deleted, body, writer, number, channels, grants, role_grants, write_grammars}
 use Rattle.sg_history.proofs.FaultLemmas.{bad_in_front, bad_behind}
 
 abbrev pub tree_grammars : List Grammar
@@ -13,7 +13,7 @@ abbrev pub tree_texts : WriteTexts → List (List ℕ)
 tree_texts t = t.doc.now ∷ t.rev.now ∷ t.ancestors.now ∷ []
 
 abbrev pub content_grammars : List Grammar
-content_grammars = mark ∷ body ∷ writer ∷ []
+content_grammars = deleted ∷ body ∷ writer ∷ []
 
 abbrev pub content_texts : WriteTexts → List (List ℕ)
 content_texts t = t.deleted.now ∷ t.body.now ∷ t.by.now ∷ []
@@ -37,7 +37,7 @@ abbrev late_texts : WriteTexts → List (List ℕ)
 late_texts t = t.at.now ∷ t.winner.now ∷ t.channels.now ∷ t.grants.now ∷ t.roles.now ∷ []
 
 abbrev behind_grammars : List Grammar
-behind_grammars = mark ∷ body ∷ writer ∷ late_grammars
+behind_grammars = deleted ∷ body ∷ writer ∷ late_grammars
 
 abbrev behind_texts : WriteTexts → List (List ℕ)
 behind_texts t = t.deleted.now ∷ t.body.now ∷ t.by.now ∷ late_texts t

@@ -1,5 +1,5 @@
 -- The first bad line of a text that is no journal.
-use Rattle.std.specs.Prelude.{◌≡◌, ◌⊎◌, ℕ, Bool, true, List, codes, Some}
+use Rattle.std.specs.Prelude.{◌≡◌, ◌⊎◌, ℕ, true, List, Option, Some, IsTrue}
 use Rattle.sg_history.specs.declared.entries.Entry.{Entry}
 use Rattle.sg_history.specs.declared.fault.BadLine.{BadLine}
 use Rattle.sg_history.specs.declared.fault.LineFault.{LineFault}
@@ -9,27 +9,27 @@ use Rattle.sg_history.specs.declared.fault.ReadLog.TheVariants as file
 use Rattle.sg_history.specs.declared.fault.Why.{Why}
 use Rattle.sg_history.specs.Faults.{IsFault}
 use Rattle.sg_history.specs.Files.{LineGrammar, IsBadFile}
-use Rattle.sg_history.specs.Journal.{IsNext, line_of}
-use Rattle.sg_history.specs.Line.{AreRead}
+use Rattle.sg_history.specs.Journal.{IsNext, is_limit, line_of, title_of}
+use Rattle.sg_history.specs.Line.{IsLine}
 use Rattle.sg_history.specs.Pieces.{pieces}
 use Rattle.sg_history.specs.Rules.{rule_fault}
 
--- the fields are those of an entry that breaks a rule after older ones, and this is the first
-abbrev pub BreaksRule : List Entry → List (List ℕ) → Why → Type 0
-BreaksRule older fields why = (e : Entry) × (fits : Bool) × AreRead fields e fits × (rule_fault older e fits ≡ Some why)
+-- the line is that of an entry that breaks a rule after older ones, and this is the first
+abbrev pub BreaksRule : List Entry → List ℕ → Why → Type 0
+BreaksRule older text why = (e : Entry) × IsLine text e × (rule_fault older e ≡ Some why)
 
 -- what is wrong with a line after older entries: its kind, the number of its fields or the first bad field; else the first rule that it breaks
 abbrev pub IsLineFault : List Entry → List ℕ → Why → Type 0
-IsLineFault older text why = IsFault (pieces 9 text) why ⊎ BreaksRule older (pieces 9 text) why
+IsLineFault older text why = IsFault (pieces 9 text) why ⊎ BreaksRule older text why
 
--- the first line, without its line feed
-abbrev pub title : List ℕ
-title = codes "sgjournal 1"
+-- the first line of a journal, without its line feed
+abbrev pub IsTitle : List ℕ → Type 0
+IsTitle line = (limit : Option ℕ) × IsTrue (is_limit limit) × (line ≡ title_of limit)
 
 -- the lines of a journal: each is that of an entry that may be the next after those before it
 abbrev pub journal_lines : LineGrammar Entry
 journal_lines = record {
-  title = title;
+  IsTitle = IsTitle;
   Says = λ older text e. IsNext older e × (text ≡ line_of e);
   Fails = IsLineFault;
   may_end = λ older. true;

@@ -17,9 +17,10 @@ pub record SideEntry : Type 0 where
   pub text : List ℕ
   pub value : SideValue
 
--- a board: its log; the entries that wait, by rising numbers; the rooms that are outstanding, of which only counts how often
+-- a board: its limit of revisions, if it has one; its log; the entries that wait, by rising numbers; the rooms that are outstanding, of which only counts how often
 -- each stands; the bytes stored and asked for; the side map; and how many faults it counted
 pub record BoardState : Type 0 where
+  pub limit : Option ℕ
   pub log : List Entry
   pub pending : List Waiting
   pub rooms : List RoomFor
@@ -50,10 +51,11 @@ abbrev pub SideFollows : List SideEntry → List SideEntry → Type 0
 SideFollows earlier later =
     (text : List ℕ) (old : SideValue) → side_at earlier text ≡ Some old → (new : SideValue) × (side_at later text ≡ Some new) × Follows old new
 
--- the second board comes after the first: its book is later and its log extends the other's; its entries and outstanding rooms
+-- the second board comes after the first: it has the same limit; its book is later and its log extends the other's; its entries and outstanding rooms
 -- are in number at least as many, and its bytes exceed the other's by at most 20,971,520 for each one more; its side map
 -- follows the other's; and it counted at least as many faults
 pub record After (earlier later : BoardState) : Type 0 where
+  pub limit : earlier.limit ≡ later.limit
   pub book : Later (board_book earlier) (board_book later)
   pub log : Extends earlier.log later.log
   pub count : board_count earlier ≤ board_count later

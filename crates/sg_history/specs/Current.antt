@@ -1,12 +1,14 @@
 -- What a document is at a place of a history, given the entries up to it, the newest first.
-use Rattle.std.specs.Prelude.{ℕ, ◌+◌, Bool, List, [], ◌∷◌, length, Option, Some, None, if◌then◌else◌}
+use Rattle.std.specs.Prelude.{ℕ, ◌+◌, Bool, ◌&&◌, nat_le, List, [], ◌∷◌, length, Option, Some, None, if◌then◌else◌}
+use Rattle.std.specs.Str.{bytes_eq}
 use Rattle.sg_names.specs.declared.rev_id.RevId.{RevId}
 use Rattle.sg_names.specs.declared.grants.Grant.{Grant}
 use Rattle.sg_names.specs.declared.role_grants.RoleGrant.{RoleGrant}
 use Rattle.sg_names.specs.RevId.{same_rev}
 use Rattle.sg_history.specs.declared.entries.Entry.{Entry}
+use Rattle.sg_history.specs.declared.entries.Mark.{Mark}
 use Rattle.sg_history.specs.declared.entries.Write.{Write}
-use Rattle.sg_history.specs.History.{write_to}
+use Rattle.sg_history.specs.History.{SyncEntry, as_sync, write_to}
 
 -- a write, with its sequence
 pub record Sequenced : Type 0 where
@@ -63,9 +65,40 @@ pub record Effects : Type 0 where
 abbrev pub recorded_effects : Write → Effects
 recorded_effects w = record { channels = w.channels; grants = w.grants; roles = w.roles }
 
--- the effects of a revision after these entries: those that its write recorded
+-- what a mark says of its revision's effects
+abbrev pub marked_effects : Mark → Effects
+marked_effects mark = record { channels = mark.channels; grants = mark.grants; roles = mark.roles }
+
+-- whether a mark is of this revision of this document
+abbrev pub marks_rev : Mark → List ℕ → RevId → Bool
+marks_rev mark doc rev = bytes_eq mark.doc doc && same_rev mark.rev rev
+
+-- the first of these marks that is of a revision of a document, if one is
+abbrev pub mark_of : List Mark → List ℕ → RevId → Option Mark
+mark_of [] doc rev = None
+mark_of (mark ∷ marks) doc rev = if marks_rev mark doc rev then Some mark else mark_of marks doc rev
+
+-- the mark of a revision that a replaced sync function has, where there is one
+abbrev pub mark_in : Option SyncEntry → List ℕ → RevId → Option Mark
+mark_in None doc rev = None
+mark_in (Some sync) doc rev = mark_of sync.marks doc rev
+
+-- the mark of a revision that an entry has, if it replaces the sync function and has one
+abbrev pub mark_by : Entry → List ℕ → RevId → Option Mark
+mark_by e doc rev = mark_in (as_sync e) doc rev
+
+-- the effects of a mark where there is one, else the others
+abbrev pub effects_or : Option Mark → Effects → Effects
+effects_or None others = others
+effects_or (Some mark) others = marked_effects mark
+
+-- the effects of a revision after these entries: those of the last mark of it after its write, or else those that its write
+-- recorded
 abbrev pub effects_of : List Entry → Sequenced → Effects
-effects_of es written = recorded_effects written.write
+effects_of [] written = recorded_effects written.write
+effects_of (e ∷ older) written =
+    if nat_le (length older + 1) written.seq then recorded_effects written.write
+    else effects_or (mark_by e written.write.doc written.write.rev) (effects_of older written)
 
 -- a document as it is: the sequence of its last write, with the winner's revision, deleted mark and effects
 pub record Current : Type 0 where
@@ -100,3 +133,13 @@ current_after es doc (Some last) = Some (current_by es last.seq (winning_of es d
 -- winner that this write names and the winner's effects
 abbrev pub current : List Entry → List ℕ → Option Current
 current es doc = current_after es doc (last_write es doc)
+
+-- a current state with the effects of a mark, where there is one
+abbrev pub marked_state : Option Mark → Current → Current
+marked_state None c = c
+marked_state (Some mark) c = record { seq = c.seq; rev = c.rev; deleted = c.deleted; effects = marked_effects mark }
+
+-- a current state, where there is one, with the effects that an entry's mark of its revision gives
+abbrev pub marked_by : Entry → List ℕ → Option Current → Option Current
+marked_by e doc None = None
+marked_by e doc (Some c) = Some (marked_state (mark_by e doc c.rev) c)

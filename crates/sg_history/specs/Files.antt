@@ -1,14 +1,14 @@
 -- Files of lines: a first line, and further lines, each read by a grammar after those before it. Each line ends with a line
 -- feed.
-use Rattle.std.specs.Prelude.{◌≡◌, ◌≢◌, ◌⊎◌, ℕ, ◌+◌, Bool, List, [], ◌∷◌, length, reverse, IsTrue}
+use Rattle.std.specs.Prelude.{◌≡◌, ◌⊎◌, ℕ, ◌+◌, Bool, List, [], ◌∷◌, length, reverse, IsTrue}
 use Rattle.sg_history.specs.declared.fault.BadLine.{BadLine}
 use Rattle.sg_history.specs.declared.fault.Why.{Why}
 use Rattle.sg_history.specs.declared.fault.Why.TheVariants.{Head, Ending}
 use Rattle.sg_history.specs.Pieces.{pieces}
 
--- a grammar of lines: the first line; what a further line says after these items, the newest first, and what is wrong with it, its line feed apart; and whether a file may end there
+-- a grammar of lines: which is a first line; what a further line says after these items, the newest first, and what is wrong with it, its line feed apart; and whether a file may end there
 pub record LineGrammar (X : Type 0) : Type 1 where
-  pub title : List ℕ
+  pub IsTitle : List ℕ → Type 0
   pub Says : List X → List ℕ → X → Type 0
   pub Fails : List X → List ℕ → Why → Type 0
   pub may_end : List X → Bool
@@ -35,15 +35,15 @@ pub record IsBadBehind {X : Type 0} (g : LineGrammar X) (lines : List (List ℕ)
   pub fault : Stops g (reverse items) left bad.why
 
 -- what is wrong with a first line that has no line feed
-abbrev pub IsTitleFault : List ℕ → List ℕ → Why → Type 0
-IsTitleFault title first why = ((why ≡ Ending) × (first ≡ title)) ⊎ ((why ≡ Head) × (first ≢ title))
+abbrev pub IsTitleFault : (List ℕ → Type 0) → List ℕ → Why → Type 0
+IsTitleFault IsTitle first why = ((why ≡ Ending) × IsTitle first) ⊎ ((why ≡ Head) × ¬ (IsTitle first))
 
 -- the first bad line of a text that is cut at its line feeds
 abbrev pub IsBadAmong : {X : Type 0} → LineGrammar X → List (List ℕ) → BadLine → Type 0
 IsBadAmong g [] bad = ⊥
-IsBadAmong g (first ∷ []) bad = (bad.place ≡ 1) × IsTitleFault g.title first bad.why
+IsBadAmong g (first ∷ []) bad = (bad.place ≡ 1) × IsTitleFault g.IsTitle first bad.why
 IsBadAmong g (first ∷ next ∷ more) bad =
-    ((bad.place ≡ 1) × (bad.why ≡ Head) × (first ≢ g.title)) ⊎ ((first ≡ g.title) × IsBadBehind g (next ∷ more) bad)
+    ((bad.place ≡ 1) × (bad.why ≡ Head) × ¬ (g.IsTitle first)) ⊎ (g.IsTitle first × IsBadBehind g (next ∷ more) bad)
 
 -- the text is no file of this grammar, and this is its first bad line
 abbrev pub IsBadFile : {X : Type 0} → LineGrammar X → List ℕ → BadLine → Type 0
@@ -56,7 +56,7 @@ AreSaid g lines items = Begins g [] lines items ([] ∷ []) × IsTrue (g.may_end
 -- the first line, and lines that say these items
 abbrev pub AreAmong : {X : Type 0} → LineGrammar X → List (List ℕ) → List X → Type 0
 AreAmong g [] items = ⊥
-AreAmong g (first ∷ lines) items = (first ≡ g.title) × AreSaid g lines items
+AreAmong g (first ∷ lines) items = g.IsTitle first × AreSaid g lines items
 
 -- the text is the file of these items
 abbrev pub IsFileOf : {X : Type 0} → LineGrammar X → List ℕ → List X → Type 0
@@ -68,6 +68,7 @@ pub record IsLawful {X : Type 0} (g : LineGrammar X) : Type 0 where
   pub one_fault : (older : List X) (line : List ℕ) (a b : Why) → g.Fails older line a → g.Fails older line b → a ≡ b
   pub apart : (older : List X) (line : List ℕ) (x : X) (why : Why) → g.Says older line x → ¬ (g.Fails older line why)
 
--- each line says an item, or something is wrong with it
+-- each line is a first line or is not, and each says an item, or something is wrong with it
 pub record IsDecided {X : Type 0} (g : LineGrammar X) : Type 0 where
+  pub title : (line : List ℕ) → g.IsTitle line ⊎ ¬ (g.IsTitle line)
   pub either : (older : List X) (line : List ℕ) → ((x : X) × g.Says older line x) ⊎ ((why : Why) × g.Fails older line why)

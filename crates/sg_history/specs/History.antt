@@ -1,16 +1,18 @@
 -- A history is a list of entries; the entry at place k, counted from 1, has sequence k.
 -- What a history says at a place is said of the entries up to that place, the newest first, so that a
 -- longer history leaves it as it was.
-use Rattle.std.specs.Prelude.{◌≡◌, ℕ, Bool, List, [], ◌∷◌, ◌++◌, take, reverse, Option, Some, None, if◌then◌else◌}
+use Rattle.std.specs.Prelude.{◌≡◌, ℕ, Bool, List, [], ◌∷◌, ◌++◌, take, reverse, is_some, Option, Some, None, if◌then◌else◌}
 use Rattle.std.specs.List.{list_any}
 use Rattle.std.specs.Str.{bytes_eq}
 use Rattle.sg_history.specs.declared.entries.Entry.{Entry}
 use Rattle.sg_history.specs.declared.entries.Entry.TheVariants as entry
 use Rattle.sg_history.specs.declared.entries.Log.{Log}
+use Rattle.sg_history.specs.declared.entries.Mark.{Mark}
 use Rattle.sg_history.specs.declared.entries.Write.{Write}
 
--- a history: its entries, in order
+-- a history: its limit of revisions, if it has one, and its entries, in order
 pub record History : Type 0 where
+  pub limit : Option ℕ
   pub entries : List Entry
 
 -- the entries that a log keeps, in order
@@ -19,7 +21,7 @@ entries_of log = log.entries.list
 
 -- the history that a log keeps
 abbrev pub history : Log → History
-history log = record { entries = entries_of log }
+history log = record { limit = log.limit; entries = entries_of log }
 
 -- the entries up to place k, the newest first
 abbrev pub past : List Entry → ℕ → List Entry
@@ -40,7 +42,31 @@ as_write (entry.PutUser name channels roles) = None
 as_write (entry.PutRole name channels) = None
 as_write (entry.DropUser name) = None
 as_write (entry.DropRole name) = None
+as_write (entry.Sync text marks) = None
 as_write entry.Unused = None
+
+-- a sync function in place of the one before it: its text, and what it makes of each revision that is a leaf
+pub record SyncEntry : Type 0 where
+  pub text : List ℕ
+  pub marks : List Mark
+
+-- the replacement of the sync function that an entry is, if it is one
+abbrev pub as_sync : Entry → Option SyncEntry
+as_sync (entry.Write w) = None
+as_sync (entry.PutUser name channels roles) = None
+as_sync (entry.PutRole name channels) = None
+as_sync (entry.DropUser name) = None
+as_sync (entry.DropRole name) = None
+as_sync (entry.Sync text marks) = Some (record { text = text; marks = marks })
+as_sync entry.Unused = None
+
+-- whether an entry is a write
+abbrev pub is_write : Entry → Bool
+is_write e = is_some (as_write e)
+
+-- whether an entry replaces the sync function
+abbrev pub is_sync : Entry → Bool
+is_sync e = is_some (as_sync e)
 
 -- the write, where there is one and it is of this document
 abbrev pub of_document : Option Write → List ℕ → Option Write

@@ -1,6 +1,7 @@
 pub use Rattle.sg_names.specs.Key
 pub use Rattle.sg_names.specs.RevId
 pub use Rattle.sg_names.specs.Grammar
+pub mod SyncText
 pub mod EntryList
 pub mod History
 pub mod Current

@@ -39,6 +39,7 @@ as_put (entry.PutRole name channels) =
     Some (record { of = Role name; state = Some (record { channels = channels; roles = [] }) })
 as_put (entry.DropUser name) = Some (record { of = User name; state = None })
 as_put (entry.DropRole name) = Some (record { of = Role name; state = None })
+as_put (entry.Sync text marks) = None
 as_put entry.Unused = None
 
 -- what a put or a drop makes of a user or role, given what it was before

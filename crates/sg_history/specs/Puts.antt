@@ -1,4 +1,4 @@
--- what the code's references to puts and drops stand for
+-- what the code's references to puts, drops and replacements of the sync function stand for
 use Rattle.std.specs.Prelude.{ℕ, List, [], Option, Some, None}
 use Rattle.std.specs.Borrow.{Bor}
 use Rattle.sg_names.specs.declared.grants.Grantee.{Grantee}
@@ -7,6 +7,8 @@ use Rattle.sg_history.specs.declared.puts.Principal.{Principal}
 use Rattle.sg_history.specs.declared.puts.Principal.TheVariants as principal
 use Rattle.sg_history.specs.declared.puts.Given.{Given}
 use Rattle.sg_history.specs.declared.puts.Put as puts
+use Rattle.sg_history.specs.declared.replacement.Replacement.{Replacement}
+use Rattle.sg_history.specs.History.{SyncEntry}
 use Rattle.sg_history.specs.Principals as principals
 
 -- whom a put is of
@@ -31,3 +33,7 @@ principal_in (Some given) = Some (given_in given)
 -- a put or a drop
 abbrev pub put_in : puts.Put → principals.Put
 put_in put = record { of = grantee_in put.of; state = principal_in put.given }
+
+-- a replacement of the sync function
+abbrev pub replacement_in : Replacement → SyncEntry
+replacement_in replacement = record { text = replacement.text.now; marks = replacement.marks.now }

@@ -4,10 +4,10 @@ use Rattle.sg_history.specs.declared.entries.Entry.{Entry}
 use Rattle.sg_history.specs.declared.fault.LineFault.{LineFault}
 use Rattle.sg_history.specs.declared.fault.LineFault.TheVariants as line
 use Rattle.sg_history.specs.declared.fault.Why.{Why}
-use Rattle.sg_history.specs.BadLine.{title}
+use Rattle.sg_history.specs.BadLine.{IsTitle}
 use Rattle.sg_history.specs.Faults.{HasReason, IsFault}
 use Rattle.sg_history.specs.Files.{LineGrammar, AreSaid, Begins, Stops}
-use Rattle.sg_history.specs.Line.{AreRead}
+use Rattle.sg_history.specs.Line.{IsLine}
 use Rattle.sg_history.specs.Pieces.{pieces}
 
 -- the first lines say these items, and the one behind them has this fault
@@ -34,11 +34,11 @@ abbrev pub FailsIn : {X : Type 0} → LineGrammar X → List X → List ℕ → 
 FailsIn g before text after why =
     (lines : List (List ℕ)) → Begins g [] lines before (pieces 10 text) → StopsBehind g lines after why
 
--- the lines of a journal as they are read, whatever rules they break: a line is read as an entry, of which a front may be too large for its type
+-- the lines of a journal as they are read, whatever rules they break
 abbrev pub journal_texts : LineGrammar Entry
 journal_texts = record {
-  title = title;
-  Says = λ older text e. (fits : Bool) × AreRead (pieces 9 text) e fits;
+  IsTitle = IsTitle;
+  Says = λ older text e. IsLine text e;
   Fails = λ older text why. IsFault (pieces 9 text) why;
   may_end = λ older. true;
 }

@@ -1,11 +1,9 @@
 -- The world of sequences: how many were drawn, which of them are held, which entries wait for their places, and the log.
-use Rattle.std.specs.Prelude.{◌≡◌, ◌≢◌, ◌<◌, ◌+◌, ℕ, Bool, ◌&&◌, true, nat_eq, nat_le, nat_lt, List, [], ◌∷◌, ◌++◌, length, count_by, Some, IsTrue, if◌then◌else◌}
+use Rattle.std.specs.Prelude.{◌≡◌, ◌≢◌, ◌<◌, ◌+◌, ℕ, Bool, ◌&&◌, true, nat_eq, nat_le, nat_lt, List, [], ◌∷◌, ◌++◌, length, count_by, IsTrue, if◌then◌else◌}
 use Rattle.sg_history.specs.declared.book.Waiting.{Waiting}
 use Rattle.sg_history.specs.declared.entries.Entry.{Entry}
 use Rattle.sg_history.specs.declared.entries.Entry.TheVariants.{Unused}
-use Rattle.sg_history.specs.declared.entries.Write.{Write}
-use Rattle.sg_history.specs.History.{write_to}
-use Rattle.sg_history.specs.Book.{Book, book_with, write_at}
+use Rattle.sg_history.specs.Book.{Book, IsAbove, book_with}
 
 -- how many sequences were drawn, which are held, the entries that wait, and the log
 pub record World : Type 0 where
@@ -87,15 +85,11 @@ world_after world look = world
 abbrev pub IsHeld : World → ℕ → Type 0
 IsHeld world number = 0 < count_by (λ held. nat_eq held number) world.held
 
--- a write of a document may be stored at a number above each at which the book has a write of that document
-abbrev pub IsAboveWrites : World → ℕ → Entry → Type 0
-IsAboveWrites world number e =
-    (doc : List ℕ) (w : Write) (old : ℕ) (v : Write) → write_to e doc ≡ Some w → write_at (world_book world) doc old ≡ Some v → old < number
-
--- a step that stores needs held numbers, two different ones where it stores at two, and a number above the writes of the document
+-- a step that stores needs held numbers, two different ones where it stores at two, and a number for the entry above each entry of
+-- the book to which it is tied
 abbrev pub MayStep : World → Step → Type 0
 MayStep world draw = Unit {0}
-MayStep world (store number e) = IsHeld world number × IsAboveWrites world number e
+MayStep world (store number e) = IsHeld world number × IsAbove (world_book world) number e
 MayStep world (swap unused number e) =
-    IsHeld world unused × IsHeld world number × (unused ≢ number) × IsAboveWrites world number e
+    IsHeld world unused × IsHeld world number × (unused ≢ number) × IsAbove (world_book world) number e
 MayStep world look = Unit {0}

@@ -4,13 +4,15 @@ ghost use Rattle.std.specs.Prelude.{◌≡◌, ◌++◌, ◌∷◌, ◌+◌, ◌
 ghost use Rattle.std.specs.Option.{option_copied};
 ghost use Rattle.sg_history.specs.declared.entries.Entry.TheVariants as kinds;
 ghost use Rattle.sg_history.specs.declared.entries.Write as writes;
-ghost use Rattle.sg_history.specs.History.{as_write};
+ghost use Rattle.sg_history.specs.History.{as_sync, as_write};
 ghost use Rattle.sg_history.specs.EntryList.{EntryList};
 ghost use Rattle.sg_history.specs.Principals.{as_put};
-ghost use Rattle.sg_history.specs.Puts.{put_in};
+ghost use Rattle.sg_history.specs.Puts.{put_in, replacement_in};
 
 use crate::puts::{Given, Principal, Put};
-use sg_names::{Channels, DocId, Grants, Name, Names, RevId, Revs, RoleGrants};
+use crate::replacement::Replacement;
+use crate::sync_text::SyncText;
+use sg_names::{Channels, DocId, Grants, List, Name, Names, RevId, Revs, RoleGrants};
 use sg_outside::Bytes;
 use std::alloc::{AllocError, Global};
 use std::marker::Model;
@@ -38,6 +40,22 @@ pub struct Write {
     pub roles: RoleGrants,
 }
 
+/// What a sync function that replaces another makes of a revision.
+#[derive(Drop)]
+pub struct Mark {
+    pub doc: DocId,
+    pub rev: RevId,
+    /// The channels of this revision from then on.
+    pub channels: Channels,
+    /// The channels that it grants from then on.
+    pub grants: Grants,
+    /// The roles that it gives from then on.
+    pub roles: RoleGrants,
+}
+
+/// A list of marks.
+pub type Marks = List<Mark>;
+
 /// One entry of a history. Its place, counted from 1, is its sequence.
 #[derive(Drop)]
 pub enum Entry {
@@ -48,6 +66,8 @@ pub enum Entry {
     PutRole(Name, Channels),
     DropUser(Name),
     DropRole(Name),
+    /// A sync function in place of the one before it, with a mark for each revision that is a leaf.
+    Sync(SyncText, Marks),
     /// A sequence that was drawn and given up.
     Unused,
 }
@@ -91,7 +111,17 @@ impl Entry {
                 of: Principal::Role(name),
                 given: None,
             }),
-            Entry::Write(_) | Entry::Unused => None,
+            Entry::Write(_) | Entry::Sync(_, _) | Entry::Unused => None,
+        }
+    }
+
+    /// The replacement of the sync function that this entry is, if it is one.
+    pub fn as_sync(&self) -> Option<Replacement<'_>>
+        ensures { option_map replacement_in result ≡ as_sync self.now }
+    {
+        match self {
+            Entry::Sync(text, marks) => Some(Replacement { text, marks }),
+            _ => None,
         }
     }
 }
@@ -169,15 +199,20 @@ impl Entries {
 #[derive(Drop)]
 pub struct Log {
     pub entries: Entries,
+    /// How many revisions of each branch of a tree are kept, from its leaf on; none where all are. In a journal it is from 20 to
+    /// 1,000.
+    pub limit: Option<u32>,
 }
 
 impl Log {
     /// An empty log. Allocates nothing.
-    pub fn new(alloc: Global) -> Log
-        ensures { result.entries.list ≡ [] }
+    pub fn new(alloc: Global, limit: Option<u32>) -> Log
+        ensures entries { result.entries.list ≡ [] }
+        ensures limit { result.limit ≡ limit }
     {
         Log {
             entries: Entries::new(alloc),
+            limit,
         }
     }
 }

@@ -1,6 +1,6 @@
 //! The fields of a journal's lines, each read by its grammar.
 
-ghost use Rattle.std.specs.Prelude.{◌≡◌, ◌^◌, ◌<◌, ◌∷◌, [], ℕ, List, decimal, IsTrue, IsUtf8, IfOk, IfErr, MatchOption};
+ghost use Rattle.std.specs.Prelude.{◌≡◌, ◌^◌, ◌<◌, ◌-◌, ◌∷◌, [], ℕ, List, decimal, IsTrue, IsUtf8, IfOk, IfErr};
 ghost use Rattle.sg_names.specs.Grammar.{is_name, is_doc_id};
 ghost use Rattle.sg_names.specs.RevId.{rev_text, is_rev};
 ghost use Rattle.sg_names.specs.Revs.{revs_text, is_revs};
@@ -9,14 +9,15 @@ ghost use Rattle.sg_names.specs.Names.{names_text, is_names};
 ghost use Rattle.sg_names.specs.Grants.{grants_text, is_grants};
 ghost use Rattle.sg_names.specs.RoleGrants.{role_grants_text, is_role_grants};
 ghost use Rattle.sg_names.specs.Hex.{hex_text, is_hex};
-ghost use Rattle.sg_history.specs.Journal.{mark_text, by_text, is_by};
-ghost use Rattle.sg_history.specs.Line.{IsLargeFront};
+ghost use Rattle.sg_history.specs.Journal.{deleted_text, by_text, is_by};
+ghost use Rattle.sg_history.specs.SyncText.{is_sync_text};
 ghost use Rattle.sg_history.specs.Faults as faults;
 ghost use Rattle.sg_history.specs.Faults.{AreTexts, IsText, IsBadAmong, IsBadField};
 
 use crate::fault::{LineFault, Why};
+use crate::sync_text::SyncText;
 use sg_names::{
-    Channels, DocId, Grants, Name, Names, RevId, Revs, RoleGrants, TextFault, from_hex, is_decimal,
+    Channels, DocId, Grants, Name, Names, RevId, Revs, RoleGrants, TextFault, from_hex,
     read_decimal,
 };
 use sg_outside::Bytes;
@@ -57,7 +58,7 @@ pub fn read_two<A: Field, B: Field>(
     second: &[u8],
     number: u64,
 ) -> Result<(A, B), LineFault>
-    requires { number < 2 ^ 63 }
+    requires { number < 2 ^ 64 - 1 }
     ensures first { IfOk result (λ v. A.reads first.now v.0) }
     ensures second { IfOk result (λ v. B.reads second.now v.1) }
     ensures texts { IfOk result (λ _. AreTexts (A.grammar ∷ B.grammar ∷ [])
@@ -78,7 +79,7 @@ pub fn read_three<A: Field, B: Field, C: Field>(
     third: &[u8],
     number: u64,
 ) -> Result<(A, B, C), LineFault>
-    requires { number < 2 ^ 62 }
+    requires { number < 2 ^ 64 - 2 }
     ensures first { IfOk result (λ v. A.reads first.now v.0) }
     ensures second { IfOk result (λ v. B.reads second.now v.1) }
     ensures third { IfOk result (λ v. C.reads third.now v.2) }
@@ -93,7 +94,7 @@ pub fn read_three<A: Field, B: Field, C: Field>(
 }
 
 /// The text of a field.
-fn text_of(field: &[u8]) -> Result<&str, TextFault>
+pub(crate) fn text_of(field: &[u8]) -> Result<&str, TextFault>
     ensures ok { IfOk result (λ s. (s.now ≡ field.now) × IsUtf8 field.now) }
     ensures bad { IfErr result (λ e. (e ≡ TextFault.Bad) × (¬ IsUtf8 field.now)) }
 {
@@ -194,9 +195,9 @@ impl Field for RoleGrants {
 
 /// A mark: `0` or `1`.
 impl Field for bool {
-    ghost grammar = { faults.mark };
+    ghost grammar = { faults.deleted };
 
-    ghost reads = { λ text v. text ≡ mark_text v };
+    ghost reads = { λ text v. text ≡ deleted_text v };
 
     fn read_field(_alloc: Global, field: &[u8]) -> Result<bool, TextFault> {
         match field {
@@ -236,18 +237,40 @@ impl Field for Option<Name> {
     }
 }
 
-/// A decimal; none where it is too large for the type.
-impl Field for Option<u64> {
+/// A decimal below 2^64.
+impl Field for u64 {
     ghost grammar = { faults.number };
 
-    ghost reads = { λ text v. MatchOption v (IsLargeFront text)
-        (λ n. (n < 2 ^ 64) × (text ≡ decimal n)) };
+    ghost reads = { λ text v. (v < 2 ^ 64) × (text ≡ decimal v) };
 
-    fn read_field(_alloc: Global, field: &[u8]) -> Result<Option<u64>, TextFault> {
+    fn read_field(_alloc: Global, field: &[u8]) -> Result<u64, TextFault> {
         let text = text_of(field)?;
-        if !is_decimal(field) {
-            return Err(TextFault::Bad);
+        match read_decimal(text) {
+            Some(number) => Ok(number),
+            None => Err(TextFault::Bad),
         }
-        Ok(read_decimal(text))
     }
+}
+
+/// The text of a sync function, in lower-case hexadecimal.
+impl Field for SyncText {
+    ghost grammar = { faults.sync_text };
+
+    ghost reads = { λ text v. (text ≡ hex_text v) × IsTrue (is_sync_text v) × IsUtf8 v };
+
+    fn read_field(alloc: Global, field: &[u8]) -> Result<SyncText, TextFault> {
+        let mut bytes = Bytes::new(alloc);
+        from_hex(field, &mut bytes)?;
+        read_sync_text(alloc, bytes.as_slice())
+    }
+}
+
+/// Reads the text of a sync function of its bytes.
+fn read_sync_text(alloc: Global, bytes: &[u8]) -> Result<SyncText, TextFault>
+    ensures ok { IfOk result (λ t. (t ≡ bytes.now) × IsTrue (is_sync_text t) × IsUtf8 t) }
+    ensures bad { result ≡ Err TextFault.Bad
+        → ¬ (IsUtf8 bytes.now × IsTrue (is_sync_text bytes.now)) }
+{
+    let text = text_of(bytes)?;
+    SyncText::parse(alloc, text)
 }

@@ -13,14 +13,12 @@ ghost use Rattle.sg_history.specs.Refusal.{RefusesLog};
 
 use crate::entries::{Entries, Entry, Log};
 use crate::fault::{BadLine, LineFault, ReadLog, Why};
+use crate::header::{read_header, read_title, take_header};
 use crate::line::read_line;
-use crate::line_reader::{ReadsLines, behind_title, read_lines, refuse, take_lines};
+use crate::line_reader::{ReadsLines, read_lines, refuse, take_lines};
 use crate::rules::first_broken;
 use sg_outside::Bytes;
 use std::alloc::Global;
-
-/// The first line of a journal.
-const HEADER: &str = "sgjournal 1";
 
 /// Entries as the lines of a journal say them; whether they keep the rules is not asked.
 impl ReadsLines for Entries {
@@ -30,13 +28,13 @@ impl ReadsLines for Entries {
 
     ghost items = { λ e. e.list };
 
-    fn title() -> &'static [u8] {
-        HEADER.as_bytes()
+    fn is_title(line: &[u8]) -> bool {
+        read_title(line).is_some()
     }
 
     fn read_line(&mut self, alloc: Global, line: &[u8]) -> Result<(), LineFault> {
-        let read = read_line(alloc, line)?;
-        self.push(read.entry)?;
+        let entry = read_line(alloc, line)?;
+        self.push(entry)?;
         Ok(())
     }
 
@@ -55,10 +53,16 @@ fn is_out(end: &Result<(), LineFault>) -> bool
     matches!(end, Err(LineFault::Memory))
 }
 
-/// The log of lines that were read, if none of them breaks a rule.
-fn log_of(alloc: Global, entries: Entries, end: Result<(), LineFault>) -> Result<Log, ReadLog>
+/// The log of lines that were read, with this limit, if none of them breaks a rule.
+fn log_of(
+    alloc: Global,
+    limit: Option<u32>,
+    entries: Entries,
+    end: Result<(), LineFault>,
+) -> Result<Log, ReadLog>
     ensures ok { (lines : List (List ℕ)) → EndsAs journal_texts lines entries.list end
         → IfOk result (λ log. AreSaid journal_lines lines (entries_of log)) }
+    ensures limit { IfOk result (λ log. log.limit ≡ limit) }
     ensures line { (lines : List (List ℕ)) → EndsAs journal_texts lines entries.list end
         → IfErr result (NamesLine (IsBadBehind journal_lines lines)) }
 {
@@ -70,7 +74,7 @@ fn log_of(alloc: Global, entries: Entries, end: Result<(), LineFault>) -> Result
         return Err(ReadLog::Bad(line));
     }
     match end {
-        Ok(()) => Ok(Log { entries }),
+        Ok(()) => Ok(Log { entries, limit }),
         Err(fault) => Err(refuse(next, fault)),
     }
 }
@@ -82,18 +86,18 @@ fn bad_title(why: Why) -> ReadLog
     ReadLog::Bad(BadLine { place: 1, why })
 }
 
-/// Reads a journal, or names its first bad line and what is wrong with it, which is the first of: `Head` (line 1 is not
-/// the header), `Ending` (no line feed), `Kind`, `Fields`, `Field` and `Rule`.
+/// Reads a journal, or names its first bad line and what is wrong with it, which is the first of: `Head` (line 1 is no
+/// header), `Ending` (no line feed), `Kind`, `Fields`, `Field` and `Rule`.
 pub fn read_journal(alloc: Global, bytes: &[u8]) -> Result<Log, ReadLog>
     ensures ok { IfOk result (λ log. Spells bytes.now (history log)) }
     ensures bad { IfErr result (λ e. RefusesLog e ((h : History) → ¬ (Spells bytes.now h))) }
     ensures line { IfErr result (NamesLine (IsBadJournal bytes.now)) }
 {
-    match behind_title::<Entries>(bytes) {
-        Ok(lines) => {
+    match read_header(bytes) {
+        Ok(header) => {
             let mut entries = Entries::new(alloc);
-            let end = read_lines(alloc, lines, &mut entries);
-            log_of(alloc, entries, end)
+            let end = read_lines(alloc, header.lines, &mut entries);
+            log_of(alloc, header.limit, entries, end)
         }
         Err(why) => Err(bad_title(why)),
     }
@@ -105,13 +109,12 @@ pub fn take_journal(alloc: Global, bytes: Bytes) -> Result<Log, ReadLog>
     ensures bad { IfErr result (λ e. RefusesLog e ((h : History) → ¬ (Spells bytes h))) }
     ensures line { IfErr result (NamesLine (IsBadJournal bytes)) }
 {
-    let passed = match behind_title::<Entries>(bytes.as_slice()) {
-        Ok(lines) => bytes.len() - lines.len(),
-        Err(why) => return Err(bad_title(why)),
-    };
-    let mut lines = bytes;
-    lines.drop_front(passed);
-    let mut entries = Entries::new(alloc);
-    let end = take_lines(alloc, lines, &mut entries);
-    log_of(alloc, entries, end)
+    match take_header(bytes) {
+        Ok((limit, lines)) => {
+            let mut entries = Entries::new(alloc);
+            let end = take_lines(alloc, lines, &mut entries);
+            log_of(alloc, limit, entries, end)
+        }
+        Err(why) => Err(bad_title(why)),
+    }
 }

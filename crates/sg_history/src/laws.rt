@@ -1,15 +1,15 @@
 //! What holds of journals, books and boards. The calls do nothing.
 
-ghost use Rattle.std.specs.Prelude.{◌≡◌, ◌⊎◌, ◌≤◌, List, ℕ, length, Some};
+ghost use Rattle.std.specs.Prelude.{◌≡◌, ◌⊎◌, ◌≤◌, ◌∷◌, List, ℕ, length, Some, None};
 ghost use Rattle.sg_names.specs.declared.rev_id.RevId.{RevId};
 ghost use Rattle.sg_history.specs.declared.book.Waiting.{Waiting};
 ghost use Rattle.sg_history.specs.declared.entries.Entry.{Entry};
 ghost use Rattle.sg_history.specs.declared.fault.BadLine.{BadLine};
 ghost use Rattle.sg_history.specs.BadLine.{IsBadJournal};
 ghost use Rattle.sg_history.specs.Board.{BoardState, After};
-ghost use Rattle.sg_history.specs.Book.{Book, book_of, book_with, Later, IsLastWrite, writes_up_to, last_write_up_to, write_of_rev_up_to};
-ghost use Rattle.sg_history.specs.Current.{Sequenced, writes_to, last_write, write_of_rev};
-ghost use Rattle.sg_history.specs.History.{History, Extends, past};
+ghost use Rattle.sg_history.specs.Book.{Book, SequencedSync, book_of, book_with, Later, IsLastSync, IsLastWrite, last_sync_up_to, last_write_up_to, syncs_up_to, write_of_rev_up_to, writes_up_to};
+ghost use Rattle.sg_history.specs.Current.{Sequenced, current, effects_of, effects_or, last_write, mark_by, marked_by, recorded_effects, write_of_rev, writes_to};
+ghost use Rattle.sg_history.specs.History.{History, Extends, past, write_to};
 ghost use Rattle.sg_history.specs.Journal.{IsEntry, line_of, Spells};
 
 /// A line is that of one entry.
@@ -66,6 +66,29 @@ pub fn books()
         → IsLastWrite (book_of h) doc last }
     ensures of_rev { (h : List Entry) (number : ℕ) (doc : List ℕ) (rev : RevId)
         → write_of_rev_up_to (book_of h) number doc rev ≡ write_of_rev (past h number) doc rev }
+{}
+
+/// The replacements of the sync function in later books: up to the number of the last one that the earlier book has, they are the
+/// same, and that one is the last of them.
+pub fn syncs()
+    ensures same { (earlier later : Book) (last : SequencedSync) (number : ℕ) → Later earlier later
+        → IsLastSync earlier last → number ≤ last.seq
+        → syncs_up_to later number ≡ syncs_up_to earlier number }
+    ensures last { (earlier later : Book) (last : SequencedSync) → Later earlier later
+        → IsLastSync earlier last → last_sync_up_to later last.seq ≡ Some last }
+{}
+
+/// What one entry more makes of current states and of effects. Where it does not write a document, the document stays as it was, but
+/// that it has the effects that the entry's mark of its winner gives, where there is one. So it is with the effects of each write
+/// that was there; a write that is the last entry has its own.
+pub fn currents()
+    ensures unwritten { (e : Entry) (older : List Entry) (doc : List ℕ) → write_to e doc ≡ None
+        → current (e ∷ older) doc ≡ marked_by e doc (current older doc) }
+    ensures effects { (e : Entry) (older : List Entry) (w : Sequenced) → w.seq ≤ length older
+        → effects_of (e ∷ older) w
+        ≡ effects_or (mark_by e w.write.doc w.write.rev) (effects_of older w) }
+    ensures own { (es : List Entry) (w : Sequenced) → length es ≤ w.seq
+        → effects_of es w ≡ recorded_effects w.write }
 {}
 
 /// Each board comes after itself, and after all that the boards before it come after.

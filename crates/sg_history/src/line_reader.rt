@@ -1,6 +1,6 @@
 //! Reads a file of lines, or names its first bad line: the same for each grammar of lines.
 
-ghost use Rattle.std.specs.Prelude.{◌≡◌, ◌≤◌, ◌⊎◌, ◌+◌, ◌-◌, ◌∷◌, ◌++◌, List, ℕ, [], drop, length, reverse, IsTrue, IfOk, IfErr, OnOk, OnErr};
+ghost use Rattle.std.specs.Prelude.{◌≡◌, ◌≤◌, ◌⊎◌, ◌+◌, ◌∷◌, ◌++◌, List, ℕ, [], drop, length, reverse, IsTrue, MatchBool, IfOk, IfErr, OnOk, OnErr};
 ghost use Rattle.sg_history.specs.BadLine.{NamesLine, refusal_at};
 ghost use Rattle.sg_history.specs.Faults.{HasReason};
 ghost use Rattle.sg_history.specs.Files.{LineGrammar, IsBadFile, IsFileOf, Stops};
@@ -20,9 +20,9 @@ pub trait ReadsLines: Drop {
 
     ghost items: { Self → List Self.Item };
 
-    /// The first line, without its line feed.
-    fn title() -> &'static [u8]
-        ensures { result.now ≡ grammar.title };
+    /// Whether this is a first line, without its line feed.
+    fn is_title(line: &[u8]) -> bool
+        ensures { MatchBool result (grammar.IsTitle line.now) (¬ (grammar.IsTitle line.now)) };
 
     /// Reads the next line, without its line feed. An error leaves what was read.
     fn read_line(&mut self, alloc: Global, line: &[u8]) -> Result<(), LineFault>
@@ -130,7 +130,7 @@ fn fault_of_title<L: ReadsLines>(line: &[u8]) -> Why
     requires { pieces 10 line.now ≡ line.now ∷ [] }
     ensures { IsBadFile L.grammar line.now (record { place = 1; why = result }) }
 {
-    if line == L::title() {
+    if L::is_title(line) {
         Why::Ending
     } else {
         Why::Head
@@ -138,19 +138,16 @@ fn fault_of_title<L: ReadsLines>(line: &[u8]) -> Why
 }
 
 /// The lines behind the first one, or what is wrong with that.
-pub(crate) fn behind_title<L: ReadsLines>(bytes: &[u8]) -> Result<&[u8], Why>
-    ensures ok { IfOk result
-        (λ lines. pieces 10 bytes.now ≡ L.grammar.title ∷ pieces 10 lines.now) }
-    ensures end { IfOk result
-        (λ lines. drop (length bytes.now - length lines.now) bytes.now ≡ lines.now) }
-    ensures within { IfOk result (λ lines. length lines.now ≤ length bytes.now) }
+fn behind_title<L: ReadsLines>(bytes: &[u8]) -> Result<&[u8], Why>
+    ensures ok { IfOk result (λ lines. (first : List ℕ) × L.grammar.IsTitle first
+        × (pieces 10 bytes.now ≡ first ∷ pieces 10 lines.now)) }
     ensures bad { IfErr result
         (λ why. IsBadFile L.grammar bytes.now (record { place = 1; why = why })) }
 {
     let Some((first, lines)) = cut(bytes, b'\n') else {
         return Err(fault_of_title::<L>(bytes));
     };
-    if first != L::title() {
+    if !L::is_title(first) {
         return Err(Why::Head);
     }
     Ok(lines)

@@ -4,7 +4,7 @@ ghost use Rattle.std.specs.Prelude.{◌≡◌, ◌++◌, ◌∷◌, ◌<◌, ◌
 ghost use Rattle.sg_names.specs.Grammar.{lacks};
 ghost use Rattle.sg_history.specs.Pieces.{pieces};
 
-use memchr::memchr;
+use memchr::{memchr, memchr_iter};
 
 /// What stands before and after the first such byte.
 pub fn cut(text: &[u8], at: u8) -> Option<(&[u8], &[u8])>
@@ -39,4 +39,11 @@ pub fn fields_of<'a>(line: &'a [u8], into: &mut [&'a [u8]]) -> Option<usize>
         }
     }
     None
+}
+
+/// How many fields a line has.
+pub fn field_count(line: &[u8]) -> usize
+    ensures { result ≡ length (pieces 9 line.now) }
+{
+    memchr_iter(b'\t', line).count() + 1
 }

@@ -1,60 +1,37 @@
-use Rattle.std.proofs.Common.{◌≡◌, IfErr, IfOk, List, ℕ, arith, codes, subst}
-use Rattle.std.proofs.lemmas.Grind.{common_steps}
+use Rattle.std.proofs.Common.{◌∙◌, ◌∷◌, IfErr, IfOk, List, ℕ, ap, codes, subst, sym}
 use Rattle.sg_history.specs.Faults.{HasReason, IsFault}
 use Rattle.sg_history.specs.Line.{AreRead}
-use Rattle.sg_history.proofs.KindLines.{behind_kind, nth}
+use Rattle.sg_history.specs.Pieces.{pieces}
+use Rattle.sg_history.proofs.Tests.{other, same}
 use Rattle.sg_history.proofs.line.read_fields.Goals as goal
 
-pub returns-in-W : goal.returns-in-W
-returns-in-W c =
-    let kind : nth c.args.fields.now 0 ≡ codes "W" = grind (arith, common_steps) in
-    let fields = behind_kind (codes "W") c.args.fields.now (omega arith) kind in
-    record {
-      ok = subst (λ (texts : List (List ℕ)). IfOk c.read_write_entry.result (λ read. AreRead texts read.entry read.at_fits)) fields c.read_write_entry.ensures.ok;
-      reason = subst (λ (texts : List (List ℕ)). IfErr c.read_write_entry.result (HasReason (IsFault texts))) fields c.read_write_entry.ensures.reason;
-    }
+pub returns-in_default-clause-ok : goal.returns-in_default-clause-ok
+returns-in_default-clause-ok c =
+    subst (λ (fs : List (List ℕ)). IfOk c.read_texts.result (λ e. AreRead fs e)) (sym c.in_default.ensures.pieces) c.read_texts.ensures.ok
 
-pub returns-in-U : goal.returns-in-U
-returns-in-U c =
-    let kind : nth c.args.fields.now 0 ≡ codes "U" = grind (arith, common_steps) in
-    let fields = behind_kind (codes "U") c.args.fields.now (omega arith) kind in
-    record {
-      ok = subst (λ (texts : List (List ℕ)). IfOk c.read_put_user.result (λ read. AreRead texts read.entry read.at_fits)) fields c.read_put_user.ensures.ok;
-      reason = subst (λ (texts : List (List ℕ)). IfErr c.read_put_user.result (HasReason (IsFault texts))) fields c.read_put_user.ensures.reason;
-    }
+pub returns-in_default-clause-reason : goal.returns-in_default-clause-reason
+returns-in_default-clause-reason c =
+    subst (λ (fs : List (List ℕ)). IfErr c.read_texts.result (HasReason (IsFault fs))) (sym c.in_default.ensures.pieces) c.read_texts.ensures.reason
 
-pub returns-in-R : goal.returns-in-R
-returns-in-R c =
-    let kind : nth c.args.fields.now 0 ≡ codes "R" = grind (arith, common_steps) in
-    let fields = behind_kind (codes "R") c.args.fields.now (omega arith) kind in
-    record {
-      ok = subst (λ (texts : List (List ℕ)). IfOk c.read_put_role.result (λ read. AreRead texts read.entry read.at_fits)) fields c.read_put_role.ensures.ok;
-      reason = subst (λ (texts : List (List ℕ)). IfErr c.read_put_role.result (HasReason (IsFault texts))) fields c.read_put_role.ensures.reason;
-    }
+pub returns-then-is_sync-clause-ok : goal.returns-then-is_sync-clause-ok
+returns-then-is_sync-clause-ok c =
+    let kind = same c.is_sync.result c.in-Some.kind.now (codes "S") c.is_sync.ensures c.if-is_sync.true in
+    let fields = c.in-Some.ensures.pieces ∙ ap (λ (k : List ℕ). k ∷ pieces 9 c.in-Some.behind.now) kind in
+    subst (λ (fs : List (List ℕ)). IfOk c.read_sync.result (λ e. AreRead fs e)) (sym fields) c.read_sync.ensures.ok
 
-pub returns-in-DU : goal.returns-in-DU
-returns-in-DU c =
-    let kind : nth c.args.fields.now 0 ≡ codes "DU" = grind (arith, common_steps) in
-    let fields = behind_kind (codes "DU") c.args.fields.now (omega arith) kind in
-    record {
-      ok = subst (λ (texts : List (List ℕ)). IfOk c.read_drop_user.result (λ read. AreRead texts read.entry read.at_fits)) fields c.read_drop_user.ensures.ok;
-      reason = subst (λ (texts : List (List ℕ)). IfErr c.read_drop_user.result (HasReason (IsFault texts))) fields c.read_drop_user.ensures.reason;
-    }
+pub returns-then-is_sync-clause-reason : goal.returns-then-is_sync-clause-reason
+returns-then-is_sync-clause-reason c =
+    let kind = same c.is_sync.result c.in-Some.kind.now (codes "S") c.is_sync.ensures c.if-is_sync.true in
+    let fields = c.in-Some.ensures.pieces ∙ ap (λ (k : List ℕ). k ∷ pieces 9 c.in-Some.behind.now) kind in
+    subst (λ (fs : List (List ℕ)). IfErr c.read_sync.result (HasReason (IsFault fs))) (sym fields) c.read_sync.ensures.reason
 
-pub returns-in-DR : goal.returns-in-DR
-returns-in-DR c =
-    let kind : nth c.args.fields.now 0 ≡ codes "DR" = grind (arith, common_steps) in
-    let fields = behind_kind (codes "DR") c.args.fields.now (omega arith) kind in
-    record {
-      ok = subst (λ (texts : List (List ℕ)). IfOk c.read_drop_role.result (λ read. AreRead texts read.entry read.at_fits)) fields c.read_drop_role.ensures.ok;
-      reason = subst (λ (texts : List (List ℕ)). IfErr c.read_drop_role.result (HasReason (IsFault texts))) fields c.read_drop_role.ensures.reason;
-    }
+pub read_behind-requires : goal.read_behind-requires
+read_behind-requires c = other c.is_sync.result c.in-Some.kind.now (codes "S") c.is_sync.ensures c.if-is_sync.false
 
-pub returns-in-X : goal.returns-in-X
-returns-in-X c =
-    let kind : nth c.args.fields.now 0 ≡ codes "X" = grind (arith, common_steps) in
-    let fields = behind_kind (codes "X") c.args.fields.now (omega arith) kind in
-    record {
-      ok = subst (λ (texts : List (List ℕ)). IfOk c.read_unused.result (λ read. AreRead texts read.entry read.at_fits)) fields c.read_unused.ensures.ok;
-      reason = subst (λ (texts : List (List ℕ)). IfErr c.read_unused.result (HasReason (IsFault texts))) fields c.read_unused.ensures.reason;
-    }
+pub returns-else-is_sync-clause-ok : goal.returns-else-is_sync-clause-ok
+returns-else-is_sync-clause-ok c =
+    subst (λ (fs : List (List ℕ)). IfOk c.read_behind.result (λ e. AreRead fs e)) (sym c.in-Some.ensures.pieces) c.read_behind.ensures.ok
+
+pub returns-else-is_sync-clause-reason : goal.returns-else-is_sync-clause-reason
+returns-else-is_sync-clause-reason c =
+    subst (λ (fs : List (List ℕ)). IfErr c.read_behind.result (HasReason (IsFault fs))) (sym c.in-Some.ensures.pieces) c.read_behind.ensures.reason

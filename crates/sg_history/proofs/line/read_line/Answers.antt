@@ -1,19 +1,8 @@
-use Rattle.std.proofs.Common.{subst, IfOk, IfErr, sym, arith}
-use Rattle.std.proofs.lemmas.List.{length-take-le}
-use Rattle.sg_history.specs.Faults.{IsFault, HasReason}
-use Rattle.sg_history.specs.Line.{AreRead}
+use Rattle.sg_history.proofs.LinesRead.{read_as, read_none}
 use Rattle.sg_history.proofs.line.read_line.Goals as goal
 
-pub slice_bounds-fields-end-in-Some : goal.slice_bounds-fields-end-in-Some
-slice_bounds-fields-end-in-Some c = omega (arith, c.in-Some.ensures.within, c.in-Some.ensures.room)
+pub returns-clause-ok : goal.returns-clause-ok
+returns-clause-ok c = read_as c.read_fields.result c.args.line.now c.read_fields.ensures.ok
 
-pub slice_bounds-read_fields-end : goal.slice_bounds-read_fields-end
-slice_bounds-read_fields-end c = sym (length-take-le c.in-Some.count c.fields_of.new.into (omega (arith, c.in-Some.ensures.within, c.in-Some.ensures.room)))
-
-pub returns-in-Some-clause-read : goal.returns-in-Some-clause-read
-returns-in-Some-clause-read c =
-    subst (λ fields. IfOk c.read_fields.result (λ read. AreRead fields read.entry read.at_fits)) c.in-Some.ensures.all c.read_fields.ensures.ok
-
-pub returns-in-Some-clause-reason : goal.returns-in-Some-clause-reason
-returns-in-Some-clause-reason c =
-    subst (λ fields. IfErr c.read_fields.result (HasReason (IsFault fields))) c.in-Some.ensures.all c.read_fields.ensures.reason
+pub returns-clause-none : goal.returns-clause-none
+returns-clause-none c = read_none c.read_fields.result c.args.line.now c.read_fields.ensures.reason

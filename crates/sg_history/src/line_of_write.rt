@@ -1,6 +1,6 @@
 //! The fields of a write's line, read as a write.
 
-ghost use Rattle.std.specs.Prelude.{◌≡◌, ◌<◌, unwrap_or, IsTrue, IfOk, IfErr};
+ghost use Rattle.std.specs.Prelude.{IfOk, IfErr};
 ghost use Rattle.sg_history.specs.Line.{texts_of, ReadsWrite};
 ghost use Rattle.sg_history.specs.Faults.{IsBadAmong, write_grammars};
 
@@ -25,23 +25,9 @@ pub struct WriteTexts<'a> {
     pub roles: &'a [u8],
 }
 
-/// A write that was read, and whether its front is a number of the type; where it is no such number, `at` is the
-/// type's greatest.
-#[derive(Drop)]
-pub struct ReadWrite {
-    pub write: Write,
-    pub at_fits: bool,
-}
-
-fn front_of(at: Option<u64>) -> u64
-    ensures { result ≡ unwrap_or at 18446744073709551615 }
-{
-    at.unwrap_or(u64::MAX)
-}
-
 /// Reads the fields of a write, from the first one on.
-pub fn read_write(alloc: Global, texts: WriteTexts<'_>) -> Result<ReadWrite, LineFault>
-    ensures ok { IfOk result (λ read. ReadsWrite (texts_of texts.entry) read) }
+pub fn read_write(alloc: Global, texts: WriteTexts<'_>) -> Result<Write, LineFault>
+    ensures ok { IfOk result (λ write. ReadsWrite (texts_of texts.entry) write) }
     ensures reason { IfErr result (IsBadAmong 2 write_grammars (texts_of texts.entry)) }
 {
     let revision = read_three(alloc, texts.doc, texts.rev, texts.ancestors, 2)?;
@@ -72,21 +58,18 @@ pub fn read_write(alloc: Global, texts: WriteTexts<'_>) -> Result<ReadWrite, Lin
     };
     let (doc, rev, ancestors) = revision;
     let (deleted, body, by) = content;
-    let (at, winner, channels): (Option<u64>, _, _) = place;
-    Ok(ReadWrite {
-        write: Write {
-            doc,
-            rev,
-            ancestors,
-            deleted,
-            body,
-            by,
-            at: front_of(at),
-            winner,
-            channels,
-            grants,
-            roles,
-        },
-        at_fits: at.is_some(),
+    let (at, winner, channels) = place;
+    Ok(Write {
+        doc,
+        rev,
+        ancestors,
+        deleted,
+        body,
+        by,
+        at,
+        winner,
+        channels,
+        grants,
+        roles,
     })
 }

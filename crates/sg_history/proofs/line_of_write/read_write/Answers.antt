@@ -1,22 +1,23 @@
 use Rattle.std.proofs.lemmas.Result.{err_from_is_err_and}
 use Rattle.sg_history.proofs.WriteFields.{reads_write}
 use Rattle.sg_history.proofs.WriteParts.{bad_tree, bad_content, bad_place, bad_grants}
-use Rattle.sg_history.proofs.write_line.read_write.Goals as goal
+use Rattle.sg_history.proofs.line_of_write.read_write.Goals as goal
 
 pub returns-clause-ok : goal.returns-clause-ok
 returns-clause-ok c =
-    reads_write c.args.texts _ c.in-Ok-read_three.place.0 c.is_some.result (record {
+    reads_write c.args.texts _ (record {
       doc = c.in_ok-revision.ensures.first;
       rev = c.in_ok-revision.ensures.second;
       ancestors = c.in_ok-revision.ensures.third;
       deleted = c.in-Ok.ensures.first;
       body = c.in-Ok.ensures.second;
       by = c.in-Ok.ensures.third;
+      at = c.in-Ok-read_three.ensures.first;
       winner = c.in-Ok-read_three.ensures.second;
       channels = c.in-Ok-read_three.ensures.third;
       grants = c.in-Ok-read_two.ensures.first;
       roles = c.in-Ok-read_two.ensures.second;
-    }) c.in-Ok-read_three.ensures.first c.front_of.ensures c.is_some.ensures
+    })
 
 pub returns-in_err-revision-clause-reason : goal.returns-in_err-revision-clause-reason
 returns-in_err-revision-clause-reason c =
