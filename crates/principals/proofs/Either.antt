@@ -13,7 +13,7 @@ use Rattle.sg_history.specs.declared.fault.Why.{Why}
 use Rattle.sg_history.specs.Faults as journal
 use Rattle.sg_history.specs.FieldFaults.{AreFit, FitAll, FitKind}
 use Rattle.sg_history.specs.Files.{IsDecided}
-use Rattle.sg_history.specs.Journal.{mark_text}
+use Rattle.sg_history.specs.Journal.{deleted_text}
 use Rattle.sg_history.specs.Pieces.{pieces}
 use Rattle.sg_history.proofs.DecidedTexts.{Decided, IsItem, hex_of, rev_item, same_text, text_decided, with_utf8}
 use Rattle.sg_history.proofs.FaultLemmas.{fields_decided}
@@ -22,7 +22,7 @@ use Rattle.sg_history.proofs.WriteFields.{body_read}
 use Rattle.principals.specs.declared.command.Command.TheVariants as command
 use Rattle.principals.specs.declared.admin_line.AdminLine.{AdminLine}
 use Rattle.principals.specs.declared.admin_line.AdminLine.TheVariants as line
-use Rattle.principals.specs.Script.{IsLine, Spells, fields_of, is_parent, line_of, parent_text}
+use Rattle.principals.specs.Script.{IsLine, Spells, fields_of, is_parent, line_of, parent_text, title}
 use Rattle.principals.specs.Faults.{Part, field, parent, IsBadScript, IsFault, IsPart, parts_of, script_lines}
 use Rattle.principals.proofs.Scripts.{spelled_file}
 use Rattle.principals.proofs.Texts.{line_is, parent_rev}
@@ -38,7 +38,7 @@ abbrev drop_parts : List Part
 drop_parts = field journal.name ∷ []
 
 abbrev doc_parts : List Part
-doc_parts = field journal.document ∷ parent ∷ field journal.mark ∷ field journal.body ∷ []
+doc_parts = field journal.document ∷ parent ∷ field journal.deleted ∷ field journal.body ∷ []
 
 -- a revision's parent
 abbrev Parent : List ℕ → Type 0
@@ -122,7 +122,7 @@ doc_line (a ∷ b ∷ c ∷ d ∷ []) h =
       record { doc = (h.0.1, h.0.0); parent = (p.2, subst IsUtf8 p.3 p.0); body = body_read d body.0 body.1 h.1.1.1.0 },
       ap (λ (x : List ℕ). codes "doc" ∷ a ∷ x ∷ c ∷ d ∷ []) p.3
           ∙ ap (λ (x : List ℕ). codes "doc" ∷ a ∷ parent_text p.1 ∷ x ∷ d ∷ []) m.1
-          ∙ ap (λ (x : List ℕ). codes "doc" ∷ a ∷ parent_text p.1 ∷ mark_text m.0 ∷ x ∷ []) body.1,
+          ∙ ap (λ (x : List ℕ). codes "doc" ∷ a ∷ parent_text p.1 ∷ deleted_text m.0 ∷ x ∷ []) body.1,
     )
 doc_line (a ∷ b ∷ c ∷ d ∷ e ∷ more) h = absurd h.1.1.1.1
 
@@ -167,7 +167,7 @@ line_decided text = elim (fields_decided IsPart part_decided parts_of (pieces 9 
 ]
 
 decided : IsDecided script_lines
-decided = record { either = λ older text. line_decided text }
+decided = record { title = λ line. same_text line title; either = λ older text. line_decided text }
 
 -- a text is a script, or it has a first bad line
 pub script_or_bad : (bytes : List ℕ) → ((ls : List AdminLine) × Spells bytes ls) ⊎ ((bad : BadLine) × IsBadScript bytes bad)

@@ -25,7 +25,7 @@ bad_field_of kind gs ts us line.Memory known same many bad = tt
 
 -- the fields of a revision's line after its kind
 abbrev doc_parts : List Part
-doc_parts = field journal.document ∷ parent ∷ field journal.mark ∷ field journal.body ∷ []
+doc_parts = field journal.document ∷ parent ∷ field journal.deleted ∷ field journal.body ∷ []
 
 -- the document of a revision's line is outside its grammar
 pub bad_doc : (kind : List ℕ) (ts : List (List ℕ)) (a b c d : List ℕ) (e : LineFault) → parts_of kind ≡ Some doc_parts → ts ≡ a ∷ b ∷ c ∷ d ∷ []
@@ -41,9 +41,9 @@ bad_parent kind ts a b c d line.Memory known same doc bad = tt
 
 -- its mark or its body is
 pub bad_content : (kind : List ℕ) (ts : List (List ℕ)) (a b c d : List ℕ) (e : LineFault) → parts_of kind ≡ Some doc_parts → ts ≡ a ∷ b ∷ c ∷ d ∷ []
-    → IsText journal.document a → IsPart parent b → IsBadAmong 4 (journal.mark ∷ journal.body ∷ []) (c ∷ d ∷ []) e → HasReason (IsFault (kind ∷ ts)) e
+    → IsText journal.document a → IsPart parent b → IsBadAmong 4 (journal.deleted ∷ journal.body ∷ []) (c ∷ d ∷ []) e → HasReason (IsFault (kind ∷ ts)) e
 bad_content kind ts a b c d (line.Bad why) known same doc its_parent bad =
     let place : 4 + bad.0 ≡ suc (suc bad.0) + 2 = omega arith in
     fault_at IsPart parts_of kind doc_parts ts (a ∷ b ∷ c ∷ d ∷ []) (suc (suc bad.0)) why known same refl (bad.1 ∙ ap reason.Field place)
-    (doc, (its_parent, first_of_parts (journal.mark ∷ journal.body ∷ []) (c ∷ d ∷ []) bad.0 bad.2))
+    (doc, (its_parent, first_of_parts (journal.deleted ∷ journal.body ∷ []) (c ∷ d ∷ []) bad.0 bad.2))
 bad_content kind ts a b c d line.Memory known same doc its_parent bad = tt

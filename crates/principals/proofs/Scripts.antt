@@ -1,5 +1,5 @@
 -- the lines of a script, and its first bad line
-use Rattle.std.proofs.Common.{◌≡◌, true, ℕ, List, ◌∷◌, ◌++◌, refl, sym, ◌∙◌}
+use Rattle.std.proofs.Common.{◌≡◌, true, ℕ, List, ◌∷◌, ◌++◌, refl, sym, ap, ◌∙◌}
 use Rattle.sg_names.specs.Grammar.{lacks}
 use Rattle.sg_history.specs.declared.fault.BadLine.{BadLine}
 use Rattle.sg_history.specs.declared.fault.ReadLog.{ReadLog}
@@ -12,7 +12,7 @@ use Rattle.sg_history.proofs.FaultLemmas.{fault_one}
 use Rattle.sg_history.proofs.FileLaws.{file_apart, file_one_bad, file_same}
 use Rattle.sg_history.proofs.FileTexts.{file_are, file_said, file_text}
 use Rattle.principals.specs.declared.admin_line.AdminLine.{AdminLine}
-use Rattle.principals.specs.Script.{AreLines, IsLine, Spells, line_of, lines_of}
+use Rattle.principals.specs.Script.{AreLines, IsLine, Spells, line_of, lines_of, title}
 use Rattle.principals.specs.Faults.{IsBadScript, IsPart, parts_of, script_lines}
 use Rattle.principals.proofs.Texts.{line_same, line_whole}
 use Rattle.principals.proofs.FaultLemmas.{line_fine}
@@ -34,15 +34,18 @@ next_of : (older : List AdminLine) (l : AdminLine) (ls : List AdminLine) → Are
     → (lacks 10 (line_of l) ≡ true) × (IsLine l × (line_of l ≡ line_of l)) × Are (l ∷ older) ls
 next_of older l ls are = (line_whole l are.0, (are.0, refl), are.1)
 
+titled : (bytes : List ℕ) (ls : List AdminLine) → (first : List ℕ) × (first ≡ title) × (bytes ≡ first ++ 10 ∷ lines_of ls) → bytes ≡ title ++ 10 ∷ lines_of ls
+titled bytes ls is = is.2 ∙ ap (λ (first : List ℕ). first ++ 10 ∷ lines_of ls) is.1
+
 -- a script is the file of its lines
 pub spelled_file : (bytes : List ℕ) (ls : List AdminLine) → IsFileOf script_lines bytes ls → Spells bytes ls
 spelled_file bytes ls is = (
   file_are script_lines line_of lines_of refl lines_cons Are (λ older. tt) (λ older text l more says later. (says.0, later)) (pieces 10 bytes) ls is,
-  file_text script_lines line_of lines_of refl lines_cons (λ older text l says. says.1) bytes ls is,
+  titled bytes ls (file_text script_lines line_of lines_of refl lines_cons (λ older text l says. says.1) bytes ls is),
 )
 
 pub file_spelled : (bytes : List ℕ) (ls : List AdminLine) → Spells bytes ls → IsFileOf script_lines bytes ls
-file_spelled bytes ls is = file_said script_lines line_of lines_of refl lines_cons Are next_of bytes ls is.1 refl is.0 refl
+file_spelled bytes ls is = file_said script_lines line_of lines_of refl lines_cons Are next_of bytes title ls is.1 refl refl is.0 refl
 
 -- a text is the script of one list of lines
 pub script_same : (bytes : List ℕ) (xs ys : List AdminLine) → Spells bytes xs → Spells bytes ys → xs ≡ ys

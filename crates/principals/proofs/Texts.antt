@@ -13,7 +13,7 @@ use Rattle.sg_names.specs.RevId.{is_rev}
 use Rattle.sg_names.specs.Channels.{channels_text}
 use Rattle.sg_names.specs.Hex.{hex_text}
 use Rattle.sg_names.specs.Names.{names_text}
-use Rattle.sg_history.specs.Journal.{IsEntry, mark_text}
+use Rattle.sg_history.specs.Journal.{IsEntry, deleted_text}
 use Rattle.sg_history.specs.Pieces.{pieces}
 use Rattle.sg_history.proofs.LineTexts.{fields_pieces, fields_whole, joined_pieces, plain_doc}
 use Rattle.principals.specs.declared.command.Command.{Command}
@@ -22,9 +22,9 @@ use Rattle.principals.specs.declared.admin_line.AdminLine.{AdminLine}
 use Rattle.principals.specs.declared.admin_line.AdminLine.TheVariants as line
 use Rattle.principals.specs.Script.{IsDoc, IsLine, command_fields, entry_of, fields_of, is_parent, line_of, parent_text}
 
-plain_mark : (mark : Bool) → is_plain (mark_text mark) ≡ true
-plain_mark true = refl
-plain_mark false = refl
+plain_deleted : (mark : Bool) → is_plain (deleted_text mark) ≡ true
+plain_deleted true = refl
+plain_deleted false = refl
 
 pub parent_rev : (rev : RevId) → is_parent (Some rev) ≡ true → is_rev rev ≡ true
 parent_rev rev h = (and_parts (is_rev rev) (nat_lt rev.generation 4294967295) h).0
@@ -45,7 +45,7 @@ fields_plain : (l : AdminLine) → IsLine l → list_all (λ f. is_plain f) (fie
 fields_plain (line.Command c) is = command_plain c is
 fields_plain (line.Doc doc parent deleted body) is =
     and_from _ _ (plain_doc doc is.doc.0) (and_from _ _ (plain_parent parent is.parent.0)
-    (and_from _ _ (plain_mark deleted) (and_from _ _ (plain_hex body (and_parts _ _ is.body).1) refl)))
+    (and_from _ _ (plain_deleted deleted) (and_from _ _ (plain_hex body (and_parts _ _ is.body).1) refl)))
 
 some_fields : (l : AdminLine) → 0 < length (fields_of l)
 some_fields (line.Command (command.PutUser name channels roles)) = omega arith
@@ -75,7 +75,7 @@ abbrev first : List (List ℕ) → List ℕ
 first [] = []
 first (f ∷ fs) = f
 
-mark_same : (a b : Bool) → mark_text a ≡ mark_text b → a ≡ b
+mark_same : (a b : Bool) → deleted_text a ≡ deleted_text b → a ≡ b
 mark_same true true e = refl
 mark_same false false e = refl
 mark_same true false e = absurd (omega (arith, ap code e))
@@ -92,10 +92,10 @@ doc_same : (d e : List ℕ) (p q : Option RevId) (x y : Bool) (b c : List ℕ) �
 doc_same d e p q x y b c is it same =
     let doc : d ≡ e = cc in
     let parent_texts : parent_text p ≡ parent_text q = cc in
-    let mark_texts : mark_text x ≡ mark_text y = cc in
+    let deleted_texts : deleted_text x ≡ deleted_text y = cc in
     let body_texts : hex_text b ≡ hex_text c = cc in
     let parent = parent_same p q is.parent.0 it.parent.0 parent_texts in
-    let mark = mark_same x y mark_texts in
+    let mark = mark_same x y deleted_texts in
     let body = hex_same b c (and_parts _ _ is.body).1 (and_parts _ _ it.body).1 body_texts in
     λ i. line.Doc (doc i) (parent i) (mark i) (body i)
 

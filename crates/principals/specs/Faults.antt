@@ -29,7 +29,7 @@ parts_of kind =
     else if bytes_eq kind (codes "role") then Some (field journal.name ∷ field journal.channels ∷ [])
     else if bytes_eq kind (codes "dropuser") then Some (field journal.name ∷ [])
     else if bytes_eq kind (codes "droprole") then Some (field journal.name ∷ [])
-    else if bytes_eq kind (codes "doc") then Some (field journal.document ∷ parent ∷ field journal.mark ∷ field journal.body ∷ [])
+    else if bytes_eq kind (codes "doc") then Some (field journal.document ∷ parent ∷ field journal.deleted ∷ field journal.body ∷ [])
     else None
 
 -- what is wrong with the fields of a line: its kind, their number, or the first one outside its grammar
@@ -39,7 +39,7 @@ IsFault fields why = IsFieldsFault IsPart parts_of fields why
 -- the lines of a script
 abbrev pub script_lines : LineGrammar AdminLine
 script_lines = record {
-  title = title;
+  IsTitle = λ line. line ≡ title;
   Says = λ older text l. IsLine l × (text ≡ line_of l);
   Fails = λ older text why. IsFault (pieces 9 text) why;
   may_end = λ older. true;

@@ -10,7 +10,7 @@ use Rattle.sg_names.specs.Names.{names_text}
 use Rattle.sg_names.specs.Hex.{hex_text}
 use Rattle.sg_history.specs.declared.entries.Entry.{Entry}
 use Rattle.sg_history.specs.declared.entries.Entry.TheVariants as entry
-use Rattle.sg_history.specs.Journal.{IsEntry, is_body, mark_text}
+use Rattle.sg_history.specs.Journal.{IsEntry, is_body, deleted_text}
 use Rattle.principals.specs.declared.command.Command.{Command}
 use Rattle.principals.specs.declared.command.Command.TheVariants as command
 use Rattle.principals.specs.declared.admin_line.AdminLine.{AdminLine}
@@ -51,7 +51,7 @@ command_fields (command.DropRole name) = codes "droprole" ∷ name ∷ []
 -- the fields of a line
 abbrev pub fields_of : AdminLine → List (List ℕ)
 fields_of (line.Command c) = command_fields c
-fields_of (line.Doc doc parent deleted body) = codes "doc" ∷ doc ∷ parent_text parent ∷ mark_text deleted ∷ hex_text body ∷ []
+fields_of (line.Doc doc parent deleted body) = codes "doc" ∷ doc ∷ parent_text parent ∷ deleted_text deleted ∷ hex_text body ∷ []
 
 -- a line, without its line feed
 abbrev pub line_of : AdminLine → List ℕ

@@ -30,8 +30,8 @@ impl ReadsLines for Script {
 
     ghost items = { λ s. s.lines };
 
-    fn title() -> &'static [u8] {
-        HEADER.as_bytes()
+    fn is_title(line: &[u8]) -> bool {
+        line == HEADER.as_bytes()
     }
 
     fn read_line(&mut self, alloc: Global, line: &[u8]) -> Result<(), LineFault> {
