@@ -12,6 +12,7 @@ use Rattle.sg_history.specs.BadLine.{NamesLine}
 use Rattle.sg_history.specs.Files.{AreAmong, IsDecided, IsFileOf, IsLawful}
 use Rattle.sg_history.specs.Pieces.{pieces}
 use Rattle.sg_history.specs.Refusal.{RefusesLog}
+use Rattle.sg_history.proofs.DecidedTexts.{same_text}
 use Rattle.sg_history.proofs.FaultLemmas.{fault_one}
 use Rattle.sg_history.proofs.FileLaws.{file_apart, file_either, file_one_bad, file_same}
 use Rattle.sg_history.proofs.FileTexts.{file_are, file_said, file_text}
@@ -73,7 +74,7 @@ either [] text = elim (owner_either text) [
 either (l ∷ older) text = item_either l older text (item_fault text) refl
 
 decided : IsDecided record_lines
-decided = record { either = either }
+decided = record { title = λ line. same_text line header; either = either }
 
 abbrev line_text : Line → List ℕ
 line_text (kinds.Owner user version) = owner_text user version
@@ -136,6 +137,9 @@ items_all (i ∷ items) h =
     let parts = and_parts (is_item i) (list_all (λ x. is_item x) items) h in
     (parts.0, items_all items parts.1)
 
+titled : (bytes : List ℕ) (ls : List Line) → (first : List ℕ) × (first ≡ header) × (bytes ≡ first ++ 10 ∷ texts ls) → bytes ≡ header ++ 10 ∷ texts ls
+titled bytes ls is = is.2 ∙ ap (λ (first : List ℕ). first ++ 10 ∷ texts ls) is.1
+
 -- a recorded session is the file of its lines
 pub spelled_file : (bytes : List ℕ) (r : Recorded) → IsFileOf record_lines bytes (lines_in (Some r)) → Spells bytes r
 spelled_file bytes r is =
@@ -144,14 +148,14 @@ spelled_file bytes r is =
       user = are.0;
       items = all_items r.items are.1;
       text =
-          file_text record_lines line_text texts refl texts_cons spells_text bytes (lines_in (Some r)) is
+          titled bytes (lines_in (Some r)) (file_text record_lines line_text texts refl texts_cons spells_text bytes (lines_in (Some r)) is)
           ∙ ap (λ t. header ++ 10 ∷ owner_text r.user r.version ++ 10 ∷ t) (texts_items r.items);
     }
 
 pub file_spelled : (bytes : List ℕ) (r : Recorded) → Spells bytes r → IsFileOf record_lines bytes (lines_in (Some r))
 file_spelled bytes r h =
-    file_said record_lines line_text texts refl texts_cons Follow follow_next bytes (lines_in (Some r))
-    (h.text ∙ ap (λ t. header ++ 10 ∷ owner_text r.user r.version ++ 10 ∷ t) (sym (texts_items r.items))) refl
+    file_said record_lines line_text texts refl texts_cons Follow follow_next bytes header (lines_in (Some r))
+    (h.text ∙ ap (λ t. header ++ 10 ∷ owner_text r.user r.version ++ 10 ∷ t) (sym (texts_items r.items))) refl refl
     (h.user, items_all r.items h.items) (said (reverse (map (λ i. kinds.Item i) r.items)) (kinds.Owner r.user r.version) _ (reverse-append (kinds.Owner r.user r.version ∷ []) (map (λ i. kinds.Item i) r.items)))
   where
     said : (ls : List Line) (o : Line) (xs : List Line) → xs ≡ ls ++ o ∷ [] → has_owner xs ≡ true

@@ -35,7 +35,7 @@ has_owner (l ∷ older) = true
 
 -- the lines of a recorded session
 abbrev pub record_lines : LineGrammar Line
-record_lines = record { title = header; Says = Says; Fails = Fails; may_end = has_owner }
+record_lines = record { IsTitle = λ line. line ≡ header; Says = Says; Fails = Fails; may_end = has_owner }
 
 -- the text is no recorded session, and this is its first bad line
 abbrev pub IsBadRecord : List ℕ → BadLine → Type 0

@@ -40,8 +40,8 @@ impl ReadsLines for Reading {
 
     ghost items = { λ r. lines_in r.session };
 
-    fn title() -> &'static [u8] {
-        HEADER.as_bytes()
+    fn is_title(line: &[u8]) -> bool {
+        line == HEADER.as_bytes()
     }
 
     fn read_line(&mut self, alloc: Global, line: &[u8]) -> Result<(), LineFault> {
