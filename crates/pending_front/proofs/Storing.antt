@@ -5,10 +5,10 @@ use Rattle.std.proofs.lemmas.Bool.{cases_eq, eq-eqb, ne_eqb}
 use Rattle.std.proofs.lemmas.Option.{none-some}
 use Rattle.sg_history.specs.declared.book.Waiting.{Waiting}
 use Rattle.sg_history.specs.declared.entries.Entry.{Entry}
-use Rattle.sg_history.specs.Book.{book_of, book_with, entry_or, waiting_at, Later}
+use Rattle.sg_history.specs.Book.{book_of, book_with, entry_or, waiting_at, IsAbove, Later}
 use Rattle.sg_history.specs.World.{put_waiting, rises_from}
 use Rattle.pending_front.specs.Pending.{AreBeyond}
-use Rattle.pending_front.specs.Storing.{MayStore, IsAbove}
+use Rattle.pending_front.specs.Storing.{MayStore}
 use Rattle.pending_front.proofs.Putting.{put_other, put_here, put_rises}
 use Rattle.pending_front.proofs.Worlds.{IsFree, put_later}
 

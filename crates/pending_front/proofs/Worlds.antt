@@ -1,7 +1,7 @@
 -- worlds of sequences, step by step
-use Rattle.std.proofs.Common.{◌≡◌, ◌≢◌, ◌⊎◌, inl, inr, ℕ, zero, suc, ◌+◌, ◌<◌, ◌≤◌, Bool, true, false, ◌&&◌, cond, List, [], ◌∷◌, ◌++◌, length, Option, Some, None, refl, sym, ap, subst, ◌∙◌, arith, append_assoc}
+use Rattle.std.proofs.Common.{◌≡◌, ◌≢◌, ◌⊎◌, inl, inr, ℕ, zero, suc, ◌+◌, ◌<◌, ◌≤◌, Bool, true, false, ◌&&◌, ◌||◌, cond, List, [], ◌∷◌, ◌++◌, length, Option, Some, None, refl, sym, ap, subst, ◌∙◌, arith, append_assoc}
 use Rattle.std.specs.Prelude.{nat_eq, nat_le, count_by, IsTrue, if◌then◌else◌}
-use Rattle.std.proofs.lemmas.Bool.{eqb-true, eqb-false, cases_eq, cases_lt, le-leb, lt-leb}
+use Rattle.std.proofs.lemmas.Bool.{eqb-true, eqb-false, cases_eq, cases_lt, false≢true, le-leb, lt-leb}
 use Rattle.std.proofs.lemmas.List.{append-nil}
 use Rattle.std.proofs.lemmas.List.Sums.{sum_by-cons}
 use Rattle.std.proofs.lemmas.Option.{none-some}
@@ -9,11 +9,11 @@ use Rattle.sg_history.specs.declared.book.Waiting.{Waiting}
 use Rattle.sg_history.specs.declared.entries.Entry.{Entry}
 use Rattle.sg_history.specs.declared.entries.Entry.TheVariants.{Unused}
 use Rattle.sg_history.specs.declared.entries.Write.{Write}
-use Rattle.sg_history.specs.Book.{Book, book_of, book_with, entry_or, waiting_at, write_at, written_in, Later}
-use Rattle.sg_history.specs.History.{Extends, write_to}
-use Rattle.sg_history.specs.World.{World, Step, draw, store, swap, look, IsSound, IsHeld, IsAboveWrites, MayStep, once_among, rises_from, release, put_waiting, without_number, with_released, world_book, world_after}
+use Rattle.sg_history.specs.Book.{Book, book_of, book_with, entry_or, waiting_at, same_written, tied, IsAbove, Later}
+use Rattle.sg_history.specs.History.{Extends, as_write, is_sync, is_write}
+use Rattle.sg_history.specs.World.{World, Step, draw, store, swap, look, IsSound, IsHeld, MayStep, once_among, rises_from, release, put_waiting, without_number, with_released, world_book, world_after}
 use Rattle.pending_front.specs.Runs.{world_of, world_after_all, MayRun}
-use Rattle.pending_front.specs.Storing.{MayStore, IsAbove}
+use Rattle.pending_front.specs.Storing.{MayStore}
 use Rattle.pending_front.proofs.Putting.{one, times, one_same, one_other, times_cons, put_times, rises_lower, rises_free, times_none, put_rises, put_other, put_here}
 use Rattle.pending_front.proofs.Releasing.{get_beyond, one_longer, released_book, released_rises, released_log}
 
@@ -151,6 +151,23 @@ release_sound w held pending ready =
       waiting = released_rises w.log pending ready.waiting;
     }
 
+one_some : (e x : Entry) → Some e ≡ Some x → e ≡ x
+one_some e x h = cc
+
+-- an entry that is given up is tied to none
+untied : (o : Option Write) (s w : Bool) → (same_written o None || (s && (false || false)) || (w && false)) ≡ false
+untied None true true = refl
+untied None true false = refl
+untied None false true = refl
+untied None false false = refl
+untied (Some x) true true = refl
+untied (Some x) true false = refl
+untied (Some x) false true = refl
+untied (Some x) false false = refl
+
+unused_untied : (other : Entry) → ¬ (IsTrue (tied other Unused))
+unused_untied other tie = false≢true (sym (untied (as_write other) (is_sync other) (is_write other)) ∙ tie)
+
 -- an entry that is put at a free number leads to a later book
 module _ (log : List Entry) (pending : List Waiting) (c : ℕ) (e : Entry) (it : IsFree c pending log)
     (above : IsAbove (book_with log pending) c e) where
@@ -183,21 +200,21 @@ module _ (log : List Entry) (pending : List Waiting) (c : ℕ) (e : Entry) (it :
           go (inl same) = absurd (none-some _ (sym none ∙ ap (λ (k : ℕ). book_with log pending k) same ∙ is))
           go (inr ne) = book_other n ne ∙ is
 
-      higher : (doc : List ℕ) (old new : ℕ) (w v : Write) → write_at (book_with log pending) doc old ≡ Some w → write_at (book_with log pending) doc new ≡ None → write_at (book_with log put) doc new ≡ Some v → old < new
-      higher doc old new w v is gone at = go (cases_eq c new)
+      higher : (new : ℕ) (x : Entry) → book_with log pending new ≡ None → book_with log put new ≡ Some x → IsAbove (book_with log pending) new x
+      higher new x gone at old other there tie = go (cases_eq c new)
         where
           go : (c ≡ new) ⊎ (c ≢ new) → old < new
           go (inl same) =
-              let here : write_to e doc ≡ Some v = sym (ap (λ (o : Option Entry). written_in o doc) book_here) ∙ ap (λ (k : ℕ). write_at (book_with log put) doc k) same ∙ at in
-              subst (λ (k : ℕ). old < k) same (above doc v old w here is)
-          go (inr ne) = absurd (none-some _ (sym gone ∙ sym (ap (λ (o : Option Entry). written_in o doc) (book_other new ne)) ∙ at))
+              let here : e ≡ x = one_some e x (sym book_here ∙ ap (λ (k : ℕ). book_with log put k) same ∙ at) in
+              subst (λ (k : ℕ). old < k) same (above old other there (subst (λ (y : Entry). IsTrue (tied other y)) (sym here) tie))
+          go (inr ne) = absurd (none-some _ (sym gone ∙ sym (book_other new ne) ∙ at))
 
 module _ (again : (a b c : Book) → Later a b → Later b c → Later a c) (itself : (b : Book) → Later b b) where
   released_later : (w : World) (held : List ℕ) (pending : List Waiting) → IsTrue (rises_from (length w.log) pending) → Later (world_book w) (book_with w.log pending) → Later (world_book w) (world_book (with_released w held (release w.log pending)))
   released_later w held pending up later = subst (λ (b : Book). Later (world_book w) b) (sym (released_book w.log pending up)) later
 
-  -- of a swap the number given up has no write, so that the entry's number is above all writes still
-  module _ (w : World) (sound : IsSound w) (unused number : ℕ) (e : Entry) (first : 0 < held_times unused w.held) (second : 0 < held_times number w.held) (apart : unused ≢ number) (above : IsAboveWrites w number e) where
+  -- of a swap the number given up has an entry that is tied to none, so that the entry stands above all to which it is tied still
+  module _ (w : World) (sound : IsSound w) (unused number : ℕ) (e : Entry) (first : 0 < held_times unused w.held) (second : 0 < held_times number w.held) (apart : unused ≢ number) (above : IsAbove (world_book w) number e) where
     abbrev given : List Waiting
     given = put_waiting (record { number = unused; entry = Unused }) w.pending
 
@@ -207,19 +224,21 @@ module _ (again : (a b c : Book) → Later a b → Later b c → Later a c) (its
     still : 0 < held_times number (without_number unused w.held)
     still = let left = without_times unused w.held first number in let other = one_other unused number apart in omega arith
 
-    unwritten : (doc : List ℕ) (old : ℕ) (v : Write) → write_at (book_with w.log given) doc old ≡ Some v → write_at (world_book w) doc old ≡ Some v
-    unwritten doc old v at = go (cases_eq unused old)
+    nothing : IsAbove (book_with w.log w.pending) unused Unused
+    nothing old other there tie = absurd (unused_untied other tie)
+
+    still_above : IsAbove (book_with w.log given) number e
+    still_above old other at tie = go (cases_eq unused old)
       where
         it : IsFree unused w.pending w.log
         it = held_free w.count w.held w.pending w.log unused (ready_from w sound) first
 
-        nothing : (doc : List ℕ) (x : Write) (k : ℕ) (y : Write) → write_to Unused doc ≡ Some x → write_at (book_with w.log w.pending) doc k ≡ Some y → k < unused
-        nothing doc x k y some at = absurd (none-some _ some)
-
-        go : (unused ≡ old) ⊎ (unused ≢ old) → write_at (world_book w) doc old ≡ Some v
+        go : (unused ≡ old) ⊎ (unused ≢ old) → old < number
         go (inl same) =
-            absurd (none-some _ (sym (ap (λ (o : Option Entry). written_in o doc) (book_here w.log w.pending unused Unused it nothing)) ∙ ap (λ (k : ℕ). write_at (book_with w.log given) doc k) same ∙ at))
-        go (inr ne) = sym (ap (λ (o : Option Entry). written_in o doc) (book_other w.log w.pending unused Unused it nothing old ne)) ∙ at
+            let here : Unused ≡ other =
+            one_some Unused other (sym (book_here w.log w.pending unused Unused it nothing) ∙ ap (λ (k : ℕ). book_with w.log given k) same ∙ at) in
+            absurd (false≢true (subst (λ (x : Entry). IsTrue (tied x e)) (sym here) tie))
+        go (inr ne) = above old other (sym (book_other w.log w.pending unused Unused it nothing old ne) ∙ at) tie
 
     swap_sound : IsSound (world_after w (swap unused number e))
     swap_sound = release_sound w (without_number number (without_number unused w.held)) (put_waiting (record { number = number; entry = e }) given) (put_ready w.count (without_number unused w.held) given w.log number e ready still)
@@ -229,9 +248,8 @@ module _ (again : (a b c : Book) → Later a b → Later b c → Later a c) (its
         released_later w (without_number number (without_number unused w.held)) (put_waiting (record { number = number; entry = e }) given)
         (put_ready w.count (without_number unused w.held) given w.log number e ready still).waiting
         (again (world_book w) (book_with w.log given) (book_with w.log (put_waiting (record { number = number; entry = e }) given))
-        (put_later w.log w.pending unused Unused (held_free w.count w.held w.pending w.log unused (ready_from w sound) first) (λ doc x k y some at. absurd (none-some _ some)))
-        (put_later w.log given number e (held_free w.count (without_number unused w.held) given w.log number ready still)
-        (λ doc x k y some at. above doc x k y some (unwritten doc k y at))))
+        (put_later w.log w.pending unused Unused (held_free w.count w.held w.pending w.log unused (ready_from w sound) first) nothing)
+        (put_later w.log given number e (held_free w.count (without_number unused w.held) given w.log number ready still) still_above))
 
   pub step_sound : (w : World) (step : Step) → IsSound w → MayStep w step → IsSound (world_after w step)
   step_sound w draw sound may =

@@ -3,12 +3,12 @@
 ghost use Rattle.std.specs.Prelude.{◌≡◌, ◌+◌, ℕ, List, length, Some, None, IsTrue, nat_eq, if◌then◌else◌};
 ghost use Rattle.sg_history.specs.declared.entries.Entry.{Entry};
 ghost use Rattle.sg_history.specs.declared.book.Waiting.{Waiting};
-ghost use Rattle.sg_history.specs.Book.{Later, book_with, waiting_at};
+ghost use Rattle.sg_history.specs.Book.{IsAbove, Later, book_with, waiting_at};
 ghost use Rattle.sg_history.specs.History.{Extends};
 ghost use Rattle.sg_history.specs.World.{World, Step, IsSound, IsHeld, MayStep, put_waiting, release, rises_from, world_book, world_after};
 ghost use Rattle.pending_front.specs.Pending.{AreBeyond};
 ghost use Rattle.pending_front.specs.Runs.{world_of, world_after_all, MayRun};
-ghost use Rattle.pending_front.specs.Storing.{MayStore, IsAbove};
+ghost use Rattle.pending_front.specs.Storing.{MayStore};
 
 use sg_history::laws::later;
 
@@ -34,7 +34,7 @@ pub fn world()
 }
 
 /// An entry that is put where it may be stored: none waited there, no waiting entry then stands at a place of the log, the
-/// book has this entry besides, and it is later where the number is above the writes of the entry's document. The numbers of
+/// book has this entry besides, and it is later where the entry stands above those to which it is tied. The numbers of
 /// waiting entries rise then as before, and, once those that come next are moved to the log, above the place next to its end.
 pub fn storing()
     ensures free { (log : List Entry) (waiting : List Waiting) (number : ℕ)
