@@ -80,7 +80,7 @@ fn write_played(
 {
     write_outcomes(alloc, played.script.as_slice(), out)?;
     write_sessions(users, played.sessions.as_slice(), out)?;
-    write_history(alloc, played.shelf.board().log(), out)
+    write_history(played.shelf.board().log(), out)
 }
 
 /// The transcript of all that was played.

@@ -75,7 +75,7 @@ fn serve_all(
 {
     let ground = serve_in_turn(alloc, ground, program, strict, sessions, out)?;
     let shelf = ground.into_inner();
-    let written = write_history(alloc, shelf.board().log(), out);
+    let written = write_history(shelf.board().log(), out);
     drop(shelf);
     written
 }

@@ -6,13 +6,12 @@ ghost use Rattle.sg_history.specs.Journal.{journal_text};
 
 use sg_history::{Log, write_journal};
 use sg_outside::{Bytes, Memory};
-use std::alloc::Global;
 
 /// Puts the journal of a log's history at the end, behind its title.
-pub fn write_history(alloc: Global, log: &Log, out: &mut Bytes) -> Result<(), Memory>
+pub fn write_history(log: &Log, out: &mut Bytes) -> Result<(), Memory>
     ensures { OnOk result (out.new
         ≡ out.old ++ codes "journal\n" ++ journal_text (history log.now)) }
 {
     out.extend_from_slice(b"journal\n")?;
-    write_journal(alloc, log, out)
+    write_journal(log, out)
 }
