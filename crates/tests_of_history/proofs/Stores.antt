@@ -60,6 +60,7 @@ module _ (log : List Entry) (ws : List Waiting) (n : ℕ) (e : Entry) (can : Can
       in
       record {
         after = record {
+          limit = refl;
           book = subst (λ (b : Book). Later (book_with log ws) b) (sym same) later;
           log = subst (λ (l : List Entry). Extends log l) (sym log_is) (released_log log (put_at ws n e));
           count = omega (arith, new_count);

@@ -177,7 +177,7 @@ fn board_of_ann(alloc: Global) -> Result<Plain, TextFault>
     ensures log { IfOk result (λ b. length b.log.entries.list ≡ 1) }
 {
     let entry = ann_in_a(alloc)?;
-    let mut log = Log::new(alloc);
+    let mut log = Log::new(alloc, None);
     if let Err(fault) = log.entries.push(entry) {
         drop(log);
         return Err(TextFault::from(fault));

@@ -2,7 +2,10 @@
 
 use crate::texts::{cut, tabbed, write_bad};
 use crate::worked::log_of;
-use sg_history::{Entry, Log, LogReads, Write, read_journal, write_journal};
+use sg_history::{
+    BadLine, Entry, Log, LogReads, Why, Write, broken, read_journal, read_line, write_journal,
+    write_line,
+};
 use sg_outside::Bytes;
 use std::alloc::{AllocError, Global};
 use std::test::Fail;
@@ -41,12 +44,12 @@ fn fault_text(alloc: Global, journal: &str) -> Result<Bytes, AllocError> {
 
 /// A journal of each kind of entry.
 const EACH_KIND: &str =
-    "sgjournal 1/U|ann|A|r/R|r|!,*/W|d,é|3-c|2-b,1-a|1|00ff|ann|0|3-c|A,B|ann=B,role:r=C|ann=r/X/DR|r/DU|ann/W|d,é|4-d|3-c|0|7b7d|-|6|3-c|-|-|-/";
+    "sgjournal 1/U|ann|A|r/R|r|!,*/W|d,é|3-c|2-b,1-a|1|00ff|ann|0|3-c|A,B|ann=B,role:r=C|ann=r/X/DR|r/DU|ann/W|d,é|4-d|3-c|0|7b7d|-|6|3-c|-|-|-/S|c3a9|d,é|3-c|B|role:r=C|-|d,é|4-d|-|-|ann=r/S|7b7d/";
 
 /// A log as its journal.
 fn written(alloc: Global, log: &Log) -> Result<Bytes, AllocError> {
     let mut text = Bytes::from_slice(alloc, b"> ")?;
-    write_journal(alloc, log, &mut text)?;
+    write_journal(log, &mut text)?;
     Ok(text)
 }
 
@@ -98,14 +101,32 @@ fn is_write(entry: &Entry) -> bool {
     }
 }
 
-/// Whether the entries 3, 1 and 4 of the journal of each kind are right, and are counted.
+/// Whether an entry is `S|c3a9|d,é|3-c|B|role:r=C|-|d,é|4-d|-|-|ann=r`.
+fn is_sync(entry: &Entry) -> bool {
+    let Some(sync) = entry.as_sync() else {
+        return false;
+    };
+    let [first, second] = sync.marks.as_slice() else {
+        return false;
+    };
+    sync.text.as_str() == "é"
+        && first.doc.as_str() == "d,é"
+        && first.rev.generation == 3
+        && first.channels.as_slice().len() == 1
+        && first.grants.as_slice().len() == 1
+        && second.rev.digest.as_str() == "d"
+        && second.roles.as_slice().len() == 1
+}
+
+/// Whether the entries 3, 1, 4 and 8 of the journal of each kind are right, and are counted.
 fn are_entries(log: &Log) -> bool {
     let mut reads = LogReads::new(log);
-    reads.length() == 7
+    reads.length() == 9
         && is_write(reads.entry(3))
         && is_user(reads.entry(1))
         && matches!(reads.entry(4), Entry::Unused)
-        && reads.reads() == 3
+        && is_sync(reads.entry(8))
+        && reads.reads() == 4
 }
 
 #[test]
@@ -117,6 +138,68 @@ fn journals_are_read_and_written_again(rt: HostRuntime) -> Result<(), Fail> {
     let each_kind = log_of(alloc, EACH_KIND)?;
     assert!(rt; is_written_so(alloc, &each_kind, EACH_KIND)?);
     assert!(rt; are_entries(&each_kind));
+    let limited = log_of(alloc, "sgjournal 2 50/X/")?;
+    assert!(rt; limited.limit == Some(50));
+    assert!(rt; is_written_so(alloc, &limited, "sgjournal 2 50/X/")?);
+    Ok(())
+}
+
+/// Whether a line is read as an entry that is written as this line.
+fn is_read_again(alloc: Global, line: &str) -> Result<bool, AllocError> {
+    let line = tabbed(alloc, line)?;
+    let mut text = Bytes::from_slice(alloc, b"> ")?;
+    match read_line(alloc, line.as_slice()) {
+        Ok(entry) => write_line(&entry, &mut text)?,
+        Err(_) => return Ok(false),
+    }
+    Ok(text.as_slice().strip_prefix(b"> ".as_slice()) == Some(line.as_slice()))
+}
+
+#[test]
+fn lines_are_read_and_written_alone(rt: HostRuntime) -> Result<(), Fail> {
+    let alloc = rt.alloc();
+    assert!(rt; is_read_again(alloc, "S|7b7d|d|1-a|B|-|-")?);
+    assert!(rt; is_read_again(alloc, "W|d|1-a|-|0|7b7d|-|18446744073709551615|1-b|-|-|-")?);
+    assert!(rt; is_read_again(alloc, "X")?);
+    assert!(rt; !is_read_again(alloc, "X|")?);
+    Ok(())
+}
+
+/// A text of so many bytes, in hexadecimal, behind the kind of a replaced sync function.
+fn sync_line(alloc: Global, bytes: usize) -> Result<Bytes, AllocError> {
+    let mut line = Bytes::from_slice(alloc, b"S\t")?;
+    for _ in 0..bytes {
+        line.extend_from_slice(b"61")?;
+    }
+    Ok(line)
+}
+
+#[test]
+fn a_sync_function_has_a_longest_text(rt: HostRuntime) -> Result<(), Fail> {
+    let alloc = rt.alloc();
+    assert!(rt; read_line(alloc, sync_line(alloc, 65_536)?.as_slice()).is_ok());
+    assert!(rt; read_line(alloc, sync_line(alloc, 65_537)?.as_slice()).is_err());
+    Ok(())
+}
+
+#[test]
+fn the_first_broken_entry_of_a_log_is_named(rt: HostRuntime) -> Result<(), Fail> {
+    let alloc = rt.alloc();
+    let mut log = log_of(alloc, "sgjournal 1/X/")?;
+    assert!(rt; broken(alloc, &log)?.is_none());
+    let late = tabbed(alloc, "W|d|1-a|-|0|7b7d|-|2|1-a|-|-|-")?;
+    if let Ok(entry) = read_line(alloc, late.as_slice()) {
+        log.entries.push(entry)?;
+    }
+    assert!(rt;
+        matches!(
+            broken(alloc, &log)?,
+            Some(BadLine {
+                place: 3,
+                why: Why::Rule(8)
+            })
+        )
+    );
     Ok(())
 }
 
@@ -127,7 +210,15 @@ const BAD: &str = "\
 1 Head;sgjournal 3/\n\
 1 Head;sgjournal 3\n\
 1 Head;sgjournal 1 /Q/\n\
+1 Head;sgjournal 2 19/\n\
+1 Head;sgjournal 2 1001/\n\
+1 Head;sgjournal 2 020/\n\
+1 Head;sgjournal 2/\n\
+1 Head;sgjournal 2 /\n\
+1 Head;sgjournal 2 50 /\n\
 1 Ending;sgjournal 1\n\
+1 Ending;sgjournal 2 50\n\
+2 Kind;sgjournal 2 1000/Q|x/\n\
 2 Kind;sgjournal 1/Q|x/\n\
 2 Ending;sgjournal 1/Q|x\n\
 3 Rule(8);sgjournal 1/U|ann|A|-/W|d1|1-a|-|0|7b7d|-|2|1-a|A|-|-/W|d2|1-b|-|0|7b7d|-|2|1-b|B|-|-/W|d3|1-c|-|0|7b7d|-|3|1-c|!|-|-/\n\
@@ -169,7 +260,7 @@ const BAD: &str = "\
 3 Field(10);+W|d|1-a|-|0|7b7d|-|0|1-a|B,A|ann|-/\n\
 3 Field(11);+W|d|1-a|-|0|7b7d|-|0|1-a|-|ann|ann/\n\
 3 Field(12);+W|d|1-a|-|0|7b7d|-|9|1-b|-|-|ann=/\n\
-3 Field(12);+W|d|1-a|-|0|7b7d|-|18446744073709551616|1-b|-|-|/\n\
+3 Field(8);+W|d|1-a|-|0|7b7d|-|18446744073709551616|1-b|-|-|/\n\
 3 Field(2);+U|-||b,a/\n\
 3 Field(3);+U|ann||b,a/\n\
 3 Field(4);+U|ann|-|b,a/\n\
@@ -178,9 +269,33 @@ const BAD: &str = "\
 3 Rule(3);+W|d|1-a|1-b|0|7b7d|-|2|1-c|-|-|-/\n\
 3 Rule(8);+W|e|1-a|-|0|7b7d|-|2|1-c|-|-|-/\n\
 3 Rule(8);+W|e|1-a|-|0|7b7d|-|18446744073709551615|1-c|-|-|-/\n\
-3 Rule(8);+W|e|1-a|-|0|7b7d|-|18446744073709551616|1-c|-|-|-/\n\
+3 Field(8);+W|e|1-a|-|0|7b7d|-|18446744073709551616|1-c|-|-|-/\n\
 3 Rule(9);+W|d|1-b|-|0|7b7d|-|1|1-c|-|-|-/\n\
-3 Rule(9);+W|e|1-b|-|0|7b7d|-|1|1-a|-|-|-/";
+3 Rule(9);+W|e|1-b|-|0|7b7d|-|1|1-a|-|-|-/\n\
+3 Fields;+S/\n\
+3 Fields;+S|7b7d|d/\n\
+3 Fields;+S|7b7|d|1-a|-|-/\n\
+3 Fields;+S|7b7|d|1-a|-|-|-|d|1-b|-|-/\n\
+3 Fields;+S|7b7|d|1-a|-|-|-|/\n\
+3 Field(2);+S|/\n\
+3 Field(2);+S|7b7/\n\
+3 Field(2);+S|7B7D/\n\
+3 Field(2);+S|ff/\n\
+3 Field(2);+S|7b7|_d|0-a|-|-|-/\n\
+3 Field(3);+S|7b7d|_d|0-a|-|-|-/\n\
+3 Field(4);+S|7b7d|d|0-a|B,A|-|-/\n\
+3 Field(5);+S|7b7d|d|1-a|B,A|x|-/\n\
+3 Field(6);+S|7b7d|d|1-a|-|x|y/\n\
+3 Field(7);+S|7b7d|d|1-a|-|-|y/\n\
+3 Field(8);+S|7b7d|d|1-a|-|-|-||1-a|-|-|-/\n\
+3 Rule(3);+S|7b7d|d|1-b|-|-|-/\n\
+3 Rule(3);+S|7b7d|e|1-a|-|-|-/\n\
+3 Rule(3);+S|7b7d|d|1-b|-|-|-|c|1-a|-|-|-/\n\
+3 Rule(8);+S|7b7d|d|1-a|-|-|-|d|1-a|-|-|-/\n\
+4 Rule(8);sgjournal 2 20/W|d|1-a|-|0|7b7d|-|0|1-a|-|-|-/W|e|1-a|-|0|7b7d|-|1|1-a|-|-|-/S|7b7d|e|1-a|-|-|-|d|1-a|-|-|-/\n\
+4 Rule(8);sgjournal 1/W|d|2-a|-|0|7b7d|-|0|2-a|-|-|-/W|d|1-b|-|0|7b7d|-|1|2-a|-|-|-/S|7b7d|d|2-a|-|-|-|d|1-b|-|-|-/\n\
+4 Rule(8);sgjournal 1/W|d|1-b|-|0|7b7d|-|0|1-b|-|-|-/W|d|1-a|-|0|7b7d|-|1|1-b|-|-|-/S|7b7d|d|1-b|-|-|-|d|1-a|-|-|-/\n\
+3 Rule(3);sgjournal 1/S|7b7d/S|7b7d|d|1-a|-|-|-/W|d|1-a|-|0|7b7d|-|0|1-a|-|-|-/";
 
 fn is_refused_so(alloc: Global, line: &str) -> Result<bool, AllocError> {
     let (want, text) = cut(line, ';');

@@ -2,7 +2,7 @@
 
 ghost use Rattle.std.specs.Prelude.{◌≡◌, ◌<◌, ◌≤◌, ◌+◌, ◌^◌, [], None, IfOk};
 ghost use Rattle.std.specs.Thread.{IsSync};
-ghost use Rattle.sg_history.specs.History.{as_write};
+ghost use Rattle.sg_history.specs.History.{as_sync, as_write};
 ghost use Rattle.seq_gate.specs.Passes.{share};
 ghost use Rattle.tests_of_history.specs.Boards.{board_with};
 ghost use Rattle.tests_of_history.specs.Passes.{HoldsNothing};
@@ -18,7 +18,8 @@ use std::thread::{Threads, join};
 
 /// The put of a user of this name with a number after it.
 fn put_of(alloc: Global, name: &str, number: u64) -> Result<Entry, TextFault>
-    ensures { IfOk result (λ e. as_write e ≡ None) }
+    ensures write { IfOk result (λ e. as_write e ≡ None) }
+    ensures sync { IfOk result (λ e. as_sync e ≡ None) }
 {
     let text = format!(in alloc; "{name}{number}")?;
     let name = Name::parse(alloc, text.as_str())?;
@@ -163,7 +164,7 @@ fn counts_of(alloc: Global, entries: &[Entry]) -> Result<Vec<u64>, AllocError> {
 #[test]
 fn two_threads_a_thousand_each(rt: HostRuntime) -> Result<(), Fail> {
     let alloc = rt.alloc();
-    let board = board_of(alloc, Log::new(alloc), 2000)?;
+    let board = board_of(alloc, Log::new(alloc, None), 2000)?;
     let left = stored_by_two(&rt, alloc, board)?;
     let entries = left.log.entries.len();
     let waiting = left.pending.len();

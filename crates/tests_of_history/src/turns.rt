@@ -2,7 +2,7 @@
 
 ghost use Rattle.std.specs.Prelude.{◌≡◌, ◌<◌, ◌+◌, ◌^◌, ◌∷◌, [], Some, None, IfOk, OnOk};
 ghost use Rattle.sg_history.specs.Board.{board_book};
-ghost use Rattle.sg_history.specs.History.{as_write};
+ghost use Rattle.sg_history.specs.History.{as_sync, as_write};
 ghost use Rattle.seq_gate.specs.Counts.{times};
 ghost use Rattle.seq_gate.specs.Passes.{share, MayLeave};
 ghost use Rattle.tests_of_history.specs.Boards.{board_with, CanStore};
@@ -52,6 +52,7 @@ pub fn store_at<R: Wait>(
     requires held { pass.knows.held ≡ number ∷ [] }
     requires rooms { pass.knows.rooms ≡ [] }
     requires entry { as_write entry ≡ None }
+    requires no_sync { as_sync entry ≡ None }
     ensures gate { IfOk result (λ p. p.gate ≡ pass.gate) }
     ensures left { IfOk result (λ p. p.knows.left ≡ pass.knows.left) }
     ensures knows { IfOk result (λ p. HoldsNothing p.knows (share pass.knows)) }
@@ -77,6 +78,7 @@ pub fn draw_and_store<R: Wait>(
     requires left { 0 < pass.knows.left }
     requires nothing { HoldsNothing pass.knows (share pass.knows) }
     requires entry { as_write entry ≡ None }
+    requires no_sync { as_sync entry ≡ None }
     ensures gate { IfOk result (λ p. p.gate ≡ pass.gate) }
     ensures left { IfOk result (λ p. p.knows.left + 1 ≡ pass.knows.left) }
     ensures knows { IfOk result (λ p. HoldsNothing p.knows (share pass.knows)) }
