@@ -2,9 +2,11 @@
 
 ghost use Rattle.std.specs.Prelude.{◌≡◌, ◌<◌, [], ◌∷◌, length, OnOk, OnErr, IfOk};
 ghost use Rattle.sg_history.specs.History.{as_write};
+ghost use Rattle.log_index.specs.Marks.{marked_up_to};
 ghost use Rattle.log_index.specs.Places.{document_at, revision_seq, document_before, before_at};
 
 use crate::documents::{Document, document_in};
+use crate::marks::Marked;
 use crate::tables::Tables;
 use crate::taken::Taken;
 use sg_history::{DocId, Entry, RevId};
@@ -76,6 +78,15 @@ impl LogIndex {
             return None;
         }
         document_in(self.before.as_slice(), (seq - 1) as usize)
+    }
+
+    /// Where the effects of the revision that the entry of a sequence writes stand after the entries up to a
+    /// place: none where they are those that it has itself, and where the entry is no write. Allocates
+    /// nothing.
+    pub fn marked(&self, write: u64, up_to: u64) -> Option<Marked>
+        ensures { result ≡ marked_up_to self.now write up_to }
+    {
+        self.tables.marked(write, up_to)
     }
 
     /// Takes the next entry, and answers where the document that it writes stands after it: none

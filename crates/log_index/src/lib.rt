@@ -1,12 +1,17 @@
-//! An index of a history: where its documents and revisions stand, entry by entry as they come.
+//! An index of a history: where its documents, its revisions and their effects stand, entry by entry as
+//! they come.
 #![tactic(auto)]
 
 mod by_name;
 mod documents;
 mod index;
+pub mod laws;
+mod mark_places;
+mod marks;
 mod revisions;
 mod tables;
 mod taken;
 
 pub use documents::Document;
 pub use index::LogIndex;
+pub use marks::Marked;

@@ -1,28 +1,34 @@
 //! The tables of an index.
 
-ghost use Rattle.std.specs.Prelude.{◌≡◌, ◌+◌, ℕ, List, [], ◌∷◌, length, Some, OnOk, OnErr, IfOk};
+ghost use Rattle.std.specs.Prelude.{◌≡◌, ◌+◌, ℕ, List, [], ◌∷◌, length, Some, None, option_map, OnOk, OnErr, IfOk};
 ghost use Rattle.std.specs.Option.{option_copied};
 ghost use Rattle.std.specs.BTreeMap.{get_by_text};
 ghost use Rattle.sg_history.specs.declared.entries.Entry.{Entry};
 ghost use Rattle.sg_history.specs.declared.entries.Entry.TheVariants as kinds;
-ghost use Rattle.sg_history.specs.History.{as_write};
+ghost use Rattle.sg_history.specs.History.{as_sync, as_write};
+ghost use Rattle.sg_history.specs.Puts.{replacement_in};
+ghost use Rattle.log_index.specs.Marks.{marked_up_to};
 ghost use Rattle.log_index.specs.Places.{document_at, document_before, revision_seq};
-ghost use Rattle.log_index.specs.Representation.{HasPlaces, kept_of, winning_seq};
+ghost use Rattle.log_index.specs.Representation.{HasPlaces, first_rev, firsts_of, kept_of, winning_seq};
 
 use crate::by_name::put;
 use crate::documents::{Document, Documents, document_of, first_or, put_back};
-use crate::revisions::{Revisions, put_revision, seq_of};
-use sg_history::{DocId, Entry, RevId, Write};
+use crate::mark_places::{MarkPlaces, last_place, put_places};
+use crate::marks::Marked;
+use crate::revisions::{Repeats, Revisions, first_of, put_revision, seq_of};
+use sg_history::{DocId, Entry, Mark, Replacement, RevId, Write};
 use std::alloc::{AllocError, Global};
 use std::collections::BTreeMap;
 
-/// Where documents and revisions stand, and how many entries there are.
+/// Where documents, revisions and marks stand, and how many entries there are.
 #[derive(Drop)]
 pub struct Tables {
     alloc: Global,
     pub count: u64,
     documents: Documents,
     revisions: Revisions,
+    repeats: Repeats,
+    marks: MarkPlaces,
 }
 
 impl Tables {
@@ -35,6 +41,8 @@ impl Tables {
             count: 0,
             documents: BTreeMap::new(alloc),
             revisions: BTreeMap::new(alloc),
+            repeats: BTreeMap::new(alloc),
+            marks: BTreeMap::new(alloc),
         }
     }
 
@@ -54,6 +62,17 @@ impl Tables {
             None => Ok(None),
             Some(document) => seq_of(self.alloc, &self.revisions, document.first, rev),
         }
+    }
+
+    /// The last mark up to a place of the revision written at a sequence. Allocates nothing.
+    pub fn marked(&self, write: u64, up_to: u64) -> Option<Marked>
+        ensures { (es : List Entry) → HasPlaces self.now es → result ≡ marked_up_to es write up_to }
+    {
+        if up_to < write {
+            return None;
+        }
+        let first = first_of(&self.repeats, write);
+        last_place(&self.marks, first, write, up_to)
     }
 
     /// Where the document of a write stands, if there is a write and its document was written.
@@ -81,13 +100,62 @@ impl Tables {
             ≡ kept_of self.new (as_write entry.now)) }
         ensures ok { OnOk result ((es : List Entry) → seq ≡ length es + 1 → HasPlaces self.old es
             → HasPlaces (record self.new { count = seq }) (entry.now ∷ es)) }
-        ensures err { OnErr result ((es : List Entry) → HasPlaces self.old es
+        ensures err { OnErr result ((es : List Entry) → seq ≡ length es + 1 → HasPlaces self.old es
             → HasPlaces self.new es) }
         ensures count { self.new.count ≡ self.old.count }
     {
         match entry.as_write() {
             Some(write) => Ok(Some(self.keep_write(write, before, seq)?)),
+            None => {
+                self.keep_sync(entry.as_sync(), seq)?;
+                Ok(None)
+            }
+        }
+    }
+
+    /// The sequence of the first write of a mark's revision, if it was written.
+    fn first_of_mark(&self, mark: &Mark) -> Result<Option<u64>, AllocError>
+        ensures { IfOk result (λ first. (es : List Entry) → HasPlaces self.now es
+            → first ≡ first_rev es mark.now.doc mark.now.rev) }
+    {
+        match self.revision(&mark.doc, &mark.rev)? {
             None => Ok(None),
+            Some(seq) => Ok(Some(first_of(&self.repeats, seq))),
+        }
+    }
+
+    /// The sequences of the first writes of the revisions of marks.
+    fn firsts(&self, marks: &[Mark]) -> Result<Vec<Option<u64>>, AllocError>
+        ensures { IfOk result (λ list. (es : List Entry) → HasPlaces self.now es
+            → list.items ≡ firsts_of es marks.now) }
+    {
+        let mut list = Vec::with_capacity(self.alloc, marks.len())?;
+        for mark in marks {
+            let first = self.first_of_mark(mark)?;
+            list.push(first)?;
+        }
+        Ok(list)
+    }
+
+    /// Keeps the places of the marks of the replacement of this sequence, if there is one.
+    fn keep_sync(
+        &mut self,
+        replacement: Option<Replacement<'_>>,
+        seq: u64,
+    ) -> Result<(), AllocError>
+        ensures ok { OnOk result ((es : List Entry) (e : Entry) → as_write e ≡ None
+            → as_sync e ≡ option_map replacement_in replacement → seq ≡ length es + 1
+            → HasPlaces self.old es → HasPlaces (record self.new { count = seq }) (e ∷ es)) }
+        ensures err { OnErr result ((es : List Entry) → seq ≡ length es + 1 → HasPlaces self.old es
+            → HasPlaces self.new es) }
+        ensures count { self.new.count ≡ self.old.count }
+    {
+        match replacement {
+            None => Ok(()),
+            Some(replacement) => {
+                let firsts = self.firsts(replacement.marks.as_slice())?;
+                put_places(&mut self.marks, firsts.as_slice(), seq)
+            }
         }
     }
 
@@ -130,7 +198,14 @@ impl Tables {
             write.doc.as_str(),
             document,
         )?;
-        match put_revision(self.alloc, &mut self.revisions, first, &write.rev, seq) {
+        match put_revision(
+            self.alloc,
+            &mut self.revisions,
+            &mut self.repeats,
+            first,
+            &write.rev,
+            seq,
+        ) {
             Ok(()) => Ok(document),
             Err(fault) => {
                 put_back(&mut self.documents, &write.doc, before);

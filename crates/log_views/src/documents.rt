@@ -5,18 +5,21 @@ ghost use Rattle.std.specs.Option.{option_copied};
 ghost use Rattle.sg_history.specs.Current as current;
 ghost use Rattle.sg_history.specs.Current.{write_alone};
 ghost use Rattle.log_index.specs.Index.{Indexes};
-ghost use Rattle.log_views.specs.States.{state_in, winning};
+ghost use Rattle.log_views.specs.States.{since_in, state_in, winning};
 
 use crate::at::write_at;
+use crate::effects::{EffectsOf, effects_by};
 use log_index::LogIndex;
 use sg_history::{DocId, Entry, RevId, Write};
 use sg_outside::Memory;
 
-/// A document as it is: the sequence of its last write, and the write of its winner.
+/// A document as it is: the sequence of its last write, the write of its winner, and the winner's
+/// effects.
 #[derive(Clone, Copy)]
 pub struct DocState<'a> {
     pub seq: u64,
     pub winner: &'a Write,
+    pub effects: EffectsOf<'a>,
 }
 
 /// What a document is, if it was written. Allocates nothing.
@@ -25,11 +28,16 @@ pub fn state<'a>(index: &LogIndex, entries: &'a [Entry], doc: &DocId) -> Option<
     ensures current { state_in result ≡ current.current (reverse entries.now) doc.now }
     ensures winner { option_map (λ s. s.winner.now) result
         ≡ write_alone (winning (reverse entries.now) doc.now) }
+    ensures since { option_map (λ s. s.effects.since) result
+        ≡ since_in (reverse entries.now) (winning (reverse entries.now) doc.now) }
 {
     let document = index.document(doc)?;
+    let winner = write_at(entries, document.winning)?;
+    let marked = index.marked(document.winning, index.count());
     Some(DocState {
         seq: document.last,
-        winner: write_at(entries, document.winning)?,
+        winner,
+        effects: effects_by(entries, document.winning, winner, marked),
     })
 }
 

@@ -3,12 +3,14 @@
 
 mod at;
 mod documents;
+mod effects;
 mod filter;
 mod sorted;
 mod views;
 
 pub use at::write_at;
 pub use documents::{DocState, state, write_of_rev};
+pub use effects::{EffectsOf, effects_at};
 pub use filter::Filter;
 pub use sorted::in_order;
 pub use views::shown;

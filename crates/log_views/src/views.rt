@@ -15,10 +15,10 @@ use sg_history::Channels;
 fn is_shown(channels: &Channels, filter: &Filter<'_>, document: DocState<'_>) -> bool
     requires { AreSorted channels.now }
     ensures { result ≡ (list_any (λ c. among channels.now c)
-        (view.every ∷ document.entry.winner.now.channels)
-        && view.passes filter.now (view.every ∷ document.entry.winner.now.channels)) }
+        (view.every ∷ document.entry.effects.channels.now)
+        && view.passes filter.now (view.every ∷ document.entry.effects.channels.now)) }
 {
-    let of = document.winner.channels.as_slice();
+    let of = document.effects.channels.as_slice();
     has_some(channels.as_slice(), of) && filter.passes(of)
 }
 

@@ -1,0 +1,104 @@
+//! The effects of written revisions.
+
+ghost use Rattle.std.specs.Prelude.{◌≡◌, ◌<◌, ◌≤◌, ℕ, None, IfSome, reverse, option_map};
+ghost use Rattle.std.specs.Option.{option_copied};
+ghost use Rattle.sg_history.specs.Current.{recorded_effects, marked_effects};
+ghost use Rattle.sg_history.specs.History.{past};
+ghost use Rattle.log_index.specs.Index.{Indexes};
+ghost use Rattle.log_index.specs.Marks as marks;
+ghost use Rattle.log_views.specs.At.{write_at};
+ghost use Rattle.log_views.specs.States.{effects_at_write, effects_in, since_at_write, since_by};
+
+use crate::at;
+use crate::at::entry_at;
+use log_index::{LogIndex, Marked};
+use sg_history::{Channels, Entry, Grants, Mark, RoleGrants, Write};
+
+/// The effects of a revision, and since when it has them: the sequence of its write, or of the
+/// replaced sync function that they are from.
+#[derive(Clone, Copy)]
+pub struct EffectsOf<'a> {
+    pub since: u64,
+    pub channels: &'a Channels,
+    pub grants: &'a Grants,
+    pub roles: &'a RoleGrants,
+}
+
+/// The effects that a write recorded.
+fn recorded(write: &Write, since: u64) -> EffectsOf<'_>
+    ensures effects { effects_in result ≡ recorded_effects write.now }
+    ensures since { result.since ≡ since }
+{
+    EffectsOf {
+        since,
+        channels: &write.channels,
+        grants: &write.grants,
+        roles: &write.roles,
+    }
+}
+
+/// The effects that a mark says.
+fn of_mark(mark: &Mark, since: u64) -> EffectsOf<'_>
+    ensures effects { effects_in result ≡ marked_effects mark.now }
+    ensures since { result.since ≡ since }
+{
+    EffectsOf {
+        since,
+        channels: &mark.channels,
+        grants: &mark.grants,
+        roles: &mark.roles,
+    }
+}
+
+/// The mark that stands there, if one does.
+fn mark_at<'a>(entries: &'a [Entry], marked: Marked) -> Option<&'a Mark>
+    requires { 0 < marked.sync }
+    ensures { option_copied result ≡ marks.mark_at (reverse entries.now) marked }
+{
+    let replacement = entry_at(entries, marked.sync)?.as_sync()?;
+    replacement.marks.as_slice().get(marked.mark as usize)
+}
+
+/// The effects of a written revision, by where they stand.
+pub fn effects_by<'a>(
+    entries: &'a [Entry],
+    seq: u64,
+    write: &'a Write,
+    marked: Option<Marked>,
+) -> EffectsOf<'a>
+    requires { IfSome marked (λ m. 0 < m.sync) }
+    ensures effects { effects_in result
+        ≡ marks.effects_by (reverse entries.now) marked write.now }
+    ensures since { result.since ≡ since_by marked seq }
+{
+    match marked {
+        None => recorded(write, seq),
+        Some(marked) => match mark_at(entries, marked) {
+            None => recorded(write, marked.sync),
+            Some(mark) => of_mark(mark, marked.sync),
+        },
+    }
+}
+
+/// The effects that the revision written at a sequence has after the entries up to a place, if the
+/// entry of that sequence is a write. The index may have more entries than these. Allocates nothing.
+pub fn effects_at<'a>(
+    index: &LogIndex,
+    entries: &'a [Entry],
+    write: u64,
+    up_to: u64,
+) -> Option<EffectsOf<'a>>
+    requires { (n : ℕ) × Indexes index.now (past entries.now n) × (up_to ≤ n) }
+    ensures effects { 0 < write → option_map effects_in result
+        ≡ effects_at_write (past entries.now up_to) write (write_at entries.now write) }
+    ensures since { 0 < write → option_map (λ e. e.since) result
+        ≡ since_at_write (past entries.now up_to) write (write_at entries.now write) }
+    ensures none { write ≡ 0 → result ≡ None }
+{
+    if write == 0 {
+        return None;
+    }
+    let written = at::write_at(entries, write)?;
+    let marked = index.marked(write, up_to);
+    Some(effects_by(entries, write, written, marked))
+}
