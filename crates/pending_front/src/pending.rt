@@ -112,6 +112,7 @@ impl Pending {
         ensures log_spare { log.new.entries.spare + (if result then 1 else 0)
             ≡ log.old.entries.spare }
         ensures beyond { AreBeyond log.new.entries.list self.new.waiting }
+        ensures limit { log.new.limit ≡ log.old.limit }
     {
         let next = log.entries.as_slice().len() as u64 + 1;
         let Some(entry) = self.take(next) else {
@@ -132,6 +133,7 @@ impl Pending {
         ensures left { length self.new.waiting + result ≡ length self.old.waiting }
         ensures spare { self.old.spare ≤ self.new.spare }
         ensures log_spare { log.new.entries.spare + result ≡ log.old.entries.spare }
+        ensures limit { log.new.limit ≡ log.old.limit }
     {
         let mut moved = 0;
         for _ in 0..self.len() {
@@ -161,6 +163,7 @@ impl Pending {
         ensures extends { Extends log.old.entries.list log.new.entries.list }
         ensures spare { self.old.spare ≤ self.new.spare }
         ensures log_spare { log.new.entries.spare + result ≡ log.old.entries.spare }
+        ensures limit { log.new.limit ≡ log.old.limit }
     {
         self.move_all(log)
     }

@@ -13,4 +13,5 @@ invariant-loop l = record {
   left : length l.self.waiting + l.moved ≡ length l.fn.self.waiting;
   spare : l.fn.self.spare ≤ l.self.spare;
   log_spare : l.log.entries.spare + l.moved ≡ l.fn.log.entries.spare;
+  limit : l.log.limit ≡ l.fn.log.limit;
 }
