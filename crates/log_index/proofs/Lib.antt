@@ -2,4 +2,11 @@ pub mod RevisionKeys
 pub mod Firsts
 pub mod Pushes
 pub mod Befores
+pub mod LastMarks
+pub mod FirstRevisions
+pub mod KeptMarks
+pub mod MarkFirsts
+pub mod PlaceKeys
+pub mod LastPlace
+pub mod SomePut
 pub mod Crossing

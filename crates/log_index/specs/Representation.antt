@@ -1,5 +1,5 @@
 -- How an index keeps what it says. Only proofs and the index's own functions need it.
-use Rattle.std.specs.Prelude.{◌≡◌, ◌<◌, ◌≤◌, ◌+◌, ℕ, suc, nat_eq, Bool, false, ◌&&◌, ◌||◌, List, [], ◌∷◌, map, length, Option, Some, None, String, unwrap_or, if◌then◌else◌, string_bytes}
+use Rattle.std.specs.Prelude.{◌≡◌, ◌<◌, ◌≤◌, ◌+◌, ℕ, suc, nat_eq, Bool, false, ◌||◌, List, [], ◌∷◌, map, length, Option, Some, None, String, unwrap_or, if◌then◌else◌, string_bytes}
 use Rattle.std.specs.BTreeMap.{BTreeMap, get, get_by, get_by_text}
 use Rattle.std.specs.Global.{Global}
 use Rattle.std.specs.Ordering.{nat_cmp, ordering_then}

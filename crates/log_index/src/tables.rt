@@ -144,7 +144,7 @@ impl Tables {
         seq: u64,
     ) -> Result<(), AllocError>
         ensures ok { OnOk result ((es : List Entry) (e : Entry) → as_write e ≡ None
-            → as_sync e ≡ option_map replacement_in replacement → seq ≡ length es + 1
+            → as_sync e ≡ option_map replacement_in replacement.entry → seq ≡ length es + 1
             → HasPlaces self.old es → HasPlaces (record self.new { count = seq }) (e ∷ es)) }
         ensures err { OnErr result ((es : List Entry) → seq ≡ length es + 1 → HasPlaces self.old es
             → HasPlaces self.new es) }

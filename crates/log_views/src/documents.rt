@@ -8,8 +8,8 @@ ghost use Rattle.log_index.specs.Index.{Indexes};
 ghost use Rattle.log_views.specs.States.{since_in, state_in, winning};
 
 use crate::at::write_at;
-use crate::effects::{EffectsOf, effects_by};
-use log_index::LogIndex;
+use crate::effects::{EffectsOf, effects_of};
+use log_index::{LogIndex, laws};
 use sg_history::{DocId, Entry, RevId, Write};
 use sg_outside::Memory;
 
@@ -33,11 +33,12 @@ pub fn state<'a>(index: &LogIndex, entries: &'a [Entry], doc: &DocId) -> Option<
 {
     let document = index.document(doc)?;
     let winner = write_at(entries, document.winning)?;
+    laws::marks();
     let marked = index.marked(document.winning, index.count());
     Some(DocState {
         seq: document.last,
         winner,
-        effects: effects_by(entries, document.winning, winner, marked),
+        effects: effects_of(entries, document.winning, winner, marked),
     })
 }
 

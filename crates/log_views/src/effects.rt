@@ -1,6 +1,6 @@
 //! The effects of written revisions.
 
-ghost use Rattle.std.specs.Prelude.{◌≡◌, ◌<◌, ◌≤◌, ℕ, None, IfSome, reverse, option_map};
+ghost use Rattle.std.specs.Prelude.{◌≡◌, ◌<◌, ◌≤◌, ℕ, None, reverse, option_map};
 ghost use Rattle.std.specs.Option.{option_copied};
 ghost use Rattle.sg_history.specs.Current.{recorded_effects, marked_effects};
 ghost use Rattle.sg_history.specs.History.{past};
@@ -11,7 +11,7 @@ ghost use Rattle.log_views.specs.States.{effects_at_write, effects_in, since_at_
 
 use crate::at;
 use crate::at::entry_at;
-use log_index::{LogIndex, Marked};
+use log_index::{LogIndex, Marked, laws};
 use sg_history::{Channels, Entry, Grants, Mark, RoleGrants, Write};
 
 /// The effects of a revision, and since when it has them: the sequence of its write, or of the
@@ -52,21 +52,22 @@ fn of_mark(mark: &Mark, since: u64) -> EffectsOf<'_>
 
 /// The mark that stands there, if one does.
 fn mark_at<'a>(entries: &'a [Entry], marked: Marked) -> Option<&'a Mark>
-    requires { 0 < marked.sync }
     ensures { option_copied result ≡ marks.mark_at (reverse entries.now) marked }
 {
+    if marked.sync == 0 {
+        return None;
+    }
     let replacement = entry_at(entries, marked.sync)?.as_sync()?;
     replacement.marks.as_slice().get(marked.mark as usize)
 }
 
-/// The effects of a written revision, by where they stand.
-pub fn effects_by<'a>(
+/// The effects of a write's revision, by where they stand.
+pub fn effects_of<'a>(
     entries: &'a [Entry],
     seq: u64,
     write: &'a Write,
     marked: Option<Marked>,
 ) -> EffectsOf<'a>
-    requires { IfSome marked (λ m. 0 < m.sync) }
     ensures effects { effects_in result
         ≡ marks.effects_by (reverse entries.now) marked write.now }
     ensures since { result.since ≡ since_by marked seq }
@@ -78,6 +79,22 @@ pub fn effects_by<'a>(
             Some(mark) => of_mark(mark, marked.sync),
         },
     }
+}
+
+/// The effects of the revision written at a sequence, by where they stand, if the entry of that sequence is a
+/// write. Allocates nothing.
+pub fn effects_by<'a>(
+    entries: &'a [Entry],
+    write: u64,
+    marked: Option<Marked>,
+) -> Option<EffectsOf<'a>>
+    ensures effects { option_map effects_in result
+        ≡ option_map (marks.effects_by (reverse entries.now) marked) (write_at entries.now write) }
+    ensures since { option_map (λ e. e.since) result
+        ≡ option_map (λ w. since_by marked write) (write_at entries.now write) }
+{
+    let written = at::write_at(entries, write)?;
+    Some(effects_of(entries, write, written, marked))
 }
 
 /// The effects that the revision written at a sequence has after the entries up to a place, if the
@@ -98,7 +115,6 @@ pub fn effects_at<'a>(
     if write == 0 {
         return None;
     }
-    let written = at::write_at(entries, write)?;
-    let marked = index.marked(write, up_to);
-    Some(effects_by(entries, write, written, marked))
+    laws::marks();
+    effects_by(entries, write, index.marked(write, up_to))
 }
