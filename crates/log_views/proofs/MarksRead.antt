@@ -3,14 +3,13 @@ use Rattle.std.proofs.Common.{◌≡◌, ◌<◌, ◌≤◌, ℕ, refl, sym, ◌
 use Rattle.std.specs.Prelude.{option_map}
 use Rattle.std.proofs.lemmas.Bool.{cases_lt}
 use Rattle.std.proofs.lemmas.List.{reverse-append, take-append-drop}
-use Rattle.std.proofs.lemmas.Option.{same_Some}
 use Rattle.sg_history.specs.declared.entries.Entry.{Entry}
 use Rattle.sg_history.specs.declared.entries.Mark.{Mark}
 use Rattle.sg_history.specs.declared.entries.Write.{Write}
 use Rattle.sg_history.specs.History.{past}
 use Rattle.sg_history.specs.Current.{Effects, Sequenced, effects_of, effects_or, recorded_effects}
 use Rattle.log_index.specs.declared.marks.Marked.{Marked}
-use Rattle.log_index.specs.Marks.{effects_by, entries_up_to, mark_at, marked_after, marked_by, marked_up_to, write_of}
+use Rattle.log_index.specs.Marks.{effects_by, marked_after, marked_by, marked_up_to, write_of}
 use Rattle.log_views.specs.At.{write_at}
 use Rattle.log_views.specs.States.{effects_at_write, since_at_write, since_by}
 use Rattle.log_views.proofs.Looked.{not_there, older_mark, past_long, past_up_to, past_write, write_found, whole_up_to}

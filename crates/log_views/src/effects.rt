@@ -3,7 +3,7 @@
 ghost use Rattle.std.specs.Prelude.{◌≡◌, ◌<◌, ◌≤◌, ℕ, None, reverse, option_map};
 ghost use Rattle.std.specs.Option.{option_copied};
 ghost use Rattle.sg_history.specs.Current.{recorded_effects, marked_effects};
-ghost use Rattle.sg_history.specs.History.{past};
+ghost use Rattle.sg_history.specs.History.{as_sync, past};
 ghost use Rattle.log_index.specs.Index.{Indexes};
 ghost use Rattle.log_index.specs.Marks as marks;
 ghost use Rattle.log_views.specs.At.{write_at};
@@ -50,6 +50,16 @@ fn of_mark(mark: &Mark, since: u64) -> EffectsOf<'_>
     }
 }
 
+/// The mark at a place of an entry, if it has one there.
+fn mark_in(entry: &Entry, place: u64) -> Option<&Mark>
+    ensures { option_copied result ≡ marks.mark_in_place (as_sync entry.now) place }
+{
+    match entry.as_sync() {
+        None => None,
+        Some(replacement) => replacement.marks.as_slice().get(place as usize),
+    }
+}
+
 /// The mark that stands there, if one does.
 fn mark_at<'a>(entries: &'a [Entry], marked: Marked) -> Option<&'a Mark>
     ensures { option_copied result ≡ marks.mark_at (reverse entries.now) marked }
@@ -57,8 +67,10 @@ fn mark_at<'a>(entries: &'a [Entry], marked: Marked) -> Option<&'a Mark>
     if marked.sync == 0 {
         return None;
     }
-    let replacement = entry_at(entries, marked.sync)?.as_sync()?;
-    replacement.marks.as_slice().get(marked.mark as usize)
+    match entry_at(entries, marked.sync) {
+        None => None,
+        Some(entry) => mark_in(entry, marked.mark),
+    }
 }
 
 /// The effects of a write's revision, by where they stand.
