@@ -13,8 +13,8 @@ use sg_history::{DocId, Entry, RevId};
 use std::alloc::{AllocError, Global};
 use std::marker::Model;
 
-/// An index of a history, which contracts see as its entries, the newest first. For each entry it
-/// keeps at most a name, a digest and some numbers.
+/// An index of a history, which contracts see as its entries, the newest first. For each entry, and
+/// for each mark of a replaced sync function, it keeps at most a name, a digest and some numbers.
 #[derive(Drop)]
 pub struct LogIndex {
     tables: Tables,
