@@ -21,7 +21,7 @@ pub record IsResting {B : Type 0} (seat : Me (Option B) View) (count : ℕ) : Ty
 
 -- the board that was found, where one was
 abbrev pub found_of : Option BoardState → BoardState
-found_of None = record { log = []; pending = []; rooms = []; bytes = 0; side = []; faults = 0 }
+found_of None = record { limit = None; log = []; pending = []; rooms = []; bytes = 0; side = []; faults = 0 }
 found_of (Some board) = board
 
 -- in turn, with the slot, which is empty

@@ -21,6 +21,7 @@ impl Model for ShownSide {
 
 /// A board as plain data.
 pub struct Shown {
+    limit: Option<u32>,
     log: LinkedList<Entry>,
     pending: LinkedList<Waiting>,
     rooms: LinkedList<RoomFor>,
@@ -34,7 +35,7 @@ impl Model for Shown {
 
     ghost Value = { BoardState };
 
-    ghost view = { λ s. record { log = s.log; pending = s.pending; rooms = s.rooms; bytes = s.bytes; side = s.side; faults = s.faults } };
+    ghost view = { λ s. record { limit = s.limit; log = s.log; pending = s.pending; rooms = s.rooms; bytes = s.bytes; side = s.side; faults = s.faults } };
 }
 
 /// What a pass knows.
