@@ -14,13 +14,16 @@ use std::alloc::{AllocError, Global};
 use std::marker::Model;
 use std::snapshot::Snapshot;
 use std::sync::Mutex;
+use std::sync::atomic::AtomicU64;
 
 /// A gate to a board: four words, and a slot for the board. Threads share it by reference. Of those that wait for a turn one looks
-/// whether it has come; the others sleep on the lock.
+/// whether it has come, and sleeps on the word after some looks; the others sleep on the lock.
 #[derive(Drop)]
 pub struct Gate<B: Kept> {
     pub(crate) table: Table<Option<B>, View, Snapshot<B>, Rule<B>, Global>,
     pub(crate) next: Mutex<()>,
+    // Where it is 0 nobody sleeps on the word, and a turn that is passed on wakes nobody.
+    pub(crate) sleepers: AtomicU64,
 }
 
 impl<B: Kept> Model for Gate<B> {
@@ -60,6 +63,7 @@ pub fn open<B: Kept>(alloc: Global, board: B) -> Result<(Gate<B>, Pass<B>), Memo
             Gate {
                 table,
                 next: Mutex::new(()),
+                sleepers: AtomicU64::new(0),
             },
             Pass {
                 seat,
@@ -78,7 +82,7 @@ pub fn close<B: Kept>(gate: Gate<B>, pass: Pass<B>) -> B
     requires rooms { pass.knows.rooms ≡ [] }
     ensures { Closes pass.knows (B.seen result) }
 {
-    let Gate { table, next: _ } = gate;
+    let Gate { table, .. } = gate;
     let Pass { seat, left: _ } = pass;
     let mut closed = table.close_with(seat);
     let board = closed.take(0);

@@ -9,6 +9,7 @@ pub mod laws;
 mod pass;
 mod steps;
 mod turn;
+mod waiting;
 
 pub use gate::{Gate, close, open};
 pub use kept::Kept;

@@ -12,7 +12,6 @@ use atomic_table::Seat;
 use sg_history::Number;
 use std::marker::Model;
 use std::sync::Wait;
-use std::thread;
 
 /// A pass of a gate. It borrows nothing, and one that is dropped takes its draws, numbers and rooms with it.
 #[derive(Drop)]
@@ -75,6 +74,7 @@ impl<B: Kept> Pass<B> {
         let Pass { mut seat, left } = self;
         let next = gate.next.lock(rt);
         let ticket = gate.table.shared.fetch_add::<TakeTicket>(&mut seat, 1, 1);
+        let mut looks = 0;
         for _ in rt.forever() {
             let served = gate.table.shared.load::<Look>(&mut seat, 2);
             if served == ticket {
@@ -82,7 +82,7 @@ impl<B: Kept> Pass<B> {
                 drop(next);
                 return Turn { seat, left, board };
             }
-            thread::yield_now();
+            gate.wait(rt, &mut looks, served);
         }
         unreachable!()
     }

@@ -85,6 +85,7 @@ impl<B: Kept> Turn<B> {
         let _none = gate.table.shared.exchange(&mut seat, 0, Some(board));
         let _raised = gate.table.shared.fetch_max::<Raise>(&mut seat, 3, front);
         let _served = gate.table.shared.fetch_add::<PassOn>(&mut seat, 2, 1);
+        gate.wake();
         Pass { seat, left }
     }
 }
