@@ -6,15 +6,16 @@ use Rattle.sg_history.specs.declared.entries.Entry.{Entry}
 use Rattle.sg_history.specs.declared.entries.Entry.TheVariants as kinds
 use Rattle.sg_history.specs.declared.number.Number.{Number}
 use Rattle.sg_history.specs.declared.room.RoomFor.{RoomFor}
-use Rattle.sg_history.specs.Book.{book_with, entry_or, waiting_at}
+use Rattle.sg_history.specs.Book.{Book, book_with, entry_or, waiting_at}
 use Rattle.sg_history.specs.World.{put_waiting, release}
 use Rattle.pending_front.specs.Storing.{MayStore}
 use Rattle.repl_messages.specs.declared.revision.Revision.{Revision}
 use Rattle.sync_syntax.specs.declared.tree.Program.{Program}
 use Rattle.doc_board.specs.declared.room.Room.{Room}
+use Rattle.doc_board.specs.Lawful.{AreEntries}
 use Rattle.doc_board.specs.Outcomes.{bytes_of}
 use Rattle.sg_history.specs.Rooms.{without_room}
-use Rattle.doc_board.specs.State.{State}
+use Rattle.doc_board.specs.State.{State, book_on}
 use Rattle.doc_board.specs.Steps.{with_entry}
 use Rattle.board_steps.specs.declared.retry.Ready.{Ready}
 use Rattle.board_steps.specs.declared.retry.Retried.{Retried}
@@ -45,12 +46,13 @@ past_log log waiting (suc place) may = past_by log waiting place may.1 (cases_lt
 -- ---- boards with the same log, the same that waits and the same rooms
 
 pub held_still : (s m : State) (c : Ready) → IsAsBefore s m → IsHeldReady s c → IsHeldReady m c
-held_still s m c same h = record {
+held_still s m c same h = let book : book_on m ≡ book_on s = λ i. book_with (same.log i) (same.pending i) in record {
   is_entry = h.is_entry;
   document = h.document;
   at = h.at ∙ sym (ap (λ (es : List Entry). length es) same.log);
   base = h.base ∙ last_still s m c.entry.doc same.log same.pending;
   extends = extends_still s m c.entry c.tree same.log same.pending h.extends;
+  entries = subst (λ (b : Book). AreEntries b) (sym book) h.entries;
 }
 
 pub fits_ready : (s : State) (program : Program) (by : Option (List ℕ)) (r : Revision) (room : RoomFor) (c : Ready) → IsMade s program by r c → room.doc ≡ Some r.doc → bytes_of r ≤ room.bytes → FitsReady room c

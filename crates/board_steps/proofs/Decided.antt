@@ -150,6 +150,7 @@ ready_by winners trees s program strict by r a c acc same_tree same_base written
       at = is.at ∙ acc.at;
       base = same_base ∙ acc.base ∙ ap (λ (doc : List ℕ). last_on s doc) (sym is.doc);
       extends = subst (λ (t : List Node). ExtendsTree (tree_on s w.doc) w t) (sym same_tree) on;
+      entries = acc.entries;
     };
   };
 }

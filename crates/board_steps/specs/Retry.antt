@@ -13,6 +13,7 @@ use Rattle.doc_board.specs.declared.outcome.Outcome.TheVariants as outcome
 use Rattle.doc_board.specs.declared.room.Room.{Room}
 use Rattle.doc_board.specs.Boards.{board_of}
 use Rattle.doc_board.specs.Candidates.{ExtendsTree}
+use Rattle.doc_board.specs.Lawful.{AreEntries}
 use Rattle.doc_board.specs.Outcomes.{IsAccepted, IsJudged, IsOutcome, IsWriteOf}
 use Rattle.doc_board.specs.Recorded.{HasDocument}
 use Rattle.sg_history.specs.Rooms.{without_room}
@@ -30,6 +31,7 @@ pub record IsHeldReady (s : State) (c : Ready) : Type 0 where
   pub at : c.entry.at ≡ length s.log
   pub base : c.base ≡ last_on s c.entry.doc
   pub extends : ExtendsTree (tree_on s c.entry.doc) c.entry c.tree
+  pub entries : AreEntries (book_on s)
 
 -- the room is that of the write's document, for its body
 pub record FitsReady (room : RoomFor) (c : Ready) : Type 0 where

@@ -50,6 +50,7 @@ pub record IsStoredFirst (judged before after : State) (program : Program) (stri
   pub ready : Ready
   pub is_ready : IsReady judged program strict by r ready
   pub last : last_on before ready.entry.doc ≡ last_on judged ready.entry.doc
+  pub entries : AreEntries (book_on before)
   pub answered : answer ≡ outcome.Stored number.value ready.entry.at
   pub spent : IsSpent before after room number (kinds.Write ready.entry)
 

@@ -47,6 +47,7 @@ pub fn store_or_retry(
     doc_board::laws::winners();
     doc_board::laws::boards();
     doc_board::laws::later_boards();
+    let _ = board.log();
     if board.last_write(&revision.doc) == accepted.base {
         let Ready { entry, tree, base } = ready_with(revision, accepted);
         let at = entry.at;

@@ -29,6 +29,7 @@ returns-then-last_write-accepted c = λ judged was.
       ready = c.ready_with-entry.result;
       is_ready = ready;
       last = ap (λ (doc : List ℕ). last_on c.args.board.now doc) ready.made.is_write.doc ∙ sym c.last_write.ensures ∙ omega (arith, c.if-last_write-accepted.true) ∙ sym made.base ∙ ready.made.held.base;
+      entries = c.log.ensures.entries;
       answered = ap (λ (n : ℕ). outcome.Stored n c.ready_with-entry.result.entry.at) c.commit_fresh-sequence.ensures.sequence;
       spent = record { stored = c.commit_fresh-sequence.ensures.stored; book = c.commit_fresh-sequence.ensures.book; rooms = c.commit_fresh-sequence.ensures.rooms; checkpoints = c.commit_fresh-sequence.ensures.checkpoints };
     })
