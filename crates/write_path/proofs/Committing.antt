@@ -27,6 +27,7 @@ use Rattle.doc_board.specs.declared.room.Room.{Room}
 use Rattle.doc_board.specs.Boards.{board_of, board_last}
 use Rattle.doc_board.specs.Candidates.{Fits, MayBeStored, entry_of, is_stale}
 use Rattle.doc_board.specs.JudgedWrites.{IsJudgedWrite, IsNextWrite}
+use Rattle.doc_board.specs.Lawful.{AreEntries}
 use Rattle.doc_board.specs.Outcomes.{IsWriteOf, bytes_of}
 use Rattle.doc_board.specs.Rooms.{is_outstanding}
 use Rattle.doc_board.specs.State.{State, book_on, last_on, top_on}
@@ -57,9 +58,9 @@ pub record Judging : Type 0 where
 
 -- what they say of the board that is left
 pub record Leaving : Type 0 where
-  pub commit : (s t : State) (room : RoomFor) (number : ℕ) (c : Candidate) → MayStore s.log s.pending number → IsTrue (is_outstanding s.rooms room) → Fits room c → MayBeStored s number c → is_stale s c ≡ false → history_on t ≡ stored_at s number (entry_of c)
+  pub commit : (s t : State) (room : RoomFor) (number : ℕ) (c : Candidate) → MayStore s.log s.pending number → IsTrue (is_outstanding s.rooms room) → Fits room c → MayBeStored s number c → is_stale s c ≡ false → AreEntries (book_on s) → history_on t ≡ stored_at s number (entry_of c)
       → book_on t ≡ with_entry number (entry_of c) (book_on s) → t.rooms ≡ without_room room s.rooms → t.checkpoints ≡ s.checkpoints → After (board_of s) (board_of t)
-  pub swap : (s t : State) (room : RoomFor) (spent number : ℕ) (c : Candidate) → MayStore s.log s.pending spent → MayStore s.log s.pending number → spent ≢ number → IsTrue (is_outstanding s.rooms room) → Fits room c → MayBeStored s number c → is_stale s c ≡ false
+  pub swap : (s t : State) (room : RoomFor) (spent number : ℕ) (c : Candidate) → MayStore s.log s.pending spent → MayStore s.log s.pending number → spent ≢ number → IsTrue (is_outstanding s.rooms room) → Fits room c → MayBeStored s number c → is_stale s c ≡ false → AreEntries (book_on s)
       → history_on t ≡ swapped_to s spent number (entry_of c) → book_on t ≡ with_entry number (entry_of c) (with_entry spent kinds.Unused (book_on s)) → t.rooms ≡ without_room room s.rooms → t.checkpoints ≡ s.checkpoints → After (board_of s) (board_of t)
   pub void : (s t : State) (room : RoomFor) (number : ℕ) → MayStore s.log s.pending number → IsTrue (is_outstanding s.rooms room) → history_on t ≡ stored_at s number kinds.Unused → book_on t ≡ with_entry number kinds.Unused (book_on s) → t.rooms ≡ without_room room s.rooms → t.checkpoints ≡ s.checkpoints
       → After (board_of s) (board_of t)
@@ -156,7 +157,7 @@ module _ (leaving : Leaving) (judging : Judging) (later : LaterBoards) (rising :
       let above : c.base < number.value = omega (arith, held_ready.base, last_ready judged program strict by r c number.value h.is_ready was.above) in
       leaving.commit s t room.made_for number.value (candidate.Write c.entry c.tree c.base) may out (fits_room judged program strict by r room.made_for c h.is_ready doc bytes)
       (may_be_stored later judged s c number.value held_ready was.later was.front above (h.last ∙ sym held_ready.base))
-      (fresh_on c.base (last_on s c.entry.doc) (held_ready.base ∙ sym h.last))
+      (fresh_on c.base (last_on s c.entry.doc) (held_ready.base ∙ sym h.last)) h.entries
       h.spent.stored h.spent.book h.spent.rooms h.spent.checkpoints
 
   after_again : IsStoredAgain s t program strict by r room number answer → After (board_of s) (board_of t)
@@ -164,7 +165,7 @@ module _ (leaving : Leaving) (judging : Judging) (later : LaterBoards) (rising :
       let c = h.ready in
       leaving.commit s t room.made_for number.value (candidate.Write c.entry c.tree c.base) may out (fits_room s program strict by r room.made_for c h.is_ready doc bytes)
       (may_again s c number.value h.is_ready.made.held may h.above)
-      (fresh_on c.base (last_on s c.entry.doc) h.is_ready.made.held.base)
+      (fresh_on c.base (last_on s c.entry.doc) h.is_ready.made.held.base) h.is_ready.made.held.entries
       h.spent.stored h.spent.book h.spent.rooms h.spent.checkpoints
 
   after_down : IsTurnedDownAgain s t program strict by r room number answer → After (board_of s) (board_of t)
@@ -250,6 +251,7 @@ own_write (kinds.PutUser name channels roles) doc w is = absurd (none-some w is)
 own_write (kinds.PutRole name channels) doc w is = absurd (none-some w is)
 own_write (kinds.DropUser name) doc w is = absurd (none-some w is)
 own_write (kinds.DropRole name) doc w is = absurd (none-some w is)
+own_write (kinds.Sync text marks) doc w is = absurd (none-some w is)
 own_write kinds.Unused doc w is = absurd (none-some w is)
 
 written_entry : (o : Option Entry) (doc : List ℕ) (w : Write) → written_in o doc ≡ Some w → (o ≡ Some (kinds.Write w)) × (w.doc ≡ doc)
@@ -296,7 +298,7 @@ module _ (p : Known) (s m : State) (program : Program) (strict : Bool) (by : Opt
     next : After (board_of s) (board_of t)
     next = subst (λ (b : BoardState). After b (board_of t)) (same_board s m back.same)
         (leaving.swap m t room.made_for n fresh (candidate.Write c.entry c.tree c.base) spent_may fresh_there apart out_there (record { doc = fits_there.doc; bytes = fits_there.bytes })
-        (may_again m c fresh ready_there fresh_there base_below) (fresh_on c.base (last_on m c.entry.doc) ready_there.base) history book rooms checkpoints)
+        (may_again m c fresh ready_there fresh_there base_below) (fresh_on c.base (last_on m c.entry.doc) ready_there.base) ready_there.entries history book rooms checkpoints)
 
     at : (k : ℕ) → board_book (board_of t) k ≡ (if nat_eq fresh k then Some (kinds.Write c.entry) else (if nat_eq n k then Some kinds.Unused else board_book (board_of s) k))
     at k = ap (λ (b : Book). b k) book ∙ ap (λ (b : Book). if nat_eq fresh k then Some (kinds.Write c.entry) else (if nat_eq n k then Some kinds.Unused else b k)) book_same

@@ -41,6 +41,7 @@ after_entry extended s t e alone pending log rooms checkpoints size =
     let asked : bytes_asked t.rooms ≡ bytes_asked s.rooms = ap (λ (rs : List RoomFor). bytes_asked rs) rooms in
     let on : Later (book_of s.log) (book_of t.log) = extended s.log t.log (e ∷ [], log) in
     record {
+      limit = refl;
       book = subst (λ (book : Book). Later (board_book (board_of s)) book) (sym (same_book t (pending ∙ alone))) (subst (λ (book : Book). Later book (book_of t.log)) (sym (same_book s alone)) on);
       log = (e ∷ [], log);
       count = omega arith;

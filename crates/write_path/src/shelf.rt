@@ -1,16 +1,17 @@
 //! The shelf: what the gateway keeps of its documents.
 
-ghost use Rattle.std.specs.Prelude.{◌≡◌, ◌≢◌, ◌≤◌, ◌<◌, ◌||◌, ◌++◌, ◌∷◌, [], false, length, None, Some, IfOk, OnOk, OnErr, IsTrue};
+ghost use Rattle.std.specs.Prelude.{◌≡◌, ◌≢◌, ◌≤◌, ◌<◌, ◌||◌, ◌++◌, ◌∷◌, [], length, None, Some, IfOk, OnOk, OnErr, IsTrue};
 ghost use Rattle.std.specs.Option.{option_copied};
 ghost use Rattle.checkpoint_store.specs.Checkpoints.{pair_text};
 ghost use Rattle.sg_history.specs.declared.entries.Entry.TheVariants as kinds;
 ghost use Rattle.sg_history.specs.Journal.{IsEntry};
-ghost use Rattle.sg_history.specs.Line.{is_write};
 ghost use Rattle.sg_history.specs.Rooms.{without_room};
 ghost use Rattle.pending_front.specs.Storing.{MayStore};
 ghost use Rattle.principals.specs.Script.{entry_of};
 ghost use Rattle.doc_board.specs.declared.outcome.Outcome.TheVariants as outcomes;
 ghost use Rattle.doc_board.specs.Boards.{board_of};
+ghost use Rattle.doc_board.specs.Candidates.{IsPlain};
+ghost use Rattle.doc_board.specs.Lawful.{AreEntries};
 ghost use Rattle.doc_board.specs.Limits.{IsRefusedBy, refusal};
 ghost use Rattle.doc_board.specs.Outcomes.{IsByLimits, IsOutcome, IsWellFormed, bytes_of};
 ghost use Rattle.doc_board.specs.Rooms.{is_outstanding, room_for};
@@ -174,13 +175,13 @@ impl Shelf {
         (at, self.board.room(doc, bytes))
     }
 
-    /// Stores an entry that is no write at a number that is held, in its room: the number.
+    /// Stores an entry that neither writes nor replaces the sync function at a number that is held, in its room: the number.
     pub(crate) fn store_plain(&mut self, room: Room, number: Number, entry: Entry) -> u64
         requires number { MayStore self.old.board.log self.old.board.pending number.value }
         requires out { IsTrue (is_outstanding self.old.board.rooms room.made_for) }
         requires fits { room.made_for.doc ≡ None }
         requires entry { IsEntry entry }
-        requires plain { is_write entry ≡ false }
+        requires plain { IsPlain entry }
         ensures sequence { result ≡ number.value }
         ensures stored { history_on self.new.board ≡ stored_at self.old.board number.value entry }
         ensures book { book_on self.new.board
@@ -188,7 +189,9 @@ impl Shelf {
         ensures rooms { self.new.board.rooms
             ≡ without_room room.made_for self.old.board.rooms }
         ensures checkpoints { self.new.board.checkpoints ≡ self.old.board.checkpoints }
+        ensures entries { AreEntries (book_on self.old.board) }
     {
+        let _ = self.board.log();
         commit_fresh(&mut self.board, room, number, Candidate::Plain(entry))
     }
 

@@ -4,10 +4,10 @@ ghost use Rattle.std.specs.Prelude.{◌≡◌, ◌≤◌, ◌+◌, ◌∷◌, []
 ghost use Rattle.std.specs.Option.{option_copied};
 ghost use Rattle.checkpoint_store.specs.Checkpoints.{pair_text};
 ghost use Rattle.sg_history.specs.Journal.{IsEntry};
-ghost use Rattle.sg_history.specs.Line.{is_write};
 ghost use Rattle.principals.specs.Script.{entry_of};
 ghost use Rattle.seq_gate.specs.Counts.{is_unused};
 ghost use Rattle.seq_gate.specs.Passes.{share};
+ghost use Rattle.doc_board.specs.Candidates.{IsPlain};
 ghost use Rattle.doc_board.specs.Rooms.{room_for};
 ghost use Rattle.doc_board.specs.State.{State};
 ghost use Rattle.write_path.specs.Checkpoints.{IsSetTurn};
@@ -49,7 +49,7 @@ pub(crate) fn room_in_turn<R: Wait>(
     }
 }
 
-/// A turn in which an entry that is no write is stored at the number that is held, in the room: its sequence.
+/// A turn in which an entry that neither writes nor replaces the sync function is stored at the number that is held, in the room: its sequence.
 pub(crate) fn store_in_turn<R: Wait>(
     rt: &R,
     gate: &Gate<Shelf>,
@@ -63,7 +63,7 @@ pub(crate) fn store_in_turn<R: Wait>(
     requires rooms { pass.knows.rooms ≡ room.made_for ∷ [] }
     requires fits { room.made_for.doc ≡ None }
     requires entry { IsEntry entry }
-    requires plain { is_write entry ≡ false }
+    requires plain { IsPlain entry }
     requires used { is_unused entry ≡ false }
     ensures gate { result.0.gate ≡ pass.gate }
     ensures sequence { result.1 ≡ number.value }

@@ -38,7 +38,7 @@ leave-requires-clause-may g c =
     let stored = c.store_plain-sequence.ensures in
     let next : After (board_of s) (board_of t) =
     c.after.ensures.commit s t c.args.room.made_for number (candidate.Plain c.args.entry) may (room_out p s c.args.room.made_for finds c.requires.rooms)
-    (record { doc = c.requires.fits; bytes = omega arith }) (c.requires.entry, c.requires.plain) refl stored.stored stored.book stored.rooms stored.checkpoints in
+    (record { doc = c.requires.fits; bytes = omega arith }) (c.requires.entry, c.requires.plain) refl stored.entries stored.stored stored.book stored.rooms stored.checkpoints in
     may_in p c.enter-turn.result.knows c.enter-turn.result.found (board_of s) (board_of t) c.enter-turn.ensures.knows here
     (may_leave_stored (record { book = c.storing.ensures.book; rises = c.storing.ensures.rises; released = c.storing.ensures.released }) p s t c.args.room.made_for number c.args.entry finds c.requires.held c.requires.rooms next stored.stored stored.book stored.rooms)
 
@@ -54,7 +54,7 @@ returns-clause-stored g c =
     let stored = c.store_plain-sequence.ensures in
     let next : After (board_of s) (board_of t) =
     c.after.ensures.commit s t c.args.room.made_for number (candidate.Plain c.args.entry) may (room_out p s c.args.room.made_for finds c.requires.rooms)
-    (record { doc = c.requires.fits; bytes = omega arith }) (c.requires.entry, c.requires.plain) refl stored.stored stored.book stored.rooms stored.checkpoints in (
+    (record { doc = c.requires.fits; bytes = omega arith }) (c.requires.entry, c.requires.plain) refl stored.entries stored.stored stored.book stored.rooms stored.checkpoints in (
       s,
       t,
       subst (λ (q : Known). IsStoreTurn p q s t number c.args.entry) (knows_in p c.enter-turn.result.knows c.leave.result.knows c.enter-turn.result.found (board_of s) (board_of t) c.enter-turn.ensures.knows here c.leave.ensures.knows)
