@@ -42,9 +42,9 @@ module _ {E : Type 0} (ended_of : E → Ended) (traffic_of : E → Option Traffi
 
   pub is_replay : (config : Config) (lines : List AdminLine) (records : List Recorded) (devices : List Device) (users : List (List ℕ)) (es : List E) (board : BoardState) (outcomes : List LineOutcome) (h : History) (text : List ℕ)
       → devices ≡ map device_of records → users ≡ map (λ (r : Recorded). r.user) records → IsPlayed config lines devices board outcomes (map left_of es)
-      → h.entries ≡ board.log → text ≡ transcript (map outcome_of outcomes) (runs_of ended_of sent_of users es) h
+      → h.limit ≡ None → h.entries ≡ board.log → text ≡ transcript (map outcome_of outcomes) (runs_of ended_of sent_of users es) h
       → IsReplay config lines records text
-  is_replay config lines records devices users es board outcomes h text are whose given log printed =
+  is_replay config lines records devices users es board outcomes h text are whose given limit log printed =
       let is : IsPlayed config lines (map device_of records) board outcomes (map left_of es) = subst (λ (ds : List Device). IsPlayed config lines ds board outcomes (map left_of es)) are given in record {
         board = board;
         outcomes = outcomes;
@@ -54,6 +54,7 @@ module _ {E : Type 0} (ended_of : E → Ended) (traffic_of : E → Option Traffi
         runs = runs_of ended_of sent_of (map (λ (r : Recorded). r.user) records) es;
         are_runs = are_runs board _ _ records es is.sessions;
         history = h;
+        limit = limit;
         log = log;
         printed = printed ∙ ap (λ (us : List (List ℕ)). transcript (map outcome_of outcomes) (runs_of ended_of sent_of us es) h) whose;
       }

@@ -1,5 +1,5 @@
 -- What a replay is.
-use Rattle.std.specs.Prelude.{◌≡◌, ℕ, List, [], ◌∷◌, Some, map}
+use Rattle.std.specs.Prelude.{◌≡◌, ℕ, List, [], ◌∷◌, None, Some, map}
 use Rattle.sg_outside.specs.Wire.{Traffic}
 use Rattle.sg_outside.specs.MemWire.{traffic}
 use Rattle.sg_history.specs.History.{History}
@@ -48,5 +48,6 @@ pub record IsReplay (config : Config) (lines : List AdminLine) (records : List R
   pub runs : List Run
   pub are_runs : AreRunsOf records left runs
   pub history : History
+  pub limit : history.limit ≡ None
   pub log : history.entries ≡ board.log
   pub printed : text ≡ transcript (map outcome_of outcomes) runs history

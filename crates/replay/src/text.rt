@@ -1,6 +1,6 @@
 //! What is printed.
 
-ghost use Rattle.std.specs.Prelude.{◌≡◌, ◌++◌, IfOk, OnOk, codes, length, map};
+ghost use Rattle.std.specs.Prelude.{◌≡◌, ◌++◌, IfOk, None, OnOk, codes, length, map};
 ghost use Rattle.sg_history.specs.History.{History};
 ghost use Rattle.sg_history.specs.Journal.{journal_text};
 ghost use Rattle.transcripts.specs.Transcript.{outcome_lines, run_text, runs_text, transcript};
@@ -72,7 +72,8 @@ fn write_played(
     out: &mut Bytes,
 ) -> Result<(), Memory>
     requires as_many { length users.now ≡ length played.now.sessions }
-    ensures { OnOk result ((h : History) × (h.entries ≡ played.now.shelf.board.log)
+    ensures { OnOk result ((h : History) × (h.limit ≡ None)
+        × (h.entries ≡ played.now.shelf.board.log)
         × (out.new ≡ out.old ++ outcome_lines 2 (map outcome_of played.now.script)
         ++ runs_text 1 (runs_of (λ s. s.ended) (λ s. s.wire.sent.items) users.now
         played.now.sessions)
@@ -86,7 +87,8 @@ fn write_played(
 /// The transcript of all that was played.
 pub fn printed(alloc: Global, users: &[Name], played: &Played<MemWire>) -> Result<Bytes, Memory>
     requires as_many { length users.now ≡ length played.now.sessions }
-    ensures { IfOk result (λ text. (h : History) × (h.entries ≡ played.now.shelf.board.log)
+    ensures { IfOk result (λ text. (h : History) × (h.limit ≡ None)
+        × (h.entries ≡ played.now.shelf.board.log)
         × (text ≡ transcript (map outcome_of played.now.script)
         (runs_of (λ s. s.ended) (λ s. s.wire.sent.items) users.now played.now.sessions) h)) }
 {

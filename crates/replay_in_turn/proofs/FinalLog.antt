@@ -53,6 +53,7 @@ is_replay config lines records text by =
       begins = refl;
       runs = sessions.runs;
       history = h;
+      limit = by.served.limit;
       sessions = sessions.run h.entries by.served.later;
       added = sessions.added;
       own = sessions.own;

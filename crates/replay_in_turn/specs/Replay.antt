@@ -1,5 +1,5 @@
 -- What a replay is.
-use Rattle.std.specs.Prelude.{◌≡◌, ◌++◌, ℕ, List, length, not, Some}
+use Rattle.std.specs.Prelude.{◌≡◌, ◌++◌, ℕ, List, length, not, None, Some}
 use Rattle.std.specs.Arc.{arc_value}
 use Rattle.sg_history.specs.declared.book.Waiting.{Waiting}
 use Rattle.sg_history.specs.declared.entries.Entry.{Entry}
@@ -30,6 +30,7 @@ pub record IsReplay (config : Config) (lines : List AdminLine) (records : List R
   pub begins : start.recorded ≡ Some (length scripted)
   pub runs : List Run
   pub history : History
+  pub limit : history.limit ≡ None
   pub sessions : AreRuns history.entries (arc_value config.program) (not config.conflicts) start records runs final
   pub added : List Waiting
   pub own : final.own ≡ added ++ start.own

@@ -1,5 +1,5 @@
 -- What the functions of a replay hand on to one another. Only proofs need this.
-use Rattle.std.specs.Prelude.{◌≡◌, ◌+◌, ◌++◌, ℕ, Bool, List, codes, length, Option, Some}
+use Rattle.std.specs.Prelude.{◌≡◌, ◌+◌, ◌++◌, ℕ, Bool, List, codes, length, Option, None, Some}
 use Rattle.sg_outside.specs.Wire.{Traffic}
 use Rattle.sg_history.specs.declared.book.Waiting.{Waiting}
 use Rattle.sg_history.specs.declared.entries.Entry.{Entry}
@@ -70,6 +70,7 @@ pub record AreServed (program : Program) (strict : Bool) (records : List Recorde
   pub between : List ℕ
   pub sessions : AreSessionsRun program strict 1 records (moment_of g) (moment_of final) text between
   pub history : History
+  pub limit : history.limit ≡ None
   pub later : IsLaterThanAll final.read history.entries
   pub log : history.entries ≡ final.board.log
   pub ends : EndsWith history.entries final.own

@@ -24,4 +24,4 @@ returns c =
     on_ok_weaker c.write_history.result (λ wrote.
     let third : c.write_history.new.out ≡ c.write_sessions.new.out ++ codes "journal\n" ++ journal = wrote in
     let whole : c.write_history.new.out ≡ start ++ lines ++ runs ++ codes "journal\n" ++ journal = all_parts start lines runs (codes "journal\n") journal c.write_outcomes.new.out c.write_sessions.new.out c.write_history.new.out first second third in
-    (history c.log.result.now, c.log.ensures.log ∙ ap (λ (s : State). s.log) c.board.ensures, whole)) c.write_history.ensures
+    (history c.log.result.now, c.log.ensures.limit, c.log.ensures.log ∙ ap (λ (s : State). s.log) c.board.ensures, whole)) c.write_history.ensures

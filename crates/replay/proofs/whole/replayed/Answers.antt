@@ -14,5 +14,5 @@ printed-text-requires g c = record {
 pub returns : goal.returns
 returns g c =
     IfOk-weaker c.printed-text.result _ _
-    (λ text p. λ records given whose. is_replay ended_of traffic_at sent_of traffic_is c.args.config.now c.args.lines records _ c.args.users.now c.in_ok-played.played.sessions (shelf_state c.in_ok-played.played.shelf) c.in_ok-played.played.script p.0 text given whose c.in_ok-played.ensures.played p.1 p.2)
+    (λ text p. λ records given whose. is_replay ended_of traffic_at sent_of traffic_is c.args.config.now c.args.lines records _ c.args.users.now c.in_ok-played.played.sessions (shelf_state c.in_ok-played.played.shelf) c.in_ok-played.played.script p.0 text given whose c.in_ok-played.ensures.played p.1 p.2 p.3)
     c.printed-text.ensures

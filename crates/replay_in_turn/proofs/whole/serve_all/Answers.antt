@@ -23,6 +23,7 @@ returns c =
       between = c.serve_in_turn.new.out;
       sessions = c.in_ok-ground.ensures;
       history = h;
+      limit = c.log.ensures.limit;
       later = subst Later (sym (c.log.ensures.log ∙ ap (λ (s : State). s.log) c.board.ensures)) c.into_inner-shelf.ensures.later;
       log = c.log.ensures.log ∙ ap (λ (s : State). s.log) c.board.ensures ∙ ap (λ (s : State). s.log) c.into_inner-shelf.ensures.board;
       ends = subst Ends (sym (c.log.ensures.log ∙ ap (λ (s : State). s.log) c.board.ensures)) c.into_inner-shelf.ensures.ends;
