@@ -22,6 +22,7 @@ use Rattle.sync_syntax.specs.declared.tree.Program.{Program}
 use Rattle.doc_board.specs.declared.room.Room.{Room}
 use Rattle.doc_board.specs.Candidates.{ExtendsTree}
 use Rattle.doc_board.specs.Judging.{body_or_empty}
+use Rattle.doc_board.specs.Lawful.{AreEntries}
 use Rattle.doc_board.specs.Rooms.{is_outstanding, room_for}
 use Rattle.doc_board.specs.State.{State, top_of}
 use Rattle.doc_board.specs.Steps.{history_on, stored_at}
@@ -58,6 +59,7 @@ ready_still s t c log pending is = record {
       ∙ ap (λ (ws : List Waiting). last_in (book_with t.log ws) (top_of t.log ws) c.entry.doc) (sym pending);
   extends = subst (λ (ws : List Waiting). ExtendsTree (tree_in (book_with t.log ws) (top_of t.log ws) c.entry.doc) c.entry c.tree) (sym pending)
       (subst (λ (es : List Entry). ExtendsTree (tree_in (book_with es s.pending) (top_of es s.pending) c.entry.doc) c.entry c.tree) (sym log) is.extends);
+  entries = subst (λ (ws : List Waiting). AreEntries (book_with t.log ws)) (sym pending) (subst (λ (es : List Entry). AreEntries (book_with es s.pending)) (sym log) is.entries);
 }
 
 -- of a try in a room that was made for the revision

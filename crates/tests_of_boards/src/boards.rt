@@ -27,6 +27,11 @@ U\tann\tA\t-\n\
 W\td1\t1-a\t-\t0\t7b7d\t-\t0\t1-a\tA\t-\t-\n\
 W\td1\t1-b\t-\t0\t7b7d\t-\t0\t1-a\tA\t-\t-\n";
 
+/// A replaced sync function.
+const REPLACED: &[u8] = b"sgjournal 1\n\
+W\td1\t1-a\t-\t0\t7b7d\t-\t0\t1-a\tA\t-\t-\n\
+S\t66756e6374696f6e28646f632c6f297b7d\td1\t1-a\tB\t-\t-\n";
+
 /// The generation of a document's winner.
 fn winner(alloc: Global, board: &Board, doc: &str) -> Option<u32> {
     let Ok(doc) = DocId::parse(alloc, doc) else {
@@ -85,5 +90,6 @@ fn logs_of_no_board(rt: HostRuntime) -> Result<(), Fail> {
     assert!(rt; opened(rt.alloc(), NO_DOCUMENT) == Some(Err(1)));
     assert!(rt; opened(rt.alloc(), NO_ANCESTOR) == Some(Err(2)));
     assert!(rt; opened(rt.alloc(), NO_WINNER) == Some(Err(3)));
+    assert!(rt; opened(rt.alloc(), REPLACED) == Some(Err(2)));
     Ok(())
 }
