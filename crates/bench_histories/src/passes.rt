@@ -14,9 +14,9 @@ use std::thread::{Threads, join};
 struct Blank;
 
 impl Kept for Blank {
-    ghost use Rattle.std.specs.Prelude.{[]};
+    ghost use Rattle.std.specs.Prelude.{[], None};
 
-    ghost seen = { λ b. record { log = []; pending = []; rooms = []; bytes = 0; side = []; faults = 0 } };
+    ghost seen = { λ b. record { limit = None; log = []; pending = []; rooms = []; bytes = 0; side = []; faults = 0 } };
 
     fn front(&self) -> u64 {
         0
