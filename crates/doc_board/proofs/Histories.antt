@@ -1,5 +1,5 @@
 -- the entries of a log and those of its book
-use Rattle.std.proofs.Common.{◌≡◌, ◌≤◌, ◌<◌, ◌+◌, ◌∙◌, ℕ, zero, suc, Bool, true, ◌&&◌, ◌||◌, not, List, [], ◌∷◌, ◌++◌, take, length, reverse, Option, Some, None, refl, sym, ap, subst, arith}
+use Rattle.std.proofs.Common.{◌≡◌, ◌≤◌, ◌<◌, ◌+◌, ◌∙◌, ℕ, zero, suc, Bool, true, false, true≢false, ◌&&◌, ◌||◌, not, List, [], ◌∷◌, ◌++◌, take, length, reverse, Option, Some, None, refl, sym, ap, subst, arith}
 use Rattle.std.specs.Prelude.{slice_get, nat_lt, is_some}
 use Rattle.std.proofs.Math.Seq.{take-length}
 use Rattle.std.proofs.lemmas.List.{reverse-append, length-reverse}
@@ -11,8 +11,8 @@ use Rattle.sg_history.specs.declared.entries.Entry.{Entry}
 use Rattle.sg_history.specs.declared.entries.Write.{Write}
 use Rattle.sg_history.specs.Book.{Book, book_of, book_with, entry_or, waiting_at, written_in, writes_up_to, write_of_rev_up_to}
 use Rattle.sg_history.specs.Current.{Sequenced, write_of_rev}
-use Rattle.sg_history.specs.History.{as_write, past}
-use Rattle.sg_history.specs.Journal.{falls_from, has_rev, follows_rules, write_may_follow, IsEntry}
+use Rattle.sg_history.specs.History.{SyncEntry, as_sync, as_write, is_sync, past}
+use Rattle.sg_history.specs.Journal.{falls_from, has_rev, follows_rules, may_follow_by, IsEntry}
 use Rattle.rev_tree.specs.declared.tree.Node.{Node}
 use Rattle.rev_tree.specs.Documents.{writes_in, writes_of, tree_at}
 use Rattle.rev_tree.specs.Extension.{Recorded}
@@ -70,9 +70,10 @@ module _ (same : SameOfRev) (h : List Entry) (book : Book) (is_of : (m : ℕ) �
       ∙ ap (λ (b : Bool). rest (has_rev (past h k) w.doc w.rev) b (suc k)) (has_same k low w.doc w.winner)
       ∙ ap (λ (n : ℕ). rest (has_rev (past h k) w.doc w.rev) (has_rev (past h k) w.doc w.winner) n) long
 
-  may_by : (k : ℕ) → k ≤ length h → (o : Option Write) → IsRightBy book (suc k) o → write_may_follow (past h k) o ≡ true
-  may_by k low None right = refl
-  may_by k low (Some w) right = sym (rules_same k low w) ∙ right.1
+  may_by : (k : ℕ) → k ≤ length h → (o : Option Write) (replaced : Option SyncEntry) → IsRightBy book (suc k) o → is_some replaced ≡ false → may_follow_by (past h k) o replaced ≡ true
+  may_by k low None None right kind = refl
+  may_by k low None (Some sync) right kind = absurd (true≢false kind)
+  may_by k low (Some w) replaced right kind = sym (rules_same k low w) ∙ right.1
 
   -- the tree of the writes of a book is that of the older entries
   tree_same : SameWrites → (k : ℕ) → k ≤ length h → (doc : List ℕ) → trees_by (writes_up_to book k doc) ≡ tree_at (past h k) doc
@@ -80,9 +81,9 @@ module _ (same : SameOfRev) (h : List Entry) (book : Book) (is_of : (m : ℕ) �
       ap (λ (ws : List Sequenced). trees_by ws) (same_up_to book (book_of h) doc k (λ m least under. ap (λ (o : Option Entry). written_in o doc) (is_of m least (omega (arith, low, under)))))
       ∙ ap (λ (ws : List Recorded). tree_of ws) (same_writes h k doc)
 
-  right_by : SameWrites → (k : ℕ) → k ≤ length h → (o : Option Write) → write_may_follow (past h k) o ≡ true → WriteMayFollow (past h k) o → IsRightBy book (suc k) o
-  right_by same_writes k low None may next = tt
-  right_by same_writes k low (Some w) may next =
+  right_by : SameWrites → (k : ℕ) → k ≤ length h → (o : Option Write) (replaced : Option SyncEntry) → may_follow_by (past h k) o replaced ≡ true → WriteMayFollow (past h k) o → IsRightBy book (suc k) o
+  right_by same_writes k low None replaced may next = tt
+  right_by same_writes k low (Some w) replaced may next =
       (next.0, rules_same k low w ∙ may, subst (λ (t : List Node). Follows t w) (sym (tree_same same_writes k low w.doc)) next.1)
 
   next_by : SameWrites → (k : ℕ) → k ≤ length h → (o : Option Write) → IsRightBy book (suc k) o → WriteMayFollow (past h k) o
@@ -98,7 +99,7 @@ module _ (same : SameOfRev) (h : List Entry) (book : Book) (is_of : (m : ℕ) �
       let in_book : book (suc k) ≡ Some at.0 = is_of (suc k) (omega arith) low ∙ at.1 in
       let is = right (suc k) at.0 in_book in
       subst AreLawful (sym (past_next h k at.0 at.1))
-      (is.0, may_by k (omega (arith, low)) (as_write at.0) is.1, lawful_up_to right k (omega (arith, low)))
+      (is.0, may_by k (omega (arith, low)) (as_write at.0) (as_sync at.0) is.1 is.2, lawful_up_to right k (omega (arith, low)))
 
   pub lawful_log : AreRight book → AreLawful (reverse h)
   lawful_log right =
@@ -112,7 +113,7 @@ module _ (same : SameOfRev) (h : List Entry) (book : Book) (is_of : (m : ℕ) �
       let in_book : book (suc k) ≡ Some at.0 = is_of (suc k) (omega arith) low ∙ at.1 in
       let is = right (suc k) at.0 in_book in
       subst AreFollowing (sym (past_next h k at.0 at.1))
-      (next_by same_writes k (omega (arith, low)) (as_write at.0) is.1, following_up_to same_writes right k (omega (arith, low)))
+      ((next_by same_writes k (omega (arith, low)) (as_write at.0) is.1, is.2), following_up_to same_writes right k (omega (arith, low)))
 
   pub following_log : SameWrites → AreRight book → AreFollowing (reverse h)
   following_log same_writes right =
@@ -148,7 +149,7 @@ right_log same same_writes h lawful following (suc k) e is = go (slice_get h k) 
         pick None = refl
         pick (Some x) = refl
 
-    go : (o : Option Entry) → slice_get h k ≡ o → entry_or o None ≡ Some e → IsEntry e × IsRightBy (book_with h []) (suc k) (as_write e)
+    go : (o : Option Entry) → slice_get h k ≡ o → entry_or o None ≡ Some e → IsEntry e × IsRightBy (book_with h []) (suc k) (as_write e) × (is_sync e ≡ false)
     go None at is = absurd (none-some e is)
     go (Some x) at is =
         let low : k < length h = slice_get_within h k x at in
@@ -157,7 +158,8 @@ right_log same same_writes h lawful following (suc k) e is = go (slice_get h k) 
         let rules = subst AreLawful (past_next h k e here) (down_to AreLawful (λ f es p. p.2) h (suc k) left.0 left.1 lawful) in
         let next = subst AreFollowing (past_next h k e here) (down_to AreFollowing (λ f es p. p.1) h (suc k) left.0 left.1 following) in (
           rules.0,
-          right_by same h (book_with h []) alone same_writes k (omega (arith, low)) (as_write e) rules.1 next.0,
+          right_by same h (book_with h []) alone same_writes k (omega (arith, low)) (as_write e) (as_sync e) rules.1 next.0.0,
+          next.0.1,
         )
 
 -- no entry of entries that a board may have is the first that it may not

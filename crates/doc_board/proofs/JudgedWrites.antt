@@ -22,6 +22,7 @@ use Rattle.doc_board.specs.JudgedWrites.{IsJudgedWrite, IsNextWrite}
 use Rattle.doc_board.specs.Judging.{IsSaidOf, body_or_empty, board_base}
 use Rattle.doc_board.specs.Outcomes.{IsWriteOf, effects_in}
 use Rattle.doc_board.proofs.LaterBoards.{last_is, no_write_above, none_of_some}
+use Rattle.sg_history.proofs.Books.{write_above}
 use Rattle.doc_board.proofs.Puts.{no_more, own_write, same_up_to}
 
 -- ---- writes that later books have too
@@ -41,7 +42,7 @@ same_write earlier later doc top w on there number low = go (write_at earlier do
     go : (old : Option Write) → write_at earlier doc number ≡ old → (new : Option Write) → write_at later doc number ≡ new → write_at later doc number ≡ write_at earlier doc number
     go (Some v) is new found = still_write earlier later doc number v on.kept is ∙ sym is
     go None is None found = found ∙ sym is
-    go None is (Some v) found = absurd (omega (arith, low, on.above doc top number w v there is found))
+    go None is (Some v) found = absurd (omega (arith, low, write_above earlier later on doc top number w v there is found))
 
 pub same_writes : (earlier later : Book) (doc : List ℕ) (top : ℕ) (w : Write) → Later earlier later → write_at earlier doc top ≡ Some w
     → (number : ℕ) → number ≤ top → writes_up_to later number doc ≡ writes_up_to earlier number doc

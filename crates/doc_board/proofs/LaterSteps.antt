@@ -1,8 +1,8 @@
 -- what a board's calls leave comes after what they found
-use Rattle.std.proofs.Common.{◌≡◌, ◌≢◌, ◌≤◌, ◌<◌, ◌+◌, ◌-◌, ◌*◌, ◌∙◌, ◌⊎◌, inl, inr, ℕ, Bool, true, false, true≢false, List, [], ◌∷◌, ◌++◌, length, refl, sym, ap, subst, arith, Option, Some, None, is_some, nat_eq, if◌then◌else◌}
+use Rattle.std.proofs.Common.{◌≡◌, ◌≢◌, ◌≤◌, ◌<◌, ◌+◌, ◌-◌, ◌*◌, ◌∙◌, ◌⊎◌, inl, inr, ℕ, Bool, true, false, true≢false, List, [], ◌∷◌, ◌++◌, length, refl, sym, ap, subst, arith, Option, Some, None, IsTrue, is_some, nat_eq, if◌then◌else◌}
 use Rattle.std.proofs.lemmas.Bool.{cases_eq, eq-eqb, ne_eqb}
 use Rattle.std.proofs.lemmas.List.{length-append}
-use Rattle.std.proofs.lemmas.Option.{none-some}
+use Rattle.std.proofs.lemmas.Option.{none-some, same_Some}
 use Rattle.checkpoint_store.specs.declared.answers.SetAnswer.{SetAnswer}
 use Rattle.checkpoint_store.specs.Answers.{Sets}
 use Rattle.sg_history.specs.declared.book.Waiting.{Waiting}
@@ -11,21 +11,22 @@ use Rattle.sg_history.specs.declared.entries.Entry.TheVariants.{Unused}
 use Rattle.sg_history.specs.declared.entries.Write.{Write}
 use Rattle.sg_history.specs.declared.room.RoomFor.{RoomFor}
 use Rattle.sg_history.specs.Board.{BoardState, SideEntry, SideFollows, After, board_count, side_at}
-use Rattle.sg_history.specs.Book.{Book, Later, write_at, written_in}
+use Rattle.sg_history.specs.Book.{Book, IsAbove, Later, tied}
 use Rattle.sg_history.specs.History.{Extends, as_write}
 use Rattle.sg_history.specs.Rooms.{without_room}
 use Rattle.sg_history.specs.World.{Released, release, put_waiting}
-use Rattle.pending_front.specs.Storing.{MayStore, IsAbove}
+use Rattle.pending_front.specs.Storing.{MayStore}
 use Rattle.doc_board.specs.declared.candidate.Candidate.{Candidate}
 use Rattle.doc_board.specs.declared.candidate.Candidate.TheVariants as candidate
 use Rattle.doc_board.specs.Boards.{board_of, body_size, bytes_asked, bytes_stored, bytes_waiting}
 use Rattle.doc_board.specs.Candidates.{Fits, MayBeStored, body_bytes, entry_of, is_stale}
+use Rattle.doc_board.specs.Lawful.{AreEntries}
 use Rattle.doc_board.specs.Rooms.{is_outstanding}
 use Rattle.doc_board.specs.State.{State, book_on}
 use Rattle.doc_board.specs.Steps.{history_on, stored_at, swapped_to, with_entry}
 use Rattle.doc_board.proofs.OutstandingRooms.{one_less, asked_less, asked_more}
-use Rattle.doc_board.proofs.Standing.{plain_above, put_length, put_bytes, released_bytes}
-use Rattle.doc_board.proofs.WorldSteps.{above_writes}
+use Rattle.doc_board.proofs.Standing.{plain_is_above, put_length, put_bytes, released_bytes}
+use Rattle.doc_board.proofs.WorldSteps.{candidate_above}
 
 abbrev pub Again : Type 0
 Again = (a b c : Book) → Later a b → Later b c → Later a c
@@ -37,16 +38,16 @@ later_with book wide number e free is above =
     subst (λ (b : Book). Later book b) (sym is)
     (record {
       kept = λ n x at. ap (λ (b : Bool). if b then Some e else book n) (ne_eqb number n (λ same. none-some x (sym free ∙ ap book same ∙ at))) ∙ at;
-      above = λ doc old new w v there none stands. go doc old new w v there none stands (cases_eq number new);
+      above = λ new x none stands old other there tie. go new x none stands old other there tie (cases_eq number new);
     })
   where
-    go : (doc : List ℕ) (old new : ℕ) (w v : Write) → write_at book doc old ≡ Some w → write_at book doc new ≡ None → write_at (with_entry number e book) doc new ≡ Some v
+    go : (new : ℕ) (x : Entry) → book new ≡ None → with_entry number e book new ≡ Some x → (old : ℕ) (other : Entry) → book old ≡ Some other → IsTrue (tied other x)
         → (number ≡ new) ⊎ (number ≢ new) → old < new
-    go doc old new w v there none stands (inl same) =
-        subst (λ (n : ℕ). old < n) same
-        (above doc v old w (sym (ap (λ (b : Bool). written_in (if b then Some e else book new) doc) (eq-eqb number new same)) ∙ stands) there)
-    go doc old new w v there none stands (inr ne) =
-        absurd (none-some v (sym none ∙ sym (ap (λ (b : Bool). written_in (if b then Some e else book new) doc) (ne_eqb number new ne)) ∙ stands))
+    go new x none stands old other there tie (inl same) =
+        let here : e ≡ x = same_Some e x (sym (ap (λ (b : Bool). if b then Some e else book new) (eq-eqb number new same)) ∙ stands) in
+        subst (λ (n : ℕ). old < n) same (above old other there (subst (λ (y : Entry). IsTrue (tied other y)) (sym here) tie))
+    go new x none stands old other there tie (inr ne) =
+        absurd (none-some x (sym none ∙ sym (ap (λ (b : Bool). if b then Some e else book new) (ne_eqb number new ne)) ∙ stands))
 
 -- ---- a log that waiting entries were moved to
 
@@ -90,6 +91,7 @@ in_place : (s t : State) (room : RoomFor) (ws : List Waiting) (size more : ℕ) 
     → is_outstanding s.rooms room ≡ true → t.rooms ≡ without_room room s.rooms → t.checkpoints ≡ s.checkpoints → After (board_of s) (board_of t)
 in_place s t room ws size more book is long least bytes small out rooms checkpoints =
     record {
+      limit = refl;
       book = book;
       log = subst (λ (es : List Entry). Extends s.log es) (sym (ap (λ (r : Released). r.log) is)) (release_extends s.log ws);
       count = omega (arith, count, less, long, least, rooms_long);
@@ -133,6 +135,7 @@ after_room s t room itself log pending rooms checkpoints small =
     let count : board_count (board_of (with_room s room)) ≡ board_count (board_of s) + 1 = omega (arith, long) in
     subst (λ (b : BoardState). After (board_of s) b) (sym (looked (with_room s room) t log pending rooms checkpoints))
     (record {
+      limit = refl;
       book = itself;
       log = ([], append_none s.log);
       count = omega (arith, count);
@@ -150,6 +153,7 @@ pub after_set : ((before after : List SideEntry) (text : List ℕ) (rev : ℕ) (
 after_set follows s t text rev body answer itself log pending rooms sets =
     subst (λ (b : BoardState). After (board_of s) b) (sym (looked (with_checkpoints s t.checkpoints) t log pending rooms refl))
     (record {
+      limit = refl;
       book = itself;
       log = ([], append_none s.log);
       count = omega arith;
@@ -176,44 +180,46 @@ swap_after again s t room spent number e gone may apart out small above history 
     let put : Waiting = record { number = number; entry = e } in
     let between : Book = with_entry spent Unused (book_on s) in
     let free : between number ≡ None = ap (λ (b : Bool). if b then Some Unused else book_on s number) (ne_eqb spent number apart) ∙ may.1 in
-    let one : Later (book_on s) between = later_with (book_on s) between spent Unused gone.1 refl (plain_above (book_on s) spent Unused refl) in
+    let one : Later (book_on s) between = later_with (book_on s) between spent Unused gone.1 refl (plain_is_above (book_on s) spent Unused (refl, refl)) in
     let two : Later between (book_on t) = later_with between (book_on t) number e free book still in
     in_place s t room (put_waiting put (put_waiting first s.pending)) (body_size (as_write e)) 2 (again (book_on s) between (book_on t) one two) history
     (omega (arith, put_length put (put_waiting first s.pending), put_length first s.pending)) (omega arith)
     (omega (arith, put_bytes put (put_waiting first s.pending), put_bytes first s.pending)) small out rooms checkpoints
   where
     still : IsAbove (with_entry spent Unused (book_on s)) number e
-    still doc w old v writes there = go (cases_eq spent old)
+    still old other there tie = go (cases_eq spent old)
       where
         go : (spent ≡ old) ⊎ (spent ≢ old) → old < number
-        go (inl same) = absurd (none-some v (sym (ap (λ (b : Bool). written_in (if b then Some Unused else book_on s old) doc) (eq-eqb spent old same)) ∙ there))
-        go (inr ne) = above doc w old v writes (sym (ap (λ (b : Bool). written_in (if b then Some Unused else book_on s old) doc) (ne_eqb spent old ne)) ∙ there)
+        go (inl same) =
+            let here : Unused ≡ other = same_Some Unused other (sym (ap (λ (b : Bool). if b then Some Unused else book_on s old) (eq-eqb spent old same)) ∙ there) in
+            absurd (true≢false (sym (subst (λ (x : Entry). IsTrue (tied x e)) (sym here) tie)))
+        go (inr ne) = above old other (sym (ap (λ (b : Bool). if b then Some Unused else book_on s old) (ne_eqb spent old ne)) ∙ there) tie
 
 -- ---- what the calls say
 
 -- an entry's body has as many bytes as its candidate's
 size_is : (c : Candidate) (s : State) (number : ℕ) → MayBeStored s number c → body_size (as_write (entry_of c)) ≤ body_bytes c
 size_is (candidate.Write w tree base) s number may = omega arith
-size_is (candidate.Plain e) s number may = none (as_write e) may.1
+size_is (candidate.Plain e) s number may = none (as_write e) may.1.0
   where
     none : (o : Option Write) → is_some o ≡ false → body_size o ≤ 0
     none None h = omega arith
     none (Some w) h = absurd (true≢false h)
 
 pub after_commit : (s t : State) (room : RoomFor) (number : ℕ) (c : Candidate) → MayStore s.log s.pending number → is_outstanding s.rooms room ≡ true → Fits room c
-    → MayBeStored s number c → is_stale s c ≡ false
+    → MayBeStored s number c → is_stale s c ≡ false → AreEntries (book_on s)
     → history_on t ≡ stored_at s number (entry_of c) → book_on t ≡ with_entry number (entry_of c) (book_on s) → t.rooms ≡ without_room room s.rooms → t.checkpoints ≡ s.checkpoints → After (board_of s) (board_of t)
-after_commit s t room number c may out fits stored fresh history book rooms checkpoints =
-    put_after s t room number (entry_of c) may out (omega (arith, size_is c s number stored, fits.bytes)) (above_writes s 0 number [] c stored fresh) history book rooms checkpoints
+after_commit s t room number c may out fits stored fresh entries history book rooms checkpoints =
+    put_after s t room number (entry_of c) may out (omega (arith, size_is c s number stored, fits.bytes)) (candidate_above s number c entries stored fresh) history book rooms checkpoints
 
 pub after_swap : Again → (s t : State) (room : RoomFor) (spent number : ℕ) (c : Candidate) → MayStore s.log s.pending spent → MayStore s.log s.pending number → spent ≢ number
-    → is_outstanding s.rooms room ≡ true → Fits room c → MayBeStored s number c → is_stale s c ≡ false
+    → is_outstanding s.rooms room ≡ true → Fits room c → MayBeStored s number c → is_stale s c ≡ false → AreEntries (book_on s)
     → history_on t ≡ swapped_to s spent number (entry_of c) → book_on t ≡ with_entry number (entry_of c) (with_entry spent Unused (book_on s)) → t.rooms ≡ without_room room s.rooms → t.checkpoints ≡ s.checkpoints
     → After (board_of s) (board_of t)
-after_swap again s t room spent number c gone may apart out fits stored fresh history book rooms checkpoints =
-    swap_after again s t room spent number (entry_of c) gone may apart out (omega (arith, size_is c s number stored, fits.bytes)) (above_writes s 0 number [] c stored fresh) history book rooms checkpoints
+after_swap again s t room spent number c gone may apart out fits stored fresh entries history book rooms checkpoints =
+    swap_after again s t room spent number (entry_of c) gone may apart out (omega (arith, size_is c s number stored, fits.bytes)) (candidate_above s number c entries stored fresh) history book rooms checkpoints
 
 pub after_void : (s t : State) (room : RoomFor) (number : ℕ) → MayStore s.log s.pending number → is_outstanding s.rooms room ≡ true
     → history_on t ≡ stored_at s number Unused → book_on t ≡ with_entry number Unused (book_on s) → t.rooms ≡ without_room room s.rooms → t.checkpoints ≡ s.checkpoints → After (board_of s) (board_of t)
 after_void s t room number may out history book rooms checkpoints =
-    put_after s t room number Unused may out (omega arith) (plain_above (book_on s) number Unused refl) history book rooms checkpoints
+    put_after s t room number Unused may out (omega arith) (plain_is_above (book_on s) number Unused (refl, refl)) history book rooms checkpoints

@@ -9,7 +9,7 @@ use Rattle.sg_names.specs.declared.rev_id.RevId.{RevId}
 use Rattle.sg_names.specs.RevId.{same_rev, is_rev}
 use Rattle.sg_history.specs.declared.entries.Entry.{Entry}
 use Rattle.sg_history.specs.declared.entries.Write.{Write}
-use Rattle.sg_history.specs.History.{as_write, of_document, write_to}
+use Rattle.sg_history.specs.History.{SyncEntry, as_sync, as_write, of_document, write_to}
 use Rattle.sg_history.specs.Book.{Book, written_in, writes_up_to, first_of_rev}
 use Rattle.sg_history.specs.Current.{Sequenced, sequenced_before}
 use Rattle.sg_history.specs.Journal.{falls_from, IsRecord, IsEntry, IsEntryBy}
@@ -174,16 +174,16 @@ recorded_is_lawful (e ∷ older) h = (h.0.grammar, h.0.rules, recorded_is_lawful
 -- ---- the winner's name
 
 -- the write that an entry is has a revision in its grammar
-named_by : (o : Option Write) (p : Option Put) (doc : List ℕ) → IsEntryBy o p → (w : Write) → of_document o doc ≡ Some w → IsTrue (is_rev w.rev)
-named_by None p doc is w h = absurd (none-some _ h)
-named_by (Some x) p doc is w h = go (bytes_eq x.doc doc) h
+named_by : (o : Option Write) (r : Option SyncEntry) (p : Option Put) (doc : List ℕ) → IsEntryBy o r p → (w : Write) → of_document o doc ≡ Some w → IsTrue (is_rev w.rev)
+named_by None r p doc is w h = absurd (none-some _ h)
+named_by (Some x) r p doc is w h = go (bytes_eq x.doc doc) h
   where
     go : (b : Bool) → (if b then Some x else None) ≡ Some w → IsTrue (is_rev w.rev)
     go true e = subst (λ (y : Write). IsTrue (is_rev y.rev)) (same_some x w e) is.rev.0
     go false e = absurd (none-some _ e)
 
 write_named : (e : Entry) (doc : List ℕ) → IsEntry e → (w : Write) → write_to e doc ≡ Some w → IsTrue (is_rev w.rev)
-write_named e doc is w h = named_by (as_write e) (as_put e) doc is w h
+write_named e doc is w h = named_by (as_write e) (as_sync e) (as_put e) doc is w h
 
 written_in_book : (book : Book) (k : ℕ) (doc : List ℕ) (rev : RevId) → AreEntries book → is_written_by (writes_up_to book k doc) rev ≡ true → IsTrue (is_rev rev)
 written_in_book book zero doc rev entries h = absurd (both_ways false refl h)
@@ -199,7 +199,7 @@ written_in_book book (suc k) doc rev entries h =
         pick None none h = rest h
         pick (Some w) some h =
             elim (cases_Bool (same_rev w.rev rev)) [
-              | inl s ↦ subst (λ (r : RevId). IsTrue (is_rev r)) (same_is_equal w.rev rev s) (write_named e doc (entries (suc k) e is) w some)
+              | inl s ↦ subst (λ (r : RevId). IsTrue (is_rev r)) (same_is_equal w.rev rev s) (write_named e doc (entries (suc k) e is).0 w some)
               | inr s ↦ rest (rw s at h)
             ]
 

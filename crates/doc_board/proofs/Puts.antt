@@ -8,7 +8,6 @@ use Rattle.sg_history.specs.declared.entries.Write.{Write}
 use Rattle.sg_history.specs.Book.{Book, write_at, written_in, writes_up_to}
 use Rattle.sg_history.specs.Current.{Sequenced, sequenced_before}
 use Rattle.sg_history.specs.History.{as_write, of_document, write_to}
-use Rattle.pending_front.specs.Storing.{IsAbove}
 use Rattle.doc_board.specs.Kept.{below}
 
 -- ---- writes up to a number
@@ -52,7 +51,12 @@ own_write v = ap (λ (b : Bool). if b then Some v else None) ((bytes_eq-Decides 
 
 -- ---- one entry more
 
-module _ (old new : Book) (n : ℕ) (e : Entry) (from : 1 ≤ n) (free : old n ≡ None) (put : (m : ℕ) → new m ≡ (if nat_eq n m then Some e else old m)) (above : IsAbove old n e) where
+-- a number is above each at which a book has a write of the document that this entry writes
+abbrev pub IsAboveWrites : Book → ℕ → Entry → Type 0
+IsAboveWrites book number e =
+    (doc : List ℕ) (w : Write) (old : ℕ) (v : Write) → write_to e doc ≡ Some w → write_at book doc old ≡ Some v → old < number
+
+module _ (old new : Book) (n : ℕ) (e : Entry) (from : 1 ≤ n) (free : old n ≡ None) (put : (m : ℕ) → new m ≡ (if nat_eq n m then Some e else old m)) (above : IsAboveWrites old n e) where
   pub put_here : new n ≡ Some e
   put_here = put n ∙ ap (λ (b : Bool). if b then Some e else old n) (eq-eqb n n refl)
 

@@ -1,5 +1,5 @@
 -- what a board keeps, step by step: a room ends, an entry waits, and those that come next are moved to the log
-use Rattle.std.proofs.Common.{◌≡◌, ◌≤◌, ◌<◌, ◌+◌, ◌∙◌, ◌⊎◌, inl, inr, ℕ, zero, suc, Bool, true, false, true≢false, ◌≢◌, List, [], ◌∷◌, ◌++◌, map, length, Option, Some, None, refl, sym, ap, subst, arith, if◌then◌else◌}
+use Rattle.std.proofs.Common.{◌≡◌, ◌≤◌, ◌<◌, ◌+◌, ◌∙◌, ◌⊎◌, inl, inr, ℕ, zero, suc, Bool, true, false, true≢false, ◌&&◌, ◌||◌, ◌≢◌, List, [], ◌∷◌, ◌++◌, map, length, Option, Some, None, refl, sym, ap, subst, arith, if◌then◌else◌}
 use Rattle.std.specs.Prelude.{nat_eq, nat_lt, is_some, IsTrue}
 use Rattle.std.specs.BTreeMap.{get_by_text}
 use Rattle.std.specs.Str.{bytes_eq}
@@ -9,19 +9,18 @@ use Rattle.sg_history.specs.declared.book.Waiting.{Waiting}
 use Rattle.sg_history.specs.declared.entries.Entry.{Entry}
 use Rattle.sg_history.specs.declared.entries.Entry.TheVariants as entry
 use Rattle.sg_history.specs.declared.entries.Write.{Write}
-use Rattle.sg_history.specs.Book.{Book, waiting_at, write_at, writes_up_to, first_write}
+use Rattle.sg_history.specs.Book.{Book, IsAbove, same_written, tied, waiting_at, write_at, written_in, writes_up_to, first_write}
 use Rattle.sg_history.specs.Current.{Sequenced, sequenced_before}
-use Rattle.sg_history.specs.History.{as_write, of_document, write_to}
+use Rattle.sg_history.specs.History.{as_write, is_sync, is_write, of_document, write_to}
 use Rattle.sg_history.specs.Journal.{IsEntry}
-use Rattle.sg_history.specs.Line.{is_write}
 use Rattle.sg_history.specs.World.{Released, release, put_waiting}
-use Rattle.pending_front.specs.Storing.{IsAbove}
 use Rattle.rev_tree.specs.declared.tree.Node.{Node}
 use Rattle.rev_tree.specs.Documents.{recorded, sequence_of, last_in, tree_in}
 use Rattle.rev_tree.specs.Writes.{AreAccepted, is_accepted, tree_of}
 use Rattle.doc_board.specs.Boards.{body_size, bytes_stored, bytes_waiting}
-use Rattle.doc_board.specs.Candidates.{ExtendsTree}
+use Rattle.doc_board.specs.Candidates.{ExtendsTree, IsPlain}
 use Rattle.doc_board.specs.Kept.{AreRight, AreBases, HasNoneAbove, IsKept, IsRightBy, below, follows_writes, trees_by}
+use Rattle.doc_board.specs.Lawful.{AreEntries}
 use Rattle.doc_board.specs.Recorded.{Follows, HasDocument}
 use Rattle.doc_board.proofs.Documents.{Documents, same_names}
 use Rattle.doc_board.proofs.Following.{extension_follows}
@@ -72,7 +71,7 @@ no_size (Some w) h = absurd (true≢false h)
 
 -- ---- one entry more in the book
 
-module _ (old new : Book) (n : ℕ) (e : Entry) (from : 1 ≤ n) (free : old n ≡ None) (put : (m : ℕ) → new m ≡ (if nat_eq n m then Some e else old m)) (above : IsAbove old n e) where
+module _ (old new : Book) (n : ℕ) (e : Entry) (from : 1 ≤ n) (free : old n ≡ None) (put : (m : ℕ) → new m ≡ (if nat_eq n m then Some e else old m)) (above : puts.IsAboveWrites old n e) where
   -- where none stands above a number in the new book none does in the old one
   pub none_before : (top : ℕ) → HasNoneAbove new top → HasNoneAbove old top
   none_before top over m more = go (cases_eq n m)
@@ -93,17 +92,17 @@ module _ (old new : Book) (n : ℕ) (e : Entry) (from : 1 ≤ n) (free : old n �
         subst (λ (ws : List Sequenced). Follows (trees_by ws) v) (sym same) right.2,
       )
 
-  right_more : AreRight old → IsEntry e × IsRightBy new n (as_write e) → AreRight new
+  right_more : AreRight old → IsEntry e × IsRightBy new n (as_write e) × (is_sync e ≡ false) → AreRight new
   right_more right it m x there = go (cases_eq n m)
     where
-      go : (n ≡ m) ⊎ (n ≢ m) → IsEntry x × IsRightBy new m (as_write x)
+      go : (n ≡ m) ⊎ (n ≢ m) → IsEntry x × IsRightBy new m (as_write x) × (is_sync x ≡ false)
       go (inl same) =
           let here : e ≡ x = same_Some e x (sym (puts.put_here old new n e from free put above) ∙ ap new same ∙ there) in
-          subst (λ (k : ℕ). IsEntry x × IsRightBy new k (as_write x)) same (subst (λ (y : Entry). IsEntry y × IsRightBy new n (as_write y)) here it)
+          subst (λ (k : ℕ). IsEntry x × IsRightBy new k (as_write x) × (is_sync x ≡ false)) same (subst (λ (y : Entry). IsEntry y × IsRightBy new n (as_write y) × (is_sync y ≡ false)) here it)
       go (inr ne) =
           let before : old m ≡ Some x = sym (puts.put_other old new n e from free put above m ne) ∙ there in
           let is = right m x before in
-          (is.0, right_older m x before (as_write x) refl is.1)
+          (is.0, right_older m x before (as_write x) refl is.1, is.2)
 
   pub bases_more : (waiting more : List Waiting) (bases with_it : Bases)
       → ((m : ℕ) → waiting_at more m ≡ (if nat_eq n m then Some e else waiting_at waiting m)) → ((m : ℕ) → n ≢ m → with_it m ≡ bases m)
@@ -165,7 +164,7 @@ none_past_last book top doc over m more = go (write_at book doc m) refl (cases_l
     go (Some v) is (inr low) = absurd (omega (arith, more, last_bounds book top doc m v (omega (arith, more)) low is))
 
 -- a number above a document's last write is above all its writes
-pub above_last : (book : Book) (top n : ℕ) (w : Write) → HasNoneAbove book top → last_in book top w.doc < n → IsAbove book n (entry.Write w)
+pub above_last : (book : Book) (top n : ℕ) (w : Write) → HasNoneAbove book top → last_in book top w.doc < n → puts.IsAboveWrites book n (entry.Write w)
 above_last book top n w over more doc x m v is at = go (cases_lt (last_in book top w.doc) m)
   where
     same : w.doc ≡ doc
@@ -185,7 +184,7 @@ no_write_to : (o : Option Write) (doc : List ℕ) → is_some o ≡ false → of
 no_write_to None doc h = refl
 no_write_to (Some w) doc h = absurd (true≢false h)
 
-pub plain_above : (book : Book) (n : ℕ) (e : Entry) → is_write e ≡ false → IsAbove book n e
+pub plain_above : (book : Book) (n : ℕ) (e : Entry) → is_write e ≡ false → puts.IsAboveWrites book n e
 plain_above book n e plain doc x m v is at = absurd (none-some _ (sym (no_write_to (as_write e) doc plain) ∙ is))
 
 plain_right : (book : Book) (n : ℕ) (o : Option Write) → is_some o ≡ false → IsRightBy book n o
@@ -197,7 +196,7 @@ plain_none None h w is = none-some _ is
 plain_none (Some v) h w is = true≢false h
 
 module _ (old new : Book) (n : ℕ) (e : Entry) (from : 1 ≤ n) (free : old n ≡ None) (put : (m : ℕ) → new m ≡ (if nat_eq n m then Some e else old m)) (plain : is_write e ≡ false) where
-  above_plain : IsAbove old n e
+  above_plain : puts.IsAboveWrites old n e
   above_plain = plain_above old n e plain
 
   pub same_writes : (top : ℕ) → HasNoneAbove new top → (doc : List ℕ) → writes_up_to new top doc ≡ writes_up_to old top doc
@@ -205,18 +204,18 @@ module _ (old new : Book) (n : ℕ) (e : Entry) (from : 1 ≤ n) (free : old n �
       writes_more old new n e from free put above_plain top over doc
       ∙ ap (λ (o : Option Write). sequenced_before o n (writes_up_to old top doc)) (no_write_to (as_write e) doc plain)
 
-  pub kept_plain : (places : Documents) → IsEntry e → IsKept old places → IsKept new places
-  kept_plain places named kept = record {
+  pub kept_plain : (places : Documents) → IsEntry e → is_sync e ≡ false → IsKept old places → IsKept new places
+  kept_plain places named kind kept = record {
     documents = λ top over. same_by (writes_up_to old top) (writes_up_to new top) places (same_writes top over) (kept.documents top (none_before old new n e from free put above_plain top over));
     accepted = λ top over doc. subst (λ (ws : List Sequenced). AreAccepted (map (λ written. recorded written.write) ws)) (sym (same_writes top over doc)) (kept.accepted top (none_before old new n e from free put above_plain top over) doc);
-    right = right_more old new n e from free put above_plain kept.right (named, plain_right new n (as_write e) plain);
+    right = right_more old new n e from free put above_plain kept.right (named, plain_right new n (as_write e) plain, kind);
   }
 
 -- ---- a write
 
 module _ (old new : Book) (n : ℕ) (w : Write) (from : 1 ≤ n) (free : old n ≡ None) (put : (m : ℕ) → new m ≡ (if nat_eq n m then Some (entry.Write w) else old m))
     (whole : ℕ) (over_whole : HasNoneAbove old whole) (past : last_in old whole w.doc < n) (tree : List Node) (extends : ExtendsTree (tree_in old whole w.doc) w tree) where
-  above_write : IsAbove old n (entry.Write w)
+  above_write : puts.IsAboveWrites old n (entry.Write w)
   above_write = above_last old whole n w over_whole past
 
   same_whole : (top : ℕ) → HasNoneAbove old top → (doc : List ℕ) → writes_up_to old whole doc ≡ writes_up_to old top doc
@@ -256,11 +255,51 @@ module _ (old new : Book) (n : ℕ) (w : Write) (from : 1 ≤ n) (free : old n �
             (follows same_revisions same_winner w (writes_up_to old whole w.doc) n tree (kept.accepted whole over_whole w.doc) extends judged),
         subst (λ (ws : List Sequenced). Follows (trees_by ws) w) (sym below_it) (extension_follows (tree_in old whole w.doc) w tree extends),
       ),
+      refl,
     );
   }
 
   pub base_is : Some (last_in old whole w.doc) ≡ Some (sequence_of (first_write (below new n w.doc)))
   base_is = ap (λ (ws : List Sequenced). Some (sequence_of (first_write ws))) (sym below_it)
+
+-- ---- an entry above those to which it is tied
+
+only_written : (same replaces writes replaced written : Bool) → replaces ≡ false → replaced ≡ false
+    → (same || (replaces && (written || replaced)) || (writes && replaced)) ≡ true → same ≡ true
+only_written true replaces writes replaced written a b h = refl
+only_written false true writes replaced written a b h = absurd (true≢false a)
+only_written false false writes true written a b h = absurd (true≢false b)
+only_written false false true false written a b h = h
+only_written false false false false written a b h = h
+
+-- in a book of which no entry replaces the sync function, an entry that doesn't either is tied to the writes of its document alone
+pub tied_above : (book : Book) (n : ℕ) (e : Entry) → AreEntries book → is_sync e ≡ false → puts.IsAboveWrites book n e → IsAbove book n e
+tied_above book n e entries kind above old other there tie =
+    go (as_write other) (as_write e) refl refl (only_written (same_written (as_write other) (as_write e)) (is_sync other) (is_write other) (is_sync e) (is_write e) (entries old other there).1 kind tie)
+  where
+    go : (o p : Option Write) → as_write other ≡ o → as_write e ≡ p → same_written o p ≡ true → old < n
+    go None p a b h = absurd (true≢false (sym h))
+    go (Some w) None a b h = absurd (true≢false (sym h))
+    go (Some w) (Some v) a b h =
+        above v.doc v old w (ap (λ (o : Option Write). of_document o v.doc) b ∙ puts.own_write v)
+        (ap (λ (o : Option Entry). written_in o v.doc) there ∙ ap (λ (o : Option Write). of_document o v.doc) a ∙ ap (λ (c : Bool). if c then Some w else None) h)
+
+untied : (o p : Option Write) (replaces writes replaced : Bool) → is_some p ≡ false → replaced ≡ false → (same_written o p || (replaces && (is_some p || replaced)) || (writes && replaced)) ≡ false
+untied o (Some v) replaces writes replaced h k = absurd (true≢false h)
+untied o None replaces writes true h k = absurd (true≢false k)
+untied None None true true false h k = refl
+untied None None true false false h k = refl
+untied None None false true false h k = refl
+untied None None false false false h k = refl
+untied (Some w) None true true false h k = refl
+untied (Some w) None true false false h k = refl
+untied (Some w) None false true false h k = refl
+untied (Some w) None false false false h k = refl
+
+-- an entry that neither writes nor replaces the sync function is tied to none
+pub plain_is_above : (book : Book) (n : ℕ) (e : Entry) → IsPlain e → IsAbove book n e
+plain_is_above book n e plain old other there tie =
+    absurd (true≢false (sym tie ∙ untied (as_write other) (as_write e) (is_sync other) (is_write other) (is_sync e) plain.0 plain.1))
 
 -- ---- what is read of a board
 

@@ -14,9 +14,8 @@ use Rattle.sg_history.specs.declared.entries.Write.{Write}
 use Rattle.sg_history.specs.declared.room.RoomFor.{RoomFor}
 use Rattle.sg_history.specs.EntryList as entries
 use Rattle.sg_history.specs.Book.{Book, book_of, book_with, entry_or, waiting_at, writes_up_to, first_write}
-use Rattle.sg_history.specs.History.{as_write}
+use Rattle.sg_history.specs.History.{as_write, is_write}
 use Rattle.sg_history.specs.Journal.{IsEntry}
-use Rattle.sg_history.specs.Line.{is_write}
 use Rattle.sg_history.specs.World.{Released, release, put_waiting}
 use Rattle.sg_history.specs.Rooms.{without_room}
 use Rattle.pending_front.specs.Pending.{Reserved, AreBeyond}
@@ -24,7 +23,7 @@ use Rattle.pending_front.specs.Storing.{MayStore}
 use Rattle.rev_tree.specs.declared.tree.Node.{Node}
 use Rattle.rev_tree.specs.Documents.{sequence_of, last_in, tree_in}
 use Rattle.doc_board.specs.Boards.{body_size, bytes_stored, bytes_waiting}
-use Rattle.doc_board.specs.Candidates.{ExtendsTree}
+use Rattle.doc_board.specs.Candidates.{ExtendsTree, IsPlain}
 use Rattle.doc_board.specs.Kept.{AreBases, HasNoneAbove, IsBoard, IsKept, IsStanding, below, capped, has_place, placed}
 use Rattle.doc_board.specs.Recorded.{HasDocument}
 use Rattle.doc_board.specs.State.{top_of}
@@ -141,23 +140,23 @@ module _ (stored_book : StoredBook) (stored_beyond : StoredBeyond) (stored_free 
   bytes_with : (e : Entry) → bytes_stored log.list + bytes_waiting (with_it e) ≡ body_size (as_write e) + (bytes_stored log.list + bytes_waiting p.waiting)
   bytes_with e = omega (arith, put_bytes (record { number = n; entry = e }) p.waiting)
 
-  plain_put : (places : Documents) (bases : Bases) (spare : ℕ) (rooms : List RoomFor) (stored more : ℕ) (e : Entry) (left : ℕ) → IsEntry e → is_write e ≡ false → p.spare ≤ left + 1
+  plain_put : (places : Documents) (bases : Bases) (spare : ℕ) (rooms : List RoomFor) (stored more : ℕ) (e : Entry) (left : ℕ) → IsEntry e → IsPlain e → p.spare ≤ left + 1
       → IsStanding log p places bases spare rooms stored (more + 1) → IsStanding log (record { waiting = with_it e; spare = left }) places bases spare rooms stored more
   plain_put places bases spare rooms stored more e left named plain less it = record {
-    kept = kept_plain (book_with log.list p.waiting) (book_with log.list (with_it e)) n e may.0 may.1 (put_in e) plain places named it.kept;
+    kept = kept_plain (book_with log.list p.waiting) (book_with log.list (with_it e)) n e may.0 may.1 (put_in e) plain.0 places named plain.1 it.kept;
     beyond = stored_beyond log.list p.waiting n e may it.beyond;
-    based = bases_more (book_with log.list p.waiting) (book_with log.list (with_it e)) n e may.0 may.1 (put_in e) (plain_above (book_with log.list p.waiting) n e plain)
-        p.waiting (with_it e) bases bases (put_under e) (λ m ne. refl) (λ m x least is. waits_in_book log.list p.waiting m x it.beyond least is) (λ w is. absurd (plain_none (as_write e) plain w is)) it.based;
+    based = bases_more (book_with log.list p.waiting) (book_with log.list (with_it e)) n e may.0 may.1 (put_in e) (plain_above (book_with log.list p.waiting) n e plain.0)
+        p.waiting (with_it e) bases bases (put_under e) (λ m ne. refl) (λ m x least is. waits_in_book log.list p.waiting m x it.beyond least is) (λ w is. absurd (plain_none (as_write e) plain.0 w is)) it.based;
     out = it.out;
     room_waiting = omega (arith, it.room_waiting, less);
     room_log = omega (arith, it.room_log, long e);
     room_bases = omega (arith, it.room_bases);
     limit = omega (arith, it.limit, long e);
-    bytes = it.bytes ∙ ap capped (omega (arith, bytes_with e, no_size (as_write e) plain));
+    bytes = it.bytes ∙ ap capped (omega (arith, bytes_with e, no_size (as_write e) plain.0));
   }
 
-  -- an entry that is no write
-  pub waits_plain : (new : Reserved) (places : Documents) (bases : Bases) (spare : ℕ) (rooms : List RoomFor) (stored more : ℕ) (e : Entry) → IsEntry e → is_write e ≡ false
+  -- an entry that neither writes nor replaces the sync function
+  pub waits_plain : (new : Reserved) (places : Documents) (bases : Bases) (spare : ℕ) (rooms : List RoomFor) (stored more : ℕ) (e : Entry) → IsEntry e → IsPlain e
       → new.waiting ≡ with_it e → p.spare ≤ new.spare + 1
       → IsStanding log p places bases spare rooms stored (more + 1) → IsStanding log new places bases spare rooms stored more
   waits_plain new places bases spare rooms stored more e named plain is less it =

@@ -36,9 +36,9 @@ bytes_waiting (first ∷ others) = body_size (as_write first.entry) + bytes_wait
 abbrev pub bytes_on : State → ℕ
 bytes_on s = bytes_stored s.log + bytes_waiting s.pending + bytes_asked s.rooms
 
--- the board of a log with the entries that wait, the rooms that are outstanding, and the checkpoints as its side map; no fault is counted
+-- the board of a log with the entries that wait, the rooms that are outstanding, and the checkpoints as its side map; it has no limit of revisions, and no fault is counted
 abbrev pub board_of : State → BoardState
-board_of s = record { log = s.log; pending = s.pending; rooms = s.rooms; bytes = bytes_on s; side = s.checkpoints; faults = 0 }
+board_of s = record { limit = None; log = s.log; pending = s.pending; rooms = s.rooms; bytes = bytes_on s; side = s.checkpoints; faults = 0 }
 
 -- ---- what a board says of a document
 

@@ -4,8 +4,8 @@ use Rattle.sg_history.specs.declared.entries.Entry.{Entry}
 use Rattle.sg_history.specs.declared.entries.Entry.TheVariants as entry
 use Rattle.sg_history.specs.declared.entries.Write.{Write}
 use Rattle.sg_history.specs.declared.number.Number.{Number}
+use Rattle.sg_history.specs.History.{is_sync, is_write}
 use Rattle.sg_history.specs.Journal.{IsEntry}
-use Rattle.sg_history.specs.Line.{is_write}
 use Rattle.json_doc.specs.Tree.{Tree}
 use Rattle.json_doc.specs.Reading.{IsDocument}
 use Rattle.rev_tree.specs.declared.tree.Node.{Node}
@@ -48,11 +48,15 @@ pub record ExtendsTree (before : List Node) (w : Write) (after : List Node) : Ty
   pub tree : after ≡ with_write before (recorded w)
   pub winner : option_map (λ l. l.rev) (winner_of after) ≡ Some w.winner
 
+-- an entry neither writes a document nor replaces the sync function
+abbrev pub IsPlain : Entry → Type 0
+IsPlain e = (is_write e ≡ false) × (is_sync e ≡ false)
+
 -- a candidate is in its grammar, its body is a document, it was judged and its document last written before the number at which it is stored, and it extends the tree that its document has where that was not written since
 abbrev pub MayBeStored : State → ℕ → Candidate → Type 0
 MayBeStored s number (candidate.Write w tree base) =
     IsEntry (entry.Write w) × ((doc : Tree) × IsDocument w.body doc) × (w.at < number) × (base < number) × (base ≡ last_on s w.doc → ExtendsTree (tree_on s w.doc) w tree)
-MayBeStored s number (candidate.Plain e) = IsEntry e × (is_write e ≡ false)
+MayBeStored s number (candidate.Plain e) = IsEntry e × IsPlain e
 
 -- the room was made for the candidate's document, or for none, and for at least so many bytes
 pub record Fits (room : RoomFor) (c : Candidate) : Type 0 where

@@ -1,5 +1,5 @@
 -- what a board keeps beside its log
-use Rattle.std.specs.Prelude.{◌≡◌, ◌≤◌, ◌<◌, ◌+◌, ◌*◌, ℕ, zero, suc, min, Bool, true, ◌&&◌, ◌||◌, not, List, [], map, length, is_some, Option, Some, None, IsTrue, MatchOption, nat_eq, nat_lt, if◌then◌else◌}
+use Rattle.std.specs.Prelude.{◌≡◌, ◌≤◌, ◌<◌, ◌+◌, ◌*◌, ℕ, zero, suc, min, Bool, false, true, ◌&&◌, ◌||◌, not, List, [], map, length, is_some, Option, Some, None, IsTrue, MatchOption, nat_eq, nat_lt, if◌then◌else◌}
 use Rattle.std.specs.BTreeMap.{BTreeMap, get_by_text}
 use Rattle.std.specs.List.{list_all}
 use Rattle.std.specs.Str.{bytes_eq}
@@ -11,7 +11,7 @@ use Rattle.sg_history.specs.declared.book.Waiting.{Waiting}
 use Rattle.sg_history.specs.declared.entries.Write.{Write}
 use Rattle.sg_history.specs.Book.{Book, book_with, waiting_at, writes_up_to, first_write, first_of_rev}
 use Rattle.sg_history.specs.Current.{Sequenced}
-use Rattle.sg_history.specs.History.{as_write}
+use Rattle.sg_history.specs.History.{as_write, is_sync}
 use Rattle.sg_history.specs.Journal.{IsEntry, falls_from}
 use Rattle.sg_names.specs.declared.rev_id.RevId.{RevId}
 use Rattle.sg_names.specs.RevId.{same_rev}
@@ -99,9 +99,9 @@ abbrev pub IsRightBy : Book → ℕ → Option Write → Type 0
 IsRightBy book number None = Unit {0}
 IsRightBy book number (Some w) = HasDocument w.body × IsTrue (follows_writes (below book number w.doc) number w) × Follows (trees_by (below book number w.doc)) w
 
--- each entry of a book is in its grammar, and right where it is a write
+-- each entry of a book is in its grammar, right where it is a write, and replaces no sync function
 abbrev pub AreRight : Book → Type 0
-AreRight book = (number : ℕ) (e : Entry) → book number ≡ Some e → IsEntry e × IsRightBy book number (as_write e)
+AreRight book = (number : ℕ) (e : Entry) → book number ≡ Some e → IsEntry e × IsRightBy book number (as_write e) × (is_sync e ≡ false)
 
 -- no entry stands above a number
 abbrev pub HasNoneAbove : Book → ℕ → Type 0

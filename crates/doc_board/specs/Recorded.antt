@@ -2,7 +2,7 @@
 use Rattle.std.specs.Prelude.{◌≡◌, ◌+◌, ℕ, false, List, [], ◌∷◌, length, option_map, slice_get, Option, Some, None}
 use Rattle.sg_history.specs.declared.entries.Entry.{Entry}
 use Rattle.sg_history.specs.declared.entries.Write.{Write}
-use Rattle.sg_history.specs.History.{as_write, past}
+use Rattle.sg_history.specs.History.{as_write, is_sync, past}
 use Rattle.json_doc.specs.Tree.{Tree}
 use Rattle.json_doc.specs.Reading.{IsDocument}
 use Rattle.rev_tree.specs.declared.tree.Node.{Node}
@@ -29,9 +29,9 @@ abbrev pub WriteMayFollow : List Entry → Option Write → Type 0
 WriteMayFollow older None = Unit {0}
 WriteMayFollow older (Some w) = IsNextWrite (tree_at older w.doc) w
 
--- an entry that a board may have after these, the newest first
+-- an entry that a board may have after these, the newest first: it replaces no sync function
 abbrev pub MayFollow : List Entry → Entry → Type 0
-MayFollow older e = WriteMayFollow older (as_write e)
+MayFollow older e = WriteMayFollow older (as_write e) × (is_sync e ≡ false)
 
 -- entries that a board may have, the newest first
 abbrev pub AreFollowing : List Entry → Type 0

@@ -17,9 +17,8 @@ ghost use Rattle.doc_board.specs.Contexts.{IsContext};
 ghost use Rattle.sg_history.specs.declared.entries.Entry.TheVariants as kinds;
 ghost use Rattle.doc_board.specs.declared.candidate.Commit.TheVariants as kinds_of_commit;
 ghost use Rattle.doc_board.specs.Boards.{board_of};
-ghost use Rattle.doc_board.specs.Candidates.{MayBeStored, ExtendsTree, Fits, IfStored, IfStale, is_stale, entry_of, made_at, last_of};
+ghost use Rattle.doc_board.specs.Candidates.{MayBeStored, ExtendsTree, Fits, IsPlain, IfStored, IfStale, is_stale, entry_of, made_at, last_of};
 ghost use Rattle.sg_history.specs.Journal.{IsEntry};
-ghost use Rattle.sg_history.specs.Line.{is_write};
 ghost use Rattle.sg_history.specs.Rooms.{without_room};
 ghost use Rattle.doc_board.specs.Lawful.{AreLawful, AreEntries};
 ghost use Rattle.doc_board.specs.Limits as limits;
@@ -77,6 +76,7 @@ pub struct Board {
 }
 
 impl Model for Board {
+    ghost use Rattle.std.specs.Prelude.{◌≡◌, None};
     ghost use Rattle.sg_history.specs.History.{entries_of};
     ghost use Rattle.grant_history.specs.Stands.{StandsFor};
     ghost use Rattle.doc_board.specs.State.{State};
@@ -94,7 +94,7 @@ impl Model for Board {
     } };
 
     ghost invariant = { λ b. IsOfBoard b.storage
-        × StandsFor b.grants b.storage.log.entries.list };
+        × StandsFor b.grants b.storage.log.entries.list × (b.storage.log.limit ≡ None) };
 }
 
 impl Board {
@@ -110,7 +110,7 @@ impl Board {
         Ok(Board {
             alloc,
             storage: Storage {
-                log: Log::new(alloc),
+                log: Log::new(alloc, None),
                 pending: Pending::new(alloc),
                 documents: BTreeMap::new(alloc),
                 bases: HashMap::new(alloc),
@@ -123,7 +123,7 @@ impl Board {
         })
     }
 
-    /// The board of a log that was recorded.
+    /// The board of a log that was recorded, without the limit that it says.
     pub fn open(alloc: Global, log: Log) -> Result<Board, OpenFault>
         requires { AreLawful (reverse (entries_of log)) }
         ensures log { IfOk result (λ board. board.log ≡ entries_of log) }
@@ -140,18 +140,25 @@ impl Board {
     {
         histories();
         books();
-        let documents = match documents_of(alloc, log.entries.as_slice()) {
+        let Log {
+            entries,
+            limit: _limit,
+        } = log;
+        let documents = match documents_of(alloc, entries.as_slice()) {
             Ok(documents) => documents,
             Err(fault) => {
-                drop(log);
+                drop(entries);
                 return Err(fault);
             }
         };
-        let stored = bytes_of(log.entries.as_slice());
+        let stored = bytes_of(entries.as_slice());
         Ok(Board {
             alloc,
             storage: Storage {
-                log,
+                log: Log {
+                    entries,
+                    limit: None,
+                },
                 pending: Pending::new(alloc),
                 documents,
                 bases: HashMap::new(alloc),
@@ -178,13 +185,14 @@ impl Board {
         self.storage.log.entries.as_slice().len() as u64
     }
 
-    /// The log, which `open` accepts. Allocates nothing.
+    /// The log, which `open` accepts, and which has no limit. Allocates nothing.
     pub fn log(&self) -> &Log
         ensures log { entries_of result.now ≡ self.now.log }
         ensures lawful { AreLawful (newest_first self.now) }
         ensures entries { AreEntries (book_on self.now) }
         ensures accepted { (doc : List ℕ) → AreAccepted (writes_on self.now doc) }
         ensures following { AreFollowing (newest_first self.now) }
+        ensures limit { result.now.limit ≡ None }
     {
         histories();
         books();
@@ -415,7 +423,7 @@ impl Board {
         self.storage.make_room(self.alloc, doc, bytes)
     }
 
-    /// Room for one entry: for a write of a document with a body of at most so many bytes, or for an entry that is no write. It is
+    /// Room for one entry: for a write of a document with a body of at most so many bytes, or for another entry. It is
     /// refused where too many places are taken, or else too many entries or bytes, and at last where memory is short.
     pub fn room(&mut self, doc: Option<&DocId>, body_bytes: u64) -> Result<Room, NoRoom>
         requires { body_bytes ≤ 20971520 }
@@ -441,13 +449,13 @@ impl Board {
         }
     }
 
-    /// Stores an entry that is no write, in the place of a room that ends, and gives a number up, where there is one, in the other.
+    /// Stores an entry that neither writes nor replaces the sync function, in the place of a room that ends, and gives a number up, where there is one, in the other.
     fn store_plain(&mut self, room: Room, spent: Option<u64>, number: u64, entry: Entry)
         requires spent { MayGiveUp self.old spent number }
         requires number { MayStore self.old.log self.old.pending number }
         requires out { IsTrue (is_outstanding self.old.rooms room.made_for) }
         requires entry { IsEntry entry }
-        requires plain { is_write entry ≡ false }
+        requires plain { IsPlain entry }
         ensures stored { history_on self.new ≡ kept_at self.old spent number entry }
         ensures book { book_on self.new
             ≡ with_entry number entry (book_with_unused spent (book_on self.old)) }

@@ -9,7 +9,7 @@ use sg_history::{Entry, Number, Write};
 pub enum Candidate {
     /// A write, with the document's tree after it, and the sequence of the document's last write before it, 0 where there was none.
     Write { entry: Write, tree: Tree, base: u64 },
-    /// An entry that is no write.
+    /// An entry that neither writes a document nor replaces the sync function.
     Plain(Entry),
 }
 

@@ -104,7 +104,8 @@ pub fn judged_writes()
 {}
 
 /// What the calls of a board leave comes after what they found, with any entries that wait and any rooms that are outstanding: a look,
-/// a room, a set of a checkpoint, a commit, a swap, and a number that is given up.
+/// a room, a set of a checkpoint, a commit, a swap, and a number that is given up. What `Board::log` says of a board's entries is
+/// given for a commit and a swap.
 pub fn after()
     ensures looked { (s t : State) → t.log ≡ s.log → t.pending ≡ s.pending → t.rooms ≡ s.rooms
         → t.checkpoints ≡ s.checkpoints → board_of t ≡ board_of s }
@@ -117,7 +118,7 @@ pub fn after()
         → After (board_of s) (board_of t) }
     ensures commit { (s t : State) (room : RoomFor) (number : ℕ) (c : Candidate)
         → MayStore s.log s.pending number → IsTrue (is_outstanding s.rooms room) → Fits room c
-        → MayBeStored s number c → is_stale s c ≡ false
+        → MayBeStored s number c → is_stale s c ≡ false → AreEntries (book_on s)
         → history_on t ≡ stored_at s number (entry_of c)
         → book_on t ≡ with_entry number (entry_of c) (book_on s)
         → t.rooms ≡ without_room room s.rooms → t.checkpoints ≡ s.checkpoints
@@ -125,7 +126,7 @@ pub fn after()
     ensures swap { (s t : State) (room : RoomFor) (spent number : ℕ) (c : Candidate)
         → MayStore s.log s.pending spent → MayStore s.log s.pending number → spent ≢ number
         → IsTrue (is_outstanding s.rooms room) → Fits room c
-        → MayBeStored s number c → is_stale s c ≡ false
+        → MayBeStored s number c → is_stale s c ≡ false → AreEntries (book_on s)
         → history_on t ≡ swapped_to s spent number (entry_of c)
         → book_on t ≡ with_entry number (entry_of c)
         (with_entry spent kinds.Unused (book_on s))
@@ -175,13 +176,15 @@ pub fn steps()
         ≡ world_on now count (without_number number (without_number spent held)) }
     ensures store { (s : State) (count number : ℕ) (held : List ℕ) (c : Candidate)
         → IsHeld (world_on s count held) number → MayBeStored s number c
-        → is_stale s c ≡ false → MayStep (world_on s count held) (step.store number (entry_of c)) }
+        → is_stale s c ≡ false → AreEntries (book_on s)
+        → MayStep (world_on s count held) (step.store number (entry_of c)) }
     ensures give_up { (s : State) (count number : ℕ) (held : List ℕ)
         → IsHeld (world_on s count held) number
         → MayStep (world_on s count held) (step.store number kinds.Unused) }
     ensures swap { (s : State) (count spent number : ℕ) (held : List ℕ) (c : Candidate)
         → IsHeld (world_on s count held) spent → IsHeld (world_on s count held) number
         → spent ≢ number → MayBeStored s number c → is_stale s c ≡ false
+        → AreEntries (book_on s)
         → MayStep (world_on s count held) (step.swap spent number (entry_of c)) }
     ensures held { (s : State) (count : ℕ) (held : List ℕ) (number : ℕ)
         → IsSound (world_on s count held) → IsHeld (world_on s count held) number

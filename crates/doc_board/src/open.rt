@@ -10,7 +10,7 @@ ghost use Rattle.doc_board.specs.Boards.{body_size, bytes_stored};
 ghost use Rattle.doc_board.specs.Candidates.{ExtendsTree};
 ghost use Rattle.doc_board.specs.Kept.{AreKept, kept_nodes};
 ghost use Rattle.doc_board.specs.Recorded.{HasDocument, IsNextWrite, MayFollow, Follows, AreFollowing, IsFirstBad};
-ghost use Rattle.rev_tree.specs.Documents.{writes_of, tree_at};
+ghost use Rattle.rev_tree.specs.Documents.{writes_of};
 
 use crate::document::{self, Document, Documents};
 use json_doc::{DocFault, read_doc};
@@ -22,8 +22,8 @@ use std::collections::BTreeMap;
 /// Why a log is that of no board. `Memory` says that memory ran out, which may come at any log.
 #[derive(Clone, Copy, Debug, PartialEq, Eq)]
 pub enum OpenFault {
-    /// The write of this sequence is the first whose body is no document, that is no accepted extension of the tree of its
-    /// document's writes before it, or that names another winner than the tree then has.
+    /// The entry of this sequence is the first that replaces the sync function, or that is a write whose body is no document, that is
+    /// no accepted extension of the tree of its document's writes before it, or that names another winner than the tree then has.
     Bad { sequence: u64 },
     Memory,
 }
@@ -128,10 +128,10 @@ fn take_write(
         (kinds.Write write.now ∷ reverse older.now) documents.new) }
     ensures accepted { IfOk result (λ follows. follows ≡ true → (doc : List ℕ) → AreAccepted
         (writes_of (kinds.Write write.now ∷ reverse older.now) doc)) }
-    ensures yes { IfOk result (λ follows. follows ≡ true → IsNextWrite
-        (tree_at (reverse older.now) write.now.doc) write.now) }
-    ensures no { IfOk result (λ follows. follows ≡ false → ¬ IsNextWrite
-        (tree_at (reverse older.now) write.now.doc) write.now) }
+    ensures yes { IfOk result (λ follows. follows ≡ true → MayFollow
+        (reverse older.now) (kinds.Write write.now)) }
+    ensures no { IfOk result (λ follows. follows ≡ false → ¬ MayFollow
+        (reverse older.now) (kinds.Write write.now)) }
 {
     let Some(tree) = tree_after(alloc, documents, write)? else {
         return Ok(false);
@@ -169,6 +169,7 @@ fn take(
 {
     match entry {
         Entry::Write(write) => take_write(alloc, documents, older, write),
+        Entry::Sync(_, _) => Ok(false),
         _ => Ok(true),
     }
 }

@@ -1,17 +1,16 @@
 //! What storing changes of a board: the log, the entries that wait, the documents, and the rooms that are outstanding.
 
-ghost use Rattle.std.specs.Prelude.{◌≡◌, ◌≢◌, ◌≤◌, ◌<◌, ◌+◌, ◌*◌, ◌++◌, ◌∷◌, [], ℕ, List, false, length, Some, is_some, OnOk, OnErr, IfOk, IfSome, IsTrue};
+ghost use Rattle.std.specs.Prelude.{◌≡◌, ◌≢◌, ◌≤◌, ◌<◌, ◌+◌, ◌*◌, ◌++◌, ◌∷◌, [], ℕ, List, length, Some, is_some, OnOk, OnErr, IfOk, IfSome, IsTrue};
 ghost use Rattle.std.specs.BTreeMap.{get_by_text};
 ghost use Rattle.std.specs.Option.{option_copied};
 ghost use Rattle.sg_history.specs.declared.entries.Entry.TheVariants as kinds;
 ghost use Rattle.sg_history.specs.History.{Extends, entries_of};
 ghost use Rattle.sg_history.specs.Journal.{IsEntry};
-ghost use Rattle.sg_history.specs.Line.{is_write};
 ghost use Rattle.sg_history.specs.World.{put_waiting, release as released};
 ghost use Rattle.sg_history.specs.Rooms.{without_room};
 ghost use Rattle.pending_front.specs.Storing.{MayStore};
 ghost use Rattle.rev_tree.specs.Documents.{last_in, tree_in};
-ghost use Rattle.doc_board.specs.Candidates.{ExtendsTree};
+ghost use Rattle.doc_board.specs.Candidates.{ExtendsTree, IsPlain};
 ghost use Rattle.doc_board.specs.Recorded.{HasDocument};
 ghost use Rattle.doc_board.specs.Rooms.{is_outstanding, room_for};
 ghost use Rattle.doc_board.specs.Steps.{with_entry};
@@ -51,6 +50,7 @@ impl Storage {
         ensures ok { OnOk result ((bytes : ℕ) → HasPlacesOf self.new
             (room_for (option_copied doc.entry) bytes)) }
         ensures err { OnErr result (IsOfBoard self.new) }
+        ensures limit { self.new.log.limit ≡ self.old.log.limit }
     {
         let places = 2 * (self.rooms.count() + 1);
         make_places(&mut self.log, &mut self.pending, &mut self.bases, places)?;
@@ -75,6 +75,7 @@ impl Storage {
             (option_copied doc.entry) bytes ∷ []) }
         ensures err { OnErr result (self.new.rooms ≡ self.old.rooms) }
         ensures room { IfOk result (λ room. room ≡ room_for (option_copied doc.entry) bytes) }
+        ensures limit { self.new.log.limit ≡ self.old.log.limit }
     {
         let made_for = room::room_for(alloc, doc, bytes)?;
         self.make_places(alloc, doc)?;
@@ -91,15 +92,16 @@ impl Storage {
         ensures waiting { self.new.pending.waiting ≡ self.old.pending.waiting }
         ensures documents { self.new.documents ≡ self.old.documents }
         ensures rooms { self.new.rooms ≡ without_room room.made_for self.old.rooms }
+        ensures limit { self.new.log.limit ≡ self.old.log.limit }
     {
         self.rooms.end(room);
     }
 
-    /// Puts an entry that is no write among those that wait, in one of the places that are left. Allocates nothing.
+    /// Puts an entry that neither writes nor replaces the sync function among those that wait, in one of the places that are left. Allocates nothing.
     pub(crate) fn put_plain(&mut self, number: u64, entry: Entry)
         requires number { MayStore (entries_of self.old.log) self.old.pending.waiting number }
         requires entry { IsEntry entry }
-        requires plain { is_write entry ≡ false }
+        requires plain { IsPlain entry }
         requires place { StandsWith self.old 1 }
         ensures stands { (more : ℕ) → StandsWith self.old (more + 1) → StandsWith self.new more }
         ensures log { entries_of self.new.log ≡ entries_of self.old.log }
@@ -112,6 +114,7 @@ impl Storage {
         ensures others { (other : ℕ) → number ≢ other
             → MayStore (entries_of self.old.log) self.old.pending.waiting other
             → MayStore (entries_of self.new.log) self.new.pending.waiting other }
+        ensures limit { self.new.log.limit ≡ self.old.log.limit }
     {
         storing();
         self.pending.put(number, entry);
@@ -133,6 +136,7 @@ impl Storage {
         ensures others { (other : ℕ) → IfSome spent (λ n. n ≢ other)
             → MayStore (entries_of self.old.log) self.old.pending.waiting other
             → MayStore (entries_of self.new.log) self.new.pending.waiting other }
+        ensures limit { self.new.log.limit ≡ self.old.log.limit }
     {
         match spent {
             None => {}
@@ -160,6 +164,7 @@ impl Storage {
         ensures rooms { self.new.rooms ≡ self.old.rooms }
         ensures book { book_in self.new
             ≡ with_entry number (kinds.Write entry) (book_in self.old) }
+        ensures limit { self.new.log.limit ≡ self.old.log.limit }
     {
         storing();
         trees_of_writes();
@@ -185,6 +190,7 @@ impl Storage {
         ensures rooms { self.new.rooms ≡ self.old.rooms }
         ensures book { book_in self.new ≡ book_in self.old }
         ensures extends { Extends (entries_of self.old.log) (entries_of self.new.log) }
+        ensures limit { self.new.log.limit ≡ self.old.log.limit }
     {
         release(&mut self.log, &mut self.pending, &mut self.bases);
     }

@@ -42,6 +42,7 @@ pub fn make_places(
         × (pending.old.spare ≤ pending.new.spare) × (spare bases.old ≤ spare bases.new) }
     ensures ok { OnOk result ((more ≤ pending.new.spare) × (more ≤ spare bases.new)
         × (length pending.old.waiting + more ≤ log.new.entries.spare)) }
+    ensures limit { log.new.limit ≡ log.old.limit }
 {
     log.entries.reserve((pending.len() + more) as usize)?;
     make_waiting(pending, bases, more)
@@ -89,6 +90,7 @@ pub fn release(log: &mut Log, pending: &mut Pending, bases: &mut Bases)
     ensures bases { (number : ℕ) → length log.new.entries.list < number
         → get nat_eq bases.new number ≡ get nat_eq bases.old number }
     ensures base_spare { spare bases.old ≤ spare bases.new }
+    ensures limit { log.new.limit ≡ log.old.limit }
 {
     let front = log.entries.as_slice().len() as u64;
     pending.release(log);

@@ -1,4 +1,4 @@
-use Rattle.std.proofs.Common.{◌+◌, ap, sym, subst, List, Option, Some, length, reverse, ℕ}
+use Rattle.std.proofs.Common.{◌+◌, ap, refl, sym, subst, List, Option, Some, length, reverse, ℕ}
 use Rattle.std.specs.Prelude.{IfSome, IfNone}
 use Rattle.std.specs.BTreeMap.{get_by_text}
 use Rattle.std.proofs.lemmas.List.{length-reverse}
@@ -38,13 +38,13 @@ returns-in-Ok-clause-yes c = λ _.
     let nodes : List Node = kept_nodes (get_by_text c.args.documents.now w.doc) in
     let E : Option (List Node) → Type 0 = λ o. IfSome o (λ after. IsNextWrite nodes w) in
     let F : List Node → Type 0 = λ before. IsNextWrite before w in
-    subst F (nodes_found es c.args.documents.now w.doc c.requires.kept) (subst E c.in-Some.is c.in_ok-tree.ensures.next)
+    (subst F (nodes_found es c.args.documents.now w.doc c.requires.kept) (subst E c.in-Some.is c.in_ok-tree.ensures.next), refl)
 
 pub returns-in_default-clause-no : goal.returns-in_default-clause-no
-returns-in_default-clause-no c = λ _.
+returns-in_default-clause-no c = λ _ may.
     let es : List Entry = reverse c.args.older.now in
     let w = c.args.write.now in
     let nodes : List Node = kept_nodes (get_by_text c.args.documents.now w.doc) in
     let E : Option (List Node) → Type 0 = λ o. IfNone o (¬ IsNextWrite nodes w) in
     let F : List Node → Type 0 = λ before. ¬ IsNextWrite before w in
-    subst F (nodes_found es c.args.documents.now w.doc c.requires.kept) (subst E c.in_default.is c.in_ok-tree.ensures.none)
+    subst F (nodes_found es c.args.documents.now w.doc c.requires.kept) (subst E c.in_default.is c.in_ok-tree.ensures.none) may.0

@@ -24,7 +24,8 @@ returns-clause-following c =
 
 pub returns-clause-entries : goal.returns-clause-entries
 returns-clause-entries c =
-    subst (λ (s : State). AreEntries (book_on s)) c.self.view_is (λ number e is. (c.self.invariant.0.standing.kept.right number e is).0)
+    subst (λ (s : State). AreEntries (book_on s)) c.self.view_is
+    (λ number e is. let right = c.self.invariant.0.standing.kept.right number e is in (right.0, right.2))
 
 pub returns-clause-accepted : goal.returns-clause-accepted
 returns-clause-accepted c = λ doc.
@@ -32,3 +33,6 @@ returns-clause-accepted c = λ doc.
     let waiting = c.self.inside.storage.pending.waiting in
     subst (λ (s : State). AreAccepted (writes_on s doc)) c.self.view_is
     (c.self.invariant.0.standing.kept.accepted (top_of log waiting) (none_above_top log waiting) doc)
+
+pub returns-clause-limit : goal.returns-clause-limit
+returns-clause-limit c = c.self.invariant.2

@@ -1,4 +1,4 @@
-use Rattle.std.proofs.Common.{List, reverse, nat_eq, subst, ap, ◌∙◌, ◌≡◌, Err}
+use Rattle.std.proofs.Common.{List, reverse, nat_eq, refl, subst, ap, ◌∙◌, ◌≡◌, Err}
 use Rattle.std.specs.Prelude.{min}
 use Rattle.std.specs.HashMap.{get, spare}
 use Rattle.sg_history.specs.declared.entries.Entry.{Entry}
@@ -23,6 +23,7 @@ invariant_of-result c =
       opened c.histories.ensures.writes c.histories.ensures.last c.books.ensures.of_rev h c.in-Ok.documents c.new.result (get nat_eq c.new-2.result) (spare c.new-2.result) c.bytes_of-stored.result c.new-3.result c.new.ensures c.new-3.ensures kept accepted following c.requires
           (c.bytes_of-stored.ensures ∙ ap (λ (x : List Entry). min (bytes_stored x) 18446744073709551615) c.as_slice-2.ensures),
       c.new-4.ensures.stands h.list,
+      refl,
     )
 
 pub returns-in-Err-clause-accepts : goal.returns-in-Err-clause-accepts

@@ -31,6 +31,7 @@ invariant_of-self c = (
   c.release.ensures.board,
   c.extended.ensures c.self.inside.storage.log.entries.list c.release.new.self.log.entries.list c.self.invariant.1
       (subst (λ (es : List Entry). Extends es c.release.new.self.log.entries.list) (c.put_plain.ensures.log ∙ c.give_up.ensures.log ∙ c.end.ensures.log) c.release.ensures.extends),
+  c.release.ensures.limit ∙ c.put_plain.ensures.limit ∙ c.give_up.ensures.limit ∙ c.end.ensures.limit ∙ c.self.invariant.2,
 )
 
 pub returns-clause-stored : goal.returns-clause-stored

@@ -28,11 +28,11 @@ returns-clause-writes c = λ doc.
     let s = c.args.self.now in
     let log = s.log.entries.list in
     subst (λ (ws : List Waiting). writes_up_to (book_with log ws) (top_of log ws) doc ≡ writes_in s doc) (sym c.put.ensures.waiting)
-    (writes_still c.storing.ensures.book log s.pending.waiting c.args.number c.requires.number c.args.entry c.requires.plain doc)
+    (writes_still c.storing.ensures.book log s.pending.waiting c.args.number c.requires.number c.args.entry c.requires.plain.0 doc)
 
 pub returns-clause-others : goal.returns-clause-others
 returns-clause-others c = λ other apart may.
     let s = c.args.self.now in
     let log = s.log.entries.list in
     subst (λ (ws : List Waiting). MayStore log ws other) (sym c.put.ensures.waiting)
-    (may_still c.storing.ensures.book log s.pending.waiting c.args.number c.requires.number c.args.entry c.requires.plain other apart may)
+    (may_still c.storing.ensures.book log s.pending.waiting c.args.number c.requires.number c.args.entry c.requires.plain.0 other apart may)
