@@ -5,7 +5,8 @@ pub mod Ledger
 pub mod LedgerAt
 pub mod AppliedLog
 pub mod Stands
-pub mod Winners
+pub mod NewStates
+pub mod MoreStates
 pub mod Givers
 pub mod Gifts
 pub mod Sorted

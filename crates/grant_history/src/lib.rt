@@ -10,11 +10,11 @@ mod history;
 pub mod laws;
 mod ledger;
 mod periods;
+mod states;
 mod store;
 mod whole;
-mod winners;
 
 pub use history::{GrantHistory, Periods};
 pub use periods::Period;
+pub use states::{NewState, NewStates, new_states};
 pub use whole::periods_by;
-pub use winners::winners_of;

@@ -1,38 +1,39 @@
-//! Who had what at each place of some entries, by the winners at them.
+//! Who had what at each place of some entries, by the states that documents have from each on.
 
-ghost use Rattle.std.specs.Prelude.{◌≡◌, ◌≤◌, ◌<◌, ◌+◌, ℕ, List, length, IfOk, OnOk, Some, slice_get};
+ghost use Rattle.std.specs.Prelude.{◌≡◌, ◌≤◌, ◌<◌, ◌+◌, ℕ, List, length, IfOk, OnOk};
 ghost use Rattle.sg_history.specs.declared.entries.Entry.{Entry};
 ghost use Rattle.sg_history.specs.History.{past};
 ghost use Rattle.sg_history.specs.Principals.{has_channel};
 ghost use Rattle.sg_history.specs.Current.{current};
-ghost use Rattle.log_index.specs.Places.{document_at};
 ghost use Rattle.grant_history.specs.Facts as facts;
 ghost use Rattle.grant_history.specs.Periods.{AreInOrder, ArePeriods};
 ghost use Rattle.grant_history.specs.LedgerAt.{LedgerAt, StoreAt};
-ghost use Rattle.grant_history.specs.Winners.{AreWinners, winning_at, winning_in};
+ghost use Rattle.grant_history.specs.NewStates.{AreNewStates, marked_at, state_of, written_at};
 
+use crate::changes::take_marked;
 use crate::facts::Fact;
-use crate::given::of_write;
+use crate::given::of_entry;
 use crate::history::Periods;
 use crate::ledger::{Ledger, Source};
+use crate::states::{NewState, NewStates, since};
 use crate::store::Store;
-use log_views::write_at;
 use sg_history::{Entry, Name};
 use sg_outside::Memory;
 use std::alloc::Global;
 
-/// What a document gives whose winner's write has this sequence; nothing where it was never written.
-fn facts_of(alloc: Global, entries: &[Entry], winning: u64) -> Result<Vec<Fact>, Memory>
+/// What a document gives whose state stands there; nothing where it was never written.
+fn facts_of(alloc: Global, entries: &[Entry], state: Option<NewState>) -> Result<Vec<Fact>, Memory>
     ensures { IfOk result (λ list. (n : ℕ) (doc : List ℕ) → n ≤ length entries.now
-        → winning ≡ winning_in (document_at (past entries.now n) doc)
+        → state ≡ state_of (past entries.now n) doc
         → list.items ≡ facts.document_facts (current (past entries.now n) doc)) }
 {
-    if winning == 0 {
+    log_index::laws::marks();
+    let Some(state) = state else {
         return Ok(Vec::new(alloc));
-    }
-    match write_at(entries, winning) {
+    };
+    match entries.get(since(state).saturating_sub(1) as usize) {
         None => Ok(Vec::new(alloc)),
-        Some(write) => of_write(alloc, write),
+        Some(entry) => of_entry(alloc, entry, state.marked),
     }
 }
 
@@ -42,10 +43,12 @@ fn take_at(
     ledger: &mut Ledger,
     entries: &[Entry],
     i: usize,
-    winning: u64,
+    state: Option<NewState>,
+    marked: &[NewState],
 ) -> Result<(), Memory>
     requires more { i < length entries.now }
-    requires winning { winning ≡ winning_at entries.now i }
+    requires written { state ≡ written_at entries.now i }
+    requires marked { marked.now ≡ marked_at entries.now i }
     requires kept { LedgerAt ledger.old entries.now i }
     ensures { OnOk result (LedgerAt ledger.new entries.now (i + 1)) }
 {
@@ -53,49 +56,50 @@ fn take_at(
     let entry = &entries[i];
     match entry {
         Entry::Write(write) => {
-            let facts = facts_of(alloc, entries, winning)?;
+            let facts = facts_of(alloc, entries, state)?;
             ledger.take(alloc, Source::Document(&write.doc), facts, at)
         }
+        Entry::Sync(_, marks) => take_marked(alloc, ledger, marks.as_slice(), marked, at),
         _ => ledger.take_put(alloc, entry, at),
     }
 }
 
-/// What is kept after these entries, by the winners at them.
-fn ledger_of(alloc: Global, entries: &[Entry], winners: &[u64]) -> Result<Ledger, Memory>
-    requires { AreWinners entries.now winners.now (length entries.now) }
+/// What is kept after these entries, by the states that documents have from each on.
+fn ledger_of(alloc: Global, entries: &[Entry], states: &NewStates) -> Result<Ledger, Memory>
+    requires { AreNewStates entries.now states.now (length entries.now) }
     ensures { IfOk result (λ kept. LedgerAt kept entries.now (length entries.now)) }
 {
     let mut ledger = Ledger::new(alloc);
-    for (i, winning) in winners.iter().enumerate() {
-        take_at(alloc, &mut ledger, entries, i, *winning)?;
+    for i in 0..entries.len() {
+        take_at(alloc, &mut ledger, entries, i, states.written(i), states.marked(i))?;
     }
     Ok(ledger)
 }
 
 /// Who had what at each place of these entries.
-fn store_of(alloc: Global, entries: &[Entry], winners: &[u64]) -> Result<Store, Memory>
-    requires { AreWinners entries.now winners.now (length entries.now) }
+fn store_of(alloc: Global, entries: &[Entry], states: &NewStates) -> Result<Store, Memory>
+    requires { AreNewStates entries.now states.now (length entries.now) }
     ensures { IfOk result (λ store. StoreAt store entries.now (length entries.now)) }
 {
-    let ledger = ledger_of(alloc, entries, winners)?;
+    let ledger = ledger_of(alloc, entries, states)?;
     Ok(ledger.store)
 }
 
-/// The periods in which a user has channels, up to the end of these entries, by the winners at them; one
-/// that lasts then has no end. They rise by channel, by bytes, and those of a channel by where they
-/// begin. It takes less memory than a history of grants that is asked for them.
+/// The periods in which a user has channels, up to the end of these entries, by the states that documents
+/// have from each on; one that lasts then has no end. They rise by channel, by bytes, and those of a
+/// channel by where they begin. It takes less memory than a history of grants that is asked for them.
 pub fn periods_by(
     alloc: Global,
     entries: &[Entry],
-    winners: &[u64],
+    states: &NewStates,
     user: &Name,
 ) -> Result<Periods, Memory>
-    requires { AreWinners entries.now winners.now (length entries.now) }
+    requires { AreNewStates entries.now states.now (length entries.now) }
     ensures periods { IfOk result (λ periods. ArePeriods periods
         (λ c k. has_channel (past entries.now k) user.now c) (length entries.now)) }
     ensures in_order { IfOk result (λ periods. AreInOrder periods) }
 {
-    let store = store_of(alloc, entries, winners)?;
+    let store = store_of(alloc, entries, states)?;
     let periods = store.periods(alloc, user)?;
     Ok(Periods::from_vec(periods))
 }
