@@ -1,31 +1,34 @@
 -- the places of a log, and a history of grants that applied the next one
 use Rattle.std.proofs.Common.{◌≡◌, ◌⊎◌, inl, inr, ◌<◌, ◌≤◌, ◌+◌, ◌-◌, ℕ, zero, suc, refl, sym, ◌∙◌, ap, subst, arith, nat_lt, List, [], ◌∷◌, ◌++◌, length, take, reverse, Option, Some, None}
-use Rattle.std.specs.Prelude.{slice_get}
+use Rattle.std.specs.Prelude.{slice_get, option_map}
 use Rattle.std.proofs.lemmas.Bool.{cases_lt}
 use Rattle.std.proofs.lemmas.List.{length-append, reverse-reverse, reverse-append, length-reverse, length-take-le, take-take}
 use Rattle.std.proofs.lemmas.Option.{none-some, same_Some}
 use Rattle.sg_history.specs.declared.entries.Entry.{Entry}
 use Rattle.sg_history.specs.declared.entries.Entry.TheVariants as entry
+use Rattle.sg_history.specs.declared.entries.Mark.{Mark}
 use Rattle.sg_history.specs.declared.entries.Write.{Write}
-use Rattle.sg_history.specs.History.{Extends, past, as_write}
+use Rattle.sg_history.specs.History.{SyncEntry, Extends, past, as_sync, as_write}
 use Rattle.sg_history.proofs.Books.{same_past}
-use Rattle.sg_history.specs.Current.{Sequenced, current, current_after, winning_of}
-use Rattle.log_index.specs.declared.documents.Document.{Document}
+use Rattle.sg_history.specs.Current.{Sequenced, current, current_after}
 use Rattle.log_index.specs.declared.index.LogIndex.{LogIndex}
 use Rattle.log_index.specs.Index.{Indexes}
-use Rattle.log_index.specs.Places.{document_at}
-use Rattle.log_views.specs.At.{written, write_at}
-use Rattle.log_views.proofs.Placed.{found, nothing}
+use Rattle.log_views.specs.States.{since_by}
+use Rattle.log_views.proofs.Placed.{nothing}
 use Rattle.grant_history.specs.declared.facts.Fact.{Fact}
 use Rattle.grant_history.specs.declared.history.GrantHistory.{GrantHistory}
 use Rattle.grant_history.specs.declared.ledger.Ledger.{Ledger}
+use Rattle.grant_history.specs.declared.states.NewState.{NewState}
 use Rattle.grant_history.specs.Facts.{document_facts}
 use Rattle.grant_history.specs.Store.{has_at}
 use Rattle.grant_history.specs.Sources.{is_held}
-use Rattle.grant_history.specs.Ledger.{facts_of_write, write_facts, IsLedger, Took}
+use Rattle.grant_history.specs.Ledger.{facts_read, IsLedger, Took}
 use Rattle.grant_history.specs.LedgerAt.{LedgerAt, IsNextApplied}
+use Rattle.grant_history.specs.Changes.{IsMarking}
+use Rattle.grant_history.specs.NewStates.{by_marks, state_of}
 use Rattle.grant_history.specs.Stands.{IsIndexed, StandsFor}
 use Rattle.grant_history.proofs.Keeping.{settled, later_store}
+use Rattle.grant_history.proofs.Standing.{MarkLaws, since_low, since_high, facts_stand, nowhere}
 
 take_next : (entries : List Entry) (n : ℕ) (e : Entry) → slice_get entries n ≡ Some e → take (suc n) entries ≡ take n entries ++ e ∷ []
 take_next [] n e h = absurd (none-some e h)
@@ -49,29 +52,26 @@ got_taken (x ∷ xs) (suc n) zero h = refl
 got_taken (x ∷ xs) (suc n) (suc i) h = got_taken xs n i (omega (arith, h))
 
 module _ (entries : List Entry) (n : ℕ) (doc : List ℕ) (high : n ≤ length entries) where
-  pub no_document : document_at (past entries n) doc ≡ None → [] ≡ document_facts (current (past entries n) doc)
-  no_document h = sym (ap (λ (o : Option Sequenced). document_facts (current_after (past entries n) doc o)) (nothing (past entries n) doc h))
+  pub no_document : state_of (past entries n) doc ≡ None → [] ≡ document_facts (current (past entries n) doc)
+  no_document h = sym (ap (λ (o : Option Sequenced). document_facts (current_after (past entries n) doc o)) (nothing (past entries n) doc (nowhere (past entries n) doc h)))
 
-  module _ (d : Document) (at : document_at (past entries n) doc ≡ Some d) where
-    pub winning_low : 1 ≤ d.winning
-    winning_low = let f = found (past entries n) doc d at in omega (arith, f.winning, f.at.low)
+  module _ (laws : MarkLaws) (s : NewState) (at : state_of (past entries n) doc ≡ Some s) where
+    pub read_low : 1 ≤ since_by s.marked s.winning
+    read_low = since_low laws (past entries n) doc s at
 
-    winning_high : d.winning ≤ n
-    winning_high = let f = found (past entries n) doc d at in omega (arith, f.winning, f.at.high, past_count entries n high)
+    read_high : since_by s.marked s.winning ≤ n
+    read_high = omega (arith, since_high laws (past entries n) doc s at, past_count entries n high)
 
-    pub winning_within : d.winning ≤ length entries
-    winning_within = omega (arith, winning_high, high)
+    pub read_within : since_by s.marked s.winning ≤ length entries
+    read_within = omega (arith, read_high, high)
 
-    pub document_read : (e : Entry) → slice_get entries (d.winning - 1) ≡ Some e → write_facts e ≡ document_facts (current (past entries n) doc)
+    pub document_read : (e : Entry) → slice_get entries (since_by s.marked s.winning - 1) ≡ Some e → facts_read e s.marked ≡ document_facts (current (past entries n) doc)
     document_read e read =
-        let f = found (past entries n) doc d at in
-        let place : d.winning - 1 < n = omega (arith, winning_low, winning_high) in
-        let there : as_write e ≡ Some (winning_of (past entries n) doc f.last).write =
-        ap written (sym read ∙ sym (got_taken entries n (d.winning - 1) place))
-        ∙ ap (λ (l : List Entry). write_at l d.winning) (sym (reverse-reverse (take n entries)))
-        ∙ ap (λ (m : ℕ). write_at (reverse (past entries n)) m) f.winning
-        ∙ f.at.there in
-        ap facts_of_write there ∙ sym (ap (λ (o : Option Sequenced). document_facts (current_after (past entries n) doc o)) f.last_is)
+        let place : since_by s.marked s.winning - 1 < n = omega (arith, read_low, read_high) in
+        facts_stand laws (past entries n) doc s at e
+        (ap (λ (l : List Entry). slice_get l (since_by s.marked s.winning - 1)) (reverse-reverse (take n entries))
+        ∙ got_taken entries n (since_by s.marked s.winning - 1) place
+        ∙ read)
 
 -- a step of what is kept from a place to the next one
 module _ (old kept : Ledger) (entries : List Entry) (e : Entry) (n at : ℕ) (place : at ≡ n + 1) (newest : past entries at ≡ e ∷ past entries n) (was : LedgerAt old entries n) (before : (f : Fact) (k : ℕ) → k < at → has_at kept.store f k ≡ has_at old.store f k) where
@@ -91,6 +91,15 @@ module _ (index : LogIndex) (ledger : Ledger) (entries : List Entry) (e : Entry)
   next_place =
       let low : at - 1 ≤ length entries = omega (arith, next.high) in
       omega (arith, next.low, past_count entries (at - 1) low)
+
+  -- the entry replaces the sync function
+  pub marking_next : (text : List ℕ) (marks : List Mark) → e ≡ entry.Sync text marks → IsMarking ledger at marks (by_marks index marks 0) e (past entries (at - 1))
+  marking_next text marks here = record {
+    place = next_place;
+    is_kept = next.kept.is_kept;
+    has = ap (λ (x : Entry). option_map (λ (s : SyncEntry). s.marks) (as_sync x)) here;
+    are = ap (λ (es : List Entry). by_marks es marks 0) (next.index ∙ next.newest);
+  }
 
   module _ (kept : Ledger) (before : (f : Fact) (k : ℕ) → k < at → has_at kept.store f k ≡ has_at ledger.store f k) where
     pub taken : Took kept at e (past entries (at - 1)) → LedgerAt kept entries at
@@ -129,7 +138,17 @@ no_write (entry.PutUser name channels roles) not = refl
 no_write (entry.PutRole name channels) not = refl
 no_write (entry.DropUser name) not = refl
 no_write (entry.DropRole name) not = refl
+no_write (entry.Sync text marks) not = refl
 no_write entry.Unused not = refl
+
+pub no_sync : (e : Entry) → ((text : List ℕ) (marks : List Mark) → e ≡ entry.Sync text marks → ⊥) → as_sync e ≡ None
+no_sync (entry.Write w) not = refl
+no_sync (entry.PutUser name channels roles) not = refl
+no_sync (entry.PutRole name channels) not = refl
+no_sync (entry.DropUser name) not = refl
+no_sync (entry.DropRole name) not = refl
+no_sync (entry.Sync text marks) not = absurd (not text marks refl)
+no_sync entry.Unused not = refl
 
 -- a longer log
 longer : (earlier later : List Entry) → Extends earlier later → length earlier ≤ length later

@@ -2,7 +2,7 @@
 use Rattle.std.proofs.Common.{◌≡◌, ◌≤◌, ◌+◌, ◌-◌, ℕ, refl, sym, ◌∙◌, ap, subst, arith, Bool, true, false, if◌then◌else◌, nat_lt, List, [], ◌∷◌, length, Option, Some, None, String}
 use Rattle.std.specs.BTreeMap.{get_by_text, is_at}
 use Rattle.std.specs.Map.{lookup}
-use Rattle.std.specs.Prelude.{string_bytes}
+use Rattle.std.specs.Prelude.{is_some, string_bytes}
 use Rattle.std.specs.Ordering.{nat_cmp}
 use Rattle.std.specs.Cmp.Lexicographic.{slice_cmp, bytes_decides}
 use Rattle.std.specs.Global.{Global}
@@ -11,7 +11,7 @@ use Rattle.sg_names.specs.declared.grants.Grantee.{Grantee}
 use Rattle.sg_names.specs.declared.grants.Grantee.TheVariants.{User, Role}
 use Rattle.sg_history.specs.declared.entries.Entry.{Entry}
 use Rattle.sg_history.specs.declared.entries.Write.{Write}
-use Rattle.sg_history.specs.History.{as_write}
+use Rattle.sg_history.specs.History.{as_sync, as_write}
 use Rattle.sg_history.specs.Current.{current}
 use Rattle.sg_history.specs.Principals.{PrincipalState, Put, as_put, same_grantee}
 use Rattle.grant_history.specs.declared.facts.Fact.{Fact}
@@ -23,10 +23,12 @@ use Rattle.grant_history.specs.Facts.{times, put_facts, document_facts}
 use Rattle.grant_history.specs.Store.{count_to, held_to, count_at, has_at, IsStore}
 use Rattle.grant_history.specs.Sources.{principal_of, sources}
 use Rattle.grant_history.specs.Ledger.{Source, document, user, role, holder, same_source, given, Lists, facts_of_list, facts_in, facts_from, IsLedger, IsStep, Took}
+use Rattle.grant_history.specs.Changes.{DocumentFacts, all_times, given_after, given_before, given_at, AreChanges}
+use Rattle.grant_history.proofs.Summing.{after_same, before_same}
 use Rattle.grant_tracks.proofs.HeldBy.{later_all, settled_holders}
 use Rattle.grant_history.proofs.Same.{grantees}
 use Rattle.grant_tracks.proofs.Same.{texts_swap}
-use Rattle.grant_history.proofs.Steps.{current_same, unwritten, principal_same, principal_put, idle_step, put_step, write_step, apart}
+use Rattle.grant_history.proofs.Steps.{Unwritten, write_alone, current_same, unwritten, principal_same, principal_put, idle_step, put_step, write_step, apart}
 
 -- a place made for a name changes nothing
 pub placed_empty : (old new : Lists) (name : List ℕ) (v : SourceFacts) → v.facts.items ≡ [] → get_by_text old name ≡ None
@@ -36,6 +38,14 @@ placed_empty old new name v empty none sets other = ap facts_of_list (sets other
     by : (b : Bool) → bytes_eq name other ≡ b → facts_of_list (if b then Some v else get_by_text old other) ≡ facts_in old other
     by true same = empty ∙ ap facts_of_list (sym none) ∙ ap (λ (n : List ℕ). facts_in old n) ((bytes_decides name other).0 same)
     by false same = refl
+
+pub placed_there : (b : Bool) (v : SourceFacts) (o : Option SourceFacts) → is_some o ≡ true → is_some (if b then Some v else o) ≡ true
+placed_there true v o h = refl
+placed_there false v o h = h
+
+pub swapped_there : (b : Bool) (v : SourceFacts) (o : Option SourceFacts) → (b ≡ true → is_some o ≡ true) → is_some (if b then Some v else o) ≡ is_some o
+swapped_there true v o h = sym (h refl)
+swapped_there false v o h = refl
 
 pub swapped : (b : Bool) (v : SourceFacts) (o : Option SourceFacts) → facts_of_list (if b then Some v else o) ≡ (if b then v.facts.items else facts_of_list o)
 swapped true v o = refl
@@ -157,20 +167,20 @@ kept_nothing kept documents users roles counts up_to = record {
     by (user n) = empty_list kept.users n users
     by (role n) = empty_list kept.roles n roles
 
-module _ (kept : Ledger) (e : Entry) (es : List Entry) (at : ℕ) (place : at ≡ length es + 1) (is_kept : IsLedger kept es) where
-  pub put_is_step : (p : Put) → as_write e ≡ None → as_put e ≡ Some p → IsStep kept at (holder p.of) (put_facts p.of p.state) e es
-  put_is_step p written put = record {
+module _ (law : Unwritten) (kept : Ledger) (e : Entry) (es : List Entry) (at : ℕ) (place : at ≡ length es + 1) (is_kept : IsLedger kept es) where
+  pub put_is_step : (p : Put) → as_sync e ≡ None → as_write e ≡ None → as_put e ≡ Some p → IsStep kept at (holder p.of) (put_facts p.of p.state) e es
+  put_is_step p unsynced written put = record {
     place = place;
     is_kept = is_kept;
     others = others p.of refl;
-    sums = λ f. sums f p.of refl ∙ put_step e es p written put f;
+    sums = λ f. sums f p.of refl ∙ put_step e es law unsynced p written put f;
   }
     where
       stands : (of : Grantee) → principal_of (e ∷ es) of ≡ (if same_grantee p.of of then p.state else principal_of es of)
       stands of = principal_put e es of p put
 
       documents : (d : List ℕ) → document_facts (current (e ∷ es) d) ≡ document_facts (current es d)
-      documents d = ap document_facts (current_same e es d (unwritten e es d written))
+      documents d = ap document_facts (current_same e es law unsynced d (unwritten e es d written))
 
       chosen : (b : Bool) (of : Grantee) (s : Option PrincipalState) → put_facts of (if b then p.state else s) ≡ (if b then put_facts of p.state else put_facts of s)
       chosen true of s = refl
@@ -203,12 +213,12 @@ module _ (kept : Ledger) (e : Entry) (es : List Entry) (at : ℕ) (place : at �
     place = place;
     is_kept = is_kept;
     others = others;
-    sums = λ f. write_step e es w is put f;
+    sums = λ f. write_step law e es w is put f;
   }
     where
       documents : (d : List ℕ) (b : Bool) → bytes_eq w.doc d ≡ b → document_facts (current (e ∷ es) d) ≡ (if b then document_facts (current (e ∷ es) w.doc) else document_facts (current es d))
       documents d true same = ap (λ (x : List ℕ). document_facts (current (e ∷ es) x)) (sym ((bytes_decides w.doc d).0 same))
-      documents d false same = ap document_facts (current_same e es d (apart e es w is d (texts_swap d w.doc ∙ same)))
+      documents d false same = ap document_facts (current_same e es law (write_alone e w is) d (apart e es w is d (texts_swap d w.doc ∙ same)))
 
       others : (s : Source) → given (e ∷ es) s ≡ (if same_source (document w.doc) s then document_facts (current (e ∷ es) w.doc) else given es s)
       others (document d) = documents d (bytes_eq w.doc d) refl
@@ -216,10 +226,10 @@ module _ (kept : Ledger) (e : Entry) (es : List Entry) (at : ℕ) (place : at �
       others (role n) = ap (λ (s : Option PrincipalState). put_facts (Role n) s) (principal_same e es (Role n) put)
 
   -- an entry that changes nothing
-  pub idle_took : as_write e ≡ None → as_put e ≡ None → Took kept at e es
-  idle_took written put =
+  pub idle_took : as_sync e ≡ None → as_write e ≡ None → as_put e ≡ None → Took kept at e es
+  idle_took unsynced written put =
       let up : IsStore kept.store at = subst (λ (n : ℕ). IsStore kept.store n) (sym place) is_kept.up_to in
-      let counts : (f : Fact) → count_at kept.store f ≡ sources (e ∷ es) f = λ f. is_kept.counts f ∙ sym (idle_step e es written put f) in
+      let counts : (f : Fact) → count_at kept.store f ≡ sources (e ∷ es) f = λ f. is_kept.counts f ∙ sym (idle_step e es law unsynced written put f) in
       record {
         is_kept = record {
           lists = λ s. is_kept.lists s ∙ sym (same s);
@@ -230,6 +240,49 @@ module _ (kept : Ledger) (e : Entry) (es : List Entry) (at : ℕ) (place : at �
       }
     where
       same : (s : Source) → given (e ∷ es) s ≡ given es s
-      same (document d) = ap document_facts (current_same e es d (unwritten e es d written))
+      same (document d) = ap document_facts (current_same e es law unsynced d (unwritten e es d written))
       same (user n) = ap (λ (s : Option PrincipalState). put_facts (User n) s) (principal_same e es (User n) put)
       same (role n) = ap (λ (s : Option PrincipalState). put_facts (Role n) s) (principal_same e es (Role n) put)
+
+-- what is kept once documents give other facts
+module _ (old : Ledger) (at : ℕ) (changes : List DocumentFacts) (e : Entry) (es : List Entry) (are : AreChanges old at changes e es) where
+  gave : (d : List ℕ) → facts_in old.documents d ≡ given_at es d
+  gave d = are.is_kept.lists (document d)
+
+  pub each_up_to : IsStore old.store at
+  each_up_to = subst (λ (n : ℕ). IsStore old.store n) (sym are.place) are.is_kept.up_to
+
+  pub each_given : (f : Fact) → all_times (given_before (facts_in old.documents) changes) f ≤ count_at old.store f + all_times changes f
+  each_given f =
+      omega (arith, before_same (facts_in old.documents) (given_at es) gave changes f, are.sums f, are.is_kept.counts f)
+
+  pub took_each : (store : Store) (lists : Lists) → Dated count_at has_at IsStore old.store store at (λ f. count_at old.store f + all_times changes f - all_times (given_before (facts_in old.documents) changes) f)
+      → ((d : List ℕ) → facts_in lists d ≡ given_after (facts_in old.documents) changes d)
+      → Took (record { store = store; documents = lists; users = old.users; roles = old.roles }) at e es
+  took_each store lists d documents =
+      let count : (f : Fact) → count_at store f ≡ sources (e ∷ es) f = λ f.
+      omega (arith, d.counts f, before_same (facts_in old.documents) (given_at es) gave changes f, are.sums f, are.is_kept.counts f) in
+      let up : IsStore store at = d.up_to (length es + 1) (omega (arith, are.place)) are.is_kept.up_to in
+      record {
+        is_kept = record {
+          lists = by;
+          counts = count;
+          up_to = later_store store at (length (e ∷ es) + 1) (omega (arith, are.place)) up;
+        };
+        now = λ f. settled store at f up ∙ ap (λ (n : ℕ). nat_lt 0 n) (count f);
+      }
+    where
+      by : (s : Source) → facts_from (record { store = store; documents = lists; users = old.users; roles = old.roles }) s ≡ given (e ∷ es) s
+      by (document x) = documents x ∙ after_same (facts_in old.documents) (given_at es) gave changes x ∙ sym (are.documents x)
+      by (user n) = are.is_kept.lists (user n) ∙ sym (ap (λ (s : Option PrincipalState). put_facts (User n) s) (are.users n))
+      by (role n) = are.is_kept.lists (role n) ∙ sym (ap (λ (s : Option PrincipalState). put_facts (Role n) s) (are.roles n))
+
+pub each_kept_on : (old : Ledger) (at : ℕ) (store : Store) (lists : Lists) → Dated count_at has_at IsStore old.store store at (count_at old.store) → ((d : List ℕ) → facts_in lists d ≡ facts_in old.documents d)
+    → (es : List Entry) → at ≡ length es + 1 → IsLedger old es → IsLedger (record { store = store; documents = lists; users = old.users; roles = old.roles }) es
+each_kept_on old at store lists d documents es place is =
+    kept_on old (record { store = store; documents = lists; users = old.users; roles = old.roles }) at d same es place is
+  where
+    same : (s : Source) → facts_from (record { store = store; documents = lists; users = old.users; roles = old.roles }) s ≡ facts_from old s
+    same (document x) = documents x
+    same (user n) = refl
+    same (role n) = refl

@@ -1,5 +1,10 @@
 pub mod Same
 pub mod Steps
+pub mod Summing
+pub mod Changing
+pub mod Standing
+pub mod Marking
+pub mod KeptStates
 pub mod Storing
 pub mod Has
 pub mod Keeping

@@ -1,112 +1,93 @@
--- the winners at the entries of a log
+-- the states that documents have from each entry of a log on
 use Rattle.std.proofs.Common.{◌≡◌, ◌≢◌, ◌<◌, ◌≤◌, ◌+◌, ◌-◌, ℕ, zero, suc, refl, sym, ◌∙◌, ap, subst, arith, inl, inr, List, [], ◌∷◌, ◌++◌, length, take, drop, get_or, Option, Some, None}
-use Rattle.std.specs.Prelude.{slice_get}
+use Rattle.std.specs.Prelude.{slice_get, option_map}
 use Rattle.std.proofs.lemmas.Bool.{cases_lt}
-use Rattle.std.proofs.lemmas.List.{length-append, length-take-le, take-append-drop}
+use Rattle.std.proofs.lemmas.List.{length-take-le, take-append-drop}
 use Rattle.std.specs.BTreeMap.{get_by_text}
-use Rattle.std.proofs.lemmas.Option.{slice_get-get_or}
 use Rattle.sg_history.specs.declared.entries.Entry.{Entry}
 use Rattle.sg_history.specs.declared.entries.Entry.TheVariants as entry
+use Rattle.sg_history.specs.declared.entries.Mark.{Mark}
 use Rattle.sg_history.specs.declared.entries.Write.{Write}
-use Rattle.sg_history.specs.History.{as_write, past, Extends}
+use Rattle.sg_history.specs.History.{SyncEntry, as_sync, as_write, past, Extends}
 use Rattle.sg_history.proofs.Books.{same_past}
-use Rattle.log_index.specs.declared.documents.Document.{Document}
-use Rattle.log_index.specs.Places.{document_at}
-use Rattle.log_views.specs.At.{written, write_at}
+use Rattle.log_views.specs.At.{written}
 use Rattle.sg_history.specs.Current.{current}
 use Rattle.sg_history.specs.Principals.{as_put, has_channel}
 use Rattle.grant_history.specs.declared.facts.Fact.{Fact}
 use Rattle.grant_history.specs.declared.ledger.Ledger.{Ledger}
 use Rattle.grant_history.specs.declared.periods.Period.{Period}
+use Rattle.grant_history.specs.declared.states.NewState.{NewState}
 use Rattle.grant_history.specs.declared.store.Store.{Store}
 use Rattle.grant_history.specs.Facts.{document_facts}
 use Rattle.grant_history.specs.Store.{has_at}
-use Rattle.grant_history.specs.Ledger.{document, facts_of_write, IsStep, Took}
+use Rattle.grant_history.specs.Ledger.{document, IsStep, Took}
 use Rattle.grant_history.specs.Periods.{AreAllPeriods, ArePeriods}
 use Rattle.grant_tracks.specs.Reads.{user_channel}
 use Rattle.grant_history.specs.LedgerAt.{LedgerAt, StoreAt}
-use Rattle.grant_history.specs.Winners.{AreWinners, winning_at, winning_by, winning_in}
-use Rattle.grant_history.proofs.Applied.{advanced, held_on, past_count, past_next, winning_low, winning_within, document_read}
+use Rattle.grant_history.specs.Changes.{IsMarking}
+use Rattle.grant_history.specs.MoreStates.{IsOneMore}
+use Rattle.grant_history.specs.NewStates.{AreNewStates, KeptStates, by_marks, marked_at, marked_in, replaced, state_of, state_written, states_marked, written_at, written_in}
+use Rattle.grant_history.proofs.Applied.{advanced, held_on, past_count, past_next}
 use Rattle.grant_history.proofs.Keeping.{write_is_step}
+use Rattle.grant_history.proofs.Steps.{Unwritten}
 use Rattle.grant_history.proofs.Reading.{user_channels}
 
-got_left : (xs ys : List ℕ) (i : ℕ) → i < length xs → slice_get (xs ++ ys) i ≡ slice_get xs i
-got_left [] ys i h = absurd (omega (arith, h))
-got_left (x ∷ xs) ys zero h = refl
-got_left (x ∷ xs) ys (suc i) h = got_left xs ys i (omega (arith, h))
-
-got_seam : (xs : List ℕ) (y : ℕ) → slice_get (xs ++ y ∷ []) (length xs) ≡ Some y
-got_seam [] y = refl
-got_seam (x ∷ xs) y = got_seam xs y
-
 module _ (entries : List Entry) (i : ℕ) (e : Entry) (is : slice_get entries i ≡ Some e) where
-  -- the winner at an entry
-  winner_at : winning_by (e ∷ past entries i) (as_write e) ≡ winning_at entries i
-  winner_at =
-      ap (λ (es : List Entry). winning_by es (as_write e)) (sym (past_next entries i e is))
-      ∙ ap (λ (o : Option Entry). winning_by (past entries (i + 1)) (written o)) (sym is)
+  written_is : state_written (e ∷ past entries i) (as_write e) ≡ written_at entries i
+  written_is =
+      ap (λ (es : List Entry). state_written es (as_write e)) (sym (past_next entries i e is))
+      ∙ ap (λ (o : Option Entry). state_written (past entries (i + 1)) (written o)) (sym is)
 
-  pub winner_of_write : (w : Write) → as_write e ≡ Some w → winning_at entries i ≡ winning_in (document_at (past entries (i + 1)) w.doc)
-  winner_of_write w writes =
-      ap (λ (o : Option Entry). winning_by (past entries (i + 1)) (written o)) is
-      ∙ ap (λ (o : Option Write). winning_by (past entries (i + 1)) o) writes
+  marked_is : states_marked (e ∷ past entries i) (as_sync e) ≡ marked_at entries i
+  marked_is =
+      ap (λ (es : List Entry). states_marked es (as_sync e)) (sym (past_next entries i e is))
+      ∙ ap (λ (o : Option Entry). states_marked (past entries (i + 1)) (replaced o)) (sym is)
+
+  pub state_of_write : (w : Write) → as_write e ≡ Some w → written_at entries i ≡ state_of (past entries (i + 1)) w.doc
+  state_of_write w writes =
+      ap (λ (o : Option Entry). state_written (past entries (i + 1)) (written o)) is
+      ∙ ap (λ (o : Option Write). state_written (past entries (i + 1)) o) writes
+
+  pub states_of_sync : (s : SyncEntry) → as_sync e ≡ Some s → marked_at entries i ≡ by_marks (e ∷ past entries i) s.marks 0
+  states_of_sync s replaces = sym marked_is ∙ ap (λ (o : Option SyncEntry). states_marked (e ∷ past entries i) o) replaces
 
   -- one entry more
-  pub more_winners : (winners : List ℕ) → AreWinners entries winners i → AreWinners entries (winners ++ winning_by (e ∷ past entries i) (as_write e) ∷ []) (i + 1)
-  more_winners winners are = record {
-    count = omega (arith, length-append winners (winning_by (e ∷ past entries i) (as_write e) ∷ []), are.count);
-    at = λ j below. elim (cases_lt j i) [
-      | inl lower ↦ got_left winners (winning_by (e ∷ past entries i) (as_write e) ∷ []) j (omega (arith, lower, are.count)) ∙ are.at j lower
+  pub more_states : (old new : KeptStates) → AreNewStates entries old i → IsOneMore old new (state_written (e ∷ past entries i) (as_write e)) (states_marked (e ∷ past entries i) (as_sync e)) → AreNewStates entries new (i + 1)
+  more_states old new are more = record {
+    count = omega (arith, more.count, are.count);
+    written = λ j below. elim (cases_lt j i) [
+      | inl lower ↦ more.written_before j (omega (arith, lower, are.count)) ∙ are.written j lower
       | inr above ↦
           let here : j ≡ i = omega (arith, above, below) in
-          ap (λ (m : ℕ). slice_get (winners ++ winning_by (e ∷ past entries i) (as_write e) ∷ []) m) (here ∙ sym are.count)
-          ∙ got_seam winners (winning_by (e ∷ past entries i) (as_write e))
-          ∙ ap (λ (m : ℕ). Some m) winner_at
-          ∙ ap (λ (m : ℕ). Some (winning_at entries m)) (sym here)
+          ap (λ (m : ℕ). written_in new m) (here ∙ sym are.count) ∙ more.written ∙ written_is ∙ ap (λ (m : ℕ). written_at entries m) (sym here)
+    ];
+    marked = λ j below. elim (cases_lt j i) [
+      | inl lower ↦ more.marked_before j (omega (arith, lower, are.count)) ∙ are.marked j lower
+      | inr above ↦
+          let here : j ≡ i = omega (arith, above, below) in
+          ap (λ (m : ℕ). marked_in new m) (here ∙ sym are.count) ∙ more.marked ∙ marked_is ∙ ap (λ (m : ℕ). marked_at entries m) (sym here)
     ];
   }
-
-module _ (entries : List Entry) (n : ℕ) (doc : List ℕ) (high : n ≤ length entries) where
-  -- one that has no winner was never written
-  pub no_winner : (m : ℕ) → m ≡ 0 → m ≡ winning_in (document_at (past entries n) doc) → document_at (past entries n) doc ≡ None
-  no_winner m none h = by (document_at (past entries n) doc) refl
-    where
-      by : (o : Option Document) → document_at (past entries n) doc ≡ o → o ≡ None
-      by None is = refl
-      by (Some d) is =
-          let low : 1 ≤ d.winning = winning_low entries n doc high d is in
-          let same : m ≡ d.winning = h ∙ ap winning_in is in
-          absurd (omega (arith, low, same, none))
-
-  pub some_winner : (m : ℕ) → m ≢ 0 → m ≡ winning_in (document_at (past entries n) doc) → (d : Document) × (document_at (past entries n) doc ≡ Some d) × (d.winning ≡ m)
-  some_winner m some h = by (document_at (past entries n) doc) refl
-    where
-      by : (o : Option Document) → document_at (past entries n) doc ≡ o → (d : Document) × (document_at (past entries n) doc ≡ Some d) × (d.winning ≡ m)
-      by None is = absurd (some (h ∙ ap winning_in is))
-      by (Some d) is = (d, is, sym (h ∙ ap winning_in is))
-
-  -- what a document gives is what its winner's write gives
-  pub facts_read : (m : ℕ) → m ≢ 0 → m ≡ winning_in (document_at (past entries n) doc) → facts_of_write (write_at entries m) ≡ document_facts (current (past entries n) doc)
-  facts_read m some h =
-      let s = some_winner m some h in
-      let e = get_or entries (s.0.winning - 1) entry.Unused in
-      let low = winning_low entries n doc high s.0 s.1 in
-      let within = winning_within entries n doc high s.0 s.1 in
-      let read : slice_get entries (s.0.winning - 1) ≡ Some e = slice_get-get_or entries (s.0.winning - 1) entry.Unused (omega (arith, low, within)) in
-      ap (λ (k : ℕ). facts_of_write (write_at entries k)) (sym s.2)
-      ∙ ap (λ (o : Option Entry). facts_of_write (written o)) read
-      ∙ document_read entries n doc high s.0 s.1 e read
 
 -- what is kept before the entry at a place, counted from 0, and after it
 module _ (old : Ledger) (entries : List Entry) (i : ℕ) (e : Entry) (is : slice_get entries i ≡ Some e) (more : i < length entries) (kept : LedgerAt old entries i) where
   pub place_at : i + 1 ≡ length (past entries i) + 1
   place_at = let low : i ≤ length entries = omega (arith, more) in omega (arith, past_count entries i low)
 
-  pub write_step_at : (w : Write) → e ≡ entry.Write w → (facts : List Fact) → facts ≡ document_facts (current (past entries (i + 1)) w.doc) → IsStep old (i + 1) (document w.doc) facts e (past entries i)
-  write_step_at w here facts now =
-      let step = write_is_step old e (past entries i) (i + 1) place_at kept.is_kept w (ap as_write here) (ap as_put here) in
+  pub write_step_at : (law : Unwritten) (w : Write) → e ≡ entry.Write w → (facts : List Fact) → facts ≡ document_facts (current (past entries (i + 1)) w.doc) → IsStep old (i + 1) (document w.doc) facts e (past entries i)
+  write_step_at law w here facts now =
+      let step = write_is_step law old e (past entries i) (i + 1) place_at kept.is_kept w (ap as_write here) (ap as_put here) in
       let same : facts ≡ document_facts (current (e ∷ past entries i) w.doc) = now ∙ ap (λ (es : List Entry). document_facts (current es w.doc)) (past_next entries i e is) in
       subst (λ (fs : List Fact). IsStep old (i + 1) (document w.doc) fs e (past entries i)) (sym same) step
+
+  -- the entry replaces the sync function
+  pub marking_at : (text : List ℕ) (marks : List Mark) → e ≡ entry.Sync text marks → (states : List NewState) → states ≡ marked_at entries i → IsMarking old (i + 1) marks states e (past entries i)
+  marking_at text marks here states at = record {
+    place = place_at;
+    is_kept = kept.is_kept;
+    has = ap (λ (x : Entry). option_map (λ (s : SyncEntry). s.marks) (as_sync x)) here;
+    are = at ∙ states_of_sync entries i e is (record { text = text; marks = marks }) (ap as_sync here);
+  }
 
   pub kept_after : (new : Ledger) → ((f : Fact) (k : ℕ) → k < i + 1 → has_at new.store f k ≡ has_at old.store f k) → Took new (i + 1) e (past entries i) → LedgerAt new entries (i + 1)
   kept_after new before took = advanced old new entries e i (i + 1) refl (past_next entries i e is) kept before took

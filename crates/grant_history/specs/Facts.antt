@@ -4,7 +4,8 @@ use Rattle.sg_names.specs.declared.grants.Grantee.{Grantee}
 use Rattle.sg_names.specs.declared.grants.Grantee.TheVariants.{User}
 use Rattle.sg_names.specs.declared.grants.Grant.{Grant}
 use Rattle.sg_names.specs.declared.role_grants.RoleGrant.{RoleGrant}
-use Rattle.sg_history.specs.Current.{Current}
+use Rattle.sg_history.specs.declared.entries.Mark.{Mark}
+use Rattle.sg_history.specs.Current.{Current, Effects}
 use Rattle.sg_history.specs.Principals.{PrincipalState, same_grantee}
 use Rattle.grant_tracks.specs.declared.things.What.{What}
 use Rattle.grant_tracks.specs.declared.things.What.TheVariants as what
@@ -43,7 +44,15 @@ grant_facts grants = map (λ g. fact g.to (what.Channel g.channel)) grants
 abbrev pub gift_facts : List RoleGrant → List Fact
 gift_facts gifts = map (λ g. fact (User g.user) (what.Role g.role)) gifts
 
+-- what a revision gives by its effects
+abbrev pub effect_facts : Effects → List Fact
+effect_facts effects = grant_facts effects.grants ++ gift_facts effects.roles
+
 -- what a document gives as it is
 abbrev pub document_facts : Option Current → List Fact
 document_facts None = []
-document_facts (Some c) = grant_facts c.effects.grants ++ gift_facts c.effects.roles
+document_facts (Some c) = effect_facts c.effects
+
+-- what a mark gives to its revision
+abbrev pub mark_facts : Mark → List Fact
+mark_facts mark = grant_facts mark.grants ++ gift_facts mark.roles

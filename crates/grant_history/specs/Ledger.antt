@@ -6,16 +6,19 @@ use Rattle.std.specs.Str.{bytes_eq}
 use Rattle.sg_names.specs.declared.grants.Grantee.{Grantee}
 use Rattle.sg_names.specs.declared.grants.Grantee.TheVariants.{User, Role}
 use Rattle.sg_history.specs.declared.entries.Entry.{Entry}
+use Rattle.sg_history.specs.declared.entries.Mark.{Mark}
 use Rattle.sg_history.specs.declared.entries.Write.{Write}
-use Rattle.sg_history.specs.History.{as_write}
+use Rattle.sg_history.specs.History.{as_sync, as_write}
 use Rattle.sg_history.specs.Current.{current}
 use Rattle.sg_history.specs.Principals.{user_at, role_at}
+use Rattle.log_index.specs.declared.marks.Marked.{Marked}
+use Rattle.log_index.specs.Marks.{mark_in_place}
 use Rattle.grant_history.specs.declared.facts.Fact.{Fact}
 use Rattle.grant_history.specs.declared.ledger.Ledger.{Ledger}
 use Rattle.grant_history.specs.declared.ledger.SourceFacts.{SourceFacts}
 use Rattle.grant_history.specs.declared.ledger.Source as code
 use Rattle.grant_history.specs.declared.ledger.Source.TheVariants as kind
-use Rattle.grant_history.specs.Facts.{times, put_facts, grant_facts, gift_facts, document_facts}
+use Rattle.grant_history.specs.Facts.{times, put_facts, grant_facts, gift_facts, document_facts, mark_facts}
 use Rattle.grant_history.specs.Store.{count_at, has_at, IsStore}
 use Rattle.grant_history.specs.Sources.{sources, is_held}
 
@@ -54,6 +57,16 @@ facts_of_write (Some w) = grant_facts w.grants ++ gift_facts w.roles
 
 abbrev pub write_facts : Entry → List Fact
 write_facts e = facts_of_write (as_write e)
+
+-- what a mark gives, where there is one
+abbrev pub facts_of_mark : Option Mark → List Fact
+facts_of_mark None = []
+facts_of_mark (Some mark) = mark_facts mark
+
+-- what an entry gives that has the effects of a winner: by its write, or by this one of its marks
+abbrev pub facts_read : Entry → Option Marked → List Fact
+facts_read e None = write_facts e
+facts_read e (Some m) = facts_of_mark (mark_in_place (as_sync e) m.mark)
 
 -- what a source gives after some entries
 abbrev pub given : List Entry → Source → List Fact

@@ -7,6 +7,7 @@ pub mod AppliedLog
 pub mod Stands
 pub mod NewStates
 pub mod MoreStates
+pub mod Changes
 pub mod Givers
 pub mod Gifts
 pub mod Sorted

@@ -5,13 +5,16 @@ ghost use Rattle.std.specs.Option.{option_copied};
 ghost use Rattle.sg_history.specs.Puts as puts;
 ghost use Rattle.sg_names.specs.declared.grants.Grantee.TheVariants as grantees;
 ghost use Rattle.grant_tracks.specs.declared.things.What.TheVariants as what;
-ghost use Rattle.grant_history.specs.Facts.{fact, channel_facts, role_facts, put_facts, grant_facts, gift_facts};
-ghost use Rattle.grant_history.specs.Ledger.{write_facts};
+ghost use Rattle.sg_history.specs.History.{as_sync};
+ghost use Rattle.log_index.specs.Marks.{mark_in_place};
+ghost use Rattle.grant_history.specs.Facts.{fact, channel_facts, role_facts, put_facts, grant_facts, gift_facts, mark_facts};
+ghost use Rattle.grant_history.specs.Ledger.{facts_of_mark, facts_read, write_facts};
 
 use crate::facts::Fact;
 use grant_tracks::What;
+use log_index::Marked;
 use sg_history::{
-    ChannelName, Entry, Given, Grant, Grantee, Name, Principal, Put, RoleGrant, Write,
+    ChannelName, Entry, Given, Grant, Grantee, Mark, Name, Principal, Put, RoleGrant,
 };
 use sg_outside::Memory;
 use std::alloc::Global;
@@ -149,25 +152,58 @@ fn add_gifts(alloc: Global, list: &mut Vec<Fact>, gifts: &[RoleGrant]) -> Result
     Ok(())
 }
 
-/// What the document of a write gives where this is the write of its winner.
-pub fn of_write(alloc: Global, write: &Write) -> Result<Vec<Fact>, Memory>
-    ensures { IfOk result (λ list. list.items
-        ≡ grant_facts write.now.grants ++ gift_facts write.now.roles) }
+/// What a revision gives by its effects.
+fn of_effects(alloc: Global, grants: &[Grant], roles: &[RoleGrant]) -> Result<Vec<Fact>, Memory>
+    ensures { IfOk result (λ list. list.items ≡ grant_facts grants.now ++ gift_facts roles.now) }
 {
-    let grants = write.grants.as_slice().len();
-    let most = grants.saturating_add(write.roles.as_slice().len());
+    let most = grants.len().saturating_add(roles.len());
     let mut list = Vec::with_capacity(alloc, most)?;
-    add_grants(alloc, &mut list, write.grants.as_slice())?;
-    add_gifts(alloc, &mut list, write.roles.as_slice())?;
+    add_grants(alloc, &mut list, grants)?;
+    add_gifts(alloc, &mut list, roles)?;
     Ok(list)
 }
 
-/// The same by the write's entry; nothing where it is none.
-pub fn of_entry(alloc: Global, entry: &Entry) -> Result<Vec<Fact>, Memory>
+/// What the document of a write gives where this is the write of its winner, and has its effects;
+/// nothing where the entry is no write.
+fn of_write(alloc: Global, entry: &Entry) -> Result<Vec<Fact>, Memory>
     ensures { IfOk result (λ list. list.items ≡ write_facts entry.now) }
 {
     match entry.as_write() {
         None => Ok(Vec::new(alloc)),
-        Some(write) => of_write(alloc, write),
+        Some(write) => of_effects(alloc, write.grants.as_slice(), write.roles.as_slice()),
+    }
+}
+
+/// What a mark gives.
+pub fn of_mark(alloc: Global, mark: &Mark) -> Result<Vec<Fact>, Memory>
+    ensures { IfOk result (λ list. list.items ≡ mark_facts mark.now) }
+{
+    of_effects(alloc, mark.grants.as_slice(), mark.roles.as_slice())
+}
+
+/// The mark of this number, counted from 0, that an entry has, if it has one.
+fn mark_in(entry: &Entry, number: u64) -> Option<&Mark>
+    ensures { option_copied result ≡ mark_in_place (as_sync entry.now) number }
+{
+    entry.as_sync()?.marks.as_slice().get(number as usize)
+}
+
+/// What a mark gives, where there is one.
+fn of_any_mark(alloc: Global, mark: Option<&Mark>) -> Result<Vec<Fact>, Memory>
+    ensures { IfOk result (λ list. list.items ≡ facts_of_mark (option_copied mark.entry)) }
+{
+    match mark {
+        None => Ok(Vec::new(alloc)),
+        Some(mark) => of_mark(alloc, mark),
+    }
+}
+
+/// What a document gives by the entry that has its winner's effects: the write, or this mark.
+pub fn of_entry(alloc: Global, entry: &Entry, marked: Option<Marked>) -> Result<Vec<Fact>, Memory>
+    ensures { IfOk result (λ list. list.items ≡ facts_read entry.now marked) }
+{
+    match marked {
+        None => of_write(alloc, entry),
+        Some(marked) => of_any_mark(alloc, mark_in(entry, marked.mark)),
     }
 }

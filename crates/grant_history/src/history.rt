@@ -6,18 +6,25 @@ ghost use Rattle.sg_history.specs.declared.entries.Entry as entry;
 ghost use Rattle.sg_history.specs.History.{among, past};
 ghost use Rattle.sg_history.specs.Principals.{exists, user_at, has_channel, has_role};
 ghost use Rattle.sg_history.specs.Current.{current};
+ghost use Rattle.grant_history.specs.declared.facts.Fact as facts_of;
+ghost use Rattle.grant_history.specs.Changes.{IsMarking};
 ghost use Rattle.grant_history.specs.Facts as facts;
+ghost use Rattle.grant_history.specs.Ledger.{IsLedger, Took};
+ghost use Rattle.grant_history.specs.NewStates.{by_marks};
+ghost use Rattle.grant_history.specs.Store.{has_at};
 ghost use Rattle.grant_history.specs.Periods.{AreInOrder, ArePeriods};
 ghost use Rattle.grant_history.specs.Sorted.{AreSorted};
 ghost use Rattle.grant_history.specs.LedgerAt.{IsNextApplied, LedgerAt};
 ghost use Rattle.grant_history.specs.Stands.{StandsFor};
 
+use crate::changes::take_marked;
 use crate::facts::Fact;
 use crate::given::of_entry;
 use crate::ledger::{Ledger, Source};
 use crate::periods::Period;
+use crate::states::{since, state_of, states_marked};
 use log_index::LogIndex;
-use sg_history::{Channels, DocId, Entry, LogReads, Name, Names};
+use sg_history::{Channels, DocId, Entry, LogReads, Mark, Name, Names};
 use sg_outside::Memory;
 use std::alloc::Global;
 use std::marker::Model;
@@ -78,10 +85,34 @@ fn document_facts(
     ensures reads { log.new.reads ≤ log.old.reads + 1 }
     ensures counted { min log.old.reads 18446744073709551615 ≤ log.new.reads }
 {
-    match index.document(doc) {
+    log_index::laws::marks();
+    match state_of(index, doc) {
         None => Ok(Vec::new(alloc)),
-        Some(document) => of_entry(alloc, log.entry(document.winning)),
+        Some(state) => of_entry(alloc, log.entry(since(state)), state.marked),
     }
+}
+
+/// Documents give from a place on what these marks of the replacement there give, by an index that has
+/// that. Out of memory each gives what it gave.
+fn take_replacement(
+    alloc: Global,
+    index: &LogIndex,
+    ledger: &mut Ledger,
+    marks: &[Mark],
+    at: u64,
+) -> Result<(), Memory>
+    requires { (e : entry.Entry) × (es : List entry.Entry)
+        × IsMarking ledger.old at marks.now (by_marks index.now marks.now 0) e es }
+    ensures ok { OnOk result ((e : entry.Entry) (es : List entry.Entry)
+        → IsMarking ledger.old at marks.now (by_marks index.now marks.now 0) e es
+        → Took ledger.new at e es) }
+    ensures err { OnErr result ((es : List entry.Entry) → at ≡ length es + 1
+        → IsLedger ledger.old es → IsLedger ledger.new es) }
+    ensures before { (f : facts_of.Fact) (k : ℕ) → k < at
+        → has_at ledger.new.store f k ≡ has_at ledger.old.store f k }
+{
+    let states = states_marked(alloc, index, marks)?;
+    take_marked(alloc, ledger, marks, states.as_slice(), at)
 }
 
 /// Applies the entry at the next place to what is kept, by an index that has it.
@@ -100,11 +131,13 @@ fn take_entry(
     ensures reads { log.new.reads ≤ log.old.reads + 1 }
     ensures counted { min log.old.reads 18446744073709551615 ≤ log.new.reads }
 {
+    sg_history::laws::currents();
     match entry {
         Entry::Write(write) => {
             let facts = document_facts(alloc, index, log, &write.doc)?;
             ledger.take(alloc, Source::Document(&write.doc), facts, at)
         }
+        Entry::Sync(_, marks) => take_replacement(alloc, index, ledger, marks.as_slice(), at),
         _ => ledger.take_put(alloc, entry, at),
     }
 }

@@ -8,9 +8,11 @@ ghost use Rattle.grant_history.specs.Facts.{times};
 ghost use Rattle.grant_history.specs.Store.{count_at, has_at, IsStore};
 ghost use Rattle.grant_history.specs.Ledger.{facts_in, source_in, holder, IsLedger, IsStep, Took};
 ghost use Rattle.grant_history.specs.LedgerAt.{IsBefore};
-ghost use Rattle.sg_history.specs.History.{as_write};
+ghost use Rattle.sg_history.specs.History.{as_sync, as_write};
+ghost use Rattle.grant_history.specs.Changes.{AreChanges, facts_in_changes};
 ghost use Rattle.sg_history.specs.Puts as puts;
 
+use crate::changes::{Change, exchange_each};
 use crate::facts::Fact;
 use crate::given::of_put;
 use crate::store::Store;
@@ -83,9 +85,11 @@ fn no_facts(alloc: Global) -> SourceFacts
 }
 
 /// Keeps that a source gives nothing, where nothing is kept of it.
-fn make_list(alloc: Global, lists: &mut Lists, name: &str) -> Result<(), Memory>
+pub(crate) fn make_list(alloc: Global, lists: &mut Lists, name: &str) -> Result<(), Memory>
     requires { get_by_text lists.old name.now ≡ None }
     ensures there { OnOk result (is_some (get_by_text lists.new name.now) ≡ true) }
+    ensures kept { (other : List ℕ) → is_some (get_by_text lists.old other) ≡ true
+        → is_some (get_by_text lists.new other) ≡ true }
     ensures lists { (other : List ℕ) → facts_in lists.new other ≡ facts_in lists.old other }
 {
     by_name::put(alloc, lists, name, no_facts(alloc))
@@ -209,11 +213,32 @@ impl Ledger {
         }
     }
 
+    /// Documents give other facts from a place on. Out of memory all is as it was before it.
+    pub fn take_documents(
+        &mut self,
+        alloc: Global,
+        changes: &mut Vec<Change<'_>>,
+        at: u64,
+    ) -> Result<(), Memory>
+        requires { (e : Entry) × (es : List Entry)
+            × AreChanges self.old at (facts_in_changes changes.old.items) e es }
+        ensures ok { OnOk result ((e : Entry) (es : List Entry)
+            → AreChanges self.old at (facts_in_changes changes.old.items) e es
+            → Took self.new at e es) }
+        ensures err { OnErr result ((es : List Entry) → at ≡ length es + 1
+            → IsLedger self.old es → IsLedger self.new es) }
+        ensures before { (f : Fact) (k : ℕ) → k < at
+            → has_at self.new.store f k ≡ has_at self.old.store f k }
+    {
+        exchange_each(alloc, &mut self.store, &mut self.documents, changes, at)
+    }
+
     /// Takes the put or drop that an entry is, if it is one. Out of memory all is as it was before
     /// that place.
     pub fn take_put(&mut self, alloc: Global, entry: &Entry, at: u64) -> Result<(), Memory>
         requires before { IsBefore self.old at }
         requires no_write { as_write entry.now ≡ None }
+        requires no_sync { as_sync entry.now ≡ None }
         ensures ok { OnOk result ((es : List Entry) → at ≡ length es + 1 → IsLedger self.old es
             → Took self.new at entry.now es) }
         ensures err { OnErr result ((es : List Entry) → at ≡ length es + 1
@@ -221,6 +246,7 @@ impl Ledger {
         ensures before { (f : Fact) (k : ℕ) → k < at
             → has_at self.new.store f k ≡ has_at self.old.store f k }
     {
+        sg_history::laws::currents();
         match entry.as_put() {
             None => Ok(()),
             Some(put) => {

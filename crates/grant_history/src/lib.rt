@@ -1,6 +1,7 @@
 //! Who had which channels and roles at which place of the log, kept entry by entry.
 #![tactic(auto)]
 
+mod changes;
 mod channels;
 mod facts;
 mod gifts;

@@ -4,6 +4,7 @@ ghost use Rattle.std.specs.Prelude.{◌≡◌, ◌<◌, ◌++◌, ◌∷◌, [],
 ghost use Rattle.std.specs.BTreeMap.{get};
 ghost use Rattle.std.specs.Ordering.{nat_cmp};
 ghost use Rattle.sg_history.specs.History.{as_sync, as_write};
+ghost use Rattle.log_views.specs.States.{since_by};
 ghost use Rattle.grant_history.specs.MoreStates.{HasNoneAbove, IsOneMore};
 ghost use Rattle.grant_history.specs.NewStates.{AreNewStates, by_mark, by_marks, marked_in, state_written, written_in};
 ghost use Rattle.grant_history.specs.NewStates as new;
@@ -100,14 +101,15 @@ impl NewStates {
         requires written { IfSome state (λ s. 0 < s.winning) }
         ensures { OnOk result (IsOneMore self.old self.new state []) }
     {
-        let Some(state) = state else {
-            self.winners.push(0)?;
-            return Ok(());
-        };
-        if let Some(marked) = state.marked {
-            put(&mut self.marks, self.winners.len() as u64, marked)?;
+        match state {
+            None => self.winners.push(0)?,
+            Some(state) => {
+                if let Some(marked) = state.marked {
+                    put(&mut self.marks, self.winners.len() as u64, marked)?;
+                }
+                self.winners.push(state.winning)?;
+            }
         }
-        self.winners.push(state.winning)?;
         Ok(())
     }
 
@@ -116,7 +118,11 @@ impl NewStates {
         requires { HasNoneAbove self.old }
         ensures { OnOk result (IsOneMore self.old self.new None list.items) }
     {
-        put(&mut self.lists, self.winners.len() as u64, StateList { list })?;
+        put(
+            &mut self.lists,
+            self.winners.len() as u64,
+            StateList { list },
+        )?;
         self.winners.push(0)?;
         Ok(())
     }
@@ -139,6 +145,16 @@ pub fn state_of(index: &LogIndex, doc: &DocId) -> Option<NewState>
     ensures { result ≡ new.state_of index.now doc.now }
 {
     state_by(index, index.document(doc))
+}
+
+/// The sequence of the entry that has the effects of a state.
+pub fn since(state: NewState) -> u64
+    ensures { result ≡ since_by state.marked state.winning }
+{
+    match state.marked {
+        None => state.winning,
+        Some(marked) => marked.sync,
+    }
 }
 
 /// Whether this is the mark of this number of the entry of a sequence.

@@ -23,17 +23,19 @@ use std::alloc::Global;
 
 /// What a document gives whose state stands there; nothing where it was never written.
 fn facts_of(alloc: Global, entries: &[Entry], state: Option<NewState>) -> Result<Vec<Fact>, Memory>
+    requires { (n : ℕ) × (doc : List ℕ) × (n ≤ length entries.now)
+        × (state ≡ state_of (past entries.now n) doc) }
     ensures { IfOk result (λ list. (n : ℕ) (doc : List ℕ) → n ≤ length entries.now
         → state ≡ state_of (past entries.now n) doc
         → list.items ≡ facts.document_facts (current (past entries.now n) doc)) }
 {
     log_index::laws::marks();
-    let Some(state) = state else {
-        return Ok(Vec::new(alloc));
-    };
-    match entries.get(since(state).saturating_sub(1) as usize) {
+    match state {
         None => Ok(Vec::new(alloc)),
-        Some(entry) => of_entry(alloc, entry, state.marked),
+        Some(state) => {
+            let at = since(state) as usize - 1;
+            of_entry(alloc, &entries[at], state.marked)
+        }
     }
 }
 
@@ -52,6 +54,7 @@ fn take_at(
     requires kept { LedgerAt ledger.old entries.now i }
     ensures { OnOk result (LedgerAt ledger.new entries.now (i + 1)) }
 {
+    sg_history::laws::currents();
     let at = i as u64 + 1;
     let entry = &entries[i];
     match entry {
@@ -71,7 +74,14 @@ fn ledger_of(alloc: Global, entries: &[Entry], states: &NewStates) -> Result<Led
 {
     let mut ledger = Ledger::new(alloc);
     for i in 0..entries.len() {
-        take_at(alloc, &mut ledger, entries, i, states.written(i), states.marked(i))?;
+        take_at(
+            alloc,
+            &mut ledger,
+            entries,
+            i,
+            states.written(i),
+            states.marked(i),
+        )?;
     }
     Ok(ledger)
 }

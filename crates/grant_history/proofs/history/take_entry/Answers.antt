@@ -8,7 +8,7 @@ use Rattle.grant_history.specs.Facts.{document_facts}
 use Rattle.grant_history.specs.Ledger.{document, IsStep}
 use Rattle.grant_tracks.proofs.Tracked.{on_ok, on_err}
 use Rattle.grant_history.proofs.Keeping.{write_is_step}
-use Rattle.grant_history.proofs.Applied.{no_write, next_place, taken, left}
+use Rattle.grant_history.proofs.Applied.{no_sync, no_write, marking_next, next_place, taken, left}
 use Rattle.grant_history.proofs.history.take_entry.Goals as goal
 
 pub take-requires : goal.take-requires
@@ -19,7 +19,7 @@ take-requires c =
     let ledger = c.args.ledger.now in
     let es = past entries (c.args.at - 1) in
     let w = c.in-Write.write in
-    let step = write_is_step ledger e es c.args.at (next_place index ledger entries e c.args.at c.requires) c.requires.kept.is_kept w (ap as_write c.in-Write.is) (ap as_put c.in-Write.is) in
+    let step = write_is_step c.currents.ensures.unwritten ledger e es c.args.at (next_place index ledger entries e c.args.at c.requires) c.requires.kept.is_kept w (ap as_write c.in-Write.is) (ap as_put c.in-Write.is) in
     let now = c.in_ok-facts-in-Write.ensures.facts c.args.at c.requires.high c.requires.index ∙ ap (λ (l : List Entry). document_facts (current l w.doc)) c.requires.newest in
     (e, es, subst (λ (fs : List Fact). IsStep ledger c.args.at (document w.doc) fs e es) (sym now) step)
 
@@ -31,7 +31,7 @@ returns-in_ok-facts-in-Write-clause-ok c =
     let ledger = c.args.ledger.now in
     let es = past entries (c.args.at - 1) in
     let w = c.in-Write.write in
-    let step = write_is_step ledger e es c.args.at (next_place index ledger entries e c.args.at c.requires) c.requires.kept.is_kept w (ap as_write c.in-Write.is) (ap as_put c.in-Write.is) in
+    let step = write_is_step c.currents.ensures.unwritten ledger e es c.args.at (next_place index ledger entries e c.args.at c.requires) c.requires.kept.is_kept w (ap as_write c.in-Write.is) (ap as_put c.in-Write.is) in
     let now = c.in_ok-facts-in-Write.ensures.facts c.args.at c.requires.high c.requires.index ∙ ap (λ (l : List Entry). document_facts (current l w.doc)) c.requires.newest in
     on_ok c.take.result _ _ (λ takes. taken index ledger entries e c.args.at c.requires c.take.new.self c.take.ensures.before (takes e es (subst (λ (fs : List Fact). IsStep ledger c.args.at (document w.doc) fs e es) (sym now) step))) c.take.ensures.ok
 
@@ -67,4 +67,25 @@ take_put-requires c = record {
     is_kept = c.requires.kept.is_kept;
   };
   no_write = no_write c.args.entry.now c.in_default.not-Write;
+  no_sync = no_sync c.args.entry.now c.in_default.not-Sync;
 }
+
+pub take_replacement-requires : goal.take_replacement-requires
+take_replacement-requires c =
+    (c.args.entry.now, past c.args.log.now.entries (c.args.at - 1), marking_next c.args.index.now c.args.ledger.now c.args.log.now.entries c.args.entry.now c.args.at c.requires _ _ c.in-Sync.is)
+
+pub returns-in-Sync-clause-ok : goal.returns-in-Sync-clause-ok
+returns-in-Sync-clause-ok c =
+    let e = c.args.entry.now in
+    let entries = c.args.log.now.entries in
+    let index = c.args.index.now in
+    let ledger = c.args.ledger.now in
+    on_ok c.take_replacement.result _ _ (λ takes. taken index ledger entries e c.args.at c.requires c.take_replacement.new.ledger c.take_replacement.ensures.before (takes e (past entries (c.args.at - 1)) (marking_next index ledger entries e c.args.at c.requires _ _ c.in-Sync.is))) c.take_replacement.ensures.ok
+
+pub returns-in-Sync-clause-err : goal.returns-in-Sync-clause-err
+returns-in-Sync-clause-err c =
+    let e = c.args.entry.now in
+    let entries = c.args.log.now.entries in
+    let index = c.args.index.now in
+    let ledger = c.args.ledger.now in
+    on_err c.take_replacement.result _ _ (λ kept. left index ledger entries e c.args.at c.requires c.take_replacement.new.ledger c.take_replacement.ensures.before (kept (past entries (c.args.at - 1)) (next_place index ledger entries e c.args.at c.requires) c.requires.kept.is_kept)) c.take_replacement.ensures.err

@@ -1,28 +1,29 @@
-use Rattle.std.proofs.Common.{◌≢◌, ◌∙◌, sym, ap, arith, Option, Bor}
-use Rattle.std.specs.Option.{option_copied}
+use Rattle.std.proofs.Common.{◌≡◌, ◌∙◌, ◌+◌, ◌-◌, ◌<◌, sym, ap, arith, length, Some}
+use Rattle.std.specs.Prelude.{slice_get}
+use Rattle.std.proofs.lemmas.Option.{slice_get-get_or}
 use Rattle.std.proofs.lemmas.Result.{IfOk-weaker}
-use Rattle.sg_history.specs.declared.entries.Write.{Write}
-use Rattle.grant_history.specs.Ledger.{facts_of_write}
-use Rattle.grant_history.proofs.Applied.{no_document}
-use Rattle.grant_history.proofs.Winning.{no_winner, facts_read}
+use Rattle.sg_history.specs.declared.entries.Entry.{Entry}
+use Rattle.sg_history.specs.History.{past}
+use Rattle.log_views.specs.States.{since_by}
+use Rattle.grant_history.specs.NewStates.{state_of}
+use Rattle.grant_history.proofs.Applied.{no_document, read_low, read_within, document_read}
+use Rattle.grant_history.proofs.Standing.{MarkLaws}
 use Rattle.grant_history.proofs.whole.facts_of.Goals as goal
-
-pub returns-then-winning-eq0 : goal.returns-then-winning-eq0
-returns-then-winning-eq0 c = λ n doc high same.
-    c.new.ensures.items ∙ no_document c.args.entries.now n doc high (no_winner c.args.entries.now n doc high c.args.winning (omega (arith, c.if-winning-eq0.true)) same)
 
 pub returns-in-None : goal.returns-in-None
 returns-in-None c = λ n doc high same.
-    let some : c.args.winning ≢ 0 = λ none. omega (arith, none, c.if-winning-eq0.false) in
-    c.new-in-None.ensures.items
-    ∙ ap (λ (o : Option (Bor Write)). facts_of_write (option_copied o)) (sym c.in-None.is)
-    ∙ ap facts_of_write c.write_at.ensures
-    ∙ facts_read c.args.entries.now n doc high c.args.winning some same
+    c.new.ensures.items ∙ no_document c.args.entries.now n doc high (sym same ∙ c.in-None.is)
 
 pub returns-in-Some : goal.returns-in-Some
-returns-in-Some c = IfOk-weaker c.of_write.result _ _ (λ list is n doc high same.
-    let some : c.args.winning ≢ 0 = λ none. omega (arith, none, c.if-winning-eq0.false) in
-    is
-    ∙ ap (λ (o : Option (Bor Write)). facts_of_write (option_copied o)) (sym c.in-Some.is)
-    ∙ ap facts_of_write c.write_at.ensures
-    ∙ facts_read c.args.entries.now n doc high c.args.winning some same) c.of_write.ensures
+returns-in-Some c = IfOk-weaker c.of_entry.result _ _ (λ list is n doc high same.
+    let laws : MarkLaws = record { effects = c.marks.ensures.effects; there = c.marks.ensures.there; after = c.marks.ensures.after; within = c.marks.ensures.within } in
+    let entries = c.args.entries.now in
+    let s = c.in-Some.state in
+    let at : state_of (past entries n) doc ≡ Some s = sym same ∙ c.in-Some.is in
+    let low = read_low entries n doc high laws s at in
+    let within = read_within entries n doc high laws s at in
+    let e = c.index-entries.result in
+    let read : slice_get entries (since_by s.marked s.winning - 1) ≡ Some e =
+    slice_get-get_or entries (since_by s.marked s.winning - 1) e (omega (arith, low, within))
+    ∙ ap (λ (x : Entry). Some x) (sym c.index-entries.is) in
+    is ∙ document_read entries n doc high laws s at e read) c.of_entry.ensures

@@ -13,7 +13,7 @@ take-requires c =
     let e = c.args.entry.now in
     let es = c.requires.before.es in
     let put : as_put e ≡ Some (put_in c.in-Some.put) = sym c.as_put.ensures ∙ ap (λ o. option_map put_in o) c.in-Some.is in
-    let step = put_is_step c.args.self.now e es c.args.at c.requires.before.place c.requires.before.is_kept (put_in c.in-Some.put) c.requires.no_write put in (
+    let step = put_is_step c.currents.ensures.unwritten c.args.self.now e es c.args.at c.requires.before.place c.requires.before.is_kept (put_in c.in-Some.put) c.requires.no_sync c.requires.no_write put in (
       e,
       es,
       subst (λ (s : Source). IsStep c.args.self.now c.args.at s c.in_ok-facts-in-Some.facts.items e es) (sym c.source_of.ensures)
@@ -22,12 +22,12 @@ take-requires c =
 
 pub returns-in-None-clause-ok : goal.returns-in-None-clause-ok
 returns-in-None-clause-ok c = λ es place is.
-    idle_took c.args.self.now c.args.entry.now es c.args.at place is c.requires.no_write (sym c.as_put.ensures ∙ ap (λ o. option_map put_in o) c.in-None.is)
+    idle_took c.currents.ensures.unwritten c.args.self.now c.args.entry.now es c.args.at place is c.requires.no_sync c.requires.no_write (sym c.as_put.ensures ∙ ap (λ o. option_map put_in o) c.in-None.is)
 
 pub returns-in_ok-facts-in-Some-clause-ok : goal.returns-in_ok-facts-in-Some-clause-ok
 returns-in_ok-facts-in-Some-clause-ok c = on_ok c.take.result _ _ (λ takes es place is.
     let e = c.args.entry.now in
     let put : as_put e ≡ Some (put_in c.in-Some.put) = sym c.as_put.ensures ∙ ap (λ o. option_map put_in o) c.in-Some.is in
-    let step = put_is_step c.args.self.now e es c.args.at place is (put_in c.in-Some.put) c.requires.no_write put in
+    let step = put_is_step c.currents.ensures.unwritten c.args.self.now e es c.args.at place is (put_in c.in-Some.put) c.requires.no_sync c.requires.no_write put in
     takes e es (subst (λ (s : Source). IsStep c.args.self.now c.args.at s c.in_ok-facts-in-Some.facts.items e es) (sym c.source_of.ensures)
     (subst (λ (fs : List Fact). IsStep c.args.self.now c.args.at (holder (grantee_in c.in-Some.put.of)) fs e es) (sym c.in_ok-facts-in-Some.ensures) step))) c.take.ensures.ok
