@@ -1,5 +1,5 @@
 -- lists of changes, of which some are made so far
-use Rattle.std.proofs.Common.{◌≡◌, ◌<◌, ◌≤◌, ◌+◌, ◌-◌, ℕ, zero, suc, refl, sym, ◌∙◌, ap, subst, arith, Bool, true, if◌then◌else◌, List, [], ◌∷◌, ◌++◌, length, map, take, drop, get_or, append_assoc, Option, Some, None}
+use Rattle.std.proofs.Common.{◌≡◌, ◌<◌, ◌≤◌, ◌+◌, ◌-◌, ℕ, zero, suc, refl, sym, ◌∙◌, ap, arith, true, if◌then◌else◌, List, [], ◌∷◌, ◌++◌, length, take, drop, get_or, append_assoc, Option, Some}
 use Rattle.std.specs.Prelude.{is_some, option_map, slice_get, slice_set}
 use Rattle.std.specs.BTreeMap.{get_by_text}
 use Rattle.std.specs.Str.{bytes_eq}
@@ -9,7 +9,7 @@ use Rattle.grant_history.specs.declared.changes.Change.{Change}
 use Rattle.grant_history.specs.declared.facts.Fact.{Fact}
 use Rattle.grant_history.specs.Changes.{AreKept, DocumentFacts, all_times, facts_in_change, facts_in_changes, given_after, given_before, given_with}
 use Rattle.grant_history.specs.Facts.{times}
-use Rattle.grant_history.specs.Ledger.{Lists, facts_in}
+use Rattle.grant_history.specs.Ledger.{Lists}
 use Rattle.grant_history.proofs.Summing.{Gives, after_more, all_append, before_more}
 use Rattle.grant_tracks.proofs.Gathered.{split}
 
@@ -126,3 +126,6 @@ all_swapped g cs i le =
     ap (λ (l : List DocumentFacts). given_before g l ++ drop i cs) (take_all i cs le)
     ∙ ap (λ (l : List DocumentFacts). given_before g cs ++ l) (drop_all i cs le)
     ∙ append-nil (given_before g cs)
+
+pub made_same : (z : DocumentFacts) (doc : List ℕ) (facts : List Fact) → z.doc ≡ doc → z.facts ≡ facts → z ≡ record { doc = doc; facts = facts }
+made_same z doc facts a b = ap (λ (d : List ℕ). record { doc = d; facts = z.facts }) a ∙ ap (λ (l : List Fact). record { doc = doc; facts = l }) b

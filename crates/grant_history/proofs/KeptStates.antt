@@ -1,5 +1,5 @@
 -- what is kept of new states once those of one entry more are
-use Rattle.std.proofs.Common.{◌≡◌, ◌≢◌, ◌<◌, ◌≤◌, ◌+◌, ℕ, zero, suc, refl, sym, ◌∙◌, ap, arith, Bool, true, false, if◌then◌else◌, List, [], ◌∷◌, ◌++◌, length, Option, Some, None}
+use Rattle.std.proofs.Common.{◌≡◌, ◌≢◌, ◌<◌, ◌≤◌, ◌+◌, ℕ, zero, suc, refl, ◌∙◌, ap, arith, Bool, if◌then◌else◌, List, [], ◌∷◌, ◌++◌, length, Option, Some, None}
 use Rattle.std.specs.Prelude.{slice_get, nat_eq}
 use Rattle.std.specs.BTreeMap.{is_at}
 use Rattle.std.specs.Map.{lookup}
@@ -10,7 +10,7 @@ use Rattle.log_index.specs.declared.marks.Marked.{Marked}
 use Rattle.grant_history.specs.declared.states.NewState.{NewState}
 use Rattle.grant_history.specs.declared.states.StateList.{StateList}
 use Rattle.grant_history.specs.MoreStates.{HasNoneAbove, IsOneMore}
-use Rattle.grant_history.specs.NewStates.{KeptStates, list_of, marked_in, winner_in, written_in}
+use Rattle.grant_history.specs.NewStates.{KeptStates, list_of, winner_in}
 
 -- what is kept at a place
 abbrev pub look : {X : Type 0} → List (ℕ × X) → ℕ → Option X

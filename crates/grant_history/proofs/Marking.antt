@@ -1,9 +1,9 @@
 -- what the marks of a replaced sync function make of what documents give
-use Rattle.std.proofs.Common.{◌≡◌, ◌≢◌, ◌<◌, ◌≤◌, ◌+◌, ◌-◌, ℕ, zero, suc, refl, sym, ◌∙◌, ap, subst, arith, inl, inr, Bool, true, false, ◌&&◌, if◌then◌else◌, List, [], ◌∷◌, ◌++◌, length, Option, Some, None}
+use Rattle.std.proofs.Common.{◌≡◌, ◌≢◌, ◌<◌, ◌≤◌, ◌+◌, ◌-◌, ℕ, suc, refl, sym, ◌∙◌, ap, subst, arith, inl, inr, Bool, true, false, ◌&&◌, if◌then◌else◌, List, [], ◌∷◌, ◌++◌, length, Option, Some, None}
 use Rattle.std.specs.Prelude.{slice_get, nat_eq, nat_le, option_map}
 use Rattle.std.specs.Str.{bytes_eq}
 use Rattle.std.specs.Cmp.Lexicographic.{bytes_decides}
-use Rattle.std.proofs.lemmas.Bool.{false≢true, cases_Bool, eq-eqb, eqb-true, eqb-false, leb-true, ne_eqb}
+use Rattle.std.proofs.lemmas.Bool.{cases_Bool, eq-eqb, eqb-true, eqb-false, leb-true, ne_eqb}
 use Rattle.std.proofs.lemmas.List.{append-nil}
 use Rattle.std.proofs.lemmas.Option.{none-some, same_Some}
 use Rattle.sg_names.specs.declared.rev_id.RevId.{RevId}
@@ -14,21 +14,21 @@ use Rattle.sg_history.specs.declared.entries.Entry.TheVariants as entry
 use Rattle.sg_history.specs.declared.entries.Mark.{Mark}
 use Rattle.sg_history.specs.declared.entries.Write.{Write}
 use Rattle.sg_history.specs.History.{SyncEntry, among, as_sync, as_write, write_to}
-use Rattle.sg_history.specs.Current.{Current, Sequenced, current, current_after, current_by, last_write, mark_by, mark_in, mark_of, marked_by, marked_state, marks_rev, sequenced_or, winning_of, with_rev_or, write_of_rev, write_or}
+use Rattle.sg_history.specs.Current.{Current, Sequenced, current, current_after, last_write, mark_in, mark_of, marked_by, marked_state, marks_rev, sequenced_or, winning_of, with_rev_or, write_of_rev, write_or}
 use Rattle.sg_history.specs.Principals.{PrincipalState, as_put}
 use Rattle.log_index.specs.declared.documents.Document.{Document}
 use Rattle.log_index.specs.declared.marks.Marked.{Marked}
 use Rattle.log_index.specs.Marks.{mark_place, marked_after, marked_or, place_by, place_in}
 use Rattle.log_index.specs.Places.{document_by}
-use Rattle.log_views.proofs.Placed.{IsAt, found, last_at, winning_at}
+use Rattle.log_views.proofs.Placed.{found, last_at, winning_at}
 use Rattle.grant_history.specs.declared.facts.Fact.{Fact}
 use Rattle.grant_history.specs.declared.ledger.Ledger.{Ledger}
 use Rattle.grant_history.specs.declared.states.NewState.{NewState}
-use Rattle.grant_history.specs.Changes.{DocumentFacts, all_times, given_with, given_after, given_before, given_at, change_by, changes_by, mark_among, AreChanges, IsMarking}
+use Rattle.grant_history.specs.Changes.{DocumentFacts, given_with, given_after, given_at, change_by, changes_by, mark_among, AreChanges, IsMarking}
 use Rattle.grant_history.specs.Facts.{times, document_facts, effect_facts, mark_facts, put_facts}
 use Rattle.grant_history.specs.Ledger.{facts_of_mark}
 use Rattle.grant_history.specs.NewStates.{by_mark, by_marks, is_mark, state_by, state_of}
-use Rattle.grant_history.specs.Sources.{documents_once, given_by, principal_of, sources}
+use Rattle.grant_history.specs.Sources.{documents_once, given_by, principal_of}
 use Rattle.grant_history.proofs.Standing.{MarkLaws, marked_is}
 use Rattle.grant_history.proofs.Steps.{Unwritten, unwritten, principal_same, once_idle, once, no_current}
 use Rattle.grant_history.proofs.Summing.{AreOf, Gives, summed, sum_given, sum_same, sums_changed}

@@ -1,6 +1,6 @@
 -- where the state of a document stands, and what it gives by the entry there
 use Rattle.std.proofs.Common.{◌≡◌, ◌≢◌, ◌<◌, ◌≤◌, ◌+◌, ◌-◌, ℕ, refl, sym, ◌∙◌, ap, subst, arith, inl, inr, Bool, true, false, true≢false, if◌then◌else◌, List, [], ◌∷◌, length, reverse, Option, Some, None, IsSome}
-use Rattle.std.specs.Prelude.{IfSome, slice_get, nat_eq, nat_le}
+use Rattle.std.specs.Prelude.{IfSome, slice_get, nat_eq}
 use Rattle.std.proofs.lemmas.Bool.{cases_Bool, eqb-true, eqb-false, le-leb}
 use Rattle.std.proofs.lemmas.Option.{none-some, same_Some}
 use Rattle.sg_history.specs.declared.entries.Entry.{Entry}
@@ -14,8 +14,7 @@ use Rattle.log_index.specs.Marks.{effects_by, entries_up_to, mark_at, mark_in_pl
 use Rattle.log_index.specs.Places.{document_at, document_before}
 use Rattle.log_views.specs.At.{written, write_at}
 use Rattle.log_views.specs.States.{since_by}
-use Rattle.log_views.proofs.Placed.{IsAt, Found, found, newest_got, older_got}
-use Rattle.grant_history.specs.declared.facts.Fact.{Fact}
+use Rattle.log_views.proofs.Placed.{found, newest_got, older_got}
 use Rattle.grant_history.specs.declared.states.NewState.{NewState}
 use Rattle.grant_history.specs.Facts.{document_facts, effect_facts}
 use Rattle.grant_history.specs.Ledger.{facts_of_mark, facts_of_write, facts_read}

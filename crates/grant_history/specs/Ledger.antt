@@ -68,6 +68,11 @@ abbrev pub facts_read : Entry → Option Marked → List Fact
 facts_read e None = write_facts e
 facts_read e (Some m) = facts_of_mark (mark_in_place (as_sync e) m.mark)
 
+-- the same where there is such an entry
+abbrev pub facts_read_in : Option Entry → Option Marked → List Fact
+facts_read_in None marked = []
+facts_read_in (Some e) marked = facts_read e marked
+
 -- what a source gives after some entries
 abbrev pub given : List Entry → Source → List Fact
 given es (document doc) = document_facts (current es doc)

@@ -8,7 +8,7 @@ ghost use Rattle.grant_tracks.specs.declared.things.What.TheVariants as what;
 ghost use Rattle.sg_history.specs.History.{as_sync};
 ghost use Rattle.log_index.specs.Marks.{mark_in_place};
 ghost use Rattle.grant_history.specs.Facts.{fact, channel_facts, role_facts, put_facts, grant_facts, gift_facts, mark_facts};
-ghost use Rattle.grant_history.specs.Ledger.{facts_of_mark, facts_read, write_facts};
+ghost use Rattle.grant_history.specs.Ledger.{facts_of_mark, facts_read, facts_read_in, write_facts};
 
 use crate::facts::Fact;
 use grant_tracks::What;
@@ -205,5 +205,20 @@ pub fn of_entry(alloc: Global, entry: &Entry, marked: Option<Marked>) -> Result<
     match marked {
         None => of_write(alloc, entry),
         Some(marked) => of_any_mark(alloc, mark_in(entry, marked.mark)),
+    }
+}
+
+/// The same where the entry is there; else nothing.
+pub fn of_any_entry(
+    alloc: Global,
+    entry: Option<&Entry>,
+    marked: Option<Marked>,
+) -> Result<Vec<Fact>, Memory>
+    ensures { IfOk result (λ list. list.items
+        ≡ facts_read_in (option_copied entry.entry) marked) }
+{
+    match entry {
+        None => Ok(Vec::new(alloc)),
+        Some(entry) => of_entry(alloc, entry, marked),
     }
 }

@@ -1,10 +1,12 @@
 //! Who had what at each place of some entries, by the states that documents have from each on.
 
-ghost use Rattle.std.specs.Prelude.{◌≡◌, ◌≤◌, ◌<◌, ◌+◌, ℕ, List, length, IfOk, OnOk};
+ghost use Rattle.std.specs.Prelude.{◌≡◌, ◌≤◌, ◌<◌, ◌+◌, ◌-◌, ℕ, List, length, IfOk, OnOk, slice_get};
+ghost use Rattle.std.specs.Option.{option_copied};
 ghost use Rattle.sg_history.specs.declared.entries.Entry.{Entry};
 ghost use Rattle.sg_history.specs.History.{past};
 ghost use Rattle.sg_history.specs.Principals.{has_channel};
 ghost use Rattle.sg_history.specs.Current.{current};
+ghost use Rattle.log_views.specs.States.{since_by};
 ghost use Rattle.grant_history.specs.Facts as facts;
 ghost use Rattle.grant_history.specs.Periods.{AreInOrder, ArePeriods};
 ghost use Rattle.grant_history.specs.LedgerAt.{LedgerAt, StoreAt};
@@ -12,7 +14,7 @@ ghost use Rattle.grant_history.specs.NewStates.{AreNewStates, marked_at, state_o
 
 use crate::changes::take_marked;
 use crate::facts::Fact;
-use crate::given::of_entry;
+use crate::given::of_any_entry;
 use crate::history::Periods;
 use crate::ledger::{Ledger, Source};
 use crate::states::{NewState, NewStates, since};
@@ -21,10 +23,16 @@ use sg_history::{Entry, Name};
 use sg_outside::Memory;
 use std::alloc::Global;
 
+/// The entry that has the effects of a state.
+fn entry_of<'a>(entries: &'a [Entry], state: NewState) -> Option<&'a Entry>
+    ensures { option_copied result
+        ≡ slice_get entries.now (since_by state.marked state.winning - 1) }
+{
+    entries.get(since(state).saturating_sub(1) as usize)
+}
+
 /// What a document gives whose state stands there; nothing where it was never written.
 fn facts_of(alloc: Global, entries: &[Entry], state: Option<NewState>) -> Result<Vec<Fact>, Memory>
-    requires { (n : ℕ) × (doc : List ℕ) × (n ≤ length entries.now)
-        × (state ≡ state_of (past entries.now n) doc) }
     ensures { IfOk result (λ list. (n : ℕ) (doc : List ℕ) → n ≤ length entries.now
         → state ≡ state_of (past entries.now n) doc
         → list.items ≡ facts.document_facts (current (past entries.now n) doc)) }
@@ -32,10 +40,7 @@ fn facts_of(alloc: Global, entries: &[Entry], state: Option<NewState>) -> Result
     log_index::laws::marks();
     match state {
         None => Ok(Vec::new(alloc)),
-        Some(state) => {
-            let at = since(state) as usize - 1;
-            of_entry(alloc, &entries[at], state.marked)
-        }
+        Some(state) => of_any_entry(alloc, entry_of(entries, state), state.marked),
     }
 }
 

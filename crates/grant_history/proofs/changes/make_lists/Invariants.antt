@@ -6,6 +6,6 @@ use Rattle.grant_history.proofs.changes.make_lists.Given as goal
 -- something is kept of those so far
 abbrev pub invariant-loop-change : goal.invariant-loop-change
 invariant-loop-change l = record {
-  there : AreKept l.lists (facts_in_changes (take l.change-index l.changes));
+  there : AreKept l.lists (take l.change-index (facts_in_changes l.changes));
   lists : (other : List ℕ) → facts_in l.lists other ≡ facts_in l.initial.lists other;
 }

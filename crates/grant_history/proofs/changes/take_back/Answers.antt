@@ -1,6 +1,5 @@
-use Rattle.std.proofs.Common.{◌≡◌, ◌≤◌, ◌+◌, ap, refl, arith, drop, List}
+use Rattle.std.proofs.Common.{◌≡◌, ◌+◌, ap, refl, arith, List}
 use Rattle.grant_history.specs.declared.facts.Fact.{Fact}
-use Rattle.grant_history.specs.Changes.{all_times, facts_in_changes}
 use Rattle.grant_history.specs.Facts.{times}
 use Rattle.grant_history.specs.Store.{count_at}
 use Rattle.grant_history.proofs.Changing.{left_split}

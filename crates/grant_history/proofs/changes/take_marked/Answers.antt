@@ -1,6 +1,5 @@
 use Rattle.std.proofs.Common.{sym, subst, List}
-use Rattle.sg_history.specs.declared.entries.Entry.{Entry}
-use Rattle.grant_history.specs.Changes.{DocumentFacts, AreChanges, IsMarking}
+use Rattle.grant_history.specs.Changes.{DocumentFacts, AreChanges}
 use Rattle.grant_tracks.proofs.Tracked.{on_ok}
 use Rattle.grant_history.proofs.Marking.{marking}
 use Rattle.grant_history.proofs.Standing.{MarkLaws}

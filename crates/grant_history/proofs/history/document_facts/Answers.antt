@@ -1,6 +1,6 @@
-use Rattle.std.proofs.Common.{◌≡◌, ◌∙◌, sym, ap, subst, arith, List, Some}
+use Rattle.std.proofs.Common.{◌≡◌, ◌∙◌, ◌-◌, sym, ap, arith, ℕ, Some}
+use Rattle.std.specs.Prelude.{slice_get}
 use Rattle.std.proofs.lemmas.Result.{IfOk-weaker}
-use Rattle.sg_history.specs.declared.entries.Entry.{Entry}
 use Rattle.sg_history.specs.History.{past}
 use Rattle.grant_history.specs.NewStates.{state_of}
 use Rattle.grant_history.proofs.Applied.{no_document, read_low, read_within, document_read}
@@ -25,7 +25,7 @@ pub returns-in-Some-clause-facts : goal.returns-in-Some-clause-facts
 returns-in-Some-clause-facts c = IfOk-weaker c.of_entry.result _ _ (λ list is n high indexed.
     let laws : MarkLaws = record { effects = c.marks.ensures.effects; there = c.marks.ensures.there; after = c.marks.ensures.after; within = c.marks.ensures.within } in
     let at : state_of (past c.args.log.now.entries n) c.args.doc.now ≡ Some c.in-Some.state = sym (c.state_of.ensures ∙ ap (λ es. state_of es c.args.doc.now) indexed) ∙ c.in-Some.is in
-    is ∙ document_read c.args.log.now.entries n c.args.doc.now high laws c.in-Some.state at c.entry.result.now c.entry.ensures.entry) c.of_entry.ensures
+    is ∙ document_read c.args.log.now.entries n c.args.doc.now high laws c.in-Some.state at c.entry.result.now (ap (λ (m : ℕ). slice_get c.args.log.now.entries (m - 1)) (sym c.since.ensures) ∙ c.entry.ensures.entry)) c.of_entry.ensures
 
 pub returns-in-None-clause-facts : goal.returns-in-None-clause-facts
 returns-in-None-clause-facts c = λ n high indexed.

@@ -1,11 +1,14 @@
 use Rattle.std.proofs.Common.{◌∙◌, ◌-◌, sym, ap, subst, List}
 use Rattle.sg_history.specs.declared.entries.Entry.{Entry}
+use Rattle.sg_history.specs.declared.entries.Mark.{Mark}
 use Rattle.sg_history.specs.History.{past, as_write}
 use Rattle.sg_history.specs.Current.{current}
 use Rattle.sg_history.specs.Principals.{as_put}
 use Rattle.grant_history.specs.declared.facts.Fact.{Fact}
+use Rattle.grant_history.specs.Changes.{IsMarking}
 use Rattle.grant_history.specs.Facts.{document_facts}
 use Rattle.grant_history.specs.Ledger.{document, IsStep}
+use Rattle.grant_history.specs.NewStates.{by_marks}
 use Rattle.grant_tracks.proofs.Tracked.{on_ok, on_err}
 use Rattle.grant_history.proofs.Keeping.{write_is_step}
 use Rattle.grant_history.proofs.Applied.{no_sync, no_write, marking_next, next_place, taken, left}
@@ -72,7 +75,11 @@ take_put-requires c = record {
 
 pub take_replacement-requires : goal.take_replacement-requires
 take_replacement-requires c =
-    (c.args.entry.now, past c.args.log.now.entries (c.args.at - 1), marking_next c.args.index.now c.args.ledger.now c.args.log.now.entries c.args.entry.now c.args.at c.requires _ _ c.in-Sync.is)
+    let e = c.args.entry.now in
+    let index = c.args.index.now in
+    let ledger = c.args.ledger.now in
+    let es = past c.args.log.now.entries (c.args.at - 1) in
+    (e, es, subst (λ (marks : List Mark). IsMarking ledger c.args.at marks (by_marks index marks 0) e es) (sym c.as_slice.ensures) (marking_next index ledger c.args.log.now.entries e c.args.at c.requires _ _ c.in-Sync.is))
 
 pub returns-in-Sync-clause-ok : goal.returns-in-Sync-clause-ok
 returns-in-Sync-clause-ok c =
@@ -80,7 +87,9 @@ returns-in-Sync-clause-ok c =
     let entries = c.args.log.now.entries in
     let index = c.args.index.now in
     let ledger = c.args.ledger.now in
-    on_ok c.take_replacement.result _ _ (λ takes. taken index ledger entries e c.args.at c.requires c.take_replacement.new.ledger c.take_replacement.ensures.before (takes e (past entries (c.args.at - 1)) (marking_next index ledger entries e c.args.at c.requires _ _ c.in-Sync.is))) c.take_replacement.ensures.ok
+    let es = past entries (c.args.at - 1) in
+    on_ok c.take_replacement.result _ _ (λ takes. taken index ledger entries e c.args.at c.requires c.take_replacement.new.ledger c.take_replacement.ensures.before (takes e es
+    (subst (λ (marks : List Mark). IsMarking ledger c.args.at marks (by_marks index marks 0) e es) (sym c.as_slice.ensures) (marking_next index ledger entries e c.args.at c.requires _ _ c.in-Sync.is)))) c.take_replacement.ensures.ok
 
 pub returns-in-Sync-clause-err : goal.returns-in-Sync-clause-err
 returns-in-Sync-clause-err c =

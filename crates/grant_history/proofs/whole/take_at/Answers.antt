@@ -1,21 +1,14 @@
-use Rattle.std.proofs.Common.{◌≡◌, ◌∙◌, ◌+◌, sym, ap, arith, Some}
+use Rattle.std.proofs.Common.{◌≡◌, ◌∙◌, ◌+◌, sym, ap, subst, arith, List, Some}
 use Rattle.std.specs.Prelude.{slice_get}
 use Rattle.std.proofs.lemmas.Option.{slice_get-get_or}
 use Rattle.sg_history.specs.declared.entries.Entry.{Entry}
+use Rattle.sg_history.specs.declared.entries.Mark.{Mark}
 use Rattle.sg_history.specs.History.{as_write, past}
+use Rattle.grant_history.specs.Changes.{IsMarking}
 use Rattle.grant_tracks.proofs.Tracked.{on_ok}
 use Rattle.grant_history.proofs.Applied.{no_sync, no_write}
 use Rattle.grant_history.proofs.Winning.{state_of_write, marking_at, place_at, write_step_at, kept_after}
 use Rattle.grant_history.proofs.whole.take_at.Goals as goal
-
-pub facts_of-requires : goal.facts_of-requires
-facts_of-requires c =
-    let entries = c.args.entries.now in
-    let i = c.args.i in
-    let e = c.index-entries-i.result in
-    let w = c.in-Write.write in
-    let is : slice_get entries i ≡ Some e = slice_get-get_or entries i e c.requires.more ∙ ap (λ (x : Entry). Some x) (sym c.index-entries-i.is) in
-    (i + 1, w.doc, omega (arith, c.requires.more), c.requires.written ∙ state_of_write entries i e is w (ap as_write c.in-Write.is))
 
 pub take-requires : goal.take-requires
 take-requires c =
@@ -45,8 +38,12 @@ take_marked-requires c =
     let entries = c.args.entries.now in
     let i = c.args.i in
     let e = c.index-entries-i.result in
-    let is : slice_get entries i ≡ Some e = slice_get-get_or entries i e c.requires.more ∙ ap (λ (x : Entry). Some x) (sym c.index-entries-i.is) in
-    (e, past entries i, marking_at c.args.ledger.now entries i e is c.requires.more c.requires.kept _ _ c.in-Sync.is c.args.marked.now c.requires.marked)
+    let is : slice_get entries i ≡ Some e = slice_get-get_or entries i e c.requires.more ∙ ap (λ (x : Entry). Some x) (sym c.index-entries-i.is) in (
+      e,
+      past entries i,
+      subst (λ (marks : List Mark). IsMarking c.args.ledger.now (i + 1) marks c.args.marked.now e (past entries i)) (sym c.as_slice.ensures)
+          (marking_at c.args.ledger.now entries i e is c.requires.more c.requires.kept _ _ c.in-Sync.is c.args.marked.now c.requires.marked),
+    )
 
 pub returns-in-Sync : goal.returns-in-Sync
 returns-in-Sync c =
@@ -55,7 +52,8 @@ returns-in-Sync c =
     let e = c.index-entries-i.result in
     let is : slice_get entries i ≡ Some e = slice_get-get_or entries i e c.requires.more ∙ ap (λ (x : Entry). Some x) (sym c.index-entries-i.is) in
     on_ok c.take_marked.result _ _ (λ takes. kept_after c.args.ledger.now entries i e is c.requires.more c.requires.kept c.take_marked.new.ledger c.take_marked.ensures.before
-    (takes e (past entries i) (marking_at c.args.ledger.now entries i e is c.requires.more c.requires.kept _ _ c.in-Sync.is c.args.marked.now c.requires.marked))) c.take_marked.ensures.ok
+    (takes e (past entries i) (subst (λ (marks : List Mark). IsMarking c.args.ledger.now (i + 1) marks c.args.marked.now e (past entries i)) (sym c.as_slice.ensures)
+    (marking_at c.args.ledger.now entries i e is c.requires.more c.requires.kept _ _ c.in-Sync.is c.args.marked.now c.requires.marked)))) c.take_marked.ensures.ok
 
 pub take_put-requires : goal.take_put-requires
 take_put-requires c =
