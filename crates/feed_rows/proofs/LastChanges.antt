@@ -1,34 +1,37 @@
--- the last change of a document, going back from its last write
-use Rattle.std.proofs.Common.{◌≡◌, ◌<◌, ◌≤◌, ◌+◌, ◌-◌, ℕ, zero, suc, refl, sym, ◌∙◌, ap, subst, arith, Bool, true, false, if◌then◌else◌, List, [], ◌∷◌, ◌++◌, length, reverse, take, append-nil, Option, Some, None, nat_eq}
+-- the last change of a document, going back from where it was last renewed
+use Rattle.std.proofs.Common.{◌≡◌, ◌<◌, ◌≤◌, ◌+◌, ◌-◌, ℕ, zero, suc, refl, sym, ◌∙◌, ap, subst, arith, Bool, true, false, if◌then◌else◌, List, [], ◌∷◌, ◌++◌, length, reverse, take, append-nil, Option, Some, None, nat_eq, max, ◌&&◌}
 use Rattle.std.specs.Prelude.{slice_get, option_map, is_some}
 use Rattle.std.specs.Str.{bytes_eq}
 use Rattle.std.specs.Cmp.Lexicographic.{bytes_decides}
 use Rattle.std.proofs.Math.Seq.{take-length}
-use Rattle.std.proofs.lemmas.Bool.{true≢false, eq-eqb, ne_eqb}
+use Rattle.std.proofs.lemmas.Bool.{true≢false, eq-eqb, eqb-true, ne_eqb}
 use Rattle.std.proofs.lemmas.List.{length-append, reverse-reverse}
 use Rattle.std.proofs.lemmas.Option.{none-some, same_Some}
 use Rattle.sg_history.specs.declared.entries.Entry.{Entry}
 use Rattle.sg_history.specs.declared.entries.Entry.TheVariants as entry
 use Rattle.sg_history.specs.declared.entries.Write.{Write}
 use Rattle.sg_history.specs.History.{as_write, write_to, past}
-use Rattle.sg_history.specs.Current.{Current, Sequenced, current, current_after, last_write, winning_of}
+use Rattle.sg_history.specs.Current.{Current, Effects, Sequenced, current, current_after, current_of, effects_of, last_write, marked_by, sequenced_or, winning_of, with_rev_or, write_of_rev, write_or}
 use Rattle.sg_history.specs.Feed.{changed, row_at, row_of, row_with, writes}
 use Rattle.sg_history.specs.View.{Shown, same_view, view}
 use Rattle.log_index.specs.declared.documents.Document.{Document}
 use Rattle.log_index.specs.declared.index.LogIndex.{LogIndex}
-use Rattle.log_index.specs.Places.{before_at, document_at, document_before}
+use Rattle.log_index.specs.Marks.{marked_after}
+use Rattle.log_index.specs.Places.{before_at, document_at, document_before, document_by, earlier_or, first_seq}
 use Rattle.log_views.specs.At.{written, write_at}
-use Rattle.log_views.proofs.Placed.{found, nothing}
-use Rattle.feed_rows.specs.Known.{row_before, since_write}
+use Rattle.log_views.specs.States.{effects_at_write, since_at_write, since_by}
+use Rattle.log_views.proofs.Placed.{found, nothing, writes_it}
+use Rattle.feed_rows.specs.Known.{renews, row_before, since_renewed}
 use Rattle.feed_rows.specs.LastChange.{Stood, place_by, place_in}
-use Rattle.feed_rows.specs.Latest.{current_in, winner_in, written_as}
+use Rattle.feed_rows.specs.Latest.{current_in, winner_in}
 use Rattle.feed_rows.specs.PassAt.{Dated, IsViewer}
 use Rattle.grant_history.specs.Periods.{periods_have}
 use Rattle.feed_rows.specs.declared.document.Latest.{Latest}
 use Rattle.feed_rows.specs.declared.shown.Viewer.{Viewer}
-use Rattle.feed_rows.proofs.Settled.{Test, written_stays, written_turns}
+use Rattle.feed_rows.proofs.Settled.{Test, turned_by_view, turned_by_write, unturned_there, wrote_is}
 use Rattle.feed_rows.proofs.Places.{dated_within, past_extends, past_length, past_more}
-use Rattle.feed_rows.proofs.Steps.{current_same, since_other, since_own}
+use Rattle.feed_rows.proofs.Marked.{most}
+use Rattle.feed_rows.proofs.Steps.{Unwritten, current_same, none_renewed, not_written_to, since_other, since_own}
 
 -- ---- places
 
@@ -60,90 +63,104 @@ written_there : (o : Option Sequenced) (es : List Entry) (doc : List ℕ) → cu
 written_there None es doc h = refl
 written_there (Some last) es doc h = absurd (none-some _ (sym h))
 
-since_none : (es : List Entry) (doc : List ℕ) → current es doc ≡ None → since_write es doc ≡ []
-since_none [] doc h = refl
-since_none (e ∷ older) doc h = go (write_to e doc) refl (since_none older doc)
+none_marked : (e : Entry) (doc : List ℕ) (o : Option Current) → marked_by e doc o ≡ None → o ≡ None
+none_marked e doc None h = refl
+none_marked e doc (Some c) h = absurd (none-some _ (sym h))
+
+since_none : Unwritten → (es : List Entry) (doc : List ℕ) → current es doc ≡ None → since_renewed es doc ≡ []
+since_none law [] doc h = refl
+since_none law (e ∷ older) doc h = go (write_to e doc) refl (since_none law older doc)
   where
-    go : (o : Option Write) → write_to e doc ≡ o → (current older doc ≡ None → since_write older doc ≡ []) → since_write (e ∷ older) doc ≡ []
-    go None is rest = since_other e older doc is ∙ rest (sym (current_same e older doc is) ∙ h)
+    go : (o : Option Write) → write_to e doc ≡ o → (current older doc ≡ None → since_renewed older doc ≡ []) → since_renewed (e ∷ older) doc ≡ []
+    go None is rest =
+        let was = none_marked e doc (current older doc) (sym (law e older doc is) ∙ h) in
+        since_other e older doc (none_renewed e older doc is was) ∙ rest was
     go (Some w) is rest =
         let last : last_write (e ∷ older) doc ≡ Some (record { seq = length older + 1; write = w }) = cc in
         absurd (none-some _ (sym (written_there (last_write (e ∷ older) doc) (e ∷ older) doc h) ∙ last))
 
-pub place_none : (es : List Entry) (user : List ℕ) (filter : Option (List (List ℕ))) (doc : List ℕ) → current es doc ≡ None → row_before es user filter doc ≡ row_of es user filter doc → place_by (row_of es user filter doc) ≡ 0
-place_none es user filter doc none same =
-    ap place_by (sym same ∙ ap (λ (at : List Entry). row_of at user filter doc) (since_none es doc none))
+pub never_renewed : Unwritten → (es : List Entry) (doc : List ℕ) → current es doc ≡ None → 0 ≡ length (since_renewed es doc)
+never_renewed law es doc h = sym (ap length (since_none law es doc h))
 
--- ---- the entries up to a document's last write
+pub place_none : Unwritten → (es : List Entry) (user : List ℕ) (filter : Option (List (List ℕ))) (doc : List ℕ) → current es doc ≡ None → row_before es user filter doc ≡ row_of es user filter doc → place_by (row_of es user filter doc) ≡ 0
+place_none law es user filter doc none same =
+    ap place_by (sym same ∙ ap (λ (at : List Entry). row_of at user filter doc) (since_none law es doc none))
 
-write_is : (e : Entry) (doc : List ℕ) (w : Write) → write_to e doc ≡ Some w → (e ≡ entry.Write w) × (w.doc ≡ doc)
-write_is (entry.Write v) doc w h = go (bytes_eq v.doc doc) refl h
+-- ---- where a document stands, which an entry does not write
+
+document_same : (e : Entry) (es : List Entry) (doc : List ℕ) → write_to e doc ≡ None → document_at (e ∷ es) doc ≡ document_at es doc
+document_same e es doc h =
+    ap (λ (o : Option Write). document_by (e ∷ es) doc (sequenced_or o (length es + 1) (last_write es doc))) h ∙ go (last_write es doc)
   where
-    go : (b : Bool) → bytes_eq v.doc doc ≡ b → (if b then Some v else None) ≡ Some w → (entry.Write v ≡ entry.Write w) × (w.doc ≡ doc)
-    go true is h = (ap (λ (x : Write). entry.Write x) (same_Some v w h), ap (λ (x : Write). x.doc) (sym (same_Some v w h)) ∙ (bytes_decides v.doc doc).0 is)
-    go false is h = absurd (none-some w h)
-write_is (entry.PutUser name channels roles) doc w h = absurd (none-some w h)
-write_is (entry.PutRole name channels) doc w h = absurd (none-some w h)
-write_is (entry.DropUser name) doc w h = absurd (none-some w h)
-write_is (entry.DropRole name) doc w h = absurd (none-some w h)
-write_is entry.Unused doc w h = absurd (none-some w h)
+    go : (o : Option Sequenced) → document_by (e ∷ es) doc o ≡ document_by es doc o
+    go None = refl
+    go (Some last) =
+        ap (λ (o : Option Write). Some (record { first = earlier_or o (length es + 1) (first_seq es doc); last = last.seq; winning = (write_or (with_rev_or o (length es + 1) last.write.winner (write_of_rev es doc last.write.winner)) last).seq })) h
 
--- a document's last write, which stands at the end of the entries up to it
-pub record LastWrite (entries : List Entry) (n : ℕ) (doc : List ℕ) (seq : ℕ) : Type 0 where
-  pub write : Write
-  pub own : write_to (entry.Write write) doc ≡ Some write
-  pub names : write.doc ≡ doc
-  pub low : 0 < seq
-  pub high : seq ≤ n
-  pub newest : past entries seq ≡ entry.Write write ∷ past entries (seq - 1)
-  pub since : since_write (past entries n) doc ≡ past entries seq
-  pub same : current (past entries seq) doc ≡ current (past entries n) doc
+-- ---- the entries up to where a document was last renewed
 
-pub last_written : (entries : List Entry) (doc : List ℕ) (n : ℕ) (last : Sequenced) → n ≤ length entries → last_write (past entries n) doc ≡ Some last → LastWrite entries n doc last.seq
-last_written entries doc zero last high h = absurd (none-some last h)
-last_written entries doc (suc n) last high h =
+-- the entry that renewed a document last stands at the end of those up to it
+pub record Renewal (entries : List Entry) (n : ℕ) (doc : List ℕ) (since : ℕ) : Type 0 where
+  pub by : Entry
+  pub renewed : renews by (past entries (since - 1)) doc ≡ true
+  pub low : 0 < since
+  pub high : since ≤ n
+  pub newest : past entries since ≡ by ∷ past entries (since - 1)
+  pub since_is : since_renewed (past entries n) doc ≡ past entries since
+  pub same : current (past entries since) doc ≡ current (past entries n) doc
+  pub stood : document_at (past entries n) doc ≡ document_at (past entries since) doc
+
+pub last_renewed : Unwritten → (entries : List Entry) (doc : List ℕ) (n : ℕ) (c : Current) → n ≤ length entries → current (past entries n) doc ≡ Some c → (since : ℕ) × (since ≡ length (since_renewed (past entries n) doc)) × Renewal entries n doc since
+last_renewed law entries doc zero c high h = absurd (none-some c h)
+last_renewed law entries doc (suc n) c high h =
     let more = past_more entries n (omega (arith, high)) in
-    go more.0 more.1 (write_to more.0 doc) refl (λ k. last_written entries doc n last (omega (arith, high)) k)
+    go more.0 more.1 (renews more.0 (past entries n) doc) refl (λ k. last_renewed law entries doc n c (omega (arith, high)) k)
   where
-    by_write : (e : Entry) → past entries (suc n) ≡ e ∷ past entries n → (w : Write) → write_to e doc ≡ Some w → LastWrite entries (suc n) doc last.seq
-    by_write e next w is =
-        let one = write_is e doc w is in
+    own : (e : Entry) → past entries (suc n) ≡ e ∷ past entries n → renews e (past entries n) doc ≡ true → (since : ℕ) × (since ≡ length (since_renewed (past entries (suc n)) doc)) × Renewal entries (suc n) doc since
+    own e next is =
         let older = past entries n in
         let count : length older ≡ n = past_length entries n (omega (arith, high)) in
-        let found_last : Some (record { seq = length older + 1; write = w }) ≡ Some last = cc in
-        let seq : length older + 1 ≡ last.seq = ap (λ (s : Sequenced). s.seq) (same_Some _ last found_last) in
-        let here : last.seq ≡ suc n = omega (arith, seq, count) in
-        let before : last.seq - 1 ≡ n = omega (arith, here) in
-        record {
-          write = w;
-          own = ap (λ (x : Entry). write_to x doc) (sym one.0) ∙ is;
-          names = one.1;
-          low = omega (arith, here);
-          high = omega (arith, here);
-          newest = ap (λ (m : ℕ). past entries m) here ∙ next ∙ ap (λ (x : Entry). x ∷ past entries n) one.0 ∙ ap (λ (m : ℕ). entry.Write w ∷ past entries m) (sym before);
-          since = ap (λ (es : List Entry). since_write es doc) next ∙ since_own e older doc w is ∙ sym next ∙ ap (λ (m : ℕ). past entries m) (sym here);
-          same = ap (λ (m : ℕ). current (past entries m) doc) here;
-        }
+        let all : since_renewed (past entries (suc n)) doc ≡ e ∷ older = ap (λ (es : List Entry). since_renewed es doc) next ∙ since_own e older doc is in
+        let before : ◌≡◌ {A = ℕ} (suc n - 1) n = omega arith in (
+          suc n,
+          omega (arith, ap length all, count),
+          record {
+            by = e;
+            renewed = ap (λ (m : ℕ). renews e (past entries m) doc) before ∙ is;
+            low = omega arith;
+            high = omega arith;
+            newest = next ∙ ap (λ (m : ℕ). e ∷ past entries m) (sym before);
+            since_is = all ∙ sym next;
+            same = refl;
+            stood = refl;
+          },
+        )
 
-    by_other : (e : Entry) → past entries (suc n) ≡ e ∷ past entries n → write_to e doc ≡ None → LastWrite entries n doc last.seq → LastWrite entries (suc n) doc last.seq
-    by_other e next is l = record {
-      write = l.write;
-      own = l.own;
-      names = l.names;
-      low = l.low;
-      high = omega (arith, l.high);
-      newest = l.newest;
-      since = ap (λ (es : List Entry). since_write es doc) next ∙ since_other e (past entries n) doc is ∙ l.since;
-      same = l.same ∙ sym (current_same e (past entries n) doc is) ∙ ap (λ (es : List Entry). current es doc) (sym next);
-    }
+    other : (e : Entry) → past entries (suc n) ≡ e ∷ past entries n → renews e (past entries n) doc ≡ false → (since : ℕ) × (since ≡ length (since_renewed (past entries n) doc)) × Renewal entries n doc since → (since : ℕ) × (since ≡ length (since_renewed (past entries (suc n)) doc)) × Renewal entries (suc n) doc since
+    other e next is before =
+        let r = before.2 in
+        let all : since_renewed (past entries (suc n)) doc ≡ since_renewed (past entries n) doc = ap (λ (es : List Entry). since_renewed es doc) next ∙ since_other e (past entries n) doc is in (
+          before.0,
+          before.1 ∙ ap length (sym all),
+          record {
+            by = r.by;
+            renewed = r.renewed;
+            low = r.low;
+            high = omega (arith, r.high);
+            newest = r.newest;
+            since_is = all ∙ r.since_is;
+            same = r.same ∙ sym (current_same law e (past entries n) doc is) ∙ ap (λ (es : List Entry). current es doc) (sym next);
+            stood = ap (λ (es : List Entry). document_at es doc) next ∙ document_same e (past entries n) doc (not_written_to e (past entries n) doc is) ∙ r.stood;
+          },
+        )
 
-    go : (e : Entry) → past entries (suc n) ≡ e ∷ past entries n → (o : Option Write) → write_to e doc ≡ o → (last_write (past entries n) doc ≡ Some last → LastWrite entries n doc last.seq) → LastWrite entries (suc n) doc last.seq
-    go e next (Some w) is rest = by_write e next w is
-    go e next None is rest =
-        let was : last_write (past entries n) doc ≡ Some last = cc in
-        by_other e next is (rest was)
+    go : (e : Entry) → past entries (suc n) ≡ e ∷ past entries n → (b : Bool) → renews e (past entries n) doc ≡ b
+        → (current (past entries n) doc ≡ Some c → (since : ℕ) × (since ≡ length (since_renewed (past entries n) doc)) × Renewal entries n doc since) → (since : ℕ) × (since ≡ length (since_renewed (past entries (suc n)) doc)) × Renewal entries (suc n) doc since
+    go e next true is rest = own e next is
+    go e next false is rest =
+        other e next is (rest (sym (current_same law e (past entries n) doc is) ∙ ap (λ (es : List Entry). current es doc) (sym next) ∙ h))
 
--- ---- where a document stood before its last write
+-- ---- where a document stood before it was last renewed
 
 before_older : (newer : List Entry) (e : Entry) (older : List Entry) → before_at (newer ++ e ∷ older) (length older + 1) ≡ document_before older (as_write e)
 before_older [] e older =
@@ -155,17 +172,19 @@ before_older (x ∷ newer) e older =
     ∙ before_older newer e older
 
 module _ (entries : List Entry) (n : ℕ) (doc : List ℕ) (high : n ≤ length entries) where
-  pub stood_before : (seq : ℕ) (l : LastWrite entries n doc seq) → before_at (reverse entries) seq ≡ document_at (past entries (seq - 1)) doc
-  stood_before seq l =
-      let whole = past_extends entries [] seq (length entries) (omega (arith, l.high, high)) (omega (arith, l.high, high)) in
-      let all : reverse entries ≡ whole.0 ++ past entries seq = sym all_past ∙ whole.1 in
-      let older = past entries (seq - 1) in
-      let count : length older ≡ seq - 1 = past_length entries (seq - 1) (omega (arith, l.high, high)) in
-      let place : seq ≡ length older + 1 = omega (arith, count, l.low) in
-      ap (λ (es : List Entry). before_at es seq) (all ∙ ap (λ (es : List Entry). whole.0 ++ es) l.newest)
-      ∙ ap (λ (m : ℕ). before_at (whole.0 ++ entry.Write l.write ∷ older) m) place
-      ∙ before_older whole.0 (entry.Write l.write) older
-      ∙ ap (λ (d : List ℕ). document_at older d) l.names
+  stood_before : (since : ℕ) (r : Renewal entries n doc since) (w : Write) → write_to r.by doc ≡ Some w → before_at (reverse entries) since ≡ document_at (past entries (since - 1)) doc
+  stood_before since r w is =
+      let end = past_extends entries [] since (length entries) (omega (arith, r.high, high)) (omega (arith, r.high, high)) in
+      let all : reverse entries ≡ end.0 ++ past entries since = sym all_past ∙ end.1 in
+      let older = past entries (since - 1) in
+      let count : length older ≡ since - 1 = past_length entries (since - 1) (omega (arith, r.high, high)) in
+      let place : since ≡ length older + 1 = omega (arith, count, r.low) in
+      let one = writes_it (as_write r.by) doc w is in
+      ap (λ (es : List Entry). before_at es since) (all ∙ ap (λ (es : List Entry). end.0 ++ es) r.newest)
+      ∙ ap (λ (m : ℕ). before_at (end.0 ++ r.by ∷ older) m) place
+      ∙ before_older end.0 r.by older
+      ∙ ap (document_before older) one.0
+      ∙ ap (λ (d : List ℕ). document_at older d) one.1
     where
       all_past : past (entries ++ []) (length entries) ≡ reverse entries
       all_past = ap (λ (l : List Entry). past l (length entries)) (append-nil entries) ∙ ap (λ (l : List Entry). reverse l) (take-length entries)
@@ -175,21 +194,22 @@ module _ (entries : List Entry) (n : ℕ) (doc : List ℕ) (high : n ≤ length 
   pub latest_none : document_at (past entries n) doc ≡ None → None ≡ current (past entries n) doc
   latest_none h = sym (ap (λ (o : Option Sequenced). current_after (past entries n) doc o) (nothing (past entries n) doc h))
 
-  module _ (d : Document) (at : document_at (past entries n) doc ≡ Some d) where
-    pub latest_some : option_map (written_as d.last) (write_at entries d.winning) ≡ current (past entries n) doc
-    latest_some =
-        let f = found (past entries n) doc d at in
-        let won = winning_of (past entries n) doc f.last in
+  module _ (d : Document) (at : Some d ≡ document_at (past entries n) doc) where
+    abbrev pub won : Sequenced
+    won = winning_of (past entries n) doc (found (past entries n) doc d (sym at)).last
+
+    pub winning_low : 0 < d.winning
+    winning_low = let f = found (past entries n) doc d (sym at) in omega (arith, f.winning, f.at.low)
+
+    pub written_by : write_at entries d.winning ≡ Some won.write
+    written_by =
+        let f = found (past entries n) doc d (sym at) in
         let up : won.seq ≤ n = omega (arith, f.at.high, past_length entries n high) in
         let place : d.winning - 1 < n = omega (arith, f.winning, f.at.low, up) in
-        let there : write_at entries d.winning ≡ Some won.write =
         ap written (sym (got_taken entries n (d.winning - 1) place))
         ∙ ap (λ (l : List Entry). write_at l d.winning) (sym (reverse-reverse (take n entries)))
         ∙ ap (λ (m : ℕ). write_at (reverse (past entries n)) m) f.winning
-        ∙ f.at.there in
-        ap (option_map (written_as d.last)) there
-        ∙ ap (λ (m : ℕ). Some (written_as m won.write)) f.seq
-        ∙ sym (ap (λ (o : Option Sequenced). current_after (past entries n) doc o) f.last_is)
+        ∙ f.at.there
       where
         got_taken : (all : List Entry) (k i : ℕ) → i < k → slice_get (take k all) i ≡ slice_get all i
         got_taken all zero i h = absurd (omega (arith, h))
@@ -197,73 +217,118 @@ module _ (entries : List Entry) (n : ℕ) (doc : List ℕ) (high : n ≤ length 
         got_taken (x ∷ xs) (suc k) zero h = refl
         got_taken (x ∷ xs) (suc k) (suc i) h = got_taken xs k i (omega (arith, h))
 
--- ---- from a place back to the last write before it
+    pub effects_are : effects_at_write (past entries n) d.winning (write_at entries d.winning) ≡ Some (effects_of (past entries n) won)
+    effects_are =
+        ap (effects_at_write (past entries n) d.winning) written_by
+        ∙ ap (λ (m : ℕ). effects_at_write (past entries n) m (Some won.write)) (found (past entries n) doc d (sym at)).winning
 
-last_by : (es : List Entry) (doc : List ℕ) (o : Option Sequenced) (c : Current) → current_after es doc o ≡ Some c → (l : Sequenced) × (o ≡ Some l) × (l.seq ≡ c.seq)
-last_by es doc None c h = absurd (none-some _ h)
-last_by es doc (Some l) c h = (l, refl, ap (λ (x : Current). x.seq) (same_Some _ c h))
+    pub since_are : since_at_write (past entries n) d.winning (write_at entries d.winning) ≡ Some (since_by (marked_after (past entries n) won) won.seq)
+    since_are =
+        ap (since_at_write (past entries n) d.winning) written_by
+        ∙ ap (λ (m : ℕ). since_at_write (past entries n) m (Some won.write)) (found (past entries n) doc d (sym at)).winning
 
--- what is shown did not change since the last write
-module _ (entries : List Entry) (index : LogIndex) (viewer : Viewer) (doc : List ℕ) (to : ℕ) (stood : Option Document) (s : Stood entries index viewer doc to stood) (latest : Latest) (is : current_in (Some latest) ≡ current (past entries to) doc)
-    (same : row_before (past entries to) viewer.user.now viewer.filter.now doc ≡ row_of (past entries to) viewer.user.now viewer.filter.now doc) where
+    -- it is this by its winner and the winner's effects
+    pub latest_is : (v : Write) (effects : Effects) → v ≡ won.write → effects ≡ effects_of (past entries n) won → Some (current_of d.last v effects) ≡ current (past entries n) doc
+    latest_is v effects same have =
+        let f = found (past entries n) doc d (sym at) in
+        ap (λ (m : ℕ). Some (current_of m v effects)) f.seq
+        ∙ ap (λ (x : Write). Some (current_of f.last.seq x effects)) same
+        ∙ ap (λ (x : Effects). Some (current_of f.last.seq won.write x)) have
+        ∙ sym (ap (λ (o : Option Sequenced). current_after (past entries n) doc o) f.last_is)
+
+    pub since_most : max d.last (since_by (marked_after (past entries n) won) won.seq) ≡ length (since_renewed (past entries n) doc)
+    since_most =
+        let f = found (past entries n) doc d (sym at) in
+        ap (λ (m : ℕ). max m (since_by (marked_after (past entries n) won) won.seq)) f.seq
+        ∙ most (past entries n) doc f.last f.last_is
+
+-- ---- from a place back to where the document was last renewed before it
+
+-- what is shown did not change since then
+module _ (law : Unwritten) (entries : List Entry) (index : LogIndex) (viewer : Viewer) (doc : List ℕ) (to : ℕ) (stood : Option Document) (s : Stood entries index viewer doc to stood) (latest : Latest) (is : current_in (Some latest) ≡ current (past entries to) doc)
+    (since_at : latest.since ≡ length (since_renewed (past entries to) doc)) (same : row_before (past entries to) viewer.user.now viewer.filter.now doc ≡ row_of (past entries to) viewer.user.now viewer.filter.now doc) where
   abbrev pub has : List ℕ → ℕ → Bool
   has = periods_have viewer.periods.now
 
   abbrev pub now : Current
   now = winner_in latest
 
-  last : LastWrite entries to doc latest.seq
+  last : Renewal entries to doc latest.since
   last =
-      let l = last_by (past entries to) doc (last_write (past entries to) doc) now (sym is) in
-      subst (λ (m : ℕ). LastWrite entries to doc m) l.2 (last_written entries doc to l.0 s.within l.1)
+      let l = last_renewed law entries doc to now s.within (sym is) in
+      subst (λ (m : ℕ). Renewal entries to doc m) (l.1 ∙ sym since_at) l.2
 
   abbrev pub older : List Entry
-  older = past entries (latest.seq - 1)
+  older = past entries (latest.since - 1)
 
-  older_length : length older ≡ latest.seq - 1
-  older_length = past_length entries (latest.seq - 1) (omega (arith, last.high, s.within))
+  older_length : length older ≡ latest.since - 1
+  older_length = past_length entries (latest.since - 1) (omega (arith, last.high, s.within))
 
-  pub seq_is_next : latest.seq ≡ length older + 1
-  seq_is_next = omega (arith, older_length, last.low)
+  pub since_is_next : latest.since ≡ length older + 1
+  since_is_next = omega (arith, older_length, last.low)
 
-  dated : Dated has viewer.user.now (entry.Write last.write ∷ older)
-  dated = subst (λ (es : List Entry). Dated has viewer.user.now es) last.newest (dated_within has viewer.user.now entries latest.seq s.is_viewer.dated)
+  dated : Dated has viewer.user.now (last.by ∷ older)
+  dated = subst (λ (es : List Entry). Dated has viewer.user.now es) last.newest (dated_within has viewer.user.now entries latest.since s.is_viewer.dated)
 
-  current_is : current (entry.Write last.write ∷ older) doc ≡ Some now
+  current_is : current (last.by ∷ older) doc ≡ Some now
   current_is = ap (λ (es : List Entry). current es doc) (sym last.newest) ∙ last.same ∙ sym is
 
-  rows_are : row_of (past entries to) viewer.user.now viewer.filter.now doc ≡ row_of (entry.Write last.write ∷ older) viewer.user.now viewer.filter.now doc
-  rows_are = sym same ∙ ap (λ (at : List Entry). row_of at viewer.user.now viewer.filter.now doc) (last.since ∙ last.newest)
+  rows_are : row_of (past entries to) viewer.user.now viewer.filter.now doc ≡ row_of (last.by ∷ older) viewer.user.now viewer.filter.now doc
+  rows_are = sym same ∙ ap (λ (at : List Entry). row_of at viewer.user.now viewer.filter.now doc) (last.since_is ∙ last.newest)
 
-  end_is : length (entry.Write last.write ∷ older) ≡ latest.seq
-  end_is = omega (arith, seq_is_next)
-
-  turns : (shown : Bool) → shown ≡ Test has viewer.filter.now now latest.seq → (shown ≡ false → is_some (view older viewer.user.now viewer.filter.now doc) ≡ false → ⊥) → place_in (past entries to) viewer doc ≡ latest.seq
-  turns shown at not =
-      ap place_by (rows_are ∙ sym (written_turns has viewer.user.now viewer.filter.now doc last.write older last.own now dated current_is seq_is_next shown (at ∙ ap (Test has viewer.filter.now now) (sym end_is)) not))
-      ∙ sym seq_is_next
-
-  pub found_shown : true ≡ Test has viewer.filter.now now latest.seq → place_in (past entries to) viewer doc ≡ latest.seq
-  found_shown at = turns true at (λ a b. true≢false a)
-
-  pub found_was : false ≡ Test has viewer.filter.now now latest.seq → true ≡ is_some (view older viewer.user.now viewer.filter.now doc) → place_in (past entries to) viewer doc ≡ latest.seq
-  found_was at was = turns false at (λ a b. true≢false (was ∙ b))
+  end_is : length (last.by ∷ older) ≡ latest.since
+  end_is = omega (arith, since_is_next)
 
   pub viewer_before : IsViewer viewer older
   viewer_before = record { to_search = s.is_viewer.to_search; dated = dated.1 }
 
-  pub stood_so : before_at (reverse entries) latest.seq ≡ document_at older doc
-  stood_so = stood_before entries to doc s.within latest.seq last
-
-  pub earlier : latest.seq - 1 < to
+  pub earlier : latest.since - 1 < to
   earlier = omega (arith, last.low, last.high)
 
-  pub within_before : latest.seq - 1 ≤ length entries
+  pub within_before : latest.since - 1 ≤ length entries
   within_before = omega (arith, last.high, s.within)
 
-  pub found_before : false ≡ Test has viewer.filter.now now latest.seq → is_some (view older viewer.user.now viewer.filter.now doc) ≡ false → place_in (past entries to) viewer doc ≡ place_in older viewer doc
-  found_before at was =
-      ap place_by (rows_are ∙ sym (written_stays has viewer.user.now viewer.filter.now doc last.write older last.own now dated current_is seq_is_next (at ∙ ap (Test has viewer.filter.now now) (sym end_is)) was))
+  -- where it stood before that
+  pub stood_so : (if nat_eq latest.seq latest.since then before_at index latest.seq else stood) ≡ document_at older doc
+  stood_so = go (nat_eq latest.seq latest.since) refl
+    where
+      wrote : nat_eq latest.seq latest.since ≡ is_some (write_to last.by doc)
+      wrote = ap (nat_eq latest.seq) since_is_next ∙ wrote_is has viewer.user.now viewer.filter.now doc law last.by older now dated current_is
+
+      by_write : (o : Option Write) → write_to last.by doc ≡ o → is_some o ≡ true → nat_eq latest.seq latest.since ≡ true → before_at index latest.seq ≡ document_at older doc
+      by_write None at there own = absurd (true≢false (sym there))
+      by_write (Some w) at there own =
+          ap (λ (es : List Entry). before_at es latest.seq) s.indexes
+          ∙ ap (before_at (reverse entries)) (eqb-true latest.seq latest.since own)
+          ∙ stood_before entries to doc s.within latest.since last w at
+
+      by_mark : (o : Option Write) → write_to last.by doc ≡ o → is_some o ≡ false → stood ≡ document_at older doc
+      by_mark None at there = s.document ∙ last.stood ∙ ap (λ (es : List Entry). document_at es doc) last.newest ∙ document_same last.by older doc at
+      by_mark (Some w) at there = absurd (true≢false there)
+
+      go : (b : Bool) → nat_eq latest.seq latest.since ≡ b → (if b then before_at index latest.seq else stood) ≡ document_at older doc
+      go true h = by_write (write_to last.by doc) refl (sym wrote ∙ h) h
+      go false h = by_mark (write_to last.by doc) refl (sym wrote ∙ h)
+
+  shown_then : (shown : Bool) → shown ≡ Test has viewer.filter.now now latest.since → shown ≡ Test has viewer.filter.now now (length (last.by ∷ older))
+  shown_then shown at = at ∙ ap (Test has viewer.filter.now now) (sym end_is)
+
+  own_is : (wrote : Bool) → wrote ≡ nat_eq latest.seq latest.since → wrote ≡ nat_eq latest.seq (length older + 1)
+  own_is wrote h = h ∙ ap (nat_eq latest.seq) since_is_next
+
+  pub found_shown : (wrote shown : Bool) → wrote ≡ nat_eq latest.seq latest.since → shown ≡ Test has viewer.filter.now now latest.since → (wrote && shown) ≡ true → place_in (past entries to) viewer doc ≡ latest.since
+  found_shown wrote shown own at both =
+      ap place_by (rows_are ∙ sym (turned_by_write has viewer.user.now viewer.filter.now doc law last.by older now dated current_is wrote shown (own_is wrote own) (shown_then shown at) both))
+      ∙ sym since_is_next
+
+  pub found_turned : (shown was : Bool) → shown ≡ Test has viewer.filter.now now latest.since → was ≡ is_some (view older viewer.user.now viewer.filter.now doc) → ¬ (shown ≡ was) → place_in (past entries to) viewer doc ≡ latest.since
+  found_turned shown was at before not =
+      ap place_by (rows_are ∙ sym (turned_by_view has viewer.user.now viewer.filter.now doc law last.by older now dated current_is (nat_eq latest.seq (length older + 1)) shown was refl (shown_then shown at) before not))
+      ∙ sym since_is_next
+
+  pub found_before : (wrote shown was : Bool) → wrote ≡ nat_eq latest.seq latest.since → shown ≡ Test has viewer.filter.now now latest.since → was ≡ is_some (view older viewer.user.now viewer.filter.now doc) → (wrote && shown) ≡ false → shown ≡ was → place_in (past entries to) viewer doc ≡ place_in older viewer doc
+  found_before wrote shown was own at before not kept =
+      ap place_by (rows_are ∙ sym (unturned_there has viewer.user.now viewer.filter.now doc law last.by older now dated current_is wrote shown was (own_is wrote own) (shown_then shown at) before not kept))
 
 -- ---- all of the entries
 

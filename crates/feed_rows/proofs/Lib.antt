@@ -16,3 +16,7 @@ mod ShownRows
 mod Steps
 mod Lastings
 mod LastChanges
+mod Amid
+mod Marked
+mod Renewals
+mod Revisions

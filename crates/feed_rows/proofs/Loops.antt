@@ -1,5 +1,5 @@
 -- steps of loops over what is known of documents
-use Rattle.std.proofs.Common.{◌≡◌, ℕ, ◌+◌, ◌<◌, refl, sym, ◌∙◌, ap, arith, List, [], ◌∷◌, ◌++◌, length, get_or, take, map, reverse, zero, suc}
+use Rattle.std.proofs.Common.{◌≡◌, ℕ, ◌+◌, ◌<◌, ◌≤◌, refl, sym, ◌∙◌, ap, arith, List, [], ◌∷◌, ◌++◌, length, drop, get_or, take, map, reverse, zero, suc}
 use Rattle.std.proofs.lemmas.List.{reverse-append, map-append}
 use Rattle.std.specs.Prelude.{slice_index_or}
 use Rattle.feed_rows.specs.declared.document.Document.{Document}
@@ -32,3 +32,30 @@ pub mapped_more : {X Y : Type 0} (f : X → Y) (xs : List X) (i : ℕ) (d : X) �
 mapped_more f xs i d h =
     let one : ◌≡◌ {A = ℕ} (i + 1) (suc i) = omega arith in
     ap (λ (n : ℕ). reverse (map f (take n xs))) one ∙ ap (λ ys. reverse ys) (mapped_suc f xs i d h) ∙ reverse-append (map f (take i xs)) (f (get_or xs i d) ∷ [])
+
+-- a list at one of its places
+taken_suc : {X : Type 0} (xs : List X) (i : ℕ) (x : X) → i < length xs → x ≡ get_or xs i x → take (suc i) xs ≡ take i xs ++ x ∷ []
+taken_suc [] i x h is = absurd (omega (arith, h))
+taken_suc (y ∷ ys) zero x h is = ap (λ z. z ∷ []) (sym is)
+taken_suc (y ∷ ys) (suc i) x h is = ap (λ l. y ∷ l) (taken_suc ys i x (omega (arith, h)) is)
+
+parted_suc : {X : Type 0} (xs : List X) (i : ℕ) (x : X) → i < length xs → x ≡ get_or xs i x → xs ≡ take i xs ++ x ∷ drop (suc i) xs
+parted_suc [] i x h is = absurd (omega (arith, h))
+parted_suc (y ∷ ys) zero x h is = ap (λ z. z ∷ ys) (sym is)
+parted_suc (y ∷ ys) (suc i) x h is = ap (λ l. y ∷ l) (parted_suc ys i x (omega (arith, h)) is)
+
+pub taken_more : {X : Type 0} (xs : List X) (i : ℕ) (x : X) → i < length xs → x ≡ get_or xs i x → take (i + 1) xs ≡ take i xs ++ x ∷ []
+taken_more xs i x h is =
+    let one : ◌≡◌ {A = ℕ} (i + 1) (suc i) = omega arith in
+    ap (λ (n : ℕ). take n xs) one ∙ taken_suc xs i x h is
+
+pub parted : {X : Type 0} (xs : List X) (i : ℕ) (x : X) → i < length xs → x ≡ get_or xs i x → xs ≡ take i xs ++ x ∷ drop (i + 1) xs
+parted xs i x h is =
+    let one : ◌≡◌ {A = ℕ} (suc i) (i + 1) = omega arith in
+    parted_suc xs i x h is ∙ ap (λ (n : ℕ). take i xs ++ x ∷ drop n xs) one
+
+pub taken_all : {X : Type 0} (xs : List X) (i : ℕ) → length xs ≤ i → take i xs ≡ xs
+taken_all [] zero h = refl
+taken_all [] (suc i) h = refl
+taken_all (x ∷ xs) zero h = absurd (omega (arith, h))
+taken_all (x ∷ xs) (suc i) h = ap (λ l. x ∷ l) (taken_all xs i (omega (arith, h)))

@@ -1,5 +1,7 @@
 -- the entries up to places of a history, and of one that extends it
-use Rattle.std.proofs.Common.{◌≡◌, ℕ, zero, suc, ◌<◌, ◌≤◌, refl, sym, ◌∙◌, ap, subst, arith, Bool, List, [], ◌∷◌, ◌++◌, length, take, drop, reverse}
+use Rattle.std.proofs.Common.{◌≡◌, ℕ, zero, suc, ◌+◌, ◌<◌, ◌≤◌, refl, sym, ◌∙◌, ap, subst, arith, Bool, List, [], ◌∷◌, ◌++◌, length, take, drop, reverse, Some}
+use Rattle.std.specs.Prelude.{slice_get}
+use Rattle.std.proofs.lemmas.Option.{none-some}
 use Rattle.std.proofs.lemmas.List.{reverse-append, take-append-drop, take-take, take-append-le, length-reverse, length-take-le}
 use Rattle.sg_history.specs.declared.entries.Entry.{Entry}
 use Rattle.sg_history.specs.History.{past}
@@ -51,3 +53,23 @@ dated_within has user xs m h =
 pub take_all : (xs : List Entry) → take (length xs) xs ≡ xs
 take_all [] = refl
 take_all (x ∷ xs) = ap (λ (l : List Entry). x ∷ l) (take_all xs)
+
+-- the entry at a place, and those up to it
+next_is : (xs : List Entry) (n : ℕ) (e x : Entry) → slice_get xs n ≡ Some e → take (suc n) xs ≡ take n xs ++ x ∷ [] → x ≡ e
+next_is [] n e x h is = absurd (none-some e h)
+next_is (y ∷ ys) zero e x h is = cc
+next_is (y ∷ ys) (suc n) e x h is = let rest : take (suc n) ys ≡ take n ys ++ x ∷ [] = cc in next_is ys n e x h rest
+
+within : (xs : List Entry) (n : ℕ) (e : Entry) → slice_get xs n ≡ Some e → n < length xs
+within [] n e h = absurd (none-some e h)
+within (y ∷ ys) zero e h = omega arith
+within (y ∷ ys) (suc n) e h = omega (arith, within ys n e h)
+
+pub past_next : (xs : List Entry) (n : ℕ) (e : Entry) → slice_get xs n ≡ Some e → past xs (n + 1) ≡ e ∷ past xs n
+past_next xs n e h =
+    let one : ◌≡◌ {A = ℕ} (n + 1) (suc n) = omega arith in
+    let more = take_more xs n (within xs n e h) in
+    ap (λ (m : ℕ). past xs m) one
+    ∙ ap (λ (l : List Entry). reverse l) more.1
+    ∙ reverse-append (take n xs) (more.0 ∷ [])
+    ∙ ap (λ (x : Entry). x ∷ past xs n) (next_is xs n e more.0 h more.1)

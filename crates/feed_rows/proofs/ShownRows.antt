@@ -6,7 +6,6 @@ use Rattle.std.proofs.lemmas.Option.{none-some}
 use Rattle.std.proofs.lemmas.Slice.Eq.{bytes_eq-Decides}
 use Rattle.std.specs.Bool.{beq}
 use Rattle.std.specs.Str.{bytes_eq}
-use Rattle.sg_names.specs.declared.rev_id.RevId.{RevId}
 use Rattle.sg_names.specs.RevId.{same_rev}
 use Rattle.sg_history.specs.declared.entries.Entry.{Entry}
 use Rattle.sg_history.specs.declared.entries.Write.{Write}
@@ -16,6 +15,7 @@ use Rattle.sg_history.specs.Current.{Current, Sequenced, sequenced_or, last_writ
 use Rattle.sg_history.specs.View.{Shown, view, view_of, is_shown, same_view}
 use Rattle.sg_history.specs.Feed.{changed, row_at, row_of}
 use Rattle.sg_history.specs.Device.{shown_to}
+use Rattle.feed_rows.proofs.Revisions.{same_revs}
 use Rattle.feed_rows.proofs.RowLists.{Has}
 use Rattle.feed_rows.proofs.AnyFeed.{RowFacts}
 use Rattle.feed_rows.proofs.Changes.{ViewFacts, changed_by, row_from, row_by, row_facts}
@@ -29,13 +29,6 @@ same_marks true true h = refl
 same_marks true false h = absurd (false≢true h)
 same_marks false true h = absurd (false≢true h)
 same_marks false false h = refl
-
-same_revs : (a b : RevId) → same_rev a b ≡ true → a ≡ b
-same_revs a b h =
-    let parts = and_parts (nat_eq a.generation b.generation) (bytes_eq a.digest b.digest) h in
-    let p = eqb-true a.generation b.generation parts.0 in
-    let q = same_bytes a.digest b.digest parts.1 in
-    λ i. record { generation = p i; digest = q i }
 
 same_shown : (a b : Shown) → same_view (Some a) (Some b) ≡ true → a ≡ b
 same_shown a b h =

@@ -1,10 +1,9 @@
 -- what the index of the pass over the log stands for
-use Rattle.std.specs.Prelude.{ℕ, List, Option, Some, None}
+use Rattle.std.specs.Prelude.{ℕ, List, Option}
 use Rattle.std.specs.Borrow.{Bor}
 use Rattle.std.specs.BTreeMap.{BTreeMap, get_by}
 use Rattle.std.specs.Ordering.{nat_cmp}
 use Rattle.std.specs.Cmp.Lexicographic.{slice_cmp}
-use Rattle.sg_history.specs.declared.entries.Write.{Write}
 use Rattle.feed_rows.specs.Known.{PlacedBy}
 
 -- the place that an index has for a name
@@ -14,8 +13,3 @@ place_in places name = get_by (λ k. slice_cmp nat_cmp name k.now) places
 -- the index has of every name its place among these
 abbrev pub IsIndex : List (List ℕ) → BTreeMap (Bor (List ℕ)) ℕ → Type 0
 IsIndex names places = (name : List ℕ) → PlacedBy names name (place_in places name)
-
--- a write where there is one, else the other
-abbrev pub alone_or : Option Write → Write → Write
-alone_or None other = other
-alone_or (Some w) other = w

@@ -1,40 +1,55 @@
 -- What a pass over the log knows of each document.
-use Rattle.std.specs.Prelude.{◌≡◌, ℕ, Bool, false, List, [], ◌∷◌, ◌++◌, slice_get, slice_index_or, MatchOption, Option, Some, None, if◌then◌else◌}
+use Rattle.std.specs.Prelude.{◌≡◌, ℕ, Bool, false, ◌||◌, List, [], ◌∷◌, ◌++◌, length, is_some, slice_get, slice_index_or, MatchOption, Option, Some, None, if◌then◌else◌}
 use Rattle.std.specs.List.{list_any}
 use Rattle.std.specs.Str.{bytes_eq}
 use Rattle.sg_history.specs.declared.entries.Entry.{Entry}
 use Rattle.sg_history.specs.declared.row.Row.{Row}
 use Rattle.sg_history.specs.History.{among, documents}
-use Rattle.sg_history.specs.Current.{Current, current}
+use Rattle.sg_history.specs.Current.{Current, current, mark_by}
 use Rattle.sg_history.specs.Feed.{row_of, row_with, writes}
 use Rattle.sg_history.specs.View.{Shown}
 use Rattle.feed_rows.specs.declared.document.Change.{Change}
 use Rattle.feed_rows.specs.declared.document.Document.{Document}
-use Rattle.feed_rows.specs.Latest.{current_in, winner_in}
+use Rattle.feed_rows.specs.Latest.{changed_in, current_in, since_in}
 
--- what is known of a document: what it is, and the row that it had at its last write
+-- what is known of a document: what it is, from which place on, and the row that it had there
 pub record Known : Type 0 where
   pub name : List ℕ
   pub current : Option Current
+  pub since : ℕ
   pub row : Option Row
 
--- the entries up to the last write of a document, none where it was never written
-abbrev pub since_write : List Entry → List ℕ → List Entry
-since_write [] doc = []
-since_write (e ∷ older) doc = if writes e doc then e ∷ older else since_write older doc
+-- whether an entry has a mark of the winner of a document that is this
+abbrev pub marks_winner : Entry → List ℕ → Option Current → Bool
+marks_winner e doc None = false
+marks_winner e doc (Some c) = is_some (mark_by e doc c.rev)
 
--- the row that a document had at its last write
+-- whether an entry renews a document: it writes it, or marks its winner
+abbrev pub renews : Entry → List Entry → List ℕ → Bool
+renews e older doc = writes e doc || marks_winner e doc (current older doc)
+
+-- the entries up to the last one that renewed a document, none where it was never written
+abbrev pub since_renewed : List Entry → List ℕ → List Entry
+since_renewed [] doc = []
+since_renewed (e ∷ older) doc = if renews e older doc then e ∷ older else since_renewed older doc
+
+-- the row that a document had where it was last renewed
 abbrev pub row_before : List Entry → List ℕ → Option (List (List ℕ)) → List ℕ → Option Row
-row_before es user filter doc = row_of (since_write es doc) user filter doc
+row_before es user filter doc = row_of (since_renewed es doc) user filter doc
 
 -- what is to be known of a document after these entries, the newest first
 abbrev pub known_at : List Entry → List ℕ → Option (List (List ℕ)) → List ℕ → Known
 known_at es user filter name =
-    record { name = name; current = current es name; row = row_before es user filter name }
+    record {
+      name = name;
+      current = current es name;
+      since = length (since_renewed es name);
+      row = row_before es user filter name;
+    }
 
 -- a document that was never written
 abbrev pub blank : List ℕ → Known
-blank name = record { name = name; current = None; row = None }
+blank name = record { name = name; current = None; since = 0; row = None }
 
 -- names with one more, unless it is there
 abbrev pub add_name : List ℕ → List (List ℕ) → List (List ℕ)
@@ -73,8 +88,8 @@ view_when is_shown c =
 abbrev pub row_in : List ℕ → Option Change → Option Row
 row_in name None = None
 row_in name (Some change) =
-    row_with change.by change.wrote (view_when change.is_shown (winner_in change.latest)) name
-    (Some (winner_in change.latest))
+    row_with change.by change.wrote (view_when change.is_shown (changed_in change)) name
+    (Some (changed_in change))
 
 -- what the code knows of a document
 abbrev pub known_in : Document → Known
@@ -82,5 +97,6 @@ known_in document =
     record {
       name = document.name.now;
       current = current_in document.latest;
+      since = since_in document.latest;
       row = row_in document.name.now document.change;
     }

@@ -1,18 +1,23 @@
--- what the code's references to writes stand for
+-- what the code's references to writes and effects stand for
 use Rattle.std.specs.Prelude.{ℕ, Option, Some, None}
-use Rattle.sg_history.specs.declared.entries.Write.{Write}
 use Rattle.sg_history.specs.Current.{Current, current_of, recorded_effects}
+use Rattle.log_views.specs.States.{effects_in}
+use Rattle.feed_rows.specs.declared.document.Change.{Change}
 use Rattle.feed_rows.specs.declared.document.Latest.{Latest}
 
--- a document at a sequence by its winner's write, with the effects that this write recorded
-abbrev pub written_as : ℕ → Write → Current
-written_as seq w = current_of seq w (recorded_effects w)
+-- the winner's write and its effects, with the sequence of the last write
+abbrev pub winner_in : Latest → Current
+winner_in latest = current_of latest.seq latest.write.now (effects_in latest.effects)
 
--- the winner's write, with the sequence of the last write
 abbrev pub current_in : Option Latest → Option Current
 current_in None = None
-current_in (Some latest) = Some (written_as latest.seq latest.write.now)
+current_in (Some latest) = Some (winner_in latest)
 
--- the winner, with the sequence of the last write
-abbrev pub winner_in : Latest → Current
-winner_in latest = written_as latest.seq latest.write.now
+-- the place from which on a document is what it is, 0 where it was never written
+abbrev pub since_in : Option Latest → ℕ
+since_in None = 0
+since_in (Some latest) = latest.since
+
+-- the winner's write where a document changed, with the sequence of the last write there
+abbrev pub changed_in : Change → Current
+changed_in change = current_of change.seq change.winner.now (recorded_effects change.winner.now)

@@ -6,7 +6,7 @@ ghost use Rattle.sg_history.specs.declared.entries.Entry.{Entry};
 ghost use Rattle.sg_history.specs.declared.row.Row.{Row};
 ghost use Rattle.sg_history.specs.Feed as feed;
 ghost use Rattle.sg_history.specs.View.{Shown};
-ghost use Rattle.grant_history.specs.Winners.{AreWinners};
+ghost use Rattle.grant_history.specs.NewStates.{AreNewStates};
 ghost use Rattle.feed_rows.specs.Known.{known_at, known_in, row_in};
 ghost use Rattle.feed_rows.specs.Ordered.{asked_rows, insert_asked, insert_over, under_key};
 ghost use Rattle.feed_rows.specs.PassAt.{IsViewer};
@@ -16,6 +16,7 @@ use crate::by_channels::Switches;
 use crate::document::{Change, Document, change_at};
 use crate::pass::pass_over;
 use crate::shown::Viewer;
+use grant_history::NewStates;
 use sg_history::{DocId, Entry, Key, Options, Row};
 use std::alloc::{AllocError, Global};
 use std::collections::BTreeMap;
@@ -72,12 +73,12 @@ fn make_row(
     ensures { IfOk result (λ row. row ≡ record {
       key = key;
       doc = name.now;
-      rev = change.entry.latest.write.now.rev;
+      rev = change.entry.winner.now.rev;
       bits = bits;
     }) }
 {
     let doc = name.copy(alloc)?;
-    match change.latest.write.rev.copy(alloc) {
+    match change.winner.rev.copy(alloc) {
         Ok(rev) => Ok(Row {
             key,
             doc,
@@ -119,9 +120,9 @@ fn add_row(
     };
     let key = Key {
         by: change.by,
-        seq: change.latest.seq,
+        seq: change.seq,
     };
-    let bits = bits_of(change.is_shown, change.wrote, change.latest.write.deleted);
+    let bits = bits_of(change.is_shown, change.wrote, change.winner.deleted);
     if !keeps(options, since, &key, bits) {
         return Ok(());
     }
@@ -161,23 +162,23 @@ fn values_of(alloc: Global, rows: BTreeMap<(u64, u64), Row>) -> Result<Vec<Row>,
     rows.into_values().collect(alloc)
 }
 
-/// The rows of a user's changes feed at the end of some entries, by one pass over them, given the winners
-/// at them.
+/// The rows of a user's changes feed at the end of some entries, by one pass over them, given the new states
+/// from them on.
 pub fn rows_of_pass(
     alloc: Global,
     viewer: &Viewer<'_>,
     entries: &[Entry],
-    winners: &[u64],
+    states: &NewStates,
     since: &Key,
     options: &Options,
 ) -> Result<Vec<Row>, AllocError>
-    requires winners { AreWinners entries.now winners.now (length entries.now) }
+    requires states { AreNewStates entries.now states.now (length entries.now) }
     requires viewer { IsViewer viewer.now (reverse entries.now) }
     requires filter { options.now.filter ≡ viewer.now.filter.now }
     ensures { IfOk result (λ rows. rows.items ≡ feed.feed
         (reverse entries.now) viewer.now.user.now since.now options.now) }
 {
-    let pass = pass_over(alloc, viewer, entries, winners)?;
+    let pass = pass_over(alloc, viewer, entries, states)?;
     let documents = pass.documents.as_slice();
     let found = map_of(alloc, viewer, options, since, entries, documents)?;
     let rows = values_of(alloc, found)?;

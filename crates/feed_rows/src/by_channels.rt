@@ -7,7 +7,7 @@ ghost use Rattle.feed_rows.specs.Shown.{AreSwitches, IsLastSwitch, is_shown};
 ghost use Rattle.feed_rows.specs.declared.shown.Viewer as shown;
 
 use crate::shown::{Switch, Viewer, last_switch};
-use sg_history::{ChannelName, Write};
+use sg_history::{ChannelName, Channels};
 use std::alloc::{AllocError, Global};
 use std::collections::BTreeMap;
 
@@ -98,29 +98,33 @@ impl<'a> Switches<'a> {
         }
     }
 
-    /// The last place, up to the one of all that is kept, at which it changed whether a document with this
-    /// winner is shown.
+    /// The last place, up to the one of all that is kept, at which it changed whether a document in these
+    /// channels is shown.
     pub fn last(
         &mut self,
         alloc: Global,
         viewer: &Viewer<'_>,
-        winner: &'a Write,
+        channels: &'a Channels,
         to: u64,
     ) -> Result<Option<Switch>, AllocError>
         requires to_search { AreToSearch viewer.now.periods.now }
         requires kept { AreSwitches viewer.now to self.old.kept }
         ensures kept { OnOk result (AreSwitches viewer.now to self.new.kept) }
         ensures last { IfOk result (λ last. IsLastSwitch (is_shown viewer.now.periods.now
-            viewer.now.filter.now winner.now.channels) 0 to last) }
+            viewer.now.filter.now channels.now) 0 to last) }
     {
-        let channels = winner.channels.as_slice();
-        let text = text_of(alloc, channels)?;
-        if let Some(kept) = found(&self.kept, text.as_str(), channels) {
+        let names = channels.as_slice();
+        let text = text_of(alloc, names)?;
+        if let Some(kept) = found(&self.kept, text.as_str(), names) {
             drop(text);
             return Ok(kept.last);
         }
-        let last = last_switch(viewer, winner, 0, to);
-        put(&mut self.kept, text, Kept { channels, last })?;
+        let last = last_switch(viewer, channels, 0, to);
+        let kept = Kept {
+            channels: names,
+            last,
+        };
+        put(&mut self.kept, text, kept)?;
         Ok(last)
     }
 }

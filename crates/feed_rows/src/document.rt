@@ -1,42 +1,46 @@
 //! What the pass over the log keeps of a document.
 
-ghost use Rattle.std.specs.Prelude.{◌≡◌, ◌<◌, ◌∷◌, ℕ, List, Some, length, map, slice_set, is_some, IfOk, OnOk};
+ghost use Rattle.std.specs.Prelude.{◌≡◌, ◌<◌, ◌∷◌, ◌&&◌, nat_eq, ℕ, List, Some, length, map, slice_set, is_some, IfOk, OnOk};
 ghost use Rattle.sg_history.specs.declared.entries.Entry.{Entry};
-ghost use Rattle.sg_history.specs.declared.entries.Entry.TheVariants as kinds;
 ghost use Rattle.sg_history.specs.Current.{current};
 ghost use Rattle.sg_history.specs.Feed.{row_of};
 ghost use Rattle.sg_history.specs.View.{view};
-ghost use Rattle.sg_history.specs.declared.entries.Write.{Write};
-ghost use Rattle.feed_rows.specs.Known.{known_at, known_in, row_before, row_in, there};
-ghost use Rattle.feed_rows.specs.Latest.{current_in, winner_in};
+ghost use Rattle.feed_rows.specs.Known.{known_at, known_in, row_in, there};
+ghost use Rattle.feed_rows.specs.Latest.{current_in};
 ghost use Rattle.feed_rows.specs.Shown.{AreSwitches, IsLastSwitch, is_shown};
 ghost use Rattle.feed_rows.specs.declared.shown.Viewer as shown;
-ghost use Rattle.feed_rows.specs.PassAt.{IsViewer, IsWritten};
+ghost use Rattle.feed_rows.specs.PassAt.{IsKnown, IsRenewed, IsViewer};
 ghost use Rattle.feed_rows.specs.Lasting.{AreToSearch};
 
 use crate::by_channels::{Switches, switch_after};
 use crate::shown::{Switch, Viewer, last_switch, lasting_shown};
+use log_views::EffectsOf;
+use sg_history::laws::currents;
 use sg_history::{DocId, Write};
 use std::alloc::{AllocError, Global};
 
-/// A document's winner, with the sequence of its last write.
+/// A document's winner with its effects, the sequence of the document's last write, and the place from which on the
+/// document is that: the one of this write, or of a later mark of the winner.
 #[derive(Clone, Copy)]
 pub struct Latest<'a> {
     pub seq: u64,
+    pub since: u64,
     pub write: &'a Write,
+    pub effects: EffectsOf<'a>,
 }
 
-/// The last change of what is shown of a document: at which place, what the document was there, whether it was
-/// shown from then on, and whether the entry there wrote it.
+/// The last change of what is shown of a document: at which place, the sequence of its last write there and its winner,
+/// whether it was shown from then on, and whether the entry there wrote it.
 #[derive(Clone, Copy)]
 pub struct Change<'a> {
     pub by: u64,
-    pub latest: Latest<'a>,
+    pub seq: u64,
+    pub winner: &'a Write,
     pub is_shown: bool,
     pub wrote: bool,
 }
 
-/// A document: what it is, and its last change up to its last write.
+/// A document: what it is, and its last change up to the place from which on it is that.
 #[derive(Clone, Copy)]
 pub struct Document<'a> {
     pub name: &'a DocId,
@@ -44,32 +48,33 @@ pub struct Document<'a> {
     pub change: Option<Change<'a>>,
 }
 
-/// The last change of a document, given that up to its last write, and where it changed last since then whether
-/// it is shown.
+/// The last change of a document, given that up to where it was last renewed, and where it changed last since then
+/// whether it is shown.
 fn change_by_switch<'a>(
     latest: Latest<'a>,
     change: Option<Change<'a>>,
     switch: Option<Switch>,
 ) -> Option<Change<'a>>
-    ensures { (viewer : shown.Viewer) (es : List Entry) (doc : List ℕ) → IsViewer viewer es
-        → Some (winner_in latest.entry) ≡ current es doc
+    ensures { (viewer : shown.Viewer) (es : List Entry) (doc : List ℕ)
+        → IsKnown viewer es doc (Some latest.entry) change.entry
         → IsLastSwitch (is_shown viewer.periods.now viewer.filter.now
-        latest.entry.write.now.channels) latest.entry.seq (length es) switch
-        → row_in doc change.entry ≡ row_before es viewer.user.now viewer.filter.now doc
+        latest.entry.effects.channels.now) latest.entry.since (length es) switch
         → row_in doc result ≡ row_of es viewer.user.now viewer.filter.now doc }
 {
+    currents();
     match switch {
         None => change,
         Some(switch) => Some(Change {
             by: switch.by,
-            latest,
+            seq: latest.seq,
+            winner: latest.write,
             is_shown: switch.is_shown,
             wrote: false,
         }),
     }
 }
 
-/// The last change of a document up to a place, given that up to its last write.
+/// The last change of a document up to a place, given that up to where it was last renewed.
 pub fn change_up_to<'a>(
     viewer: &Viewer<'_>,
     latest: Option<Latest<'a>>,
@@ -77,16 +82,15 @@ pub fn change_up_to<'a>(
     to: u64,
 ) -> Option<Change<'a>>
     requires { AreToSearch viewer.now.periods.now }
-    ensures { (es : List Entry) (doc : List ℕ) → to ≡ length es → IsViewer viewer.now es
-        → current_in latest.entry ≡ current es doc
-        → row_in doc change.entry
-        ≡ row_before es viewer.now.user.now viewer.now.filter.now doc
+    ensures { (es : List Entry) (doc : List ℕ) → to ≡ length es
+        → IsKnown viewer.now es doc latest.entry change.entry
         → row_in doc result ≡ row_of es viewer.now.user.now viewer.now.filter.now doc }
 {
+    currents();
     match latest {
         None => change,
         Some(latest) => {
-            let switch = last_switch(viewer, latest.write, latest.seq, to);
+            let switch = last_switch(viewer, latest.effects.channels, latest.since, to);
             change_by_switch(latest, change, switch)
         }
     }
@@ -104,16 +108,15 @@ pub fn change_at<'a>(
     requires kept { AreSwitches viewer.now to switches.old.kept }
     ensures kept { OnOk result (AreSwitches viewer.now to switches.new.kept) }
     ensures change { IfOk result (λ change. (es : List Entry) (doc : List ℕ) → to ≡ length es
-        → IsViewer viewer.now es → current_in document.entry.latest ≡ current es doc
-        → row_in doc document.entry.change
-        ≡ row_before es viewer.now.user.now viewer.now.filter.now doc
+        → IsKnown viewer.now es doc document.entry.latest document.entry.change
         → row_in doc change ≡ row_of es viewer.now.user.now viewer.now.filter.now doc) }
 {
+    currents();
     let Some(latest) = document.latest else {
         return Ok(document.change);
     };
-    let last = switches.last(alloc, viewer, latest.write, to)?;
-    let switch = switch_after(last, latest.seq);
+    let last = switches.last(alloc, viewer, latest.effects.channels, to)?;
+    let switch = switch_after(last, latest.since);
     Ok(change_by_switch(latest, document.change, switch))
 }
 
@@ -126,59 +129,64 @@ pub fn was_shown(viewer: &Viewer<'_>, latest: Option<Latest<'_>>, k: u64) -> boo
 {
     match latest {
         None => false,
-        Some(latest) => lasting_shown(viewer, latest.write, k).holds,
+        Some(latest) => lasting_shown(viewer, latest.effects.channels, k).holds,
     }
 }
 
-/// The last change of a document up to a write of it, after which it is this.
-fn change_by_write<'a>(
+/// Whether a document is shown by the entry that renewed it last, after which it is this, and this entry wrote it.
+pub fn shows_write(latest: Latest<'_>, is_shown: bool) -> bool
+    ensures { result ≡ (nat_eq latest.entry.seq latest.entry.since && is_shown) }
+{
+    latest.seq == latest.since && is_shown
+}
+
+/// The last change of a document up to an entry that renews it, after which it is this.
+fn change_by_renewal<'a>(
     viewer: &Viewer<'_>,
     before: Option<Latest<'a>>,
     change: Option<Change<'a>>,
     latest: Latest<'a>,
 ) -> Option<Change<'a>>
     requires to_search { AreToSearch viewer.now.periods.now }
-    requires seq { 0 < latest.seq }
-    ensures { (es : List Entry) (w : Write) → IsWritten viewer.now es w latest.entry
-        → current_in before.entry ≡ current es w.doc
-        → row_in w.doc change.entry
-        ≡ row_before es viewer.now.user.now viewer.now.filter.now w.doc
-        → row_in w.doc result ≡ row_of (kinds.Write w ∷ es) viewer.now.user.now
-        viewer.now.filter.now w.doc }
+    requires since { 0 < latest.since }
+    ensures { (e : Entry) (es : List Entry) (doc : List ℕ)
+        → IsRenewed viewer.now e es doc latest.entry
+        → IsKnown viewer.now es doc before.entry change.entry
+        → row_in doc result ≡ row_of (e ∷ es) viewer.now.user.now viewer.now.filter.now doc }
 {
-    if lasting_shown(viewer, latest.write, latest.seq).holds {
-        return Some(Change {
-            by: latest.seq,
-            latest,
-            is_shown: true,
-            wrote: true,
-        });
+    currents();
+    let is_shown = lasting_shown(viewer, latest.effects.channels, latest.since).holds;
+    let changed = Change {
+        by: latest.since,
+        seq: latest.seq,
+        winner: latest.write,
+        is_shown,
+        wrote: latest.seq == latest.since,
+    };
+    if shows_write(latest, is_shown) {
+        return Some(changed);
     }
-    if was_shown(viewer, before, latest.seq - 1) {
-        return Some(Change {
-            by: latest.seq,
-            latest,
-            is_shown: false,
-            wrote: true,
-        });
+    if is_shown != was_shown(viewer, before, latest.since - 1) {
+        return Some(changed);
     }
-    change_up_to(viewer, before, change, latest.seq - 1)
+    change_up_to(viewer, before, change, latest.since - 1)
 }
 
-/// Brings a document up to a write of it, after which it is this.
+/// Brings a document up to an entry that renews it, after which it is this.
 fn bring_up<'a>(viewer: &Viewer<'_>, document: &mut Document<'a>, latest: Latest<'a>)
     requires to_search { AreToSearch viewer.now.periods.now }
-    requires seq { 0 < latest.seq }
-    ensures { (es : List Entry) (w : Write) → IsWritten viewer.now es w latest.entry
-        → known_in document.old ≡ known_at es viewer.now.user.now viewer.now.filter.now w.doc
-        → known_in document.new ≡ known_at (kinds.Write w ∷ es) viewer.now.user.now
-        viewer.now.filter.now w.doc }
+    requires since { 0 < latest.since }
+    ensures { (e : Entry) (es : List Entry) (doc : List ℕ)
+        → IsRenewed viewer.now e es doc latest.entry
+        → known_in document.old ≡ known_at es viewer.now.user.now viewer.now.filter.now doc
+        → known_in document.new
+        ≡ known_at (e ∷ es) viewer.now.user.now viewer.now.filter.now doc }
 {
-    document.change = change_by_write(viewer, document.latest, document.change, latest);
+    document.change = change_by_renewal(viewer, document.latest, document.change, latest);
     document.latest = Some(latest);
 }
 
-/// Brings the document in this place up to a write of it, after which it is this.
+/// Brings the document in this place up to an entry that renews it, after which it is this.
 pub fn bring_up_at<'a>(
     viewer: &Viewer<'_>,
     documents: &mut Vec<Document<'a>>,
@@ -186,13 +194,14 @@ pub fn bring_up_at<'a>(
     latest: Latest<'a>,
 )
     requires to_search { AreToSearch viewer.now.periods.now }
-    requires seq { 0 < latest.seq }
+    requires since { 0 < latest.since }
     requires within { place < length documents.old.items }
-    ensures { (es : List Entry) (w : Write) → IsWritten viewer.now es w latest.entry
+    ensures { (e : Entry) (es : List Entry) (doc : List ℕ)
+        → IsRenewed viewer.now e es doc latest.entry
         → there place (map known_in documents.old.items)
-        ≡ known_at es viewer.now.user.now viewer.now.filter.now w.doc
+        ≡ known_at es viewer.now.user.now viewer.now.filter.now doc
         → map known_in documents.new.items ≡ slice_set (map known_in documents.old.items) place
-        (known_at (kinds.Write w ∷ es) viewer.now.user.now viewer.now.filter.now w.doc) }
+        (known_at (e ∷ es) viewer.now.user.now viewer.now.filter.now doc) }
 {
     bring_up(viewer, &mut documents[place], latest);
 }

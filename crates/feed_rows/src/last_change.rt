@@ -1,24 +1,25 @@
-//! Where what is shown of one document changed last: going back from its last write, with no pass
+//! Where what is shown of one document changed last: going back from where it was last renewed, with no pass
 //! over the log.
 
-ghost use Rattle.std.specs.Prelude.{◌≡◌, ◌≤◌, ℕ, List, Option, Some, length, reverse, nat_eq, option_map};
+ghost use Rattle.std.specs.Prelude.{◌≡◌, ◌≤◌, ◌∷◌, ℕ, List, Option, Some, length, reverse, nat_eq, if◌then◌else◌};
+ghost use Rattle.sg_history.specs.declared.entries.Entry.{Entry};
 ghost use Rattle.sg_history.specs.History.{past};
 ghost use Rattle.sg_history.specs.Current.{current};
 ghost use Rattle.sg_history.specs.Feed.{row_of};
 ghost use Rattle.log_index.specs.declared.documents.Document.{Document};
 ghost use Rattle.log_index.specs.Index.{Indexes};
-ghost use Rattle.log_index.specs.Places.{document_at};
-ghost use Rattle.log_views.specs.At as at;
-ghost use Rattle.feed_rows.specs.Known.{row_before};
+ghost use Rattle.log_index.specs.Places.{before_at, document_at};
+ghost use Rattle.feed_rows.specs.Known.{row_before, since_renewed};
 ghost use Rattle.feed_rows.specs.LastChange.{IsFound, Stood, place_in};
-ghost use Rattle.feed_rows.specs.Latest.{current_in, written_as};
+ghost use Rattle.feed_rows.specs.Latest.{current_in, since_in};
 ghost use Rattle.feed_rows.specs.PassAt.{IsViewer};
 ghost use Rattle.feed_rows.specs.Lasting.{AreToSearch};
 
-use crate::document::{Latest, was_shown};
+use crate::document::{Latest, shows_write, was_shown};
 use crate::shown::{Viewer, last_switch, lasting_shown};
 use log_index::{Document, LogIndex};
-use log_views::write_at;
+use log_views::{effects_at, write_at};
+use sg_history::laws::currents;
 use sg_history::{DocId, Entry};
 
 /// The place of the last change, or that it is the last one up to an earlier place, after which the
@@ -29,58 +30,92 @@ pub enum Found {
     Before(Option<Document>, u64),
 }
 
-fn latest_at(entries: &[Entry], document: Document) -> Option<Latest<'_>>
-    ensures { current_in result
-        ≡ option_map (written_as document.last) (at.write_at entries.now document.winning) }
+fn latest_at<'a>(
+    index: &LogIndex,
+    entries: &'a [Entry],
+    document: Document,
+    to: u64,
+) -> Option<Latest<'a>>
+    requires index { Indexes index.now (reverse entries.now) }
+    requires within { to ≤ length entries.now }
+    ensures { (doc : List ℕ) → Some document ≡ document_at (past entries.now to) doc
+        → (current_in result ≡ current (past entries.now to) doc)
+        × (since_in result ≡ length (since_renewed (past entries.now to) doc)) }
 {
-    match write_at(entries, document.winning) {
-        None => None,
-        Some(write) => Some(Latest {
-            seq: document.last,
-            write,
-        }),
-    }
+    let write = write_at(entries, document.winning)?;
+    let effects = effects_at(index, entries, document.winning, to)?;
+    Some(Latest {
+        seq: document.last,
+        since: document.last.max(effects.since),
+        write,
+        effects,
+    })
 }
 
 /// A document by where it stood after some entries.
-fn latest_of(entries: &[Entry], stood: Option<Document>) -> Option<Latest<'_>>
-    ensures { (n : ℕ) (doc : List ℕ) → n ≤ length entries.now
-        → stood ≡ document_at (past entries.now n) doc
-        → current_in result ≡ current (past entries.now n) doc }
+fn latest_of<'a>(
+    index: &LogIndex,
+    entries: &'a [Entry],
+    stood: Option<Document>,
+    to: u64,
+) -> Option<Latest<'a>>
+    requires index { Indexes index.now (reverse entries.now) }
+    requires within { to ≤ length entries.now }
+    ensures { (doc : List ℕ) → stood ≡ document_at (past entries.now to) doc
+        → (current_in result ≡ current (past entries.now to) doc)
+        × (since_in result ≡ length (since_renewed (past entries.now to) doc)) }
 {
+    currents();
     match stood {
         None => None,
-        Some(document) => latest_at(entries, document),
+        Some(document) => latest_at(index, entries, document, to),
     }
 }
 
-/// The same where what is shown did not change since its last write.
-fn found_by_write(
+/// Where a document stood before it was last renewed, given where it stood after that.
+fn stood_before(index: &LogIndex, stood: Option<Document>, latest: Latest<'_>) -> Option<Document>
+    ensures { result ≡ (if nat_eq latest.entry.seq latest.entry.since
+        then before_at index.now latest.entry.seq else stood) }
+{
+    if latest.seq == latest.since {
+        return index.before(latest.seq);
+    }
+    stood
+}
+
+/// The same where what is shown did not change since it was last renewed.
+fn found_by_renewal(
     viewer: &Viewer<'_>,
     index: &LogIndex,
     entries: &[Entry],
+    stood: Option<Document>,
     latest: Latest<'_>,
 ) -> Found
-    requires { AreToSearch viewer.now.periods.now }
-    ensures { (doc : List ℕ) (to : ℕ) (stood : Option Document)
+    requires to_search { AreToSearch viewer.now.periods.now }
+    requires index { Indexes index.now (reverse entries.now) }
+    requires within { latest.since ≤ length entries.now }
+    ensures { (doc : List ℕ) (to : ℕ)
         → Stood entries.now index.now viewer.now doc to stood
         → current_in (Some latest.entry) ≡ current (past entries.now to) doc
+        → latest.entry.since ≡ length (since_renewed (past entries.now to) doc)
         → row_before (past entries.now to) viewer.now.user.now viewer.now.filter.now doc
         ≡ row_of (past entries.now to) viewer.now.user.now viewer.now.filter.now doc
         → IsFound entries.now viewer.now doc to result }
 {
-    if lasting_shown(viewer, latest.write, latest.seq).holds {
-        return Found::At(latest.seq);
+    currents();
+    let is_shown = lasting_shown(viewer, latest.effects.channels, latest.since).holds;
+    if shows_write(latest, is_shown) {
+        return Found::At(latest.since);
     }
-    let before = index.before(latest.seq);
-    let earlier = latest.seq.saturating_sub(1);
-    if was_shown(viewer, latest_of(entries, before), earlier) {
-        return Found::At(latest.seq);
+    let before = stood_before(index, stood, latest);
+    let earlier = latest.since.saturating_sub(1);
+    if is_shown != was_shown(viewer, latest_of(index, entries, before, earlier), earlier) {
+        return Found::At(latest.since);
     }
     Found::Before(before, earlier)
 }
 
-/// Goes back from a place, after which the document stood so, to its last write before that.
+/// Goes back from a place, after which the document stood so, to where it was last renewed before that.
 fn go_back(
     viewer: &Viewer<'_>,
     index: &LogIndex,
@@ -88,21 +123,25 @@ fn go_back(
     stood: Option<Document>,
     to: u64,
 ) -> Found
-    requires { AreToSearch viewer.now.periods.now }
+    requires to_search { AreToSearch viewer.now.periods.now }
+    requires stood { (doc : List ℕ) × Stood entries.now index.now viewer.now doc to stood }
     ensures { (doc : List ℕ) → Stood entries.now index.now viewer.now doc to stood
         → IsFound entries.now viewer.now doc to result }
 {
-    match latest_of(entries, stood) {
+    currents();
+    match latest_of(index, entries, stood, to) {
         None => Found::At(0),
-        Some(latest) => match last_switch(viewer, latest.write, latest.seq, to) {
-            Some(switch) => Found::At(switch.by),
-            None => found_by_write(viewer, index, entries, latest),
-        },
+        Some(latest) => {
+            match last_switch(viewer, latest.effects.channels, latest.since, to) {
+                Some(switch) => Found::At(switch.by),
+                None => found_by_renewal(viewer, index, entries, stood, latest),
+            }
+        }
     }
 }
 
 /// Whether what is shown of a document changed last at a place, by an index of the log. It goes back
-/// from one write of the document to the one before, and no further than that place.
+/// from where the document was last renewed to where it was before, and no further than that place.
 pub fn changed_last_at(
     viewer: &Viewer<'_>,
     index: &LogIndex,

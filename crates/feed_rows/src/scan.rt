@@ -7,14 +7,14 @@ ghost use Rattle.sg_history.specs.Principals.{has_channel};
 ghost use Rattle.sg_history.specs.Device.{plain};
 ghost use Rattle.sg_history.specs.Feed as feed;
 ghost use Rattle.grant_history.specs.Periods.{AreInOrder, ArePeriods};
-ghost use Rattle.grant_history.specs.Winners.{AreWinners};
+ghost use Rattle.grant_history.specs.NewStates.{AreNewStates};
 ghost use Rattle.feed_rows.specs.Laws.{IsBelow};
 ghost use Rattle.feed_rows.specs.PassAt.{IsViewer};
 
 use crate::asked::rows_of_pass;
 use crate::laws;
 use crate::shown::Viewer;
-use grant_history::{Period, periods_by, winners_of};
+use grant_history::{NewStates, Period, new_states, periods_by};
 use log_views::Filter;
 use sg_history::{Entry, Key, Log, Name, Options, Row, Rows};
 use std::alloc::{AllocError, Global};
@@ -35,24 +35,24 @@ pub fn viewer_of<'a>(user: &'a Name, filter: &'a Filter<'a>, periods: &'a [Perio
     }
 }
 
-/// The rows of a user's changes feed at the end of some entries, given the winners at them.
+/// The rows of a user's changes feed at the end of some entries, given the new states from them on.
 fn rows_of(
     alloc: Global,
     entries: &[Entry],
-    winners: &[u64],
+    states: &NewStates,
     user: &Name,
     filter: &Filter<'_>,
     since: &Key,
     options: &Options,
 ) -> Result<Vec<Row>, AllocError>
-    requires winners { AreWinners entries.now winners.now (length entries.now) }
+    requires states { AreNewStates entries.now states.now (length entries.now) }
     requires filter { options.now.filter ≡ filter.now }
     ensures { IfOk result (λ rows. rows.items ≡ feed.feed
         (reverse entries.now) user.now since.now options.now) }
 {
-    let periods = periods_by(alloc, entries, winners, user)?;
+    let periods = periods_by(alloc, entries, states, user)?;
     let viewer = viewer_of(user, filter, periods.as_slice());
-    let rows = rows_of_pass(alloc, &viewer, entries, winners, since, options);
+    let rows = rows_of_pass(alloc, &viewer, entries, states, since, options);
     drop(periods);
     rows
 }
@@ -86,16 +86,8 @@ pub fn rows(
         return Ok(Rows::new(alloc));
     }
     let entries = &log.entries.as_slice()[..front as usize];
-    let winners = winners_of(alloc, entries)?;
+    let states = new_states(alloc, entries)?;
     let filter = Filter::new(alloc, &options.filter)?;
-    let rows = rows_of(
-        alloc,
-        entries,
-        winners.as_slice(),
-        user,
-        &filter,
-        since,
-        options,
-    )?;
+    let rows = rows_of(alloc, entries, &states, user, &filter, since, options)?;
     Ok(Rows::from_vec(rows))
 }

@@ -11,7 +11,7 @@ ghost use Rattle.feed_rows.specs.Shown.{IsLastSwitch};
 use crate::lasting::{Lasting, channel_lasting};
 use grant_history::Period;
 use log_views::Filter;
-use sg_history::{ChannelName, Name, Write};
+use sg_history::{ChannelName, Channels, Name};
 
 /// A user, with the filter and the periods in which the user has channels.
 #[derive(Clone, Copy)]
@@ -72,13 +72,13 @@ fn lasting_of_every(periods: &[Period], channels: &[ChannelName], k: u64) -> Las
     either(every, lasting_of(periods, channels, k))
 }
 
-/// Whether a document with this winner is shown at a place.
-pub fn lasting_shown(viewer: &Viewer<'_>, winner: &Write, k: u64) -> Lasting
+/// Whether a document in these channels is shown at a place.
+pub fn lasting_shown(viewer: &Viewer<'_>, channels: &Channels, k: u64) -> Lasting
     requires { AreToSearch viewer.now.periods.now }
-    ensures { Lasts (shown.is_shown viewer.now.periods.now viewer.now.filter.now
-        winner.now.channels) k result }
+    ensures { Lasts (shown.is_shown viewer.now.periods.now viewer.now.filter.now channels.now)
+        k result }
 {
-    let channels = winner.channels.as_slice();
+    let channels = channels.as_slice();
     if !viewer.filter.passes(channels) {
         return Lasting {
             holds: false,
@@ -88,16 +88,16 @@ pub fn lasting_shown(viewer: &Viewer<'_>, winner: &Write, k: u64) -> Lasting
     lasting_of_every(viewer.periods, channels, k)
 }
 
-/// The last place after one, up to another, at which it changed whether a document with this winner is shown.
-pub fn last_switch(viewer: &Viewer<'_>, winner: &Write, from: u64, to: u64) -> Option<Switch>
+/// The last place after one, up to another, at which it changed whether a document in these channels is shown.
+pub fn last_switch(viewer: &Viewer<'_>, channels: &Channels, from: u64, to: u64) -> Option<Switch>
     requires { AreToSearch viewer.now.periods.now }
     ensures { IsLastSwitch (shown.is_shown viewer.now.periods.now viewer.now.filter.now
-        winner.now.channels) from to result }
+        channels.now) from to result }
 {
-    let now = lasting_shown(viewer, winner, to);
+    let now = lasting_shown(viewer, channels, to);
     let mut since = now.since;
     while since > from {
-        let before = lasting_shown(viewer, winner, since - 1);
+        let before = lasting_shown(viewer, channels, since - 1);
         if before.holds != now.holds {
             return Some(Switch {
                 by: since,

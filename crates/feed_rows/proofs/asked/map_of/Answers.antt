@@ -4,6 +4,7 @@ use Rattle.sg_history.specs.declared.row.Row.{Row}
 use Rattle.sg_history.specs.Feed.{row_of}
 use Rattle.feed_rows.specs.declared.document.Document.{Document}
 use Rattle.feed_rows.specs.Known.{Known, known_at, known_in}
+use Rattle.feed_rows.specs.PassAt.{IsKnown}
 use Rattle.feed_rows.specs.Ordered.{asked_rows, insert_asked, under_key}
 use Rattle.feed_rows.proofs.Loops.{known_each, mapped_more}
 use Rattle.feed_rows.proofs.asked.map_of.Goals as goal
@@ -28,7 +29,13 @@ loop-document-preserved c =
     let of : Document → Option Row = λ x. row_of es user filter x.name.now in
     let is : get_or documents i d ≡ d = sym c.document-item.is in
     let known = ap known_in (sym is) ∙ known_each (known_at es user filter) documents i d c.requires.known within ∙ ap (λ (x : Document). known_at es user filter x.name.now) is in
-    let row = c.in_ok-change.ensures.change es d.name.now (sym (length-reverse c.args.entries.now)) c.requires.viewer (ap (λ (k : Known). k.current) known) (ap (λ (k : Known). k.row) known) in
+    let is_known : IsKnown c.args.viewer.now es d.name.now d.latest d.change = record {
+      is_viewer = c.requires.viewer;
+      state = ap (λ (k : Known). k.current) known;
+      since = ap (λ (k : Known). k.since) known;
+      row = ap (λ (k : Known). k.row) known;
+    } in
+    let row = c.in_ok-change.ensures.change es d.name.now (sym (length-reverse c.args.entries.now)) is_known in
     let before = asked_rows options since (reverse (map of (take i documents))) in
     record {
       rows =

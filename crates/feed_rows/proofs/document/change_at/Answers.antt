@@ -1,6 +1,7 @@
 use Rattle.std.proofs.Common.{◌≡◌, ◌∙◌, ℕ, sym, ap, subst, refl, Option, Some, None}
 use Rattle.feed_rows.specs.declared.document.Latest.{Latest}
 use Rattle.feed_rows.specs.Latest.{current_in}
+use Rattle.feed_rows.specs.PassAt.{IsKnown}
 use Rattle.feed_rows.specs.Shown.{IsLastSwitch, is_shown}
 use Rattle.feed_rows.proofs.Settled.{settled_never}
 use Rattle.feed_rows.proofs.document.change_at.Goals as goal
@@ -10,13 +11,14 @@ none_there None not = refl
 none_there (Some l) not = absurd (not l refl)
 
 pub returns-in_default-clause-change : goal.returns-in_default-clause-change
-returns-in_default-clause-change c = λ es doc at viewer is row.
-    row ∙ settled_never es c.args.viewer.now.user.now c.args.viewer.now.filter.now doc (sym is ∙ none_there c.args.document.latest c.in_default.not-Some)
+returns-in_default-clause-change c = λ es doc at known.
+    known.row ∙ settled_never c.currents.ensures.unwritten es c.args.viewer.now.user.now c.args.viewer.now.filter.now doc (sym known.state ∙ none_there c.args.document.latest c.in_default.not-Some)
 
 pub returns-clause-change : goal.returns-clause-change
-returns-clause-change c = λ es doc at viewer is row.
+returns-clause-change c = λ es doc at known.
+    let viewer = c.args.viewer.now in
     let latest = c.in-Some.latest in
-    let test = is_shown c.args.viewer.now.periods.now c.args.viewer.now.filter.now latest.write.now.channels in
-    c.change_by_switch.ensures c.args.viewer.now es doc viewer (sym (ap current_in c.in-Some.is) ∙ is)
-    (subst (λ (n : ℕ). IsLastSwitch test latest.seq n c.switch_after-switch.result) at (c.switch_after-switch.ensures test c.args.to c.in_ok-last.ensures.last))
-    row
+    let test = is_shown viewer.periods.now viewer.filter.now latest.effects.channels.now in
+    c.change_by_switch.ensures viewer es doc
+    (subst (λ (o : Option Latest). IsKnown viewer es doc o c.args.document.change) c.in-Some.is known)
+    (subst (λ (n : ℕ). IsLastSwitch test latest.since n c.switch_after-switch.result) at (c.switch_after-switch.ensures test c.args.to c.in_ok-last.ensures.last))

@@ -1,10 +1,14 @@
-use Rattle.std.proofs.Common.{◌∙◌, sym}
-use Rattle.feed_rows.proofs.LastChanges.{latest_none, latest_some}
+use Rattle.std.proofs.Common.{◌∙◌, sym, ap, length, Option}
+use Rattle.sg_history.specs.Current.{Current}
+use Rattle.sg_history.specs.History.{past}
+use Rattle.feed_rows.specs.Known.{since_renewed}
+use Rattle.feed_rows.proofs.LastChanges.{latest_none, never_renewed}
 use Rattle.feed_rows.proofs.last_change.latest_of.Goals as goal
 
 pub returns-in-None : goal.returns-in-None
-returns-in-None c = λ n doc high at. latest_none c.args.entries.now n doc high (sym at ∙ c.in-None.is)
+returns-in-None c = λ doc at.
+    let none = latest_none c.args.entries.now c.args.to doc c.requires.within (sym at ∙ c.in-None.is) in
+    (none, never_renewed c.currents.ensures.unwritten (past c.args.entries.now c.args.to) doc (sym none))
 
 pub returns-in-Some : goal.returns-in-Some
-returns-in-Some c = λ n doc high at.
-    c.latest_at.ensures ∙ latest_some c.args.entries.now n doc high c.in-Some.document (sym at ∙ c.in-Some.is)
+returns-in-Some c = λ doc at. c.latest_at.ensures doc (sym c.in-Some.is ∙ at)

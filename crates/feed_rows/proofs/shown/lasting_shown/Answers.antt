@@ -13,4 +13,4 @@ returns c =
     let had = subst (λ (l : List (List ℕ)). Lasts (λ j. list_any (λ x. periods_have periods x j) (every ∷ l)) c.args.k c.lasting_of_every.result) c.as_slice-channels.ensures c.lasting_of_every.ensures in
     let passed : c.passes.result ≡ true = grind arith in
     let lets = sym (ap (λ (l : List (List ℕ)). passes filter (every ∷ l)) c.as_slice-channels.ensures) ∙ sym c.passes.ensures ∙ passed in
-    shown_through periods filter c.args.winner.now.channels c.args.k c.lasting_of_every.result lets had
+    shown_through periods filter c.args.channels.now c.args.k c.lasting_of_every.result lets had
