@@ -1,4 +1,4 @@
-use Rattle.std.proofs.Common.{◌∙◌, ◌+◌, ◌<◌, sym, length, arith}
+use Rattle.std.proofs.Common.{◌∙◌, ◌+◌, ◌<◌, length, arith}
 use Rattle.grant_history.specs.Periods.{periods_have}
 use Rattle.feed_rows.proofs.Places.{dated_within}
 use Rattle.feed_rows.proofs.pass.pass_over.Goals as goal
@@ -9,7 +9,7 @@ loop-i-init c = c.start-pass.ensures c.args.viewer.now
 pub take-requires-clause-state : goal.take-requires-clause-state
 take-requires-clause-state c =
     let i = c.loop-i.i in
-    let below : i < length c.args.entries.now = omega (arith, c.loop-i-test.true) in
+    let below : i < length c.args.entries.now = omega arith in
     c.written.ensures ∙ c.requires.states.written i below
 
 pub take-requires-clause-viewer : goal.take-requires-clause-viewer

@@ -43,7 +43,7 @@ loop-mark-preserved c =
     let has : HasMarks e (take i marks ++ m ∷ drop (i + 1) marks) =
     subst (HasMarks e) (parted marks i m within c.mark-item.is) (all_marks e (replaced_by c.in-Some.sync.text.now marks) c.requires.unwritten sync) in
     subst (λ (l : List Mark). AmidAt l e es c.args.viewer.now c.take_mark.new.pass) (sym (taken_more marks i m within c.mark-item.is))
-    (c.take_mark.ensures e es (take i marks) (drop (i + 1) marks) (ap (λ n. n + 1) (sym (length-reverse c.args.older.now))) c.requires.viewer has c.loop-mark.invariant)
+    (c.take_mark.ensures e es (take i marks) (drop (i + 1) marks) (ap (λ (n : ℕ). n + 1) (sym (length-reverse c.args.older.now))) c.requires.viewer has c.loop-mark.invariant)
 
 pub returns : goal.returns
 returns c =
