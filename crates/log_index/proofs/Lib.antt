@@ -1,7 +1,9 @@
 pub mod RevisionKeys
 pub mod Firsts
 pub mod Pushes
-pub mod Befores
+pub mod EntryPlaces
+pub mod Nexts
+pub mod GoingBack
 pub mod LastMarks
 pub mod FirstRevisions
 pub mod KeptMarks

@@ -6,6 +6,7 @@ use Rattle.sg_history.specs.declared.entries.Entry.{Entry}
 use Rattle.sg_history.specs.declared.entries.Write.{Write}
 use Rattle.sg_history.specs.History.{as_write, write_to}
 use Rattle.sg_history.specs.Current.{Sequenced, last_write, write_of_rev, winning_of}
+use Rattle.log_index.specs.Marks.{write_of}
 use Rattle.log_index.specs.declared.documents.Document.{Document}
 
 -- the earlier sequence where there is one, else that of the write, if there is one
@@ -52,13 +53,31 @@ abbrev pub document_before : List Entry → Option Write → Option Document
 document_before older None = None
 document_before older (Some w) = document_at older w.doc
 
--- where the document that each entry writes stood before it, that of the last entry first
-abbrev pub documents_before : List Entry → List (Option Document)
-documents_before [] = []
-documents_before (e ∷ older) = document_before older (as_write e) ∷ documents_before older
-
 -- where the document that the entry of a sequence writes stood before it
 abbrev pub before_at : List Entry → ℕ → Option Document
 before_at [] seq = None
 before_at (e ∷ older) seq =
     if nat_eq seq (length older + 1) then document_before older (as_write e) else before_at older seq
+
+-- where the document that the entry of a sequence writes stood right behind it; none where it is no write
+abbrev pub after_at : List Entry → ℕ → Option Document
+after_at [] seq = None
+after_at (e ∷ older) seq =
+    if nat_eq seq (length older + 1) then document_before (e ∷ older) (as_write e) else after_at older seq
+
+-- the write of the document of this write that an entry is, where there is a write and it is one
+abbrev pub written_again : Entry → Option Write → Option Write
+written_again e None = None
+written_again e (Some w) = write_to e w.doc
+
+-- the earlier sequence where there is one, else that of the write, if there is one
+abbrev pub next_or : Option ℕ → Option Write → ℕ → Option ℕ
+next_or (Some next) again seq = Some next
+next_or None None seq = None
+next_or None (Some w) seq = Some seq
+
+-- the sequence of the next write of the document that the entry of a sequence writes; none where there is no later one, and
+-- where the entry is no write
+abbrev pub next_at : List Entry → ℕ → Option ℕ
+next_at [] seq = None
+next_at (e ∷ older) seq = next_or (next_at older seq) (written_again e (write_of older seq)) (length older + 1)

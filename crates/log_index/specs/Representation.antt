@@ -1,5 +1,5 @@
 -- How an index keeps what it says. Only proofs and the index's own functions need it.
-use Rattle.std.specs.Prelude.{◌≡◌, ◌<◌, ◌≤◌, ◌+◌, ℕ, suc, nat_eq, Bool, false, ◌||◌, List, [], ◌∷◌, map, length, Option, Some, None, String, unwrap_or, if◌then◌else◌, string_bytes}
+use Rattle.std.specs.Prelude.{◌≡◌, ◌<◌, ◌≤◌, ◌+◌, ℕ, zero, suc, nat_eq, Bool, false, ◌||◌, List, [], ◌∷◌, map, length, Option, Some, None, String, unwrap_or, slice_get, if◌then◌else◌, string_bytes}
 use Rattle.std.specs.BTreeMap.{BTreeMap, get, get_by, get_by_text}
 use Rattle.std.specs.Global.{Global}
 use Rattle.std.specs.Ordering.{nat_cmp, ordering_then}
@@ -11,9 +11,10 @@ use Rattle.sg_history.specs.declared.entries.Mark.{Mark}
 use Rattle.sg_history.specs.declared.entries.Write.{Write}
 use Rattle.sg_history.specs.History.{SyncEntry, as_sync, write_to}
 use Rattle.log_index.specs.declared.documents.Document.{Document}
+use Rattle.log_index.specs.declared.entry_places.EntryPlaces.{EntryPlaces}
 use Rattle.log_index.specs.declared.marks.Marked.{Marked}
 use Rattle.log_index.specs.declared.tables.Tables.{Tables}
-use Rattle.log_index.specs.Places.{first_seq, revision_seq, document_at}
+use Rattle.log_index.specs.Places.{first_seq, revision_seq, document_at, before_at, after_at, next_at}
 use Rattle.log_index.specs.Marks.{write_of}
 
 -- the sequence that is kept of a revision, by the first write of its document
@@ -33,11 +34,6 @@ winning_seq tables w first seq =
 abbrev pub kept_of : Tables → Option Write → Option Document
 kept_of tables None = None
 kept_of tables (Some w) = get_by_text tables.documents w.doc
-
--- what is kept of an entry, where it is there
-abbrev pub got : Option (Option Document) → Option Document
-got None = None
-got (Some d) = d
 
 -- the sequence of the first write of a revision that was written at this one, by what is kept of writes of revisions that were
 -- written before
@@ -121,3 +117,43 @@ pub record HasPlaces (tables : Tables) (es : List Entry) : Type 0 where
   pub repeats : (seq : ℕ) (w : Write) → write_of es seq ≡ Some w → Some (first_in tables.repeats seq) ≡ first_rev es w.doc w.rev
   pub unwritten : (seq : ℕ) → write_of es seq ≡ None → get nat_cmp tables.repeats seq ≡ None
   pub marks : (first sync : ℕ) → place_at tables.marks first sync ≡ kept_place es first sync
+
+-- the sequence of a document's first write, 0 where it stands nowhere
+abbrev pub first_kept : Option Document → ℕ
+first_kept None = 0
+first_kept (Some document) = document.first
+
+-- the sequence of a document's last write, 0 where it stands nowhere
+abbrev pub last_kept : Option Document → ℕ
+last_kept None = 0
+last_kept (Some document) = document.last
+
+-- the sequence of the write of a document's winner, 0 where it stands nowhere
+abbrev pub winning_kept : Option Document → ℕ
+winning_kept None = 0
+winning_kept (Some document) = document.winning
+
+-- what is kept of an entry that is no write
+abbrev pub no_places : EntryPlaces
+no_places = record { first = 0; before = 0; next = 0; winning = 0 }
+
+-- what is kept of the entry of a sequence; of one that is not there, that of no write
+abbrev pub kept_at : List EntryPlaces → ℕ → EntryPlaces
+kept_at list zero = no_places
+kept_at list (suc place) = unwrap_or (slice_get list place) no_places
+
+-- where a document stood right behind the entry of a sequence, by what is kept of the entry
+abbrev pub behind_by : EntryPlaces → ℕ → Option Document
+behind_by places seq =
+    if nat_eq places.first 0 then None
+    else Some (record { first = places.first; last = seq; winning = places.winning })
+
+-- what is to be kept of an entry, by where its document stood before it and right behind it
+abbrev pub places_by : Option Document → Option Document → Option ℕ → EntryPlaces
+places_by before after next =
+    record { first = first_kept after; before = last_kept before; next = unwrap_or next 0; winning = winning_kept after }
+
+-- what is kept of each entry is what is to be kept of it
+pub record KeepsPlaces (list : List EntryPlaces) (es : List Entry) : Type 0 where
+  pub count : length list ≡ length es
+  pub each : (seq : ℕ) → kept_at list seq ≡ places_by (before_at es seq) (after_at es seq) (next_at es seq)

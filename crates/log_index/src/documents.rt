@@ -1,9 +1,9 @@
 //! Where documents stand, by their names.
 
-ghost use Rattle.std.specs.Prelude.{◌≡◌, ℕ, List, Some, slice_get, if◌then◌else◌};
+ghost use Rattle.std.specs.Prelude.{◌≡◌, ℕ, List, Some, if◌then◌else◌};
 ghost use Rattle.log_index.specs.declared.documents.Document.{Document};
 ghost use Rattle.log_index.specs.Places as places;
-ghost use Rattle.log_index.specs.Representation.{got};
+ghost use Rattle.log_index.specs.Representation.{last_kept};
 ghost use Rattle.std.specs.BTreeMap.{get_by_text};
 ghost use Rattle.std.specs.Str.{bytes_eq};
 
@@ -28,16 +28,6 @@ pub fn document_of(documents: &Documents, doc: &DocId) -> Option<Document>
     documents.get(doc.as_str()).copied()
 }
 
-/// Where a document stood by what is kept at a place of a list.
-pub fn document_in(list: &[Option<Document>], place: usize) -> Option<Document>
-    ensures { result ≡ got (slice_get list.now place) }
-{
-    match list.get(place) {
-        None => None,
-        Some(document) => *document,
-    }
-}
-
 /// The sequence of a document's first write, this one where it was never written.
 pub fn first_or(document: Option<Document>, seq: u64) -> u64
     ensures { result ≡ places.first_or document seq }
@@ -45,6 +35,16 @@ pub fn first_or(document: Option<Document>, seq: u64) -> u64
     match document {
         None => seq,
         Some(document) => document.first,
+    }
+}
+
+/// The sequence of a document's last write, 0 where it stands nowhere.
+pub fn last_of(document: Option<Document>) -> u64
+    ensures { result ≡ last_kept document }
+{
+    match document {
+        None => 0,
+        Some(document) => document.last,
     }
 }
 

@@ -2,10 +2,11 @@
 
 ghost use Rattle.std.specs.Prelude.{◌≡◌, ◌<◌, [], ◌∷◌, length, OnOk, OnErr, IfOk};
 ghost use Rattle.sg_history.specs.History.{as_write};
-ghost use Rattle.log_index.specs.Marks.{marked_up_to};
-ghost use Rattle.log_index.specs.Places.{document_at, revision_seq, document_before, before_at};
+ghost use Rattle.log_index.specs.Marks.{entries_up_to, marked_up_to};
+ghost use Rattle.log_index.specs.Places.{document_at, revision_seq, document_before, before_at, after_at, next_at};
 
-use crate::documents::{Document, document_in};
+use crate::documents::{Document, last_of};
+use crate::entry_places::{EntryPlaces, behind, newest, of_entry, put_next};
 use crate::marks::Marked;
 use crate::tables::Tables;
 use crate::taken::Taken;
@@ -18,22 +19,21 @@ use std::marker::Model;
 #[derive(Drop)]
 pub struct LogIndex {
     tables: Tables,
-    before: Vec<Option<Document>>,
+    places: Vec<EntryPlaces>,
     taken: Taken,
 }
 
 impl Model for LogIndex {
-    ghost use Rattle.std.specs.Prelude.{List, ◌≡◌, reverse};
+    ghost use Rattle.std.specs.Prelude.{List};
     ghost use Rattle.sg_history.specs.declared.entries.Entry.{Entry};
-    ghost use Rattle.log_index.specs.Places.{documents_before};
-    ghost use Rattle.log_index.specs.Representation.{HasPlaces};
+    ghost use Rattle.log_index.specs.Representation.{HasPlaces, KeepsPlaces};
 
     ghost Value = { List Entry };
 
     ghost view = { λ i. i.taken };
 
     ghost invariant = { λ i. HasPlaces i.tables i.taken
-        × (i.before.items ≡ reverse (documents_before i.taken)) };
+        × KeepsPlaces i.places.items i.taken };
 }
 
 impl LogIndex {
@@ -43,7 +43,7 @@ impl LogIndex {
     {
         LogIndex {
             tables: Tables::new(alloc),
-            before: Vec::new(alloc),
+            places: Vec::new(alloc),
             taken: Taken::new(),
         }
     }
@@ -74,10 +74,42 @@ impl LogIndex {
     pub fn before(&self, seq: u64) -> Option<Document>
         ensures { result ≡ before_at self.now seq }
     {
-        if seq == 0 {
+        let places = self.places.as_slice();
+        behind(places, of_entry(places, seq).before)
+    }
+
+    /// Where the document that the entry of a sequence writes stood right behind that entry: none where
+    /// the entry is no write. Allocates nothing.
+    pub fn after(&self, seq: u64) -> Option<Document>
+        ensures { result ≡ after_at self.now seq }
+    {
+        behind(self.places.as_slice(), seq)
+    }
+
+    /// The sequence of the next write of the document that the entry of a sequence writes: none where the
+    /// index has no later one, and where the entry is no write. Allocates nothing.
+    pub fn next(&self, seq: u64) -> Option<u64>
+        ensures { result ≡ next_at self.now seq }
+    {
+        let next = of_entry(self.places.as_slice(), seq).next;
+        if next == 0 {
             return None;
         }
-        document_in(self.before.as_slice(), (seq - 1) as usize)
+        Some(next)
+    }
+
+    /// Where a document stood after the entries up to a place, if it was written by then. It goes back from the
+    /// document's last write, write by write. Allocates nothing.
+    pub fn document_up_to(&self, doc: &DocId, place: u64) -> Option<Document>
+        ensures { result ≡ document_at (entries_up_to self.now place) doc.now }
+    {
+        let mut found = self.document(doc);
+        let mut last = last_of(found);
+        while last > place {
+            found = self.before(last);
+            last = last_of(found);
+        }
+        found
     }
 
     /// Where the effects of the revision that the entry of a sequence writes stand after the entries up to a
@@ -100,10 +132,11 @@ impl LogIndex {
     {
         let seq = self.tables.count + 1;
         let before = self.tables.place_of_write(entry.as_write());
-        self.before.reserve(1)?;
+        self.places.reserve(1)?;
         let document = self.tables.keep(entry, before, seq)?;
         self.tables.count = seq;
-        self.before.push_reserved(before);
+        put_next(self.places.as_mut_slice(), last_of(before), seq);
+        self.places.push_reserved(newest(before, document));
         self.taken.add(entry);
         Ok(document)
     }

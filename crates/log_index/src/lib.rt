@@ -4,6 +4,7 @@
 
 mod by_name;
 mod documents;
+mod entry_places;
 mod index;
 pub mod laws;
 mod mark_places;

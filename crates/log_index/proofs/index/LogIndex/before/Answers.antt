@@ -1,20 +1,14 @@
-use Rattle.std.proofs.Common.{◌≡◌, ◌∙◌, ◌<◌, ◌-◌, sym, ap, arith, ℕ, List, Option}
-use Rattle.std.specs.Prelude.{slice_get}
-use Rattle.log_index.specs.declared.documents.Document.{Document}
+use Rattle.std.proofs.Common.{◌∙◌, ap, List}
+use Rattle.log_index.specs.declared.entry_places.EntryPlaces.{EntryPlaces}
 use Rattle.log_index.specs.Places.{before_at}
-use Rattle.log_index.specs.Representation.{got}
-use Rattle.log_index.proofs.Befores.{list_gives, none_before}
+use Rattle.log_index.specs.Representation.{behind_by, kept_at}
+use Rattle.log_index.proofs.EntryPlaces.{before_gives}
 use Rattle.log_index.proofs.index.LogIndex.before.Goals as goal
-
-pub returns-then-seq-eq0 : goal.returns-then-seq-eq0
-returns-then-seq-eq0 c =
-    let none : c.args.seq ≡ 0 = omega (arith, c.if-seq-eq0.true) in
-    sym (ap (λ (n : ℕ). before_at c.args.self.now n) none ∙ none_before c.args.self.now)
 
 pub returns : goal.returns
 returns c =
-    let low : 0 < c.args.seq = omega (arith, c.if-seq-eq0.false) in
-    c.document_in.ensures
-    ∙ ap (λ (l : List (Option Document)). got (slice_get l (c.args.seq - 1))) (c.as_slice.ensures.value ∙ c.self.invariant.1)
-    ∙ list_gives _ c.args.seq low
+    c.behind.ensures
+    ∙ ap (λ (p : EntryPlaces). behind_by (kept_at c.places.now p.before) p.before) c.of_entry.ensures
+    ∙ ap (λ (l : List EntryPlaces). behind_by (kept_at l (kept_at l c.args.seq).before) (kept_at l c.args.seq).before) c.as_slice.ensures.value
+    ∙ before_gives _ _ c.args.seq c.self.invariant.1
     ∙ ap (λ es. before_at es c.args.seq) c.self.view_is
