@@ -79,48 +79,67 @@ last_within list es e keeps = by (document_before es (as_write e)) refl
         omega (arith, one.1, keeps.count)
 
 -- what is kept once the next entry was taken
-pub pushed : (old mid : List EntryPlaces) (es : List Entry) (e : Entry) (before after : Option Document) → KeepsPlaces old es
-    → before ≡ document_before es (as_write e) → after ≡ document_before (e ∷ es) (as_write e) → length mid ≡ length old
-    → (0 < last_kept before → kept_at mid (last_kept before) ≡ record (kept_at old (last_kept before)) { next = length es + 1 })
-    → ((other : ℕ) → other ≢ last_kept before → kept_at mid other ≡ kept_at old other)
-    → KeepsPlaces (mid ++ places_by before after None ∷ []) (e ∷ es)
-pushed old mid es e before after keeps was is long own others = record {
-  count = length-append mid (places_by before after None ∷ []) ∙ omega (arith, long, keeps.count);
+pub pushed : (old mid new : List EntryPlaces) (es : List Entry) (e : Entry) (before after : Option Document) (n : ℕ) → KeepsPlaces old es
+    → n ≡ length es + 1 → before ≡ document_before es (as_write e) → after ≡ document_before (e ∷ es) (as_write e)
+    → mid ≡ old ++ places_by before after None ∷ [] → length new ≡ length mid
+    → (0 < last_kept before → last_kept before ≤ length mid → kept_at new (last_kept before) ≡ record (kept_at mid (last_kept before)) { next = n })
+    → ((other : ℕ) → other ≢ last_kept before → kept_at new other ≡ kept_at mid other)
+    → KeepsPlaces new (e ∷ es)
+pushed old mid new es e before after n keeps next was is made long own others = record {
+  count = omega (arith, long, grown, keeps.count);
   each = λ seq. each seq (nat_eq seq (length es + 1)) refl;
 }
   where
-    kept : (seq : ℕ) (b : Bool) → nat_eq seq (last_kept before) ≡ b → (k : ℕ) → seq ≡ k → kept_at mid seq ≡ places_by (before_at es seq) (after_at es seq) (next_at (e ∷ es) seq)
-    kept seq false at k number =
+    x : EntryPlaces
+    x = places_by before after None
+
+    grown : length mid ≡ length old + 1
+    grown = ap length made ∙ length-append old (x ∷ [])
+
+    low : last_kept before ≤ length old
+    low = omega (arith, ap last_kept was, last_within old es e keeps)
+
+    old_one : (seq : ℕ) → seq ≢ length es + 1 → kept_at mid seq ≡ places_by (before_at es seq) (after_at es seq) (next_at es seq)
+    old_one seq other =
+        ap (λ (l : List EntryPlaces). kept_at l seq) made
+        ∙ kept_older old x seq (λ same. other (omega (arith, same, keeps.count)))
+        ∙ keeps.each seq
+
+    kept : (seq : ℕ) → seq ≢ length es + 1 → (b : Bool) → nat_eq seq (last_kept before) ≡ b → (k : ℕ) → seq ≡ k
+        → kept_at new seq ≡ places_by (before_at es seq) (after_at es seq) (next_at (e ∷ es) seq)
+    kept seq older false at k number =
         let other : seq ≢ last_kept before = eqb-false seq (last_kept before) at in
         others seq other
-        ∙ keeps.each seq
+        ∙ old_one seq older
         ∙ ap (λ (o : Option ℕ). places_by (before_at es seq) (after_at es seq) o) (sym (next_stays e es seq (λ same. other (same ∙ sym (ap last_kept was)))))
-    kept seq true at zero number =
-        let none : kept_at mid seq ≡ kept_at old seq = ap (kept_at mid) number ∙ sym (ap (kept_at old) number) in
+    kept seq older true at zero number =
         let stays : next_at es seq ≡ next_at (e ∷ es) seq = ap (next_at es) number ∙ next_zero es ∙ sym (next_zero (e ∷ es)) ∙ sym (ap (next_at (e ∷ es)) number) in
-        none
-        ∙ keeps.each seq
+        ap (kept_at new) number
+        ∙ sym (ap (kept_at mid) number)
+        ∙ old_one seq older
         ∙ ap (λ (o : Option ℕ). places_by (before_at es seq) (after_at es seq) o) stays
-    kept seq true at (suc k) number =
+    kept seq older true at (suc k) number =
         let same : seq ≡ last_kept before = eqb-true seq (last_kept before) at in
         let pos : 0 < seq = omega (arith, number) in
-        ap (kept_at mid) same
-        ∙ own (omega (arith, pos, same))
-        ∙ ap (λ (n : ℕ). record (kept_at old n) { next = length es + 1 }) (sym same)
-        ∙ ap (λ (p : EntryPlaces). record p { next = length es + 1 }) (keeps.each seq)
+        ap (kept_at new) same
+        ∙ own (omega (arith, pos, same)) (omega (arith, low, grown))
+        ∙ ap (λ (m : ℕ). record (kept_at mid m) { next = n }) (sym same)
+        ∙ ap (λ (p : EntryPlaces). record p { next = n }) (old_one seq older)
+        ∙ ap (λ (m : ℕ). places_by (before_at es seq) (after_at es seq) (Some m)) next
         ∙ ap (λ (o : Option ℕ). places_by (before_at es seq) (after_at es seq) o) (sym (next_there e es seq (same ∙ ap last_kept was) pos))
 
     each : (seq : ℕ) (b : Bool) → nat_eq seq (length es + 1) ≡ b
-        → kept_at (mid ++ places_by before after None ∷ []) seq ≡ places_by (before_at (e ∷ es) seq) (after_at (e ∷ es) seq) (next_at (e ∷ es) seq)
+        → kept_at new seq ≡ places_by (before_at (e ∷ es) seq) (after_at (e ∷ es) seq) (next_at (e ∷ es) seq)
     each seq true at =
         let number : seq ≡ length es + 1 = eqb-true seq (length es + 1) at in
-        kept_newest mid (places_by before after None) seq (omega (arith, number, long, keeps.count))
+        others seq (λ same. omega (arith, same, number, low, keeps.count))
+        ∙ ap (λ (l : List EntryPlaces). kept_at l seq) made
+        ∙ kept_newest old x seq (omega (arith, number, keeps.count))
         ∙ ap (λ (o : Option Document). places_by o after None) (was ∙ sym (before_newest e es seq number))
         ∙ ap (λ (o : Option Document). places_by (before_at (e ∷ es) seq) o None) (is ∙ sym (after_newest e es seq number))
         ∙ ap (λ (o : Option ℕ). places_by (before_at (e ∷ es) seq) (after_at (e ∷ es) seq) o) (sym (next_newest e es seq number))
     each seq false at =
         let other : seq ≢ length es + 1 = eqb-false seq (length es + 1) at in
-        kept_older mid (places_by before after None) seq (λ same. other (omega (arith, same, long, keeps.count)))
-        ∙ kept seq (nat_eq seq (last_kept before)) refl seq refl
+        kept seq other (nat_eq seq (last_kept before)) refl seq refl
         ∙ ap (λ (o : Option Document). places_by o (after_at es seq) (next_at (e ∷ es) seq)) (sym (before_older e es seq other))
         ∙ ap (λ (o : Option Document). places_by (before_at (e ∷ es) seq) o (next_at (e ∷ es) seq)) (sym (after_older e es seq other))

@@ -1,8 +1,10 @@
 //! Where the documents of entries stand, entry by entry.
 
-ghost use Rattle.std.specs.Prelude.{◌≡◌, ◌≢◌, ◌<◌, ◌≤◌, ℕ, None, Some, length, unwrap_or};
-ghost use Rattle.log_index.specs.declared.documents.Document.{Document};
-ghost use Rattle.log_index.specs.Representation.{behind_by, kept_at, last_kept, no_places, places_by};
+ghost use Rattle.std.specs.Prelude.{◌≡◌, ◌≢◌, ◌<◌, ◌≤◌, ◌+◌, ◌∷◌, ℕ, List, None, length, vec_capacity, vec_len};
+ghost use Rattle.sg_history.specs.declared.entries.Entry.{Entry};
+ghost use Rattle.sg_history.specs.History.{as_write};
+ghost use Rattle.log_index.specs.Places.{document_before};
+ghost use Rattle.log_index.specs.Representation.{KeepsPlaces, behind_by, kept_at, places_by};
 
 use crate::documents::{Document, last_of};
 
@@ -17,7 +19,7 @@ pub struct EntryPlaces {
 }
 
 /// What is to be kept of the last entry, by where its document stood before it and right behind it.
-pub fn newest(before: Option<Document>, after: Option<Document>) -> EntryPlaces
+fn newest(before: Option<Document>, after: Option<Document>) -> EntryPlaces
     ensures { result ≡ places_by before after None }
 {
     match after {
@@ -71,10 +73,9 @@ pub fn behind(list: &[EntryPlaces], seq: u64) -> Option<Document>
 }
 
 /// Keeps at an entry, where its sequence is not 0, that this one is the next write of its document.
-pub fn put_next(list: &mut [EntryPlaces], seq: u64, next: u64)
-    requires { seq ≤ length list.old }
+fn put_next(list: &mut [EntryPlaces], seq: u64, next: u64)
     ensures count { length list.new ≡ length list.old }
-    ensures own { 0 < seq → kept_at list.new seq
+    ensures own { 0 < seq → seq ≤ length list.old → kept_at list.new seq
         ≡ record (kept_at list.old seq) { next = next } }
     ensures others { (other : ℕ) → other ≢ seq → kept_at list.new other ≡ kept_at list.old other }
 {
@@ -84,4 +85,22 @@ pub fn put_next(list: &mut [EntryPlaces], seq: u64, next: u64)
     if let Some(places) = list.get_mut((seq - 1) as usize) {
         places.next = next;
     }
+}
+
+/// Keeps the places of the entry of the next sequence, by where its document stood before it and right
+/// behind it. Allocates nothing.
+pub fn add(
+    list: &mut Vec<EntryPlaces>,
+    before: Option<Document>,
+    after: Option<Document>,
+    seq: u64,
+)
+    requires { vec_len list.old < vec_capacity list.old }
+    ensures { (es : List Entry) (e : Entry) → seq ≡ length es + 1
+        → before ≡ document_before es (as_write e)
+        → after ≡ document_before (e ∷ es) (as_write e)
+        → KeepsPlaces list.old.items es → KeepsPlaces list.new.items (e ∷ es) }
+{
+    list.push_reserved(newest(before, after));
+    put_next(list.as_mut_slice(), last_of(before), seq);
 }

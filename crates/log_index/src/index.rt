@@ -6,7 +6,7 @@ ghost use Rattle.log_index.specs.Marks.{entries_up_to, marked_up_to};
 ghost use Rattle.log_index.specs.Places.{document_at, revision_seq, document_before, before_at, after_at, next_at};
 
 use crate::documents::{Document, last_of};
-use crate::entry_places::{EntryPlaces, behind, newest, of_entry, put_next};
+use crate::entry_places::{EntryPlaces, add, behind, of_entry};
 use crate::marks::Marked;
 use crate::tables::Tables;
 use crate::taken::Taken;
@@ -135,8 +135,7 @@ impl LogIndex {
         self.places.reserve(1)?;
         let document = self.tables.keep(entry, before, seq)?;
         self.tables.count = seq;
-        put_next(self.places.as_mut_slice(), last_of(before), seq);
-        self.places.push_reserved(newest(before, document));
+        add(&mut self.places, before, document, seq);
         self.taken.add(entry);
         Ok(document)
     }
