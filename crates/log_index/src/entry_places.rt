@@ -82,8 +82,15 @@ fn put_next(list: &mut [EntryPlaces], seq: u64, next: u64)
     if seq == 0 {
         return;
     }
-    if let Some(places) = list.get_mut((seq - 1) as usize) {
-        places.next = next;
+    let place = (seq - 1) as usize;
+    if place < list.len() {
+        let places = list[place];
+        list[place] = EntryPlaces {
+            first: places.first,
+            before: places.before,
+            next,
+            winning: places.winning,
+        };
     }
 }
 
