@@ -51,12 +51,11 @@ one_back (e ∷ older) doc k d is = by (nat_le (length older + 1) k) refl (λ n 
     own (Some w) at rest is =
         let last : d.last ≡ length older + 1 = sym (ap last_kept is) ∙ last_is e older doc w at in
         let one : (as_write e ≡ Some w) × (w.doc ≡ doc) = of_doc (as_write e) doc w at in
-        let all : entries_up_to (e ∷ older) (d.last - 1) ≡ older = up_to_older e older (d.last - 1) (omega (arith, last)) ∙ all_up_to older (d.last - 1) (omega (arith, last)) in
-        (
+        let all : entries_up_to (e ∷ older) (d.last - 1) ≡ older = up_to_older e older (d.last - 1) (omega (arith, last)) ∙ all_up_to older (d.last - 1) (omega (arith, last)) in (
           before_newest e older d.last last
-          ∙ ap (λ (o : Option Write). document_before older o) one.0
-          ∙ ap (λ (name : List ℕ). document_at older name) one.1
-          ∙ ap (λ (es : List Entry). document_at es doc) (sym all),
+              ∙ ap (λ (o : Option Write). document_before older o) one.0
+              ∙ ap (λ (name : List ℕ). document_at older name) one.1
+              ∙ ap (λ (es : List Entry). document_at es doc) (sym all),
           omega (arith, last),
           omega (arith, last),
         )
@@ -115,8 +114,7 @@ next_found es doc place found next last f number later is = by found f.is number
     by : (o : Option Document) → o ≡ document_at (entries_up_to es f.up_to) doc → last ≡ last_kept o → (Found es doc place next) × (last_kept next < last)
     by None at number = absurd (omega (arith, number, later))
     by (Some d) at number =
-        let one = one_back es doc f.up_to d (sym at) in
-        (
+        let one = one_back es doc f.up_to d (sym at) in (
           record {
             up_to = d.last - 1;
             high = omega (arith, later, number);

@@ -96,12 +96,7 @@ fn put_next(list: &mut [EntryPlaces], seq: u64, next: u64)
 
 /// Keeps the places of the entry of the next sequence, by where its document stood before it and right
 /// behind it. Allocates nothing.
-pub fn add(
-    list: &mut Vec<EntryPlaces>,
-    before: Option<Document>,
-    after: Option<Document>,
-    seq: u64,
-)
+pub fn add(list: &mut Vec<EntryPlaces>, before: Option<Document>, after: Option<Document>, seq: u64)
     requires { vec_len list.old < vec_capacity list.old }
     ensures { (es : List Entry) (e : Entry) → seq ≡ length es + 1
         → before ≡ document_before es (as_write e)
