@@ -12,67 +12,11 @@ use crate::command::Command;
 use crate::doc_line::read_doc;
 use crate::kind::{Kind, kind_of};
 use sg_history::fault::LineFault;
-use sg_history::{Why, cut, field, fields_of};
+use sg_history::{Why, cut, fields_of, read_name_field, read_role_fields, read_user_fields};
 use std::alloc::Global;
 
 /// The most fields that a line of a script has.
 const MOST: usize = 5;
-
-/// Reads the fields after the kind `user`.
-fn read_put_user(alloc: Global, fields: &[&[u8]]) -> Result<AdminLine, LineFault>
-    ensures ok { IfOk result (λ line. IsLine line
-        × (codes "user" ∷ map (λ p. p.now) fields.now ≡ fields_of line)) }
-    ensures reason { IfErr result
-        (HasReason (IsFault (codes "user" ∷ map (λ p. p.now) fields.now))) }
-{
-    let [name, channels, roles] = fields else {
-        return Err(LineFault::Bad(Why::Fields));
-    };
-    let (name, channels, roles) = field::read_three(alloc, name, channels, roles, 2)?;
-    Ok(AdminLine::Command(Command::PutUser(name, channels, roles)))
-}
-
-/// Reads the fields after the kind `role`.
-fn read_put_role(alloc: Global, fields: &[&[u8]]) -> Result<AdminLine, LineFault>
-    ensures ok { IfOk result (λ line. IsLine line
-        × (codes "role" ∷ map (λ p. p.now) fields.now ≡ fields_of line)) }
-    ensures reason { IfErr result
-        (HasReason (IsFault (codes "role" ∷ map (λ p. p.now) fields.now))) }
-{
-    let [name, channels] = fields else {
-        return Err(LineFault::Bad(Why::Fields));
-    };
-    let (name, channels) = field::read_two(alloc, name, channels, 2)?;
-    Ok(AdminLine::Command(Command::PutRole(name, channels)))
-}
-
-/// Reads the fields after the kind `dropuser`.
-fn read_drop_user(alloc: Global, fields: &[&[u8]]) -> Result<AdminLine, LineFault>
-    ensures ok { IfOk result (λ line. IsLine line
-        × (codes "dropuser" ∷ map (λ p. p.now) fields.now ≡ fields_of line)) }
-    ensures reason { IfErr result
-        (HasReason (IsFault (codes "dropuser" ∷ map (λ p. p.now) fields.now))) }
-{
-    let [name] = fields else {
-        return Err(LineFault::Bad(Why::Fields));
-    };
-    let name = field::read(alloc, name, 2)?;
-    Ok(AdminLine::Command(Command::DropUser(name)))
-}
-
-/// Reads the fields after the kind `droprole`.
-fn read_drop_role(alloc: Global, fields: &[&[u8]]) -> Result<AdminLine, LineFault>
-    ensures ok { IfOk result (λ line. IsLine line
-        × (codes "droprole" ∷ map (λ p. p.now) fields.now ≡ fields_of line)) }
-    ensures reason { IfErr result
-        (HasReason (IsFault (codes "droprole" ∷ map (λ p. p.now) fields.now))) }
-{
-    let [name] = fields else {
-        return Err(LineFault::Bad(Why::Fields));
-    };
-    let name = field::read(alloc, name, 2)?;
-    Ok(AdminLine::Command(Command::DropRole(name)))
-}
 
 /// Reads the fields after this kind.
 fn read_kind(alloc: Global, kind: Kind, fields: &[&[u8]]) -> Result<AdminLine, LineFault>
@@ -82,10 +26,22 @@ fn read_kind(alloc: Global, kind: Kind, fields: &[&[u8]]) -> Result<AdminLine, L
         (HasReason (IsFault (kind_text kind ∷ map (λ p. p.now) fields.now))) }
 {
     match kind {
-        Kind::User => read_put_user(alloc, fields),
-        Kind::Role => read_put_role(alloc, fields),
-        Kind::DropUser => read_drop_user(alloc, fields),
-        Kind::DropRole => read_drop_role(alloc, fields),
+        Kind::User => {
+            let (name, channels, roles) = read_user_fields(alloc, fields)?;
+            Ok(AdminLine::Command(Command::PutUser(name, channels, roles)))
+        }
+        Kind::Role => {
+            let (name, channels) = read_role_fields(alloc, fields)?;
+            Ok(AdminLine::Command(Command::PutRole(name, channels)))
+        }
+        Kind::DropUser => {
+            let name = read_name_field(alloc, fields)?;
+            Ok(AdminLine::Command(Command::DropUser(name)))
+        }
+        Kind::DropRole => {
+            let name = read_name_field(alloc, fields)?;
+            Ok(AdminLine::Command(Command::DropRole(name)))
+        }
         Kind::Doc => read_doc(alloc, fields),
     }
 }

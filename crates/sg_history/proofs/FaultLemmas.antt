@@ -238,6 +238,16 @@ bad_behind n m gs hs ts us (line.Bad why) front at bad =
     (length gs + bad.0, bad.1 ∙ ap reason.Field place, first_behind gs hs ts us bad.0 (length gs + bad.0) front bad.2 refl)
 bad_behind n m gs hs ts us line.Memory front at bad = tt
 
+-- a field behind a kind that these grammars follow is outside its own
+pub bad_texts : (gs : List Grammar) (ts us : List (List ℕ)) (e : LineFault) → ts ≡ us → length us ≡ length gs → IsBadAmong 2 gs us e
+    → HasReason (IsTextsFault IsText gs ts) e
+bad_texts gs ts us (line.Bad why) same many bad =
+    let place : bad.0 ≡ 2 + bad.0 - 2 = omega arith in
+    let first : IsFirstUnfit IsText gs us (2 + bad.0 - 2) = subst (IsFirstUnfit IsText gs us) place bad.2 in
+    let among : IsTextsFault IsText gs us why = subst (IsTextsFault IsText gs us) (sym bad.1) (many, omega arith, first) in
+    subst (λ (vs : List (List ℕ)). IsTextsFault IsText gs vs why) (sym same) among
+bad_texts gs ts us line.Memory same many bad = tt
+
 -- a field behind this kind is outside its grammar
 pub bad_field_of : (kind : List ℕ) (gs : List Grammar) (ts us : List (List ℕ)) (e : LineFault) → grammars_of (length (kind ∷ ts)) kind ≡ Some gs → ts ≡ us
     → length us ≡ length gs → IsBadAmong 2 gs us e → HasReason (IsFault (kind ∷ ts)) e

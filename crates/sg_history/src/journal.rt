@@ -12,10 +12,10 @@ ghost use Rattle.sg_history.specs.Reading.{EndsAs, journal_texts, ran_out};
 ghost use Rattle.sg_history.specs.Refusal.{RefusesLog};
 
 use crate::entries::{Entries, Entry, Log};
-use crate::fault::{BadLine, LineFault, ReadLog, Why};
+use crate::fault::{LineFault, ReadLog};
 use crate::header::{read_header, read_title, take_header};
 use crate::line::read_line;
-use crate::line_reader::{ReadsLines, read_lines, refuse, take_lines};
+use crate::line_reader::{ReadsLines, bad, read_lines, refuse, take_lines};
 use crate::rules::first_broken;
 use sg_outside::Bytes;
 use std::alloc::Global;
@@ -79,13 +79,6 @@ fn log_of(
     }
 }
 
-/// The refusal of a first line.
-fn bad_title(why: Why) -> ReadLog
-    ensures { result ≡ ReadLog.Bad (record { place = 1; why = why }) }
-{
-    ReadLog::Bad(BadLine { place: 1, why })
-}
-
 /// Reads a journal, or names its first bad line and what is wrong with it, which is the first of: `Head` (line 1 is no
 /// header), `Ending` (no line feed), `Kind`, `Fields`, `Field` and `Rule`.
 pub fn read_journal(alloc: Global, bytes: &[u8]) -> Result<Log, ReadLog>
@@ -99,7 +92,7 @@ pub fn read_journal(alloc: Global, bytes: &[u8]) -> Result<Log, ReadLog>
             let end = read_lines(alloc, header.lines, &mut entries);
             log_of(alloc, header.limit, entries, end)
         }
-        Err(why) => Err(bad_title(why)),
+        Err(why) => Err(bad(1, why)),
     }
 }
 
@@ -115,6 +108,6 @@ pub fn take_journal(alloc: Global, bytes: Bytes) -> Result<Log, ReadLog>
             let end = take_lines(alloc, lines, &mut entries);
             log_of(alloc, limit, entries, end)
         }
-        Err(why) => Err(bad_title(why)),
+        Err(why) => Err(bad(1, why)),
     }
 }

@@ -8,10 +8,10 @@ ghost use Rattle.sg_history.specs.Pieces.{pieces};
 
 use crate::entries::Entry;
 use crate::fault::{LineFault, Why};
-use crate::field;
 use crate::line_of_sync::read_sync;
 use crate::line_of_write::{WriteTexts, read_write};
 use crate::pieces::{cut, fields_of};
+use crate::put_fields::{read_name_field, read_role_fields, read_user_fields};
 use std::alloc::Global;
 
 /// The kind of a line that replaces the sync function.
@@ -72,10 +72,7 @@ fn read_put_user(alloc: Global, fields: &[&[u8]]) -> Result<Entry, LineFault>
     ensures ok { IfOk result (λ e. AreRead (codes "U" ∷ map (λ p. p.now) fields.now) e) }
     ensures reason { IfErr result (HasReason (IsFault (codes "U" ∷ map (λ p. p.now) fields.now))) }
 {
-    let [name, channels, roles] = fields else {
-        return Err(LineFault::Bad(Why::Fields));
-    };
-    let (name, channels, roles) = field::read_three(alloc, name, channels, roles, 2)?;
+    let (name, channels, roles) = read_user_fields(alloc, fields)?;
     Ok(Entry::PutUser(name, channels, roles))
 }
 
@@ -84,10 +81,7 @@ fn read_put_role(alloc: Global, fields: &[&[u8]]) -> Result<Entry, LineFault>
     ensures ok { IfOk result (λ e. AreRead (codes "R" ∷ map (λ p. p.now) fields.now) e) }
     ensures reason { IfErr result (HasReason (IsFault (codes "R" ∷ map (λ p. p.now) fields.now))) }
 {
-    let [name, channels] = fields else {
-        return Err(LineFault::Bad(Why::Fields));
-    };
-    let (name, channels) = field::read_two(alloc, name, channels, 2)?;
+    let (name, channels) = read_role_fields(alloc, fields)?;
     Ok(Entry::PutRole(name, channels))
 }
 
@@ -96,11 +90,7 @@ fn read_drop_user(alloc: Global, fields: &[&[u8]]) -> Result<Entry, LineFault>
     ensures ok { IfOk result (λ e. AreRead (codes "DU" ∷ map (λ p. p.now) fields.now) e) }
     ensures reason { IfErr result (HasReason (IsFault (codes "DU" ∷ map (λ p. p.now) fields.now))) }
 {
-    let [name] = fields else {
-        return Err(LineFault::Bad(Why::Fields));
-    };
-    let name = field::read(alloc, name, 2)?;
-    Ok(Entry::DropUser(name))
+    Ok(Entry::DropUser(read_name_field(alloc, fields)?))
 }
 
 /// Reads the fields after the kind `DR`.
@@ -108,11 +98,7 @@ fn read_drop_role(alloc: Global, fields: &[&[u8]]) -> Result<Entry, LineFault>
     ensures ok { IfOk result (λ e. AreRead (codes "DR" ∷ map (λ p. p.now) fields.now) e) }
     ensures reason { IfErr result (HasReason (IsFault (codes "DR" ∷ map (λ p. p.now) fields.now))) }
 {
-    let [name] = fields else {
-        return Err(LineFault::Bad(Why::Fields));
-    };
-    let name = field::read(alloc, name, 2)?;
-    Ok(Entry::DropRole(name))
+    Ok(Entry::DropRole(read_name_field(alloc, fields)?))
 }
 
 /// Reads the fields after the kind `X`, which has none.

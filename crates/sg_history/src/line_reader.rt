@@ -42,7 +42,8 @@ pub trait ReadsLines: Drop {
         ensures { result ≡ length (items self.now) + 2 };
 }
 
-fn bad(place: u64, why: Why) -> ReadLog
+/// The refusal that names this line and what is wrong with it.
+pub(crate) fn bad(place: u64, why: Why) -> ReadLog
     ensures { result ≡ ReadLog.Bad (record { place = place; why = why }) }
 {
     ReadLog::Bad(BadLine { place, why })

@@ -1,18 +1,11 @@
-use Rattle.std.proofs.Common.{[], ◌∷◌, arith, codes, refl}
+use Rattle.std.proofs.Common.{List, ℕ, ◌∷◌, ap, codes}
 use Rattle.std.proofs.lemmas.Result.{err_from_is_err_and}
-use Rattle.sg_history.specs.Faults.{role_grammars}
-use Rattle.sg_history.proofs.FaultLemmas.{bad_field_of}
-use Rattle.sg_history.proofs.KindLines.{role_read, nth, two, texts}
 use Rattle.sg_history.proofs.line.read_put_role.Goals as goal
 
 pub returns-clause-ok : goal.returns-clause-ok
-returns-clause-ok c =
-    let fields = c.args.fields.now in
-    role_read (codes "R") (texts fields) (nth fields 0) (nth fields 1) c.in_ok-name.name c.in_ok-name.channels (two fields (omega arith) (omega arith)) c.in_ok-name.ensures.first c.in_ok-name.ensures.second
+returns-clause-ok c = (c.in_ok-name.ensures.ok.0, ap (λ (ts : List (List ℕ)). codes "R" ∷ ts) c.in_ok-name.ensures.ok.1)
 
 pub returns-in_err-name-clause-reason : goal.returns-in_err-name-clause-reason
 returns-in_err-name-clause-reason c =
-    let fields = c.args.fields.now in
     let exit = err_from_is_err_and c.from_residual.result c.from_residual.ensures.1 in
-    rw (exit.1, exit.2)
-    (bad_field_of (codes "R") role_grammars (texts fields) (nth fields 0 ∷ nth fields 1 ∷ []) c.in_err-name.field-0.0 refl (two fields (omega arith) (omega arith)) refl c.in_err-name.ensures.fault)
+    rw (exit.1, exit.2) c.in_err-name.ensures.reason
