@@ -26,7 +26,7 @@ returns-in-Ok-clause-line c =
 
 pub returns-in-Err-clause-bad : goal.returns-in-Err-clause-bad
 returns-in-Err-clause-bad c =
-    rw c.bad_title.ensures (no_journal c.args.bytes (record { place = 1; why = c.in-Err.why }) c.in-Err.ensures.bad)
+    rw c.bad.ensures (no_journal c.args.bytes (record { place = 1; why = c.in-Err.why }) c.in-Err.ensures.bad)
 
 pub returns-in-Err-clause-line : goal.returns-in-Err-clause-line
-returns-in-Err-clause-line c = rw c.bad_title.ensures c.in-Err.ensures.bad
+returns-in-Err-clause-line c = rw c.bad.ensures c.in-Err.ensures.bad
