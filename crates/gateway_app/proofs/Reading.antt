@@ -21,7 +21,7 @@ use Rattle.record_file.specs.Record as record_file
 use Rattle.record_file.specs.Lines.{IsBadRecord}
 use Rattle.feed_command.specs.declared.status.Status.{Status}
 use Rattle.feed_command.specs.declared.status.Status.TheVariants as status
-use Rattle.gateway_app.specs.Inputs.{AreSessionsIn, Contents, HaveFiles, IsBadAdmin, IsBadAmong, IsBadConfig, IsBadSession, IsConfigIn, IsScriptIn, IsSessionIn}
+use Rattle.gateway_app.specs.Inputs.{AreSessionsIn, Contents, HaveFiles, IsBadAdmin, IsBadSessionAmong, IsBadConfig, IsBadSession, IsConfigIn, IsScriptIn, IsSessionIn}
 use Rattle.gateway_app.specs.Loading.{AreInputsRead, AreSessionsRead, IsConfigRead, IsRead, IsRefused, IsScriptRead, IsSessionRead, config_status}
 use Rattle.feed_command.specs.Run.{HasFile, IsLoaded}
 
@@ -157,12 +157,12 @@ one_more (bytes ∷ contents) (suc i) [] r low are is = absurd are
 one_more (bytes ∷ contents) (suc i) (x ∷ records) r low are is = (are.0, one_more contents i records r (omega (arith, low)) are.1 is)
 
 -- the first bad one stands behind those that were read
-pub bad_behind : (number : ℕ) (contents : List (List ℕ)) (i : ℕ) (records : List Recorded) (place : ℕ) (why : Why) → i < length contents → AreSessionsIn (take i contents) records → IsBadSession (get_or contents i []) place why → IsBadAmong number contents (number + i) place why
+pub bad_behind : (number : ℕ) (contents : List (List ℕ)) (i : ℕ) (records : List Recorded) (place : ℕ) (why : Why) → i < length contents → AreSessionsIn (take i contents) records → IsBadSession (get_or contents i []) place why → IsBadSessionAmong number contents (number + i) place why
 bad_behind number [] i records place why low are bad = absurd (omega (arith, low))
 bad_behind number (bytes ∷ contents) zero records place why low are bad = inl (omega arith, bad)
 bad_behind number (bytes ∷ contents) (suc i) [] place why low are bad = absurd are
 bad_behind number (bytes ∷ contents) (suc i) (x ∷ records) place why low are bad =
-    inr ((x, are.0), subst (λ (file : ℕ). IsBadAmong (number + 1) contents file place why) (omega arith) (bad_behind (number + 1) contents i records place why (omega (arith, low)) are.1 bad))
+    inr ((x, are.0), subst (λ (file : ℕ). IsBadSessionAmong (number + 1) contents file place why) (omega arith) (bad_behind (number + 1) contents i records place why (omega (arith, low)) are.1 bad))
 
 -- where one is no recorded session, not all are
 pub not_all : (contents : List (List ℕ)) (i : ℕ) → i < length contents → ((r : Recorded) → ¬ IsSessionIn (get_or contents i []) r) → (records : List Recorded) → ¬ AreSessionsIn contents records
@@ -178,7 +178,7 @@ session_failed contents i records status.Ok low are failed = absurd failed
 session_failed contents i records status.BadWords low are failed = absurd failed
 session_failed contents i records (status.BadInput file place why) low are failed =
     let number : 3 + i ≡ file = omega (arith, failed.0.0) in (
-      subst (λ (f : ℕ). IsBadAmong 3 contents f place why) number (bad_behind 3 contents i records place why low are failed.0.1),
+      subst (λ (f : ℕ). IsBadSessionAmong 3 contents f place why) number (bad_behind 3 contents i records place why low are failed.0.1),
       not_all contents i low failed.1,
     )
 session_failed contents i records status.ReadFault low are failed = tt

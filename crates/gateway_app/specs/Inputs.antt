@@ -90,11 +90,11 @@ abbrev pub IsBadSession : List ℕ → ℕ → Why → Type 0
 IsBadSession bytes place why = IsBadFile bytes (IsBadRecord bytes (record { place = place; why = why })) place why
 
 -- the first bad one of recorded sessions, of which the first has this number among the files
-abbrev pub IsBadAmong : ℕ → List (List ℕ) → ℕ → ℕ → Why → Type 0
-IsBadAmong number [] file place why = ⊥
-IsBadAmong number (bytes ∷ contents) file place why =
+abbrev pub IsBadSessionAmong : ℕ → List (List ℕ) → ℕ → ℕ → Why → Type 0
+IsBadSessionAmong number [] file place why = ⊥
+IsBadSessionAmong number (bytes ∷ contents) file place why =
     ((file ≡ number) × IsBadSession bytes place why)
-    ⊎ (((recorded : Recorded) × IsSessionIn bytes recorded) × IsBadAmong (number + 1) contents file place why)
+    ⊎ (((recorded : Recorded) × IsSessionIn bytes recorded) × IsBadSessionAmong (number + 1) contents file place why)
 
 -- The first bad file, by its number among the command's words, counted from 1: the configuration, or else the script, or else a recorded
 -- session; with the place and what is wrong there.
@@ -103,7 +103,7 @@ IsFirstBad contents file place why =
     ((file ≡ 1) × IsBadConfig contents.config place why)
     ⊎ (((config : Config) × IsConfigIn contents.config config)
     × (((file ≡ 2) × IsBadAdmin contents.admin place why)
-    ⊎ (((lines : List AdminLine) × IsScriptIn contents.admin lines) × IsBadAmong 3 contents.sessions file place why)))
+    ⊎ (((lines : List AdminLine) × IsScriptIn contents.admin lines) × IsBadSessionAmong 3 contents.sessions file place why)))
 
 -- ---- each of them by its number
 

@@ -13,7 +13,7 @@ use Rattle.record_file.specs.declared.record.Recorded.{Recorded}
 use Rattle.gateway_app.specs.declared.replay_command.LoadedInputs.{LoadedInputs}
 use Rattle.feed_command.specs.declared.status.Status.{Status}
 use Rattle.feed_command.specs.declared.status.Status.TheVariants as status
-use Rattle.gateway_app.specs.Inputs.{AreInputs, AreSessionsIn, Contents, Inputs, IsBadAdmin, IsBadAmong, IsBadConfig, IsBadSession, IsConfigIn, IsFirstBad, IsScriptIn, IsSessionIn}
+use Rattle.gateway_app.specs.Inputs.{AreInputs, AreSessionsIn, Contents, Inputs, IsBadAdmin, IsBadSessionAmong, IsBadConfig, IsBadSession, IsConfigIn, IsFirstBad, IsScriptIn, IsSessionIn}
 use Rattle.feed_command.specs.Run.{Took, TookPart}
 
 -- what was read of files, of which something holds, or how the run ends: at the file with this number, where it holds of nothing, or at one
@@ -38,7 +38,7 @@ abbrev pub IsSessionRead : ℕ → List ℕ → Result Recorded Status → Type 
 IsSessionRead number bytes result = IsRead (λ (recorded : Recorded). recorded) (IsSessionIn bytes) (λ file place why. (file ≡ number) × IsBadSession bytes place why) result
 
 abbrev pub AreSessionsRead : List (List ℕ) → Result (Vec Recorded Global) Status → Type 0
-AreSessionsRead contents result = IsRead (λ (v : Vec Recorded Global). v.items) (AreSessionsIn contents) (IsBadAmong 3 contents) result
+AreSessionsRead contents result = IsRead (λ (v : Vec Recorded Global). v.items) (AreSessionsIn contents) (IsBadSessionAmong 3 contents) result
 
 abbrev pub inputs_of : LoadedInputs → Inputs
 inputs_of i = record { config = i.config; lines = i.lines; records = i.sessions.items }
