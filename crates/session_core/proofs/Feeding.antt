@@ -45,6 +45,7 @@ use Rattle.session_core.specs.declared.machine.Subscription.{Subscription}
 use Rattle.session_core.specs.declared.machine.Pending.{Pending}
 use Rattle.session_core.specs.declared.machine.Pending.TheVariants as pending
 use Rattle.session_core.specs.Acts.{messages_from, request_message, reply_message, error_of, reply_act, refusal_act, refusal_by, acceptance_act, answer_act, body_act, body_acts, offer_act}
+use Rattle.session_core.proofs.Replying.{answer_by}
 use Rattle.session_core.specs.Conduct.{requests_among, WantsFor}
 use Rattle.session_core.specs.Feeds.{AreOffered, not_offered, rows_at, feed_look, feed_looks, LeadsFeed, RunsFeed}
 use Rattle.session_core.specs.Right.{IsRight, AreRight}
@@ -383,29 +384,10 @@ bodies_stay h user version asked messages fronts m r b (pending.Feed other) so_f
 bodies_stay h user version asked messages fronts m r b pending.More so_far e = puts_stay h user version asked messages fronts m r [] so_far e tt
 bodies_stay h user version asked messages fronts m r b (pending.Reply asker to) so_far e = puts_stay h user version asked messages fronts m r [] so_far e tt
 
-outcome_none : (asker : Asker) (error : Option ErrorKind) → OffersNone (refusal_by asker error)
-outcome_none asker None = reply_none asker kinds.Rpy _ refl
-outcome_none asker (Some error) = reply_none asker kinds.Err _ refl
-
-answer_none : (asker : Asker) (to : Awaited) (e : Event) → OffersNone (answer_act asker to e)
-answer_none asker to (event.Whole message) = tt
-answer_none asker to (event.Idle front) = tt
-answer_none asker to (event.Fed answer) = tt
-answer_none asker to (event.Bodies b) = tt
-answer_none asker to (event.Asked answer) = reply_none asker kinds.Rpy _ refl
-answer_none asker to (event.Judged o) = outcome_none asker (outcome_error o)
-answer_none asker to (event.Got (kept0.Found rev body)) = reply_none asker kinds.Rpy _ refl
-answer_none asker to (event.Got kept0.Absent404) = reply_none asker kinds.Err _ refl
-answer_none asker to (event.Set (set.Set rev)) = reply_none asker kinds.Rpy _ refl
-answer_none asker to (event.Set (set.Conflict409 current)) = reply_none asker kinds.Err _ refl
-answer_none asker to (event.Set (set.TooLarge413 bytes)) = reply_none asker kinds.Err _ refl
-answer_none asker to (event.Set set.Full503) = reply_none asker kinds.Err _ refl
-answer_none asker to (event.Set set.Memory) = tt
-
 answer_stay : (h : List Entry) (user : List ℕ) (version : Version) (asked : Subscription) (messages : List Message) (fronts : List ℕ) (m : Machine) (r : Running) (answer : Event) (awaited : Pending)
     → Offering h user version asked messages fronts m → m.feed ≡ Some r → After h user version asked messages fronts m (on_answer m answer awaited)
 answer_stay h user version asked messages fronts m r answer (pending.Reply asker to) so_far e =
-    puts_stay h user version asked messages fronts m r (answer_act asker to answer) so_far e (answer_none asker to answer)
+    puts_stay h user version asked messages fronts m r (answer_act asker to answer) so_far e (answer_by (λ acts. OffersNone acts) tt reply_none asker to answer)
 answer_stay h user version asked messages fronts m r answer pending.Nothing so_far e = puts_stay h user version asked messages fronts m r [] so_far e tt
 answer_stay h user version asked messages fronts m r answer (pending.Feed other) so_far e = puts_stay h user version asked messages fronts m r [] so_far e tt
 answer_stay h user version asked messages fronts m r answer pending.More so_far e = puts_stay h user version asked messages fronts m r [] so_far e tt

@@ -4,3 +4,4 @@ pub mod Chosen
 pub mod Conducts
 pub mod Feeding
 pub mod Refusing
+pub mod Replying

@@ -40,6 +40,7 @@ use Rattle.session_core.specs.declared.machine.Subscription.{Subscription}
 use Rattle.session_core.specs.declared.machine.Pending.{Pending}
 use Rattle.session_core.specs.declared.machine.Pending.TheVariants as pending
 use Rattle.session_core.specs.Acts.{messages_from, reply_act, refusal_act, acceptance_act, refusal_by, answer_act, error_of, body_act, body_acts}
+use Rattle.session_core.proofs.Replying.{answer_by}
 use Rattle.session_core.specs.Feeds.{feed_look, feed_looks, LeadsFeed, RunsFeed}
 use Rattle.session_core.specs.Running.{Running, rest, is_none, waits, next_acts, next_feed}
 use Rattle.session_core.specs.State.{Machine, new_machine, AwaitsBy, IsReply}
@@ -79,25 +80,6 @@ bodies_none : (rows : List Row) (bodies : List Body) → OfferNone (body_acts ro
 bodies_none [] bodies n = refl
 bodies_none (row ∷ rows) [] n = refl
 bodies_none (row ∷ rows) (b ∷ bodies) n = one_body n row b (body_acts rows bodies) ∙ bodies_none rows bodies (n + 1)
-
-outcome_none : (asker : Asker) (error : Option ErrorKind) → OfferNone (refusal_by asker error)
-outcome_none asker None = reply_none asker kinds.Rpy _ refl
-outcome_none asker (Some error) = reply_none asker kinds.Err _ refl
-
-answer_none : (asker : Asker) (to : Awaited) (e : Event) → OfferNone (answer_act asker to e)
-answer_none asker to (event.Whole message) = (λ n. refl)
-answer_none asker to (event.Idle front) = (λ n. refl)
-answer_none asker to (event.Fed answer) = (λ n. refl)
-answer_none asker to (event.Bodies b) = (λ n. refl)
-answer_none asker to (event.Asked answer) = reply_none asker kinds.Rpy _ refl
-answer_none asker to (event.Judged o) = outcome_none asker (outcome_error o)
-answer_none asker to (event.Got (kept0.Found rev body)) = reply_none asker kinds.Rpy _ refl
-answer_none asker to (event.Got kept0.Absent404) = reply_none asker kinds.Err _ refl
-answer_none asker to (event.Set (set.Set rev)) = reply_none asker kinds.Rpy _ refl
-answer_none asker to (event.Set (set.Conflict409 current)) = reply_none asker kinds.Err _ refl
-answer_none asker to (event.Set (set.TooLarge413 bytes)) = reply_none asker kinds.Err _ refl
-answer_none asker to (event.Set set.Full503) = reply_none asker kinds.Err _ refl
-answer_none asker to (event.Set set.Memory) = (λ n. refl)
 
 -- ---- what always holds
 
@@ -358,7 +340,7 @@ answered_to fronts m e pending.Nothing is a fits = absurd a
 answered_to fronts m e (pending.Feed asked) is a fits = absurd a
 answered_to fronts m e pending.More is a fits = absurd a
 answered_to fronts m e (pending.Bodies rows) is a fits = absurd a
-answered_to fronts m e (pending.Reply asker to) is a fits = puts_stay fronts m (answer_act asker to e) (answer_none asker to e) (ap awaits_no_feed is) fits
+answered_to fronts m e (pending.Reply asker to) is a fits = puts_stay fronts m (answer_act asker to e) (answer_by (λ acts. OfferNone acts) (λ n. refl) reply_none asker to e) (ap awaits_no_feed is) fits
 
 idled_with : (fronts : List ℕ) (m : Machine) (r : Running) (b : Bool) → m.feed ≡ Some r → awaits_no_feed m.pending ≡ true → Fits fronts m.feed m.pending → CaughtUpBy fronts m (if b then looks_again m [] m.requests r else puts m [])
 idled_with fronts m r true e no_feed fits = looks fronts m [] m.requests r (λ n. refl) (follows fronts m r e fits)

@@ -36,6 +36,7 @@ use Rattle.session_core.specs.declared.machine.Subscription.{Subscription}
 use Rattle.session_core.specs.declared.machine.Pending.{Pending}
 use Rattle.session_core.specs.declared.machine.Pending.TheVariants as pending
 use Rattle.session_core.specs.Acts.{messages_from, error_of, reply_act, refusal_act, acceptance_act, refusal_by, answer_act, body_acts}
+use Rattle.session_core.proofs.Replying.{answer_by}
 use Rattle.session_core.specs.Conduct.{requests_among}
 use Rattle.session_core.specs.Feeds.{feed_look}
 use Rattle.session_core.specs.Running.{Running, rest, is_none}
@@ -79,25 +80,6 @@ bodies_counted (row ∷ rows) (body.NoRev ∷ given) e = omega (arith, bodies_co
 
 refusal_none : (asker : Asker) (error : ErrorKind) → OffersNone (refusal_act asker error)
 refusal_none asker error = reply_none asker kinds.Err (error_payload error) refl
-
-outcome_none : (asker : Asker) (error : Option ErrorKind) → OffersNone (refusal_by asker error)
-outcome_none asker None = reply_none asker kinds.Rpy _ refl
-outcome_none asker (Some error) = refusal_none asker error
-
-answer_none : (asker : Asker) (to : Awaited) (e : Event) → OffersNone (answer_act asker to e)
-answer_none asker to (event.Whole message) = nothing_offered
-answer_none asker to (event.Idle front) = nothing_offered
-answer_none asker to (event.Fed answer) = nothing_offered
-answer_none asker to (event.Bodies b) = nothing_offered
-answer_none asker to (event.Asked answer) = reply_none asker kinds.Rpy _ refl
-answer_none asker to (event.Judged o) = outcome_none asker (outcome_error o)
-answer_none asker to (event.Got (kept0.Found rev body)) = reply_none asker kinds.Rpy _ refl
-answer_none asker to (event.Got kept0.Absent404) = reply_none asker kinds.Err _ refl
-answer_none asker to (event.Set (set.Set rev)) = reply_none asker kinds.Rpy _ refl
-answer_none asker to (event.Set (set.Conflict409 current)) = reply_none asker kinds.Err _ refl
-answer_none asker to (event.Set (set.TooLarge413 bytes)) = reply_none asker kinds.Err _ refl
-answer_none asker to (event.Set set.Full503) = reply_none asker kinds.Err _ refl
-answer_none asker to (event.Set set.Memory) = nothing_offered
 
 -- ---- what holds between steps
 
@@ -308,7 +290,7 @@ answer_shape f (pending.Feed asked) m answer e look same a = absurd a
 answer_shape f pending.More m answer e look same a = absurd a
 answer_shape f (pending.Bodies rows) m answer e look same a = absurd a
 answer_shape f (pending.Reply asker to) m answer e look same a =
-    no_feed_puts f (pending.Reply asker to) m answer (answer_act asker to answer) e (answer_none asker to answer) (λ some. look)
+    no_feed_puts f (pending.Reply asker to) m answer (answer_act asker to answer) e (answer_by OffersNone nothing_offered reply_none asker to answer) (λ some. look)
     (same (open_of f (pending.Reply asker to)) ∙ open_while_replied f asker to)
 
 -- ---- idle moments

@@ -49,6 +49,7 @@ use Rattle.session_core.specs.declared.machine.Subscription.{Subscription}
 use Rattle.session_core.specs.declared.machine.Pending.{Pending}
 use Rattle.session_core.specs.declared.machine.Pending.TheVariants as pending
 use Rattle.session_core.specs.Acts.{messages_from, request_message, reply_act, refusal_by, acceptance_act, answer_act, body_act, body_acts, chosen, offer_act}
+use Rattle.session_core.proofs.Replying.{answer_by}
 use Rattle.session_core.specs.Conduct.{WantsFor, AreOnOffer}
 use Rattle.session_core.specs.Right.{IsRight, AreRight}
 use Rattle.session_core.specs.Running.{Running, rest, is_none, is_silent, next_acts}
@@ -156,27 +157,8 @@ fed_none m answer pending.Nothing = tt
 fed_none m answer (pending.Bodies rows) = tt
 fed_none m answer (pending.Reply asker to) = tt
 
-outcome_none : (asker : Asker) (error : Option ErrorKind) → ActsCarryNone (refusal_by asker error)
-outcome_none asker None = reply_none asker kinds.Rpy _ refl
-outcome_none asker (Some error) = reply_none asker kinds.Err _ refl
-
-answer_none : (asker : Asker) (to : Awaited) (e : Event) → ActsCarryNone (answer_act asker to e)
-answer_none asker to (event.Whole message) = tt
-answer_none asker to (event.Idle front) = tt
-answer_none asker to (event.Fed answer) = tt
-answer_none asker to (event.Bodies b) = tt
-answer_none asker to (event.Asked answer) = reply_none asker kinds.Rpy _ refl
-answer_none asker to (event.Judged o) = outcome_none asker (outcome_error o)
-answer_none asker to (event.Got (kept0.Found rev body)) = reply_none asker kinds.Rpy _ refl
-answer_none asker to (event.Got kept0.Absent404) = reply_none asker kinds.Err _ refl
-answer_none asker to (event.Set (set.Set rev)) = reply_none asker kinds.Rpy _ refl
-answer_none asker to (event.Set (set.Conflict409 current)) = reply_none asker kinds.Err _ refl
-answer_none asker to (event.Set (set.TooLarge413 bytes)) = reply_none asker kinds.Err _ refl
-answer_none asker to (event.Set set.Full503) = reply_none asker kinds.Err _ refl
-answer_none asker to (event.Set set.Memory) = tt
-
 answered_to_none : (m : Machine) (e : Event) (awaited : Pending) → ActsCarryNone (on_answer m e awaited).acts
-answered_to_none m e (pending.Reply asker to) = answer_none asker to e
+answered_to_none m e (pending.Reply asker to) = answer_by (λ acts. ActsCarryNone acts) tt reply_none asker to e
 answered_to_none m e pending.Nothing = tt
 answered_to_none m e (pending.Feed asked) = tt
 answered_to_none m e pending.More = tt
