@@ -5,6 +5,7 @@ ghost use Rattle.sync_code.specs.Code.{all_fit, fits, fits_or_none, member_sourc
 ghost use Rattle.sync_code.specs.Made.{IsCode};
 
 use crate::Memory;
+use crate::both::both;
 use crate::code::{Code, Tail};
 use crate::slots::Slots;
 use json_doc::DocText;
@@ -56,18 +57,22 @@ pub(crate) fn code_of(
         }
         Expr::Postfix(first, suffixes) => {
             let first = boxed(alloc, slots, scope, first.get())?;
-            let tails = tails_of(alloc, slots, scope, suffixes.as_slice())?;
+            let tails = tails_of(alloc, slots, scope, suffixes.as_slice());
+            let (first, tails) = both(first, tails)?;
             Ok(Code::Postfix(first, tails))
         }
         Expr::Chain(first, tails) => {
             let first = boxed(alloc, slots, scope, first.get())?;
-            let operands = operands_of(alloc, slots, scope, tails.as_slice())?;
+            let operands = operands_of(alloc, slots, scope, tails.as_slice());
+            let (first, operands) = both(first, operands)?;
             Ok(Code::Chain(first, operands))
         }
         Expr::Choice(condition, first, other) => {
             let condition = boxed(alloc, slots, scope, condition.get())?;
-            let first = boxed(alloc, slots, scope, first.get())?;
-            let other = boxed(alloc, slots, scope, other.get())?;
+            let first = boxed(alloc, slots, scope, first.get());
+            let begun = both(condition, first)?;
+            let other = boxed(alloc, slots, scope, other.get());
+            let ((condition, first), other) = both(begun, other)?;
             Ok(Code::Choice(condition, first, other))
         }
     }

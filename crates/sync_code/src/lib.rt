@@ -2,6 +2,7 @@
 //! number and the slot of that variable.
 #![tactic(auto)]
 
+mod both;
 mod code;
 mod expression;
 mod program;
