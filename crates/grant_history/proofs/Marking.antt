@@ -99,13 +99,14 @@ mark_has (Some s) marks doc rev h = ap (λ (l : List Mark). mark_of l doc rev) (
 abbrev made : Mark → DocumentFacts
 made mark = record { doc = mark.doc; facts = mark_facts mark }
 
+one_appended : (marks : List Mark) (o : Option Mark) (xs ys : List NewState) → changes_by marks (xs ++ ys) ≡ changes_by marks xs ++ changes_by marks ys
+    → change_by o ++ changes_by marks (xs ++ ys) ≡ (change_by o ++ changes_by marks xs) ++ changes_by marks ys
+one_appended marks None xs ys rest = rest
+one_appended marks (Some mark) xs ys rest = ap (λ (l : List DocumentFacts). made mark ∷ l) rest
+
 changes_append : (marks : List Mark) (xs ys : List NewState) → changes_by marks (xs ++ ys) ≡ changes_by marks xs ++ changes_by marks ys
 changes_append marks [] ys = refl
-changes_append marks (x ∷ xs) ys = by (mark_among marks x.marked)
-  where
-    by : (o : Option Mark) → change_by o ++ changes_by marks (xs ++ ys) ≡ (change_by o ++ changes_by marks xs) ++ changes_by marks ys
-    by None = changes_append marks xs ys
-    by (Some mark) = ap (λ (l : List DocumentFacts). made mark ∷ l) (changes_append marks xs ys)
+changes_append marks (x ∷ xs) ys = one_appended marks (mark_among marks x.marked) xs ys (changes_append marks xs ys)
 
 -- the same where the mark at this place has the document's effects
 abbrev one : Option ℕ → ℕ → Mark → List DocumentFacts
@@ -135,13 +136,10 @@ module _ (marks : List Mark) (place : List ℕ → Option ℕ) (is_placed : (doc
   -- a document without a mark from there on gives what it gave
   kept_from : (ms : List Mark) (n : ℕ) → AreFrom ms n → (g : Gives) (d : List ℕ) → ((p : ℕ) → place d ≡ Some p → p < n) → given_after g (from ms n) d ≡ g d
   kept_from [] n are g d below = refl
-  kept_from (m ∷ ms) n are g d below = by (place m.doc) refl
+  kept_from (m ∷ ms) n are g d below = by (place m.doc) refl (λ h. kept_from ms (n + 1) (next m ms n are) h d (λ p is. omega (arith, below p is)))
     where
-      rest : (h : Gives) → given_after h (from ms (n + 1)) d ≡ h d
-      rest h = kept_from ms (n + 1) (next m ms n are) h d (λ p is. omega (arith, below p is))
-
-      of : (p : ℕ) → place m.doc ≡ Some p → (b : Bool) → nat_eq p n ≡ b → given_after g ((if b then made m ∷ [] else []) ++ from ms (n + 1)) d ≡ g d
-      of p is true same =
+      of : (p : ℕ) → place m.doc ≡ Some p → ((h : Gives) → given_after h (from ms (n + 1)) d ≡ h d) → (b : Bool) → nat_eq p n ≡ b → given_after g ((if b then made m ∷ [] else []) ++ from ms (n + 1)) d ≡ g d
+      of p is rest true same =
           rest (given_with g (made m)) ∙ apart (bytes_eq m.doc d) refl
         where
           apart : (b : Bool) → bytes_eq m.doc d ≡ b → (if b then mark_facts m else g d) ≡ g d
@@ -149,11 +147,11 @@ module _ (marks : List Mark) (place : List ℕ → Option ℕ) (is_placed : (doc
               let here : place d ≡ Some p = ap place (sym ((bytes_decides m.doc d).0 at)) ∙ is in
               absurd (omega (arith, below p here, eqb-true p n same))
           apart false at = refl
-      of p is false other = rest g
+      of p is rest false other = rest g
 
-      by : (o : Option ℕ) → place m.doc ≡ o → given_after g (one o n m ++ from ms (n + 1)) d ≡ g d
-      by None is = rest g
-      by (Some p) is = of p is (nat_eq p n) refl
+      by : (o : Option ℕ) → place m.doc ≡ o → ((h : Gives) → given_after h (from ms (n + 1)) d ≡ h d) → given_after g (one o n m ++ from ms (n + 1)) d ≡ g d
+      by None is rest = rest g
+      by (Some p) is rest = of p is rest (nat_eq p n) refl
 
   -- one with such a mark gives what that gives
   marked_from : (ms : List Mark) (n : ℕ) → AreFrom ms n → (g : Gives) (d : List ℕ) (p : ℕ) → place d ≡ Some p → n ≤ p → given_after g (from ms n) d ≡ facts_of_mark (slice_get marks p)
@@ -161,21 +159,18 @@ module _ (marks : List Mark) (place : List ℕ → Option ℕ) (is_placed : (doc
       let same : ◌≡◌ {A = ℕ} (n + (p - n)) p = omega (arith, low) in
       let there = is_placed d p is in
       absurd (none-some there.mark (are (p - n) ∙ ap (λ (i : ℕ). slice_get marks i) same ∙ there.there))
-  marked_from (m ∷ ms) n are g d p is low = at (nat_eq p n) refl
+  marked_from (m ∷ ms) n are g d p is low = at (nat_eq p n) refl (λ h above. marked_from ms (n + 1) (next m ms n are) h d p is above)
     where
-      rest : (h : Gives) → n + 1 ≤ p → given_after h (from ms (n + 1)) d ≡ facts_of_mark (slice_get marks p)
-      rest h above = marked_from ms (n + 1) (next m ms n are) h d p is above
+      of : (b : Bool) → ((h : Gives) → given_after h (from ms (n + 1)) d ≡ facts_of_mark (slice_get marks p)) → given_after g ((if b then made m ∷ [] else []) ++ from ms (n + 1)) d ≡ facts_of_mark (slice_get marks p)
+      of true rest = rest (given_with g (made m))
+      of false rest = rest g
 
-      of : (b : Bool) → n + 1 ≤ p → given_after g ((if b then made m ∷ [] else []) ++ from ms (n + 1)) d ≡ facts_of_mark (slice_get marks p)
-      of true above = rest (given_with g (made m)) above
-      of false above = rest g above
+      by : (o : Option ℕ) → ((h : Gives) → given_after h (from ms (n + 1)) d ≡ facts_of_mark (slice_get marks p)) → given_after g (one o n m ++ from ms (n + 1)) d ≡ facts_of_mark (slice_get marks p)
+      by None rest = rest g
+      by (Some q) rest = of (nat_eq q n) rest
 
-      by : (o : Option ℕ) → n + 1 ≤ p → given_after g (one o n m ++ from ms (n + 1)) d ≡ facts_of_mark (slice_get marks p)
-      by None above = rest g above
-      by (Some q) above = of (nat_eq q n) above
-
-      at : (b : Bool) → nat_eq p n ≡ b → given_after g (from (m ∷ ms) n) d ≡ facts_of_mark (slice_get marks p)
-      at true same =
+      at : (b : Bool) → nat_eq p n ≡ b → ((h : Gives) → n + 1 ≤ p → given_after h (from ms (n + 1)) d ≡ facts_of_mark (slice_get marks p)) → given_after g (from (m ∷ ms) n) d ≡ facts_of_mark (slice_get marks p)
+      at true same rest =
           let one_place : p ≡ n = eqb-true p n same in
           let there = is_placed d p is in
           let mark : m ≡ there.mark = same_Some m there.mark (sym (first m ms n are) ∙ ap (λ (i : ℕ). slice_get marks i) (sym one_place) ∙ there.there) in
@@ -186,9 +181,10 @@ module _ (marks : List Mark) (place : List ℕ → Option ℕ) (is_placed : (doc
           ∙ kept_from ms (n + 1) (next m ms n are) (given_with g (made m)) d (λ q has. omega (arith, same_Some q p (sym has ∙ is), one_place))
           ∙ ap (λ (b : Bool). if b then mark_facts m else g d) ((bytes_decides m.doc d).1 doc)
           ∙ ap facts_of_mark (sym (ap (λ (i : ℕ). slice_get marks i) one_place ∙ first m ms n are))
-      at false other =
+      at false other rest =
           let apart : p ≢ n = eqb-false p n other in
-          by (place m.doc) (omega (arith, low, apart))
+          let above : n + 1 ≤ p = omega (arith, low, apart) in
+          by (place m.doc) (λ h. rest h above)
 
   all : AreFrom marks 0
   all k = let same : ◌≡◌ {A = ℕ} k (0 + k) = omega arith in ap (λ (i : ℕ). slice_get marks i) same
@@ -208,15 +204,15 @@ module _ (marks : List Mark) (place : List ℕ → Option ℕ) (is_placed : (doc
   -- the documents of the changes are among these
   pub of_from : (docs : List (List ℕ)) → ((d : List ℕ) (p : ℕ) → place d ≡ Some p → among docs d ≡ true) → (ms : List Mark) (n : ℕ) → AreOf docs (from ms n)
   of_from docs in_docs [] n = tt
-  of_from docs in_docs (m ∷ ms) n = by (place m.doc) refl
+  of_from docs in_docs (m ∷ ms) n = by (place m.doc) refl (of_from docs in_docs ms (n + 1))
     where
-      of : (p : ℕ) → place m.doc ≡ Some p → (b : Bool) → AreOf docs ((if b then made m ∷ [] else []) ++ from ms (n + 1))
-      of p is true = (in_docs m.doc p is, of_from docs in_docs ms (n + 1))
-      of p is false = of_from docs in_docs ms (n + 1)
+      of : (p : ℕ) → place m.doc ≡ Some p → AreOf docs (from ms (n + 1)) → (b : Bool) → AreOf docs ((if b then made m ∷ [] else []) ++ from ms (n + 1))
+      of p is rest true = (in_docs m.doc p is, rest)
+      of p is rest false = rest
 
-      by : (o : Option ℕ) → place m.doc ≡ o → AreOf docs (one o n m ++ from ms (n + 1))
-      by None is = of_from docs in_docs ms (n + 1)
-      by (Some p) is = of p is (nat_eq p n)
+      by : (o : Option ℕ) → place m.doc ≡ o → AreOf docs (from ms (n + 1)) → AreOf docs (one o n m ++ from ms (n + 1))
+      by None is rest = rest
+      by (Some p) is rest = of p is rest (nat_eq p n)
 
 not_below : (a b : ℕ) → b < a → nat_le a b ≡ false
 not_below a b low = elim (cases_Bool (nat_le a b)) [

@@ -1,5 +1,5 @@
-use Rattle.std.proofs.Common.{◌∙◌, ◌+◌, ◌++◌, sym, ap, arith, drop, List, append_assoc}
-use Rattle.std.proofs.lemmas.List.{append-nil, drop_all}
+use Rattle.std.proofs.Common.{◌∙◌, ◌+◌, ◌++◌, sym, ap, arith, drop, get_or, List, None, append_assoc}
+use Rattle.std.proofs.lemmas.List.{append-nil, drop_all, get_or_default}
 use Rattle.grant_history.specs.declared.states.NewState.{NewState}
 use Rattle.grant_history.specs.Changes.{DocumentFacts, change_by, changes_by, facts_in_changes, mark_among}
 use Rattle.grant_tracks.proofs.Gathered.{split}
@@ -10,11 +10,11 @@ loop-state-preserved c =
     let marks = c.args.marks.now in
     let states = c.args.states.now in
     let i = c.loop-state.state-index in
-    let s = c.state-item.result in
+    let s : NewState = get_or states i (record { winning = 0; marked = None }) in
     let before = facts_in_changes c.loop-state.changes.items in
     ap (λ (l : List DocumentFacts). l ++ changes_by marks (drop (i + 1) states)) c.in_ok-add_change.ensures
     ∙ append_assoc before (change_by (mark_among marks s.marked)) (changes_by marks (drop (i + 1) states))
-    ∙ ap (λ (l : List NewState). before ++ changes_by marks l) (split states i s (omega arith) c.state-item.is)
+    ∙ ap (λ (l : List NewState). before ++ changes_by marks l) (split states i s (omega arith) (get_or_default states i _ _ (omega arith)))
     ∙ c.loop-state.invariant
 
 pub returns : goal.returns

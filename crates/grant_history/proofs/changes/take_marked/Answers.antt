@@ -5,8 +5,8 @@ use Rattle.grant_history.proofs.Marking.{marking}
 use Rattle.grant_history.proofs.Standing.{MarkLaws}
 use Rattle.grant_history.proofs.changes.take_marked.Goals as goal
 
-pub take_documents-requires : goal.take_documents-requires
-take_documents-requires c =
+pub take_documents-taken-requires : goal.take_documents-taken-requires
+take_documents-taken-requires c =
     let laws : MarkLaws = record { effects = c.marks.ensures.effects; there = c.marks.ensures.there; after = c.marks.ensures.after; within = c.marks.ensures.within } in
     let e = c.requires.0 in
     let es = c.requires.1 in
@@ -20,6 +20,6 @@ take_documents-requires c =
 pub returns-clause-ok : goal.returns-clause-ok
 returns-clause-ok c =
     let laws : MarkLaws = record { effects = c.marks.ensures.effects; there = c.marks.ensures.there; after = c.marks.ensures.after; within = c.marks.ensures.within } in
-    on_ok c.take_documents.result _ _ (λ takes e es is. takes e es
+    on_ok c.take_documents-taken.result _ _ (λ takes e es is. takes e es
     (subst (λ (cs : List DocumentFacts). AreChanges c.args.ledger.now c.args.at cs e es) (sym c.in_ok-changes.ensures)
-    (marking c.currents.ensures.unwritten laws e es c.args.marks.now is.has c.args.ledger.now c.args.at c.args.states.now is))) c.take_documents.ensures.ok
+    (marking c.currents.ensures.unwritten laws e es c.args.marks.now is.has c.args.ledger.now c.args.at c.args.states.now is))) c.take_documents-taken.ensures.ok
