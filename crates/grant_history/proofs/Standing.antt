@@ -1,5 +1,5 @@
 -- where the state of a document stands, and what it gives by the entry there
-use Rattle.std.proofs.Common.{◌≡◌, ◌≢◌, ◌<◌, ◌≤◌, ◌+◌, ◌-◌, ℕ, refl, sym, ◌∙◌, ap, subst, arith, inl, inr, Bool, true, false, true≢false, if◌then◌else◌, List, [], ◌∷◌, length, reverse, Option, Some, None, IsSome}
+use Rattle.std.proofs.Common.{◌≡◌, ◌≢◌, ◌<◌, ◌≤◌, ◌+◌, ◌-◌, ℕ, refl, sym, ◌∙◌, ap, subst, arith, inl, inr, Bool, true≢false, if◌then◌else◌, List, [], ◌∷◌, length, reverse, Option, Some, None, IsSome}
 use Rattle.std.specs.Prelude.{IfSome, slice_get, nat_eq}
 use Rattle.std.proofs.lemmas.Bool.{cases_Bool, eqb-true, eqb-false, le-leb}
 use Rattle.std.proofs.lemmas.Option.{none-some, same_Some}
