@@ -1,13 +1,11 @@
 -- what is wrong with the fields behind the kind of a line
-use Rattle.std.proofs.Common.{◌≡◌, ℕ, zero, suc, ◌+◌, ◌-◌, List, [], ◌∷◌, map, refl, sym, ◌∙◌, ap, subst, arith, Option, Some}
-use Rattle.std.proofs.lemmas.List.{length-map}
-use Rattle.sg_history.specs.declared.fault.Why.{Why}
+use Rattle.std.proofs.Common.{◌≡◌, ℕ, zero, suc, ◌+◌, List, [], ◌∷◌, map, refl, ◌∙◌, ap, arith, Some}
 use Rattle.sg_history.specs.declared.fault.Why.TheVariants as reason
 use Rattle.sg_history.specs.declared.fault.LineFault.{LineFault}
 use Rattle.sg_history.specs.declared.fault.LineFault.TheVariants as line
 use Rattle.sg_history.specs.Faults as journal
 use Rattle.sg_history.specs.Faults.{Grammar, HasReason, IsBadAmong, IsBadField, IsText}
-use Rattle.sg_history.specs.FieldFaults.{IsFirstUnfit, IsKindFault, IsTextsFault}
+use Rattle.sg_history.specs.FieldFaults.{IsFirstUnfit}
 use Rattle.sg_history.proofs.FaultLemmas.{fault_at}
 use Rattle.principals.specs.Faults.{Part, field, parent, IsPart, IsFault, parts_of}
 
@@ -16,22 +14,6 @@ first_of_parts [] ts n bad = bad
 first_of_parts (g ∷ gs) [] n bad = bad
 first_of_parts (g ∷ gs) (t ∷ ts) zero bad = bad
 first_of_parts (g ∷ gs) (t ∷ ts) (suc n) bad = (bad.0, first_of_parts gs ts n bad.1)
-
-part_texts : (gs : List Grammar) (ts : List (List ℕ)) (why : Why) → IsTextsFault IsText gs ts why → IsTextsFault IsPart (map field gs) ts why
-part_texts gs ts reason.Fields fault = λ e. fault (e ∙ length-map gs field)
-part_texts gs ts (reason.Field n) fault = (fault.0 ∙ sym (length-map gs field), fault.1, first_of_parts gs ts (n - 2) fault.2)
-part_texts gs ts reason.Head fault = absurd fault
-part_texts gs ts reason.Ending fault = absurd fault
-part_texts gs ts reason.Kind fault = absurd fault
-part_texts gs ts (reason.Rule n) fault = absurd fault
-part_texts gs ts reason.Long fault = absurd fault
-part_texts gs ts (reason.Config path why) fault = absurd fault
-
--- what is wrong with a command's fields behind its kind
-pub command_fault : (kind : List ℕ) (gs : List Grammar) (ts : List (List ℕ)) (e : LineFault) → parts_of kind ≡ Some (map field gs)
-    → HasReason (IsTextsFault IsText gs ts) e → HasReason (IsFault (kind ∷ ts)) e
-command_fault kind gs ts (line.Bad why) known fault = subst (λ (o : Option (List Part)). IsKindFault IsPart o ts why) (sym known) (part_texts gs ts why fault)
-command_fault kind gs ts line.Memory known fault = tt
 
 -- the fields of a revision's line after its kind
 abbrev doc_parts : List Part
