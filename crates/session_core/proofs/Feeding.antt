@@ -29,9 +29,6 @@ use Rattle.repl_messages.specs.declared.looks.Fed.TheVariants as fed
 use Rattle.repl_messages.specs.Errors.{error_payload}
 use Rattle.repl_messages.specs.Looks.{front_of}
 use Rattle.sync_syntax.specs.declared.tree.Program.{Program}
-use Rattle.doc_board.specs.Errors.{outcome_error}
-use Rattle.checkpoint_store.specs.declared.answers.Kept0.TheVariants as kept0
-use Rattle.checkpoint_store.specs.declared.answers.SetAnswer.TheVariants as set
 use Rattle.session_core.specs.declared.act.Act.{Act}
 use Rattle.session_core.specs.declared.act.Act.TheVariants as act
 use Rattle.session_core.specs.declared.act.Want.{Want}
@@ -39,12 +36,11 @@ use Rattle.session_core.specs.declared.act.Want.TheVariants as want
 use Rattle.session_core.specs.declared.event.Event.{Event}
 use Rattle.session_core.specs.declared.event.Event.TheVariants as event
 use Rattle.session_core.specs.declared.replies.Asker.{Asker}
-use Rattle.session_core.specs.declared.replies.Awaited.{Awaited}
 use Rattle.session_core.specs.declared.replies.Awaited.TheVariants as awaited
 use Rattle.session_core.specs.declared.machine.Subscription.{Subscription}
 use Rattle.session_core.specs.declared.machine.Pending.{Pending}
 use Rattle.session_core.specs.declared.machine.Pending.TheVariants as pending
-use Rattle.session_core.specs.Acts.{messages_from, request_message, reply_message, error_of, reply_act, refusal_act, refusal_by, acceptance_act, answer_act, body_act, body_acts, offer_act}
+use Rattle.session_core.specs.Acts.{messages_from, request_message, reply_message, error_of, reply_act, refusal_act, acceptance_act, answer_act, body_act, body_acts, offer_act}
 use Rattle.session_core.proofs.Replying.{answer_by}
 use Rattle.session_core.specs.Conduct.{requests_among, WantsFor}
 use Rattle.session_core.specs.Feeds.{AreOffered, not_offered, rows_at, feed_look, feed_looks, LeadsFeed, RunsFeed}
@@ -387,7 +383,7 @@ bodies_stay h user version asked messages fronts m r b (pending.Reply asker to) 
 answer_stay : (h : List Entry) (user : List ℕ) (version : Version) (asked : Subscription) (messages : List Message) (fronts : List ℕ) (m : Machine) (r : Running) (answer : Event) (awaited : Pending)
     → Offering h user version asked messages fronts m → m.feed ≡ Some r → After h user version asked messages fronts m (on_answer m answer awaited)
 answer_stay h user version asked messages fronts m r answer (pending.Reply asker to) so_far e =
-    puts_stay h user version asked messages fronts m r (answer_act asker to answer) so_far e (answer_by (λ acts. OffersNone acts) tt reply_none asker to answer)
+    puts_stay h user version asked messages fronts m r (answer_act asker to answer) so_far e (answer_by (λ acts. OffersNone acts) tt (λ by kind payload none yes. reply_none by kind payload yes) asker to answer)
 answer_stay h user version asked messages fronts m r answer pending.Nothing so_far e = puts_stay h user version asked messages fronts m r [] so_far e tt
 answer_stay h user version asked messages fronts m r answer (pending.Feed other) so_far e = puts_stay h user version asked messages fronts m r [] so_far e tt
 answer_stay h user version asked messages fronts m r answer pending.More so_far e = puts_stay h user version asked messages fronts m r [] so_far e tt
