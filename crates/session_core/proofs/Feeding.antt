@@ -383,7 +383,7 @@ bodies_stay h user version asked messages fronts m r b (pending.Reply asker to) 
 answer_stay : (h : List Entry) (user : List ℕ) (version : Version) (asked : Subscription) (messages : List Message) (fronts : List ℕ) (m : Machine) (r : Running) (answer : Event) (awaited : Pending)
     → Offering h user version asked messages fronts m → m.feed ≡ Some r → After h user version asked messages fronts m (on_answer m answer awaited)
 answer_stay h user version asked messages fronts m r answer (pending.Reply asker to) so_far e =
-    puts_stay h user version asked messages fronts m r (answer_act asker to answer) so_far e (answer_by (λ acts. OffersNone acts) tt (λ by kind payload none yes. reply_none by kind payload yes) asker to answer)
+    puts_stay h user version asked messages fronts m r (answer_act asker to answer) so_far e (answer_by (λ acts. OffersNone acts) tt (λ by kind payload none yes unnamed. reply_none by kind payload yes) asker to answer)
 answer_stay h user version asked messages fronts m r answer pending.Nothing so_far e = puts_stay h user version asked messages fronts m r [] so_far e tt
 answer_stay h user version asked messages fronts m r answer (pending.Feed other) so_far e = puts_stay h user version asked messages fronts m r [] so_far e tt
 answer_stay h user version asked messages fronts m r answer pending.More so_far e = puts_stay h user version asked messages fronts m r [] so_far e tt

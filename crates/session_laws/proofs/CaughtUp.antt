@@ -340,7 +340,7 @@ answered_to fronts m e pending.Nothing is a fits = absurd a
 answered_to fronts m e (pending.Feed asked) is a fits = absurd a
 answered_to fronts m e pending.More is a fits = absurd a
 answered_to fronts m e (pending.Bodies rows) is a fits = absurd a
-answered_to fronts m e (pending.Reply asker to) is a fits = puts_stay fronts m (answer_act asker to e) (answer_by (λ acts. OfferNone acts) (λ n. refl) (λ by kind payload none yes. reply_none by kind payload none) asker to e) (ap awaits_no_feed is) fits
+answered_to fronts m e (pending.Reply asker to) is a fits = puts_stay fronts m (answer_act asker to e) (answer_by (λ acts. OfferNone acts) (λ n. refl) (λ by kind payload none yes unnamed. reply_none by kind payload none) asker to e) (ap awaits_no_feed is) fits
 
 idled_with : (fronts : List ℕ) (m : Machine) (r : Running) (b : Bool) → m.feed ≡ Some r → awaits_no_feed m.pending ≡ true → Fits fronts m.feed m.pending → CaughtUpBy fronts m (if b then looks_again m [] m.requests r else puts m [])
 idled_with fronts m r true e no_feed fits = looks fronts m [] m.requests r (λ n. refl) (follows fronts m r e fits)

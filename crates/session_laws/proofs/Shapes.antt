@@ -290,7 +290,7 @@ answer_shape f (pending.Feed asked) m answer e look same a = absurd a
 answer_shape f pending.More m answer e look same a = absurd a
 answer_shape f (pending.Bodies rows) m answer e look same a = absurd a
 answer_shape f (pending.Reply asker to) m answer e look same a =
-    no_feed_puts f (pending.Reply asker to) m answer (answer_act asker to answer) e (answer_by OffersNone nothing_offered (λ by kind payload none yes. reply_none by kind payload none) asker to answer) (λ some. look)
+    no_feed_puts f (pending.Reply asker to) m answer (answer_act asker to answer) e (answer_by OffersNone nothing_offered (λ by kind payload none yes unnamed. reply_none by kind payload none) asker to answer) (λ some. look)
     (same (open_of f (pending.Reply asker to)) ∙ open_while_replied f asker to)
 
 -- ---- idle moments

@@ -158,7 +158,7 @@ fed_none m answer (pending.Bodies rows) = tt
 fed_none m answer (pending.Reply asker to) = tt
 
 answered_to_none : (m : Machine) (e : Event) (awaited : Pending) → ActsCarryNone (on_answer m e awaited).acts
-answered_to_none m e (pending.Reply asker to) = answer_by (λ acts. ActsCarryNone acts) tt (λ by kind payload none yes. reply_none by kind payload none) asker to e
+answered_to_none m e (pending.Reply asker to) = answer_by (λ acts. ActsCarryNone acts) tt (λ by kind payload none yes unnamed. reply_none by kind payload unnamed) asker to e
 answered_to_none m e pending.Nothing = tt
 answered_to_none m e (pending.Feed asked) = tt
 answered_to_none m e pending.More = tt
