@@ -20,17 +20,19 @@ use Rattle.rev_tree.specs.Documents.{last_in, tree_in}
 use Rattle.repl_messages.specs.declared.revision.Revision.{Revision}
 use Rattle.sync_syntax.specs.declared.tree.Program.{Program}
 use Rattle.doc_board.specs.declared.room.Room.{Room}
+use Rattle.doc_board.specs.declared.candidate.Candidate.{Candidate}
+use Rattle.doc_board.specs.declared.candidate.Candidate.TheVariants.{Write}
 use Rattle.doc_board.specs.Candidates.{ExtendsTree}
 use Rattle.doc_board.specs.Judging.{body_or_empty}
 use Rattle.doc_board.specs.Lawful.{AreEntries}
 use Rattle.doc_board.specs.Rooms.{is_outstanding, room_for}
-use Rattle.doc_board.specs.State.{State, top_of}
+use Rattle.doc_board.specs.State.{State, last_on, top_of}
 use Rattle.doc_board.specs.Steps.{history_on, stored_at}
 use Rattle.board_steps.specs.declared.retry.Ready.{Ready}
 use Rattle.board_steps.specs.declared.retry.Retried.{Retried}
 use Rattle.board_steps.specs.declared.retry.Retried.TheVariants.{Answered, Overtaken}
 use Rattle.board_steps.specs.Retry.{FitsReady, IsHeldReady, IsTriedAgain}
-use Rattle.tests_of_boards.specs.Again.{Leaves}
+use Rattle.tests_of_boards.specs.Again.{IsReadyAfter, Leaves}
 
 -- a body `{}` has two bytes
 pub small_document : (body : List ℕ) → body ≡ 123 ∷ 125 ∷ [] → length (body_or_empty body) ≤ 2
@@ -111,3 +113,14 @@ others_free s t e log pending is number from apart =
     is ∙ ap (λ (es : List Entry). release es (put_waiting (record { number = 4; entry = e }) s.pending)) log
     ∙ ap (λ (ws : List Waiting). release [] (put_waiting (record { number = 4; entry = e }) ws)) pending in
     subst (λ (r : Released). MayStore r.log r.pending number) (sym waits) (alone_free e number from apart)
+
+-- a write that is handed back by a board that stays as it is may be stored there above its document's last write
+pub handed_back : (s t : State) (room given : RoomFor) (c : Candidate) (r : Ready) (last : ℕ) → t ≡ s → given ≡ room → c ≡ Write r.entry r.tree 0
+    → last ≡ last_on s r.entry.doc → FitsReady room r → IsHeldReady s r → IsReadyAfter t given last c
+handed_back s t room given c r last same rooms back above fits held =
+    subst (λ (d : Candidate). IsReadyAfter t given last d) (sym back)
+    (subst (λ (f : RoomFor). IsReadyAfter t f last (Write r.entry r.tree 0)) (sym rooms)
+    (subst (λ (u : State). IsReadyAfter u room last (Write r.entry r.tree 0)) (sym same) (
+      record { doc = fits.doc; bytes = fits.bytes },
+      record { is_entry = held.is_entry; document = held.document; at = held.at; base = above; extends = held.extends; entries = held.entries },
+    )))
