@@ -63,7 +63,3 @@ one_more old new w m l none winners marks lists = record {
   where
     count : length new.winners ≡ length old.winners + 1
     count = omega (arith, ap length winners, length-append old.winners (w ∷ []))
-
--- a winner is kept as it is
-pub winner_kept : (s : NewState) → 0 < s.winning → winner_in (Some s.winning) s.marked ≡ Some s
-winner_kept s low = ap (λ (b : Bool). if b then None else Some s) (ne_eqb s.winning 0 (λ none. omega (arith, low, none)))

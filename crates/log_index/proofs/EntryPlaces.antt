@@ -1,6 +1,6 @@
 -- what is kept of entries, one by one
 use Rattle.std.proofs.Common.{◌≡◌, ◌≢◌, ◌<◌, ◌≤◌, ◌+◌, ℕ, zero, suc, refl, sym, subst, ◌∙◌, ap, arith, Bool, true, false, if◌then◌else◌, List, [], ◌∷◌, ◌++◌, length, length-append, take, Option, Some, None, nat_eq, unwrap_or}
-use Rattle.std.specs.Prelude.{slice_get, slice_set}
+use Rattle.std.specs.Prelude.{slice_get}
 use Rattle.std.proofs.lemmas.Bool.{eqb-true, eqb-false, ne_eqb}
 use Rattle.std.proofs.lemmas.Option.{none-some, same_Some}
 use Rattle.sg_history.specs.declared.entries.Entry.{Entry}
@@ -30,26 +30,6 @@ kept_older xs y (suc k) other = at xs k (λ is. other (omega (arith, is)))
     at [] (suc k) other = refl
     at (x ∷ xs) zero other = refl
     at (x ∷ xs) (suc k) other = at xs k (λ is. other (ap (λ (n : ℕ). suc n) is))
-
--- what is kept once it was put in at a place
-pub set_own : (xs : List EntryPlaces) (y : EntryPlaces) (seq place : ℕ) → seq ≡ suc place → place < length xs → kept_at (slice_set xs place y) seq ≡ y
-set_own xs y seq place is low = ap (kept_at (slice_set xs place y)) is ∙ at xs place low
-  where
-    at : (xs : List EntryPlaces) (k : ℕ) → k < length xs → unwrap_or (slice_get (slice_set xs k y) k) no_places ≡ y
-    at [] k low = absurd (omega (arith, low))
-    at (x ∷ xs) zero low = refl
-    at (x ∷ xs) (suc k) low = at xs k (omega (arith, low))
-
-pub set_others : (xs : List EntryPlaces) (y : EntryPlaces) (place other : ℕ) → other ≢ suc place → kept_at (slice_set xs place y) other ≡ kept_at xs other
-set_others xs y place zero apart = refl
-set_others xs y place (suc n) apart = at xs place n (λ same. apart (ap (λ (m : ℕ). suc m) same))
-  where
-    at : (xs : List EntryPlaces) (k n : ℕ) → n ≢ k → unwrap_or (slice_get (slice_set xs k y) n) no_places ≡ unwrap_or (slice_get xs n) no_places
-    at [] k n apart = refl
-    at (x ∷ xs) zero zero apart = absurd (apart refl)
-    at (x ∷ xs) zero (suc n) apart = refl
-    at (x ∷ xs) (suc k) zero apart = refl
-    at (x ∷ xs) (suc k) (suc n) apart = at xs k n (λ same. apart (ap (λ (m : ℕ). suc m) same))
 
 pub whole : (new rest : List EntryPlaces) (n : ℕ) → n ≡ length new → take n (new ++ rest) ≡ new
 whole [] rest zero is = refl

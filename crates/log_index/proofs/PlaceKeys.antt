@@ -1,5 +1,5 @@
 -- what is kept of marks once a place was put in or taken away
-use Rattle.std.proofs.Common.{◌≡◌, ℕ, refl, sym, ◌∙◌, ap, Bool, true, false, ◌&&◌, ◌||◌, cond, if◌then◌else◌, Option, None, nat_eq}
+use Rattle.std.proofs.Common.{◌≡◌, ℕ, refl, sym, ◌∙◌, ap, Bool, true, false, ◌&&◌, cond, if◌then◌else◌, Option, None, nat_eq}
 use Rattle.std.specs.BTreeMap.{BTreeMap, get, UpdatesBy}
 use Rattle.std.specs.Ordering.{nat_cmp, ordering_then, is_eq}
 use Rattle.std.specs.Cmp.{tied_then, unsigned_ties}
@@ -36,12 +36,3 @@ no_seq sync s f = by (nat_eq sync s)
     by : (b : Bool) → (b && false) ≡ false
     by true = refl
     by false = refl
-
--- one is taken away before the others
-pub one_removed : (at own others : Bool) (kept now : Option ℕ) → now ≡ (if at && own then None else kept)
-    → (if at && others then None else now) ≡ (if at && (own || others) then None else kept)
-one_removed true true true kept now is = refl
-one_removed true true false kept now is = is
-one_removed true false true kept now is = refl
-one_removed true false false kept now is = is
-one_removed false own others kept now is = is
