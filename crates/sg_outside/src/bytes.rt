@@ -183,8 +183,23 @@ impl Bytes {
         self.as_slice().is_empty()
     }
 
-    /// Puts one byte at the end.
+    /// Puts one byte at the end. It stands where it is called, since readers put byte after byte.
+    #[inline(always)]
     pub fn push(&mut self, byte: u8) -> Result<(), AllocError>
+        ensures ok { OnOk result (self.new ≡ self.old ++ byte ∷ []) }
+        ensures err { OnErr result (self.new ≡ self.old) }
+    {
+        if let Held::Own(items) = &mut self.held {
+            items.push(byte)?;
+            return Ok(());
+        }
+        self.push_shared(byte)
+    }
+
+    /// Puts one byte at the end of shared ones.
+    #[cold]
+    #[inline(never)]
+    fn push_shared(&mut self, byte: u8) -> Result<(), AllocError>
         ensures ok { OnOk result (self.new ≡ self.old ++ byte ∷ []) }
         ensures err { OnErr result (self.new ≡ self.old) }
     {
@@ -238,7 +253,8 @@ impl Bytes {
     {
         match &mut self.held {
             Held::Own(items) => {
-                items.drain(..count);
+                items.copy_within(count.., 0);
+                items.truncate(items.len() - count);
                 items.shrink_to_fit();
             }
             Held::Shared(part) => part.drop_front(count),
