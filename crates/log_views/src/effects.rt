@@ -24,8 +24,8 @@ pub struct EffectsOf<'a> {
     pub roles: &'a RoleGrants,
 }
 
-/// The effects that a write recorded.
-fn recorded(write: &Write, since: u64) -> EffectsOf<'_>
+/// The effects that a write recorded. Allocates nothing.
+pub fn recorded(write: &Write, since: u64) -> EffectsOf<'_>
     ensures effects { effects_in result ≡ recorded_effects write.now }
     ensures since { result.since ≡ since }
 {
@@ -37,8 +37,8 @@ fn recorded(write: &Write, since: u64) -> EffectsOf<'_>
     }
 }
 
-/// The effects that a mark says.
-fn of_mark(mark: &Mark, since: u64) -> EffectsOf<'_>
+/// The effects that a mark says. Allocates nothing.
+pub fn of_mark(mark: &Mark, since: u64) -> EffectsOf<'_>
     ensures effects { effects_in result ≡ marked_effects mark.now }
     ensures since { result.since ≡ since }
 {
@@ -50,8 +50,8 @@ fn of_mark(mark: &Mark, since: u64) -> EffectsOf<'_>
     }
 }
 
-/// The mark at a place of an entry, if it has one there.
-fn mark_in(entry: &Entry, place: u64) -> Option<&Mark>
+/// The mark at a place of an entry, counted from 0, if it has one there. Allocates nothing.
+pub fn mark_in(entry: &Entry, place: u64) -> Option<&Mark>
     ensures { option_copied result ≡ marks.mark_in_place (as_sync entry.now) place }
 {
     match entry.as_sync() {
