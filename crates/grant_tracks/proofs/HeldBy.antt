@@ -43,25 +43,25 @@ module _ (old new : Holders) (name : List ℕ) (list : Things)
       by true same = d ∙ ap (λ (other : List ℕ). held_by_list (get_by_text old other) x.1 k) ((bytes_decides name x.0).0 same)
       by false same = refl
 
-  new_up_to : (n at : ℕ) → n ≤ at → AreAllUpTo old n → AreUpTo list.items at × (list.since ≤ at) → AreAllUpTo new at
+  new_up_to : (n at : ℕ) → n ≤ at → AreAllUpTo old n → AreUpTo list.items at × (list.since ≤ at) × (list.changed ≤ at) → AreAllUpTo new at
   new_up_to n at le up here other found is = by (bytes_eq name other) refl
     where
-      by : (b : Bool) → bytes_eq name other ≡ b → AreUpTo found.items at × (found.since ≤ at)
-      by true same = subst (λ (l : Things). AreUpTo l.items at × (l.since ≤ at)) (same_Some list found (sym (ap (λ (b : Bool). if b then Some list else get_by_text old other) same) ∙ sym (sets other) ∙ is)) here
+      by : (b : Bool) → bytes_eq name other ≡ b → AreUpTo found.items at × (found.since ≤ at) × (found.changed ≤ at)
+      by true same = subst (λ (l : Things). AreUpTo l.items at × (l.since ≤ at) × (l.changed ≤ at)) (same_Some list found (sym (ap (λ (b : Bool). if b then Some list else get_by_text old other) same) ∙ sym (sets other) ∙ is)) here
       by false same =
           let had = up other found (sym (ap (λ (b : Bool). if b then Some list else get_by_text old other) same) ∙ sym (sets other) ∙ is) in
-          (later_list found.items n at le had.0, omega (arith, le, had.1))
+          (later_list found.items n at le had.0, omega (arith, le, had.1), omega (arith, le, had.2))
 
   old_up_to : (n : ℕ) (o : Option Things) → get_by_text old name ≡ o → AreAllUpTo old n → AreUpTo (items_in o) n
   old_up_to n None is up = tt
   old_up_to n (Some l) is up = (up name l is).0
 
-  pub holder_dated : (o : Option Things) (at : ℕ) (after : What → ℕ) → get_by_text old name ≡ o → list.since ≤ at → Dated count_in held_in AreUpTo (items_in o) list.items at after
+  pub holder_dated : (o : Option Things) (at : ℕ) (after : What → ℕ) → get_by_text old name ≡ o → list.since ≤ at → list.changed ≤ at → Dated count_in held_in AreUpTo (items_in o) list.items at after
       → Dated count_of held_of AreAllUpTo old new at (λ x. if bytes_eq name x.0 then after x.1 else count_of old x)
-  holder_dated o at after is since d = record {
+  holder_dated o at after is since changed d = record {
     counts = λ x. new_count after x d.counts;
     before = λ x k below. new_held x k (d.before x.1 k below ∙ held_items o x.1 k ∙ ap (λ (p : Option Things). held_by_list p x.1 k) (sym is));
-    up_to = λ n le up. new_up_to n at le up (d.up_to n le (old_up_to n o is up), since);
+    up_to = λ n le up. new_up_to n at le up (d.up_to n le (old_up_to n o is up), since, changed);
   }
 
 pub recounted_of : (old new : Holders) (at : ℕ) (one other : List ℕ × What → ℕ) → Dated count_of held_of AreAllUpTo old new at one → ((x : List ℕ × What) → one x ≡ other x) → Dated count_of held_of AreAllUpTo old new at other
@@ -95,7 +95,7 @@ module _ (old : Holders) (name : List ℕ) (o : Option Things) (is : get_by_text
 pub later_all : (holders : Holders) (n m : ℕ) → n ≤ m → AreAllUpTo holders n → AreAllUpTo holders m
 later_all holders n m le up name list is =
     let had = up name list is in
-    (later_list list.items n m le had.0, omega (arith, le, had.1))
+    (later_list list.items n m le had.0, omega (arith, le, had.1), omega (arith, le, had.2))
 
 pub unchanged : (old new : Holders) (at : ℕ) → ((other : List ℕ) → get_by_text new other ≡ get_by_text old other) → Dated count_of held_of AreAllUpTo old new at (count_of old)
 unchanged old new at same = record {
@@ -103,11 +103,11 @@ unchanged old new at same = record {
   before = λ x k below. ap (λ (o : Option Things). held_by_list o x.1 k) (same x.0);
   up_to = λ n le up name list is.
       let had = up name list (sym (same name) ∙ is) in
-      (later_list list.items n at le had.0, omega (arith, le, had.1));
+      (later_list list.items n at le had.0, omega (arith, le, had.1), omega (arith, le, had.2));
 }
 
 -- at the place up to which a track says anything it says what there is now
-settled_track : (t : Track) (n : ℕ) → IsTrack t n → held_at t n ≡ nat_lt 0 t.count
+pub settled_track : (t : Track) (n : ℕ) → IsTrack t n → held_at t n ≡ nat_lt 0 t.count
 settled_track t n is =
     ap (λ (b : Bool). b || held_last t n) (none_left t.closed.items n is.ended)
     ∙ ap (λ (b : Bool). b && (nat_lt 0 t.count || nat_lt n t.until)) (le-leb t.opened n is.opened)
@@ -117,7 +117,7 @@ settled_track t n is =
     by true h = refl
     by false h = let le : t.until ≤ n = is.until (grind (arith, h)) in grind (arith, le)
 
-settled_list : (list : List Held) (n : ℕ) (w : What) → AreUpTo list n → held_in list w n ≡ nat_lt 0 (count_in list w)
+pub settled_list : (list : List Held) (n : ℕ) (w : What) → AreUpTo list n → held_in list w n ≡ nat_lt 0 (count_in list w)
 settled_list [] n w up = grind arith
 settled_list (h ∷ hs) n w up =
     ap (λ (b : Bool). if same_what h.what w then b else held_in hs w n) (settled_track h.track n up.0)

@@ -5,6 +5,7 @@ pub mod Blocked
 pub mod Tracked
 pub mod Picking
 pub mod HeldBy
+pub mod Settling
 pub mod Once
 pub mod Sweeping
 pub mod Counting

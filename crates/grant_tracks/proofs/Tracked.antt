@@ -271,6 +271,10 @@ pub begun : (w : What) (x : Held) (at : ℕ) → x.what ≡ w → BeginsAt x.tra
 begun w x at is b list new pushed none =
     subst (λ (l : List Held). Dated count_in held_in AreUpTo list l at (one_more (count_in list) w)) (sym pushed) (added w x b.fresh at is b.is_fresh b.moves list none)
 
+-- what moved at the place of the last change is right up to it
+pub moved_up : (old new : List Held) (at changed : ℕ) (after : What → ℕ) → changed ≡ at → AreUpTo old changed → Dated count_in held_in AreUpTo old new at after → AreUpTo new changed
+moved_up old new at changed after same up d = subst (λ (n : ℕ). AreUpTo new n) (sym same) (d.up_to changed (omega (arith, same)) up)
+
 pub track_up_to : (list : List Held) (i n : ℕ) (h : Held) → slice_get list i ≡ Some h → AreUpTo list n → IsTrack h.track n
 track_up_to [] i n h got up = absurd (none-some h got)
 track_up_to (y ∷ ys) zero n h got up = subst (λ (x : Held). IsTrack x.track n) (same_Some y h got) up.0

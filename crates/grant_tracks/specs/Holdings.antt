@@ -28,7 +28,7 @@ abbrev pub held_of : Holders → List ℕ × What → ℕ → Bool
 held_of holders x k = held_by_list (get_by_text holders x.0) x.1 k
 
 abbrev pub AreAllUpTo : Holders → ℕ → Type 0
-AreAllUpTo holders n = (name : List ℕ) (list : Things) → get_by_text holders name ≡ Some list → AreUpTo list.items n × (list.since ≤ n)
+AreAllUpTo holders n = (name : List ℕ) (list : Things) → get_by_text holders name ≡ Some list → AreUpTo list.items n × (list.since ≤ n) × (list.changed ≤ n)
 
 -- the counts with one more
 abbrev pub one_more : (What → ℕ) → What → What → ℕ

@@ -14,5 +14,6 @@ pub mod Blocks
 pub mod Near
 pub mod Passing
 pub mod Reads
+pub mod Changed
 pub mod Cuts
 pub mod Spells

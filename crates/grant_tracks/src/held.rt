@@ -36,20 +36,27 @@ pub struct Holding {
     list: Vec<Held>,
     places: Places,
     blocks: Blocks,
+    changed: u64,
 }
 
 impl Model for Holding {
     ghost use Rattle.std.specs.Prelude.{◌≡◌, length, vec_len};
+    ghost use Rattle.grant_tracks.specs.HeldLists.{AreUpTo};
     ghost use Rattle.grant_tracks.specs.Things.{Things};
     ghost use Rattle.grant_tracks.specs.Near.{MissNothing};
     ghost use Rattle.grant_tracks.specs.Places.{ArePlaces, StandOnce};
 
     ghost Value = { Things };
 
-    ghost view = { λ h. record { items = h.list.items; since = h.blocks.from } };
+    ghost view = { λ h. record {
+      items = h.list.items;
+      since = h.blocks.from;
+      changed = h.changed;
+    } };
 
     ghost invariant = { λ h. ArePlaces h.places h.list.items × StandOnce h.list.items
-        × (vec_len h.list ≡ length h.list.items) × MissNothing h.list.items h.blocks };
+        × (vec_len h.list ≡ length h.list.items) × MissNothing h.list.items h.blocks
+        × AreUpTo h.list.items h.changed };
 }
 
 /// One thing that begins to be held at a place.
@@ -148,12 +155,22 @@ impl Holding {
     pub(crate) fn new(alloc: Global) -> Holding
         ensures items { result.items ≡ [] }
         ensures since { result.since ≡ 0 }
+        ensures changed { result.changed ≡ 0 }
     {
         Holding {
             list: Vec::new(alloc),
             places: Places::new(alloc),
             blocks: Blocks::new(alloc),
+            changed: 0,
         }
+    }
+
+    /// The place at which a source gave or took something last, 0 where none ever did.
+    pub(crate) fn changed(&self) -> u64
+        ensures value { result ≡ self.now.changed }
+        ensures up_to { AreUpTo self.now.items result }
+    {
+        self.changed
     }
 
     /// The things that are held at a place.
@@ -229,6 +246,7 @@ impl Holding {
         requires since { self.old.since ≤ at }
         ensures items { self.new.items ≡ self.old.items }
         ensures since { self.new.since ≤ at }
+        ensures changed { self.new.changed ≡ self.old.changed }
     {
         if self.blocks.is_full() {
             if let Ok(given) = given_of(alloc, self.list.as_slice(), self.blocks.last()) {
@@ -237,14 +255,29 @@ impl Holding {
         }
     }
 
+    /// Something changes at a place: keeps that, and begins a block there, where much changed since the
+    /// last one began.
+    fn change_at(&mut self, alloc: Global, at: u64)
+        requires up_to { AreUpTo self.old.items at }
+        requires since { self.old.since ≤ at }
+        ensures items { self.new.items ≡ self.old.items }
+        ensures since { self.new.since ≤ at }
+        ensures changed { self.new.changed ≡ at }
+    {
+        self.make_block(alloc, at);
+        self.changed = at;
+    }
+
     /// Keeps one thing more, and answers a place at which `take` looks first; no clause says that it is there.
     fn keep(&mut self, alloc: Global, held: Held, at: u64) -> Result<usize, Memory>
         requires place { place_of self.old.items held.what ≡ None }
         requires since { self.old.since ≤ at }
+        requires changed { self.old.changed ≡ at }
         requires begins { BeginsAt held.track at }
         ensures ok { OnOk result (self.new.items ≡ self.old.items ++ held ∷ []) }
         ensures err { OnErr result (self.new.items ≡ self.old.items) }
         ensures since { self.new.since ≡ self.old.since }
+        ensures changed { self.new.changed ≡ self.old.changed }
     {
         let place = self.list.len();
         self.list.reserve(1)?;
@@ -257,10 +290,12 @@ impl Holding {
     fn add(&mut self, alloc: Global, what: &What, at: u64) -> Result<usize, Memory>
         requires place { place_of self.old.items what.now ≡ None }
         requires since { self.old.since ≤ at }
+        requires changed { self.old.changed ≡ at }
         ensures ok { OnOk result (Dated count_in held_in AreUpTo self.old.items self.new.items at
             (one_more (count_in self.old.items) what.now)) }
         ensures err { OnErr result (self.new.items ≡ self.old.items) }
         ensures since { self.new.since ≡ self.old.since }
+        ensures changed { self.new.changed ≡ self.old.changed }
     {
         let held = held_from(alloc, what, at)?;
         self.keep(alloc, held, at)
@@ -271,11 +306,13 @@ impl Holding {
         requires place { place_of self.old.items what.now ≡ Some i }
         requires given { 0 < count_in self.old.items what.now }
         requires up_to { AreUpTo self.old.items at }
+        requires changed { self.old.changed ≡ at }
         ensures ok { OnOk result (Dated count_in held_in AreUpTo self.old.items self.new.items at
             (one_more (count_in self.old.items) what.now)) }
         ensures err { OnErr result (Dated count_in held_in AreUpTo self.old.items self.new.items at
             (count_in self.old.items)) }
         ensures since { self.new.since ≡ self.old.since }
+        ensures changed { self.new.changed ≡ self.old.changed }
     {
         self.list[i].track.give(at)
     }
@@ -284,12 +321,14 @@ impl Holding {
     fn give_first(&mut self, i: usize, what: &What, at: u64) -> Result<(), Memory>
         requires place { place_of self.old.items what.now ≡ Some i }
         requires up_to { AreUpTo self.old.items at }
+        requires changed { self.old.changed ≡ at }
         requires since { self.old.since ≤ at }
         ensures ok { OnOk result (Dated count_in held_in AreUpTo self.old.items self.new.items at
             (one_more (count_in self.old.items) what.now)) }
         ensures err { OnErr result (Dated count_in held_in AreUpTo self.old.items self.new.items at
             (count_in self.old.items)) }
         ensures since { self.new.since ≡ self.old.since }
+        ensures changed { self.new.changed ≡ self.old.changed }
     {
         self.blocks.add(i)?;
         self.list[i].track.give(at)
@@ -307,12 +346,14 @@ impl Holding {
     fn give_at(&mut self, i: usize, what: &What, at: u64) -> Result<(), Memory>
         requires place { place_of self.old.items what.now ≡ Some i }
         requires up_to { AreUpTo self.old.items at }
+        requires changed { self.old.changed ≡ at }
         requires since { self.old.since ≤ at }
         ensures ok { OnOk result (Dated count_in held_in AreUpTo self.old.items self.new.items at
             (one_more (count_in self.old.items) what.now)) }
         ensures err { OnErr result (Dated count_in held_in AreUpTo self.old.items self.new.items at
             (count_in self.old.items)) }
         ensures since { self.new.since ≡ self.old.since }
+        ensures changed { self.new.changed ≡ self.old.changed }
     {
         if self.gives(i, what) {
             return self.give_more(i, what, at);
@@ -330,8 +371,9 @@ impl Holding {
         ensures err { OnErr result (Dated count_in held_in AreUpTo self.old.items self.new.items at
             (count_in self.old.items)) }
         ensures since { self.new.since ≤ at }
+        ensures changed { self.new.changed ≡ at }
     {
-        self.make_block(alloc, at);
+        self.change_at(alloc, at);
         match self.places.find(what) {
             None => self.add(alloc, what, at),
             Some(i) => {
@@ -350,8 +392,9 @@ impl Holding {
         ensures dated { Dated count_in held_in AreUpTo self.old.items self.new.items at
             (one_less (count_in self.old.items) what.now) }
         ensures since { self.new.since ≤ at }
+        ensures changed { self.new.changed ≡ at }
     {
-        self.make_block(alloc, at);
+        self.change_at(alloc, at);
         self.take_one(what, near, at);
     }
 
@@ -378,9 +421,11 @@ impl Holding {
     fn take_one(&mut self, what: &What, near: usize, at: u64)
         requires given { 0 < count_in self.old.items what.now }
         requires up_to { AreUpTo self.old.items at }
+        requires changed { self.old.changed ≡ at }
         ensures dated { Dated count_in held_in AreUpTo self.old.items self.new.items at
             (one_less (count_in self.old.items) what.now) }
         ensures since { self.new.since ≡ self.old.since }
+        ensures changed { self.new.changed ≡ self.old.changed }
     {
         if let Some(i) = self.place_near(what, near) {
             self.blocks.count();

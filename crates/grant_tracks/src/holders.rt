@@ -51,6 +51,7 @@ fn begun(alloc: Global, what: &What, at: u64) -> Result<Holding, Memory>
     ensures dated { IfOk result (λ holding. Dated count_in held_in AreUpTo [] holding.items at
         (one_more (count_in []) what.now)) }
     ensures since { IfOk result (λ holding. holding.since ≤ at) }
+    ensures changed { IfOk result (λ holding. holding.changed ≡ at) }
 {
     let mut holding = Holding::new(alloc);
     holding.give(alloc, what, at)?;

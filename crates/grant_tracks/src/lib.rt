@@ -5,6 +5,7 @@
 
 mod blocks;
 pub mod by_name;
+mod changed;
 mod events;
 mod held;
 pub mod holders;
@@ -16,6 +17,7 @@ mod things;
 mod track;
 mod ways;
 
+pub use changed::changed_of;
 pub use events::Events;
 pub use held::{Held, Holding};
 pub use holders::Holders;

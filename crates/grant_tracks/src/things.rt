@@ -16,7 +16,8 @@ pub enum What {
 }
 
 impl What {
-    pub(crate) fn equals(&self, other: &What) -> bool
+    /// Whether both are the same.
+    pub fn equals(&self, other: &What) -> bool
         ensures { result ≡ same_what self.now other.now }
     {
         match (self, other) {

@@ -19,7 +19,7 @@ returns-in-Some-clause-ok c =
     let name = c.args.name.now in
     let sets : (other : List ℕ) → get_by_text new other ≡ (if bytes_eq name other then Some c.give.new.self else get_by_text old other) = λ other. grind (arith, text_keys) in
     let there : get_by_text old name ≡ Some c.in-Some.holding.now = grind (arith, text_keys) in
-    on_ok c.give.result _ _ (λ d. recounted_of old new c.args.at _ _ (holder_dated old new name c.give.new.self sets (Some c.in-Some.holding.now) c.args.at (one_more (count_in c.in-Some.holding.now.items) c.args.what.now) there c.give.ensures.since d)
+    on_ok c.give.result _ _ (λ d. recounted_of old new c.args.at _ _ (holder_dated old new name c.give.new.self sets (Some c.in-Some.holding.now) c.args.at (one_more (count_in c.in-Some.holding.now.items) c.args.what.now) there c.give.ensures.since (omega (arith, c.give.ensures.changed)) d)
     (more_counts_of old name (Some c.in-Some.holding.now) there c.args.what.now)) c.give.ensures.ok
 
 pub returns-in-Some-clause-err : goal.returns-in-Some-clause-err
@@ -29,5 +29,5 @@ returns-in-Some-clause-err c =
     let name = c.args.name.now in
     let sets : (other : List ℕ) → get_by_text new other ≡ (if bytes_eq name other then Some c.give.new.self else get_by_text old other) = λ other. grind (arith, text_keys) in
     let there : get_by_text old name ≡ Some c.in-Some.holding.now = grind (arith, text_keys) in
-    on_err c.give.result _ _ (λ d. recounted_of old new c.args.at _ _ (holder_dated old new name c.give.new.self sets (Some c.in-Some.holding.now) c.args.at (count_in c.in-Some.holding.now.items) there c.give.ensures.since d)
+    on_err c.give.result _ _ (λ d. recounted_of old new c.args.at _ _ (holder_dated old new name c.give.new.self sets (Some c.in-Some.holding.now) c.args.at (count_in c.in-Some.holding.now.items) there c.give.ensures.since (omega (arith, c.give.ensures.changed)) d)
     (kept_counts old name (Some c.in-Some.holding.now) there)) c.give.ensures.err

@@ -19,5 +19,5 @@ returns-in-Some c =
     let name = c.args.name.now in
     let sets : (other : List ℕ) → get_by_text new other ≡ (if bytes_eq name other then Some c.take.new.self else get_by_text old other) = λ other. grind (arith, text_keys) in
     let there : get_by_text old name ≡ Some c.in-Some.holding.now = grind (arith, text_keys) in
-    recounted_of old new c.args.at _ _ (holder_dated old new name c.take.new.self sets (Some c.in-Some.holding.now) c.args.at (one_less (count_in c.in-Some.holding.now.items) c.args.what.now) there c.take.ensures.since c.take.ensures.dated)
+    recounted_of old new c.args.at _ _ (holder_dated old new name c.take.new.self sets (Some c.in-Some.holding.now) c.args.at (one_less (count_in c.in-Some.holding.now.items) c.args.what.now) there c.take.ensures.since (omega (arith, c.take.ensures.changed)) c.take.ensures.dated)
     (less_counts_of old name (Some c.in-Some.holding.now) there c.args.what.now)

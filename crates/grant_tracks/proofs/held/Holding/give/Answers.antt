@@ -14,20 +14,20 @@ pub give_at-requires-clause-place : goal.give_at-requires-clause-place
 give_at-requires-clause-place c = ap (λ (t : Things). place_of t.items c.args.what.now) (sym c.self.view_is) ∙ sym (c.self.invariant.0 c.args.what.now) ∙ sym c.find.ensures ∙ c.in-Some.is
 
 pub give_at-requires-clause-up_to : goal.give_at-requires-clause-up_to
-give_at-requires-clause-up_to c = subst (λ (l : List Held). AreUpTo l c.args.at) (sym c.make_block.ensures.items) c.requires.up_to
+give_at-requires-clause-up_to c = subst (λ (l : List Held). AreUpTo l c.args.at) (sym c.change_at.ensures.items) c.requires.up_to
 
 pub returns-in_ok-give_at-in-Some-clause-ok : goal.returns-in_ok-give_at-in-Some-clause-ok
 returns-in_ok-give_at-in-Some-clause-ok c =
-    subst (λ (l : List Held). Dated count_in held_in AreUpTo l c.give_at.new.self.items c.args.at (one_more (count_in l) c.args.what.now)) c.make_block.ensures.items c.in_ok-give_at-in-Some.ensures.ok
+    subst (λ (l : List Held). Dated count_in held_in AreUpTo l c.give_at.new.self.items c.args.at (one_more (count_in l) c.args.what.now)) c.change_at.ensures.items c.in_ok-give_at-in-Some.ensures.ok
 
 pub returns-in_err-give_at-in-Some-clause-err : goal.returns-in_err-give_at-in-Some-clause-err
 returns-in_err-give_at-in-Some-clause-err c = any_err c.from_residual.result _
-    (subst (λ (l : List Held). Dated count_in held_in AreUpTo l c.give_at.new.self.items c.args.at (count_in l)) c.make_block.ensures.items c.in_err-give_at-in-Some.ensures.err)
+    (subst (λ (l : List Held). Dated count_in held_in AreUpTo l c.give_at.new.self.items c.args.at (count_in l)) c.change_at.ensures.items c.in_err-give_at-in-Some.ensures.err)
 
 pub returns-in-None-clause-ok : goal.returns-in-None-clause-ok
 returns-in-None-clause-ok c = on_ok c.add.result _ _ (λ d.
-    subst (λ (l : List Held). Dated count_in held_in AreUpTo l c.add.new.self.items c.args.at (one_more (count_in l) c.args.what.now)) c.make_block.ensures.items d) c.add.ensures.ok
+    subst (λ (l : List Held). Dated count_in held_in AreUpTo l c.add.new.self.items c.args.at (one_more (count_in l) c.args.what.now)) c.change_at.ensures.items d) c.add.ensures.ok
 
 pub returns-in-None-clause-err : goal.returns-in-None-clause-err
 returns-in-None-clause-err c = on_err c.add.result _ _ (λ same.
-    still_list c.args.self.now.items c.add.new.self.items c.args.at (same ∙ c.make_block.ensures.items)) c.add.ensures.err
+    still_list c.args.self.now.items c.add.new.self.items c.args.at (same ∙ c.change_at.ensures.items)) c.add.ensures.err

@@ -7,12 +7,12 @@ use Rattle.grant_tracks.specs.Things.{Things}
 use Rattle.grant_tracks.specs.HeldLists.{place_of, count_in, held_in, AreUpTo}
 use Rattle.grant_tracks.specs.Holdings.{one_more}
 use Rattle.grant_tracks.proofs.Once.{length_set, once_set, place_within, places_set, what_here}
-use Rattle.grant_tracks.proofs.Tracked.{gave, gave_none, got_old, up_here, on_ok, on_err, either}
+use Rattle.grant_tracks.proofs.Tracked.{gave, gave_none, got_old, up_here, moved_up, on_ok, on_err, either}
 use Rattle.grant_tracks.proofs.Picking.{grown, moved_begun}
 use Rattle.grant_tracks.proofs.held.Holding.give_first.Goals as goal
 
 pub invariant_of-self : goal.invariant_of-self
-invariant_of-self c = (c.self.invariant.0, c.self.invariant.1, c.self.invariant.2, grown c.self.inside.list.items c.self.inside.blocks c.add.new.self c.add.ensures.kept c.self.invariant.3)
+invariant_of-self c = (c.self.invariant.0, c.self.invariant.1, c.self.invariant.2, grown c.self.inside.list.items c.self.inside.blocks c.add.new.self c.add.ensures.kept c.self.invariant.3, c.self.invariant.4)
 
 pub invariant_of-self-2 : goal.invariant_of-self-2
 invariant_of-self-2 c =
@@ -23,6 +23,7 @@ invariant_of-self-2 c =
     let is = what_here list c.args.what.now c.args.i old place c.index_mut.ensures.value in
     let got = got_old list c.args.what.now c.args.i old place c.index_mut.ensures.value in
     let up = subst (λ (t : Things). AreUpTo t.items c.args.at) (sym c.self.view_is) c.requires.up_to in
+    let same : c.self.inside.changed ≡ c.args.at = ap (λ (t : Things). t.changed) c.self.view_is ∙ c.requires.changed in
     let low : c.self.inside.blocks.from ≤ c.args.at = omega (arith, c.requires.since, ap (λ (t : Things). t.since) c.self.view_is) in (
       places_set c.self.inside.places list c.args.what.now c.args.i new place is c.self.invariant.0,
       once_set list c.args.what.now c.args.i new place is c.self.invariant.1,
@@ -32,6 +33,9 @@ invariant_of-self-2 c =
           (λ k le. c.in_ok-add.ensures.ok k (omega (arith, low, le)))) c.give.ensures.ok)
           (on_err c.give.result _ _ (λ moves. moved_begun list c.self.inside.blocks c.add.new.self c.args.i c.args.at _ old c.give.new.self got up c.self.invariant.3 c.add.ensures.kept moves
           (λ k le. c.in_ok-add.ensures.ok k (omega (arith, low, le)))) c.give.ensures.err),
+      either c.give.result (AreUpTo (slice_set list c.args.i new) c.self.inside.changed)
+          (on_ok c.give.result _ _ (λ moves. moved_up list (slice_set list c.args.i new) c.args.at c.self.inside.changed _ same c.self.invariant.4 (gave list c.args.what.now c.args.i old place c.index_mut.ensures.value c.give.new.self c.args.at moves)) c.give.ensures.ok)
+          (on_err c.give.result _ _ (λ moves. moved_up list (slice_set list c.args.i new) c.args.at c.self.inside.changed _ same c.self.invariant.4 (gave_none list c.args.what.now c.args.i old place c.index_mut.ensures.value c.give.new.self c.args.at moves)) c.give.ensures.err),
     )
 
 pub index_mut-requires : goal.index_mut-requires

@@ -14,4 +14,5 @@ invariant_of-self c =
       c.self.invariant.2,
       begun_miss c.self.inside.list.items c.self.inside.blocks c.begin.new.self c.args.at c.last.result.now c.in-Ok.given.items up low c.self.invariant.3
           c.last.ensures (λ x. c.in-Ok.ensures x ∙ ap (λ all. given_in all c.last.result.now x) c.as_slice.ensures.value) c.begin.ensures.kept,
+      c.self.invariant.4,
     )

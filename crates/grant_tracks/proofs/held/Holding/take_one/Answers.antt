@@ -1,4 +1,4 @@
-use Rattle.std.proofs.Common.{◌<◌, ◌∙◌, sym, ap, subst, arith, List, ℕ}
+use Rattle.std.proofs.Common.{◌≡◌, ◌<◌, ◌∙◌, sym, ap, subst, arith, List, ℕ}
 use Rattle.std.specs.Prelude.{slice_set}
 use Rattle.grant_tracks.specs.declared.held.Held.{Held}
 use Rattle.grant_tracks.specs.Dated.{Dated}
@@ -6,7 +6,7 @@ use Rattle.grant_tracks.specs.Things.{Things}
 use Rattle.grant_tracks.specs.HeldLists.{place_of, count_in, held_in, AreUpTo}
 use Rattle.grant_tracks.specs.Holdings.{one_less}
 use Rattle.grant_tracks.proofs.Once.{length_set, once_set, place_within, places_set, what_here}
-use Rattle.grant_tracks.proofs.Tracked.{took, count_here, up_here, nowhere_count, got_old}
+use Rattle.grant_tracks.proofs.Tracked.{took, count_here, up_here, moved_up, nowhere_count, got_old}
 use Rattle.grant_tracks.specs.Listed.{is_in}
 use Rattle.grant_tracks.proofs.Picking.{moved_given}
 use Rattle.grant_tracks.proofs.held.Holding.take_one.Goals as goal
@@ -17,6 +17,7 @@ invariant_of-self c =
     let new : Held = record { what = c.index_mut.result.now.what; track = c.take.new.self } in
     let place = ap (λ (t : Things). place_of t.items c.args.what.now) c.self.view_is ∙ sym c.place_near.ensures ∙ c.in-Some.is in
     let is = what_here list c.args.what.now c.in-Some.i c.index_mut.result.now place c.index_mut.ensures.value in
+    let same : c.self.inside.changed ≡ c.args.at = ap (λ (t : Things). t.changed) c.self.view_is ∙ c.requires.changed in
     let pos : 0 < c.index_mut.result.now.track.count = omega (arith, c.requires.given, ap (λ (t : Things). count_in t.items c.args.what.now) c.self.view_is, count_here list c.args.what.now c.in-Some.i c.index_mut.result.now place c.index_mut.ensures.value) in (
       places_set c.self.inside.places list c.args.what.now c.in-Some.i new place is c.self.invariant.0,
       once_set list c.args.what.now c.in-Some.i new place is c.self.invariant.1,
@@ -25,6 +26,8 @@ invariant_of-self c =
           (got_old list c.args.what.now c.in-Some.i c.index_mut.result.now place c.index_mut.ensures.value)
           (subst (λ (t : Things). AreUpTo t.items c.args.at) (sym c.self.view_is) c.requires.up_to) c.self.invariant.3
           (λ k y h. ap (λ (l : List ℕ). is_in l y) (c.count.ensures.near k) ∙ h) c.take.ensures pos,
+      moved_up list (slice_set list c.in-Some.i new) c.args.at c.self.inside.changed _ same c.self.invariant.4
+          (took list c.args.what.now c.in-Some.i c.index_mut.result.now place c.index_mut.ensures.value c.take.new.self c.args.at c.take.ensures),
     )
 
 pub index_mut-requires : goal.index_mut-requires

@@ -1,0 +1,72 @@
+//! The last change of what a user has.
+
+ghost use Rattle.std.specs.Prelude.{◌≡◌, ℕ, max, List, Some};
+ghost use Rattle.std.specs.BTreeMap.{get_by_text};
+ghost use Rattle.grant_tracks.specs.Changed.{AreSettled, IsSettled, changed_by, role_changed, roles_changed, user_changed};
+ghost use Rattle.grant_tracks.specs.Reads.{gives_channel, list_channel, role_channel, user_channel};
+
+use crate::held::{Held, Holding};
+use crate::holders::Holders;
+use crate::things::What;
+use sg_history::Name;
+
+/// The last change of a role.
+fn changed_role(roles: &Holders, role: &Name) -> u64
+    ensures last { result ≡ changed_by (get_by_text roles.now role.now) }
+    ensures settled { (x : List ℕ) → IsSettled result (λ k. role_channel roles.now role.now k x) }
+{
+    match roles.get(role.as_str()) {
+        None => 0,
+        Some(all) => all.changed(),
+    }
+}
+
+/// The last change of the role that something is.
+fn changed_what(roles: &Holders, what: &What) -> u64
+    ensures last { result ≡ role_changed roles.now what.now }
+    ensures settled { (x : List ℕ) → IsSettled result (λ k. gives_channel roles.now what.now k x) }
+{
+    match what {
+        What::Role(role) => changed_role(roles, role),
+        _ => 0,
+    }
+}
+
+fn later(one: u64, other: u64) -> u64
+    ensures { result ≡ max one other }
+{
+    one.max(other)
+}
+
+/// The last change of the roles among these.
+fn changed_roles(roles: &Holders, all: &[Held]) -> u64
+    ensures last { result ≡ roles_changed roles.now all.now }
+    ensures settled { AreSettled roles.now all.now result }
+{
+    let mut last = 0;
+    for held in all {
+        last = later(last, changed_what(roles, &held.what));
+    }
+    last
+}
+
+/// The last change of a user that has or had these, and of its roles.
+fn changed_in(roles: &Holders, all: &Holding) -> u64
+    ensures last { result ≡ user_changed roles.now (Some all.now) }
+    ensures settled { (x : List ℕ) → IsSettled result (λ k. list_channel roles.now all.now.items k x) }
+{
+    later(all.changed(), changed_roles(roles, all.all()))
+}
+
+/// The last change of what a user has, and of what the roles have that it has or had: from there on
+/// its channels are the same. Allocates nothing.
+pub fn changed_of(users: &Holders, roles: &Holders, user: &Name) -> u64
+    ensures last { result ≡ user_changed roles.now (get_by_text users.now user.now) }
+    ensures settled { (x : List ℕ) → IsSettled result
+        (λ k. user_channel roles.now (get_by_text users.now user.now) k x) }
+{
+    match users.get(user.as_str()) {
+        None => 0,
+        Some(all) => changed_in(roles, all),
+    }
+}
