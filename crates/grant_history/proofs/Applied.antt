@@ -22,7 +22,7 @@ use Rattle.grant_history.specs.declared.states.NewState.{NewState}
 use Rattle.grant_history.specs.Facts.{document_facts}
 use Rattle.grant_history.specs.Store.{has_at}
 use Rattle.grant_history.specs.Sources.{is_held}
-use Rattle.grant_history.specs.Ledger.{facts_read, IsLedger, Took}
+use Rattle.grant_history.specs.Ledger.{facts_read, given, GiveSame, IsLedger, Took}
 use Rattle.grant_history.specs.LedgerAt.{LedgerAt, IsNextApplied}
 use Rattle.grant_history.specs.Changes.{IsMarking}
 use Rattle.grant_history.specs.NewStates.{by_marks, state_of}
@@ -41,6 +41,15 @@ past_next entries n e h =
     ap (λ (m : ℕ). past entries m) one
     ∙ ap (λ (l : List Entry). reverse l) (take_next entries n e h)
     ∙ reverse-append (take n entries) (e ∷ [])
+
+take_within : (xs : List Entry) (n : ℕ) → length (take n xs) ≤ n
+take_within [] zero = omega arith
+take_within [] (suc n) = omega arith
+take_within (x ∷ xs) zero = omega arith
+take_within (x ∷ xs) (suc n) = omega (arith, take_within xs n)
+
+pub past_within : (entries : List Entry) (n : ℕ) → length (past entries n) ≤ n
+past_within entries n = omega (arith, length-reverse (take n entries), take_within entries n)
 
 pub past_count : (entries : List Entry) (n : ℕ) → n ≤ length entries → length (past entries n) ≡ n
 past_count entries n h = length-reverse (take n entries) ∙ length-take-le n entries h
@@ -204,3 +213,17 @@ next_one index ledger entries n e is more has at =
       index = has ∙ sym (past_next entries n e is);
       kept = subst (λ (m : ℕ). LedgerAt ledger entries m) minus at;
     }
+
+-- what gives the same from one place of a log to the next, with the log and the place named otherwise
+pub gave_same : (entries all : List Entry) (n m : ℕ) → all ≡ entries → n ≡ m → GiveSame (past entries (m + 1)) (past entries m) → GiveSame (past all (n + 1)) (past all (n + 1 - 1))
+gave_same entries all n m kept end same s =
+    let minus : ◌≡◌ {A = ℕ} (n + 1 - 1) m = omega (arith, end) in
+    ap (λ (l : List Entry). given (past l (n + 1)) s) kept
+    ∙ ap (λ (k : ℕ). given (past entries (k + 1)) s) end
+    ∙ same s
+    ∙ sym (ap (λ (k : ℕ). given (past entries k) s) minus)
+    ∙ sym (ap (λ (l : List Entry). given (past l (n + 1 - 1)) s) kept)
+
+-- the same, where the next entry is named
+pub gave_next : (entries : List Entry) (e : Entry) (at : ℕ) → past entries at ≡ e ∷ past entries (at - 1) → GiveSame (past entries at) (past entries (at - 1)) → GiveSame (e ∷ past entries (at - 1)) (past entries (at - 1))
+gave_next entries e at newest same s = sym (ap (λ (l : List Entry). given l s) newest) ∙ same s

@@ -129,3 +129,7 @@ all_swapped g cs i le =
 
 pub made_same : (z : DocumentFacts) (doc : List ℕ) (facts : List Fact) → z.doc ≡ doc → z.facts ≡ facts → z ≡ record { doc = doc; facts = facts }
 made_same z doc facts a b = ap (λ (d : List ℕ). record { doc = d; facts = z.facts }) a ∙ ap (λ (l : List Fact). record { doc = doc; facts = l }) b
+
+pub none_in : (xs : List Change) → length xs ≡ 0 → facts_in_changes xs ≡ []
+none_in [] h = refl
+none_in (x ∷ xs) h = absurd (omega (arith, h))

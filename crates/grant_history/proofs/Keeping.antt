@@ -22,12 +22,12 @@ use Rattle.grant_tracks.specs.Dated.{Dated}
 use Rattle.grant_history.specs.Facts.{times, put_facts, document_facts}
 use Rattle.grant_history.specs.Store.{count_to, held_to, count_at, has_at, IsStore}
 use Rattle.grant_history.specs.Sources.{principal_of, sources}
-use Rattle.grant_history.specs.Ledger.{Source, document, user, role, holder, same_source, given, Lists, facts_of_list, facts_in, facts_from, IsLedger, IsStep, Took}
+use Rattle.grant_history.specs.Ledger.{Source, document, user, role, holder, same_source, given, Lists, facts_of_list, facts_in, facts_from, GiveSame, IsLedger, IsStep, Took}
 use Rattle.grant_history.specs.Changes.{DocumentFacts, all_times, given_after, given_before, given_at, AreChanges}
 use Rattle.grant_history.proofs.Summing.{after_same, before_same}
 use Rattle.grant_tracks.proofs.HeldBy.{later_all, settled_holders}
 use Rattle.grant_history.proofs.Same.{grantees}
-use Rattle.grant_tracks.proofs.Same.{texts_swap}
+use Rattle.grant_tracks.proofs.Same.{text_itself, texts_swap}
 use Rattle.grant_history.proofs.Steps.{Unwritten, write_alone, current_same, unwritten, principal_same, principal_put, idle_step, put_step, write_step, apart}
 
 -- a place made for a name changes nothing
@@ -286,3 +286,16 @@ each_kept_on old at store lists d documents es place is =
     same (document x) = documents x
     same (user n) = refl
     same (role n) = refl
+
+-- a source that gives the same gives what is kept of it
+source_itself : (s : Source) → same_source s s ≡ true
+source_itself (document d) = text_itself d
+source_itself (user n) = text_itself n
+source_itself (role n) = text_itself n
+
+pub same_step : (kept : Ledger) (at : ℕ) (source : Source) (facts : List Fact) (e : Entry) (es : List Entry) → IsStep kept at source facts e es → GiveSame (e ∷ es) es → facts_from kept source ≡ facts
+same_step kept at source facts e es is same =
+    is.is_kept.lists source
+    ∙ sym (same source)
+    ∙ is.others source
+    ∙ ap (λ (b : Bool). if b then facts else given es source) (source_itself source)

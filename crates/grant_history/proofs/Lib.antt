@@ -3,6 +3,8 @@ pub mod Steps
 pub mod Summing
 pub mod Changing
 pub mod Standing
+pub mod Others
+pub mod Latest
 pub mod Marking
 pub mod KeptStates
 pub mod Storing

@@ -1,5 +1,5 @@
 -- what the marks of a replaced sync function make of what documents give
-use Rattle.std.proofs.Common.{◌≡◌, ◌≢◌, ◌<◌, ◌≤◌, ◌+◌, ◌-◌, ℕ, suc, refl, sym, ◌∙◌, ap, subst, arith, inl, inr, Bool, true, false, ◌&&◌, if◌then◌else◌, List, [], ◌∷◌, ◌++◌, length, Option, Some, None}
+use Rattle.std.proofs.Common.{◌≡◌, ◌≢◌, ◌<◌, ◌≤◌, ◌+◌, ◌-◌, ℕ, suc, refl, sym, ◌∙◌, ap, subst, arith, inl, inr, Bool, true, false, ◌&&◌, if◌then◌else◌, List, [], ◌∷◌, ◌++◌, length, Option, Some, None, ◌||◌}
 use Rattle.std.specs.Prelude.{slice_get, nat_eq, nat_le, option_map}
 use Rattle.std.specs.Str.{bytes_eq}
 use Rattle.std.specs.Cmp.Lexicographic.{bytes_decides}
@@ -24,11 +24,12 @@ use Rattle.log_views.proofs.Placed.{found, last_at, winning_at}
 use Rattle.grant_history.specs.declared.facts.Fact.{Fact}
 use Rattle.grant_history.specs.declared.ledger.Ledger.{Ledger}
 use Rattle.grant_history.specs.declared.states.NewState.{NewState}
-use Rattle.grant_history.specs.Changes.{DocumentFacts, given_with, given_after, given_at, change_by, changes_by, mark_among, AreChanges, IsMarking}
+use Rattle.grant_history.specs.Changes.{DocumentFacts, given_with, given_after, given_at, change_by, changes_by, mark_among, others, AreChanges, IsMarking}
 use Rattle.grant_history.specs.Facts.{times, document_facts, effect_facts, mark_facts, put_facts}
-use Rattle.grant_history.specs.Ledger.{facts_of_mark}
+use Rattle.grant_history.specs.Ledger.{facts_of_mark, kept_of, GiveSame}
 use Rattle.grant_history.specs.NewStates.{by_mark, by_marks, is_mark, state_by, state_of}
 use Rattle.grant_history.specs.Sources.{documents_once, given_by, principal_of}
+use Rattle.grant_history.proofs.Others.{AreOnce, fewer_changes, has_doc, no_changes}
 use Rattle.grant_history.proofs.Standing.{MarkLaws, marked_is}
 use Rattle.grant_history.proofs.Steps.{Unwritten, unwritten, principal_same, once_idle, once, no_current}
 use Rattle.grant_history.proofs.Summing.{AreOf, Gives, summed, sum_given, sum_same, sums_changed}
@@ -214,6 +215,37 @@ module _ (marks : List Mark) (place : List ℕ → Option ℕ) (is_placed : (doc
       by None is rest = rest
       by (Some p) is rest = of p is rest (nat_eq p n)
 
+module _ (marks : List Mark) (place : List ℕ → Option ℕ) (is_placed : (doc : List ℕ) (p : ℕ) → place doc ≡ Some p → Placed marks doc p) where
+  -- a document whose mark stands before these is not among theirs
+  not_from : (ms : List Mark) (n : ℕ) (d : List ℕ) (p : ℕ) → place d ≡ Some p → p < n → has_doc (from marks place is_placed ms n) d ≡ false
+  not_from [] n d p is low = refl
+  not_from (m ∷ ms) n d p is low = by (place m.doc) refl (not_from ms (n + 1) d p is (omega (arith, low)))
+    where
+      apart : (b : Bool) → bytes_eq m.doc d ≡ b → place m.doc ≡ Some n → has_doc (from marks place is_placed ms (n + 1)) d ≡ false → (b || has_doc (from marks place is_placed ms (n + 1)) d) ≡ false
+      apart true at here rest = absurd (omega (arith, low, same_Some n p (sym here ∙ ap place ((bytes_decides m.doc d).0 at) ∙ is)))
+      apart false at here rest = rest
+
+      of : (q : ℕ) → place m.doc ≡ Some q → has_doc (from marks place is_placed ms (n + 1)) d ≡ false → (b : Bool) → nat_eq q n ≡ b → has_doc ((if b then made m ∷ [] else []) ++ from marks place is_placed ms (n + 1)) d ≡ false
+      of q here rest true same = apart (bytes_eq m.doc d) refl (here ∙ ap (λ (i : ℕ). Some i) (eqb-true q n same)) rest
+      of q here rest false other = rest
+
+      by : (o : Option ℕ) → place m.doc ≡ o → has_doc (from marks place is_placed ms (n + 1)) d ≡ false → has_doc (one o n m ++ from marks place is_placed ms (n + 1)) d ≡ false
+      by None here rest = rest
+      by (Some q) here rest = of q here rest (nat_eq q n) refl
+
+  -- each document is there once
+  pub once_from : (ms : List Mark) (n : ℕ) → AreOnce (from marks place is_placed ms n)
+  once_from [] n = tt
+  once_from (m ∷ ms) n = by (place m.doc) refl (once_from ms (n + 1))
+    where
+      of : (q : ℕ) → place m.doc ≡ Some q → AreOnce (from marks place is_placed ms (n + 1)) → (b : Bool) → nat_eq q n ≡ b → AreOnce ((if b then made m ∷ [] else []) ++ from marks place is_placed ms (n + 1))
+      of q here rest true same = (not_from ms (n + 1) m.doc q here (omega (arith, eqb-true q n same)), rest)
+      of q here rest false other = rest
+
+      by : (o : Option ℕ) → place m.doc ≡ o → AreOnce (from marks place is_placed ms (n + 1)) → AreOnce (one o n m ++ from marks place is_placed ms (n + 1))
+      by None here rest = rest
+      by (Some q) here rest = of q here rest (nat_eq q n) refl
+
 not_below : (a b : ℕ) → b < a → nat_le a b ≡ false
 not_below a b low = elim (cases_Bool (nat_le a b)) [
   | inl is ↦ absurd (omega (arith, low, leb-true a b is))
@@ -347,6 +379,22 @@ module _ (law : Unwritten) (laws : MarkLaws) (e : Entry) (es : List Entry) (mark
         let sums = sums_changed (documents_once es) (once es) (given_at es) (changes_by marks states) f (subst (λ (cs : List DocumentFacts). AreOf (documents_once es) cs) (sym same) (of_from marks place is_placed (documents_once es) in_documents marks 0)) in
         omega (arith, puts, docs, after, sums, summed es (documents_once es) f);
   }
+    where
+      same : changes_by marks states ≡ from marks place is_placed marks 0
+      same = ap (λ (l : List NewState). changes_by marks l) is.are ∙ changes_are marks 0 (all marks place is_placed)
+
+  -- the same of those alone of which the document gives something else
+  pub marking_others : (kept : Ledger) (at : ℕ) (states : List NewState) → IsMarking kept at marks states e es → AreChanges kept at (others (kept_of kept) (changes_by marks states)) e es
+  marking_others kept at states is =
+      fewer_changes kept at (changes_by marks states) e es (subst (λ (cs : List DocumentFacts). AreOnce cs) (sym same) (once_from marks place is_placed marks 0)) (marking kept at states is)
+    where
+      same : changes_by marks states ≡ from marks place is_placed marks 0
+      same = ap (λ (l : List NewState). changes_by marks l) is.are ∙ changes_are marks 0 (all marks place is_placed)
+
+  -- none where each source gives the same
+  pub marking_none : (kept : Ledger) (at : ℕ) (states : List NewState) → IsMarking kept at marks states e es → GiveSame (e ∷ es) es → others (kept_of kept) (changes_by marks states) ≡ []
+  marking_none kept at states is =
+      no_changes kept at (changes_by marks states) e es (subst (λ (cs : List DocumentFacts). AreOnce cs) (sym same) (once_from marks place is_placed marks 0)) (marking kept at states is)
     where
       same : changes_by marks states ≡ from marks place is_placed marks 0
       same = ap (λ (l : List NewState). changes_by marks l) is.are ∙ changes_are marks 0 (all marks place is_placed)

@@ -12,7 +12,7 @@ use Rattle.grant_history.specs.declared.changes.Change.{Change}
 use Rattle.grant_history.specs.declared.facts.Fact.{Fact}
 use Rattle.grant_history.specs.declared.ledger.Ledger.{Ledger}
 use Rattle.grant_history.specs.declared.states.NewState.{NewState}
-use Rattle.grant_history.specs.Facts.{times, document_facts, mark_facts}
+use Rattle.grant_history.specs.Facts.{same_facts, times, document_facts, mark_facts}
 use Rattle.grant_history.specs.Ledger.{Lists, IsLedger}
 use Rattle.grant_history.specs.NewStates.{by_marks}
 use Rattle.grant_history.specs.Sources.{sources}
@@ -51,6 +51,11 @@ given_before gives (c ∷ cs) = record { doc = c.doc; facts = gives c.doc } ∷ 
 abbrev pub AreKept : Lists → List DocumentFacts → Type 0
 AreKept lists [] = Unit {0}
 AreKept lists (c ∷ cs) = (is_some (get_by_text lists c.doc) ≡ true) × AreKept lists cs
+
+-- those of which the document gives something else
+abbrev pub others : (List ℕ → List Fact) → List DocumentFacts → List DocumentFacts
+others gives [] = []
+others gives (c ∷ cs) = if same_facts (gives c.doc) c.facts then others gives cs else c ∷ others gives cs
 
 -- what documents give after some entries
 abbrev pub given_at : List Entry → List ℕ → List Fact

@@ -1,5 +1,5 @@
 -- What a user or a role has, and what puts and documents give.
-use Rattle.std.specs.Prelude.{ℕ, ◌+◌, Bool, ◌&&◌, List, [], ◌∷◌, ◌++◌, map, Option, Some, None, if◌then◌else◌}
+use Rattle.std.specs.Prelude.{ℕ, ◌+◌, Bool, true, false, ◌&&◌, List, [], ◌∷◌, ◌++◌, map, Option, Some, None, if◌then◌else◌}
 use Rattle.sg_names.specs.declared.grants.Grantee.{Grantee}
 use Rattle.sg_names.specs.declared.grants.Grantee.TheVariants.{User}
 use Rattle.sg_names.specs.declared.grants.Grant.{Grant}
@@ -14,6 +14,13 @@ use Rattle.grant_history.specs.declared.facts.Fact.{Fact}
 
 abbrev pub same_fact : Fact → Fact → Bool
 same_fact a b = same_grantee a.of b.of && same_what a.what b.what
+
+-- whether both have the same facts, in the same order
+abbrev pub same_facts : List Fact → List Fact → Bool
+same_facts [] [] = true
+same_facts [] (g ∷ gs) = false
+same_facts (f ∷ fs) [] = false
+same_facts (f ∷ fs) (g ∷ gs) = same_fact f g && same_facts fs gs
 
 -- how often a fact is among these
 abbrev pub times : List Fact → Fact → ℕ

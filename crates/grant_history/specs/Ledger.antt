@@ -79,6 +79,10 @@ given es (document doc) = document_facts (current es doc)
 given es (user name) = put_facts (User name) (user_at es name)
 given es (role name) = put_facts (Role name) (role_at es name)
 
+-- each source gives the same after these entries and after those
+abbrev pub GiveSame : List Entry → List Entry → Type 0
+GiveSame later earlier = (s : Source) → given later s ≡ given earlier s
+
 abbrev pub Lists : Type 0
 Lists = BTreeMap (String Global) SourceFacts
 
@@ -95,6 +99,10 @@ abbrev pub facts_from : Ledger → Source → List Fact
 facts_from kept (document doc) = facts_in kept.documents doc
 facts_from kept (user name) = facts_in kept.users name
 facts_from kept (role name) = facts_in kept.roles name
+
+-- what is kept of each document
+abbrev pub kept_of : Ledger → List ℕ → List Fact
+kept_of kept doc = facts_in kept.documents doc
 
 -- what is kept is what the sources give after these entries
 pub record IsLedger (kept : Ledger) (es : List Entry) : Type 0 where

@@ -1,9 +1,9 @@
 pub mod Facts
 pub mod Sources
+pub mod AppliedLog
 pub mod Store
 pub mod Ledger
 pub mod LedgerAt
-pub mod AppliedLog
 pub mod Stands
 pub mod NewStates
 pub mod MoreStates

@@ -1,11 +1,15 @@
 -- How many sources give a fact, and when it holds, by what is kept of users and roles.
-use Rattle.std.specs.Prelude.{ℕ, ◌+◌, ◌-◌, Bool, if◌then◌else◌}
+use Rattle.std.specs.Prelude.{ℕ, ◌+◌, ◌-◌, Bool, List, map, Some, String, string_bytes, if◌then◌else◌}
+use Rattle.std.specs.Global.{Global}
 use Rattle.sg_names.specs.declared.grants.Grantee.{Grantee}
 use Rattle.sg_names.specs.declared.grants.Grantee.TheVariants.{User, Role}
 use Rattle.grant_tracks.specs.declared.things.What.{What}
+use Rattle.grant_tracks.specs.Changed.{user_changed}
 use Rattle.grant_tracks.specs.Holdings.{count_of, held_of, AreAllUpTo}
+use Rattle.grant_tracks.specs.Things.{Things}
 use Rattle.grant_history.specs.declared.facts.Fact.{Fact}
 use Rattle.grant_history.specs.declared.store.Store.{Store}
+use Rattle.grant_history.specs.AppliedLog.{LastChange}
 use Rattle.grant_history.specs.Facts.{same_fact}
 
 abbrev pub count_to : Store → Grantee → What → ℕ
@@ -29,6 +33,10 @@ more_at count f g = if same_fact f g then count g + 1 else count g
 
 abbrev pub less_at : (Fact → ℕ) → Fact → Fact → ℕ
 less_at count f g = if same_fact f g then count g - 1 else count g
+
+-- the last changes of users, and of the roles that they have or had
+abbrev pub last_changes : Store → List LastChange
+last_changes store = map (λ (e : String Global × Things). record { user = string_bytes e.0; at = user_changed store.roles (Some e.1) }) store.users.entries
 
 -- nothing that is kept begins or ends after this place
 pub record IsStore (store : Store) (n : ℕ) : Type 0 where

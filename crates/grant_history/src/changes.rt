@@ -1,14 +1,14 @@
 //! What several documents give from one place on.
 
-ghost use Rattle.std.specs.Prelude.{◌≡◌, ◌<◌, ◌≤◌, ◌+◌, ◌-◌, ◌++◌, true, is_some, ℕ, List, length, None, IfOk, OnOk, OnErr, if◌then◌else◌};
+ghost use Rattle.std.specs.Prelude.{◌≡◌, ◌<◌, ◌≤◌, ◌+◌, ◌-◌, ◌++◌, true, is_some, ℕ, List, ◌∷◌, length, None, Some, IfOk, OnOk, OnErr, if◌then◌else◌};
 ghost use Rattle.std.specs.BTreeMap.{get_by_text};
 ghost use Rattle.std.specs.Option.{option_copied};
 ghost use Rattle.std.specs.Str.{bytes_eq};
 ghost use Rattle.sg_history.specs.declared.entries.Entry.{Entry};
 ghost use Rattle.grant_tracks.specs.Dated.{Dated};
-ghost use Rattle.grant_history.specs.Changes.{AreKept, IsMarking, all_times, change_by, changes_by, facts_in_change, facts_in_changes, given_after, given_before, mark_among};
+ghost use Rattle.grant_history.specs.Changes.{AreKept, IsMarking, all_times, change_by, changes_by, facts_in_change, facts_in_changes, given_after, given_before, mark_among, others};
 ghost use Rattle.grant_history.specs.Facts.{mark_facts, times};
-ghost use Rattle.grant_history.specs.Ledger.{IsLedger, Took, facts_in};
+ghost use Rattle.grant_history.specs.Ledger.{GiveSame, IsLedger, Took, facts_in, kept_of};
 ghost use Rattle.grant_history.specs.Store.{IsStore, count_at, has_at};
 
 use crate::facts::Fact;
@@ -187,41 +187,64 @@ fn change_of<'a>(alloc: Global, mark: &'a Mark) -> Result<Change<'a>, Memory>
     })
 }
 
-/// Puts what the document of a state gives behind others, where a mark, of these, has its effects.
+/// Puts what the document of a mark gives by it behind others, unless it gives that already.
+fn add_mark<'a>(
+    alloc: Global,
+    ledger: &Ledger,
+    changes: &mut Vec<Change<'a>>,
+    mark: &'a Mark,
+) -> Result<(), Memory>
+    ensures { OnOk result (facts_in_changes changes.new.items ≡ facts_in_changes changes.old.items
+        ++ others (kept_of ledger.now) (change_by (Some mark.now))) }
+{
+    let change = change_of(alloc, mark)?;
+    if ledger.gives(change.doc, change.list.facts.as_slice()) {
+        drop(change);
+        return Ok(());
+    }
+    changes.push(change)?;
+    Ok(())
+}
+
+/// Puts what the document of a state gives behind others, where a mark, of these, has its effects, and
+/// the document gives something else.
 fn add_change<'a>(
     alloc: Global,
+    ledger: &Ledger,
     changes: &mut Vec<Change<'a>>,
     marks: &'a [Mark],
     state: &NewState,
 ) -> Result<(), Memory>
-    ensures { OnOk result (facts_in_changes changes.new.items
-        ≡ facts_in_changes changes.old.items ++ change_by (mark_among marks.now state.now.marked)) }
+    ensures { OnOk result (facts_in_changes changes.new.items ≡ facts_in_changes changes.old.items
+        ++ others (kept_of ledger.now) (change_by (mark_among marks.now state.now.marked))) }
 {
     match mark_of(marks, state.marked) {
-        None => {}
-        Some(mark) => changes.push(change_of(alloc, mark)?)?,
+        None => Ok(()),
+        Some(mark) => add_mark(alloc, ledger, changes, mark),
     }
-    Ok(())
 }
 
-/// What the documents of these states give by the marks, of these, that have their effects.
+/// What the documents of these states give by the marks, of these, that have their effects, but for
+/// those that give it already.
 fn changes_of<'a>(
     alloc: Global,
+    ledger: &Ledger,
     marks: &'a [Mark],
     states: &[NewState],
 ) -> Result<Vec<Change<'a>>, Memory>
     ensures { IfOk result (λ changes. facts_in_changes changes.items
-        ≡ changes_by marks.now states.now) }
+        ≡ others (kept_of ledger.now) (changes_by marks.now states.now)) }
 {
     let mut changes = Vec::with_capacity(alloc, states.len())?;
     for state in states {
-        add_change(alloc, &mut changes, marks, state)?;
+        add_change(alloc, ledger, &mut changes, marks, state)?;
     }
     Ok(changes)
 }
 
 /// Documents give from a place on what the marks of the replacement there give: those marks that have
-/// the effects of these states. Out of memory each gives what it gave.
+/// the effects of these states. A document that gives that already changes nothing. Out of memory each
+/// gives what it gave.
 pub fn take_marked(
     alloc: Global,
     ledger: &mut Ledger,
@@ -237,10 +260,13 @@ pub fn take_marked(
         → IsLedger ledger.old es → IsLedger ledger.new es) }
     ensures before { (f : Fact) (k : ℕ) → k < at
         → has_at ledger.new.store f k ≡ has_at ledger.old.store f k }
+    ensures same { (e : Entry) (es : List Entry)
+        → IsMarking ledger.old at marks.now states.now e es → GiveSame (e ∷ es) es
+        → ledger.new.store ≡ ledger.old.store }
 {
     sg_history::laws::currents();
     log_index::laws::marks();
-    let mut changes = changes_of(alloc, marks, states)?;
+    let mut changes = changes_of(alloc, ledger, marks, states)?;
     let taken = ledger.take_documents(alloc, &mut changes, at);
     drop(changes);
     taken

@@ -7,15 +7,16 @@ ghost use Rattle.sg_history.specs.History.{among, past};
 ghost use Rattle.sg_history.specs.Principals.{exists, user_at, has_channel, has_role};
 ghost use Rattle.sg_history.specs.Current.{current};
 ghost use Rattle.grant_history.specs.declared.facts.Fact as facts_of;
+ghost use Rattle.grant_history.specs.AppliedLog.{changed_at};
 ghost use Rattle.grant_history.specs.Changes.{IsMarking};
 ghost use Rattle.grant_history.specs.Facts as facts;
-ghost use Rattle.grant_history.specs.Ledger.{IsLedger, Took};
+ghost use Rattle.grant_history.specs.Ledger.{GiveSame, IsLedger, Took};
 ghost use Rattle.grant_history.specs.NewStates.{by_marks};
 ghost use Rattle.grant_history.specs.Store.{has_at};
 ghost use Rattle.grant_history.specs.Periods.{AreInOrder, ArePeriods};
 ghost use Rattle.grant_history.specs.Sorted.{AreSorted};
 ghost use Rattle.grant_history.specs.LedgerAt.{IsNextApplied, LedgerAt};
-ghost use Rattle.grant_history.specs.Stands.{StandsFor};
+ghost use Rattle.grant_history.specs.Stands.{IsIndexed, StandsFor};
 
 use crate::changes::take_marked;
 use crate::facts::Fact;
@@ -46,10 +47,15 @@ impl Model for GrantHistory {
     ghost use Rattle.std.specs.Prelude.{reverse};
     ghost use Rattle.grant_history.specs.AppliedLog.{AppliedLog};
     ghost use Rattle.grant_history.specs.LedgerAt.{LedgerAt};
+    ghost use Rattle.grant_history.specs.Store.{last_changes};
 
     ghost Value = { AppliedLog };
 
-    ghost view = { λ h. record { applied = h.applied; index = h.index } };
+    ghost view = { λ h. record {
+      applied = h.applied;
+      index = h.index;
+      changed = last_changes h.ledger.store;
+    } };
 
     ghost invariant = { λ h. LedgerAt h.ledger (reverse h.index) h.applied };
 }
@@ -110,6 +116,9 @@ fn take_replacement(
         → IsLedger ledger.old es → IsLedger ledger.new es) }
     ensures before { (f : facts_of.Fact) (k : ℕ) → k < at
         → has_at ledger.new.store f k ≡ has_at ledger.old.store f k }
+    ensures same { (e : entry.Entry) (es : List entry.Entry)
+        → IsMarking ledger.old at marks.now (by_marks index.now marks.now 0) e es
+        → GiveSame (e ∷ es) es → ledger.new.store ≡ ledger.old.store }
 {
     let states = states_marked(alloc, index, marks)?;
     take_marked(alloc, ledger, marks, states.as_slice(), at)
@@ -127,6 +136,8 @@ fn take_entry(
     requires { IsNextApplied index.now ledger.old log.old.entries entry.now at }
     ensures ok { OnOk result (LedgerAt ledger.new log.old.entries at) }
     ensures err { OnErr result (LedgerAt ledger.new log.old.entries (at - 1)) }
+    ensures same { GiveSame (past log.old.entries at) (past log.old.entries (at - 1))
+        → ledger.new.store ≡ ledger.old.store }
     ensures log { log.new.entries ≡ log.old.entries }
     ensures reads { log.new.reads ≤ log.old.reads + 1 }
     ensures counted { min log.old.reads 18446744073709551615 ≤ log.new.reads }
@@ -163,10 +174,13 @@ impl GrantHistory {
         self.applied
     }
 
-    /// The index of the log that it keeps: that of all of the log where that is applied to its end.
+    /// The index of the log that it keeps: that of all of the log where that is applied to its end,
+    /// and else of the entries that are applied, or of one more.
     pub fn index(&self) -> &LogIndex
-        ensures { (entries : List entry.Entry) → StandsFor self.now entries
+        ensures whole { (entries : List entry.Entry) → StandsFor self.now entries
             → self.now.applied ≡ length entries → Indexes result.now (reverse entries) }
+        ensures first { (entries : List entry.Entry) → StandsFor self.now entries
+            → IsIndexed result.now entries self.now.applied }
     {
         &self.index
     }
@@ -182,6 +196,8 @@ impl GrantHistory {
         ensures log { log.new.entries ≡ log.old.entries }
         ensures reads { log.new.reads ≤ log.old.reads + 2 }
         ensures counted { min (log.old.reads + 1) 18446744073709551615 ≤ log.new.reads }
+        ensures same { GiveSame (past log.old.entries (self.old.applied + 1))
+            (past log.old.entries self.old.applied) → self.new.changed ≡ self.old.changed }
     {
         let at = self.applied + 1;
         let entry = log.entry(at);
@@ -204,6 +220,9 @@ impl GrantHistory {
         ensures reads { log.new.reads ≤ log.old.reads + 2 * (to - self.old.applied) }
         ensures counted { min (log.old.reads + (self.new.applied - self.old.applied)) 18446744073709551615
             ≤ log.new.reads }
+        ensures same { ((k : ℕ) → self.old.applied ≤ k → k < to
+            → GiveSame (past log.old.entries (k + 1)) (past log.old.entries k))
+            → self.new.changed ≡ self.old.changed }
     {
         while self.applied < to {
             self.step(log, to)?;
@@ -242,6 +261,19 @@ impl GrantHistory {
     {
         let roles = self.ledger.store.roles(self.alloc, user, k)?;
         Ok(Names::from_vec(roles))
+    }
+
+    /// A place from which on, up to the one that was applied last, a user has the same channels.
+    /// Allocates nothing.
+    pub fn changed(&self, user: &Name) -> u64
+        ensures last { result ≡ changed_at self.now.changed user.now }
+        ensures same { (entries : List entry.Entry) → StandsFor self.now entries
+            → (k : ℕ) → result ≤ k → k ≤ self.now.applied → (c : List ℕ)
+            → has_channel (past entries k) user.now c
+            ≡ has_channel (past entries self.now.applied) user.now c }
+        ensures within { result ≤ self.now.applied + 1 }
+    {
+        self.ledger.store.changed(user)
     }
 
     /// The periods in which a user has channels, up to the place that was applied last; one that

@@ -1,19 +1,19 @@
 //! What all sources give, and who has what by that.
 
-ghost use Rattle.std.specs.Prelude.{◌≡◌, ◌<◌, ◌≤◌, ◌+◌, ◌-◌, true, false, None, is_some, ℕ, List, [], length, OnOk, OnErr, if◌then◌else◌};
+ghost use Rattle.std.specs.Prelude.{◌≡◌, ◌<◌, ◌≤◌, ◌+◌, ◌-◌, true, false, None, is_some, ℕ, List, [], ◌∷◌, length, OnOk, OnErr, if◌then◌else◌};
 ghost use Rattle.std.specs.BTreeMap.{get_by_text};
 ghost use Rattle.std.specs.Str.{bytes_eq};
 ghost use Rattle.grant_tracks.specs.Dated.{Dated};
-ghost use Rattle.grant_history.specs.Facts.{times};
+ghost use Rattle.grant_history.specs.Facts.{same_facts, times};
 ghost use Rattle.grant_history.specs.Store.{count_at, has_at, IsStore};
-ghost use Rattle.grant_history.specs.Ledger.{facts_in, source_in, holder, IsLedger, IsStep, Took};
+ghost use Rattle.grant_history.specs.Ledger.{facts_from, facts_in, kept_of, source_in, holder, GiveSame, IsLedger, IsStep, Took};
 ghost use Rattle.grant_history.specs.LedgerAt.{IsBefore};
 ghost use Rattle.sg_history.specs.History.{as_sync, as_write};
 ghost use Rattle.grant_history.specs.Changes.{AreChanges, facts_in_changes};
 ghost use Rattle.sg_history.specs.Puts as puts;
 
 use crate::changes::{Change, exchange_each};
-use crate::facts::Fact;
+use crate::facts::{Fact, are_same};
 use crate::given::of_put;
 use crate::store::Store;
 use grant_tracks::by_name;
@@ -51,8 +51,8 @@ pub struct Ledger {
     roles: Lists,
 }
 
-/// A source gives other facts than these from a place on. Out of memory each gives what it gave.
-fn exchange(
+/// A source gives these facts in place of others from a place on. Out of memory it gives what it gave.
+fn give_instead(
     alloc: Global,
     store: &mut Store,
     list: &mut SourceFacts,
@@ -73,6 +73,33 @@ fn exchange(
     let before = mem::replace(list, SourceFacts { facts, places });
     store.take_all(alloc, before.facts.as_slice(), before.places.as_slice(), at);
     Ok(())
+}
+
+/// A source gives these facts from a place on; where it gave them before, nothing changes. Out of memory
+/// it gives what it gave.
+fn exchange(
+    alloc: Global,
+    store: &mut Store,
+    list: &mut SourceFacts,
+    facts: Vec<Fact>,
+    at: u64,
+) -> Result<(), Memory>
+    requires up_to { IsStore store.old at }
+    requires given { (f : Fact) → times list.old.facts.items f
+        ≤ count_at store.old f + times facts.items f }
+    ensures store { OnOk result (Dated count_at has_at IsStore store.old store.new at
+        (λ f. count_at store.old f + times facts.items f - times list.old.facts.items f)) }
+    ensures list { OnOk result (list.new.facts.items ≡ facts.items) }
+    ensures err_store { OnErr result (Dated count_at has_at IsStore store.old store.new at
+        (count_at store.old)) }
+    ensures err_list { OnErr result (list.new.facts.items ≡ list.old.facts.items) }
+    ensures same { list.old.facts.items ≡ facts.items → store.new ≡ store.old }
+{
+    if are_same(list.facts.as_slice(), facts.as_slice()) {
+        drop(facts);
+        return Ok(());
+    }
+    give_instead(alloc, store, list, facts, at)
 }
 
 fn no_facts(alloc: Global) -> SourceFacts
@@ -143,6 +170,7 @@ fn replace(
         (count_at store.old)) }
     ensures err_lists { OnErr result ((other : List ℕ)
         → facts_in lists.new other ≡ facts_in lists.old other) }
+    ensures same { facts_in lists.old name.now ≡ facts.items → store.new ≡ store.old }
 {
     if let Some(list) = lists.get_mut(name) {
         return exchange(alloc, store, list, facts, at);
@@ -184,6 +212,8 @@ impl Ledger {
             → IsLedger self.old es → IsLedger self.new es) }
         ensures before { (f : Fact) (k : ℕ) → k < at
             → has_at self.new.store f k ≡ has_at self.old.store f k }
+        ensures same { facts_from self.old (source_in source.entry) ≡ facts.items
+            → self.new.store ≡ self.old.store }
     {
         match source {
             Source::Document(doc) => replace(
@@ -213,6 +243,16 @@ impl Ledger {
         }
     }
 
+    /// Whether a document gives these facts.
+    pub fn gives(&self, doc: &DocId, facts: &[Fact]) -> bool
+        ensures { result ≡ same_facts (kept_of self.now doc.now) facts.now }
+    {
+        match self.documents.get(doc.as_str()) {
+            None => facts.is_empty(),
+            Some(list) => are_same(list.facts.as_slice(), facts),
+        }
+    }
+
     /// Documents give other facts from a place on. Out of memory all is as it was before it.
     pub fn take_documents(
         &mut self,
@@ -229,7 +269,12 @@ impl Ledger {
             → IsLedger self.old es → IsLedger self.new es) }
         ensures before { (f : Fact) (k : ℕ) → k < at
             → has_at self.new.store f k ≡ has_at self.old.store f k }
+        ensures same { facts_in_changes changes.old.items ≡ []
+            → self.new.store ≡ self.old.store }
     {
+        if changes.is_empty() {
+            return Ok(());
+        }
         exchange_each(alloc, &mut self.store, &mut self.documents, changes, at)
     }
 
@@ -245,6 +290,8 @@ impl Ledger {
             → IsLedger self.old es → IsLedger self.new es) }
         ensures before { (f : Fact) (k : ℕ) → k < at
             → has_at self.new.store f k ≡ has_at self.old.store f k }
+        ensures same { (es : List Entry) → at ≡ length es + 1 → IsLedger self.old es
+            → GiveSame (entry.now ∷ es) es → self.new.store ≡ self.old.store }
     {
         sg_history::laws::currents();
         match entry.as_put() {

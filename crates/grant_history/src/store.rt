@@ -6,15 +6,17 @@ ghost use Rattle.std.specs.BTreeMap.{get_by_text};
 ghost use Rattle.sg_history.specs.History.{among};
 ghost use Rattle.sg_names.specs.declared.grants.Grantee.TheVariants.{User};
 ghost use Rattle.grant_tracks.specs.declared.things.What.TheVariants as what;
+ghost use Rattle.grant_history.specs.AppliedLog.{changed_at};
 ghost use Rattle.grant_history.specs.Periods.{AreAllPeriods};
 ghost use Rattle.grant_history.specs.Sorted.{AreSorted};
+ghost use Rattle.grant_tracks.specs.Changed.{IsSettled};
 ghost use Rattle.grant_tracks.specs.Reads.{user_channel, user_role};
 ghost use Rattle.grant_history.specs.Facts.{fact, times};
-ghost use Rattle.grant_history.specs.Store.{count_at, has_at, IsStore, more_at, less_at};
+ghost use Rattle.grant_history.specs.Store.{count_at, has_at, last_changes, IsStore, more_at, less_at};
 
 use crate::facts::Fact;
 use crate::periods::{Period, periods_of};
-use grant_tracks::{Holders, What, channels_of, holders, roles_of};
+use grant_tracks::{Holders, What, changed_of, channels_of, holders, roles_of};
 use sg_history::{ChannelName, Grantee, Name};
 use sg_outside::Memory;
 use std::alloc::{AllocError, Global};
@@ -149,6 +151,16 @@ impl Store {
             self.now.roles (get_by_text self.now.users user.now) k x) }
     {
         roles_of(alloc, &self.users, &self.roles, user, k)
+    }
+
+    /// A place from which on a user has the same channels. Allocates nothing.
+    pub fn changed(&self, user: &Name) -> u64
+        ensures last { result ≡ changed_at (last_changes self.now) user.now }
+        ensures settled { (x : List ℕ) → IsSettled result (λ k. user_channel
+            self.now.roles (get_by_text self.now.users user.now) k x) }
+        ensures within { (n : ℕ) → IsStore self.now n → result ≤ n }
+    {
+        changed_of(&self.users, &self.roles, user)
     }
 
     /// The periods in which a user has channels.

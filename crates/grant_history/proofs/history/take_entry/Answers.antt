@@ -10,8 +10,8 @@ use Rattle.grant_history.specs.Facts.{document_facts}
 use Rattle.grant_history.specs.Ledger.{document, IsStep}
 use Rattle.grant_history.specs.NewStates.{by_marks}
 use Rattle.grant_tracks.proofs.Tracked.{on_ok, on_err}
-use Rattle.grant_history.proofs.Keeping.{write_is_step}
-use Rattle.grant_history.proofs.Applied.{no_sync, no_write, marking_next, next_place, taken, left}
+use Rattle.grant_history.proofs.Keeping.{same_step, write_is_step}
+use Rattle.grant_history.proofs.Applied.{gave_next, no_sync, no_write, marking_next, next_place, taken, left}
 use Rattle.grant_history.proofs.history.take_entry.Goals as goal
 
 pub take-requires : goal.take-requires
@@ -98,3 +98,33 @@ returns-in-Sync-clause-err c =
     let index = c.args.index.now in
     let ledger = c.args.ledger.now in
     on_err c.take_replacement.result _ _ (λ kept. left index ledger entries e c.args.at c.requires c.take_replacement.new.ledger c.take_replacement.ensures.before (kept (past entries (c.args.at - 1)) (next_place index ledger entries e c.args.at c.requires) c.requires.kept.is_kept)) c.take_replacement.ensures.err
+
+pub returns-in_ok-facts-in-Write-clause-same : goal.returns-in_ok-facts-in-Write-clause-same
+returns-in_ok-facts-in-Write-clause-same c = λ same.
+    let e = c.args.entry.now in
+    let entries = c.args.log.now.entries in
+    let index = c.args.index.now in
+    let ledger = c.args.ledger.now in
+    let es = past entries (c.args.at - 1) in
+    let w = c.in-Write.write in
+    let step = write_is_step c.currents.ensures.unwritten ledger e es c.args.at (next_place index ledger entries e c.args.at c.requires) c.requires.kept.is_kept w (ap as_write c.in-Write.is) (ap as_put c.in-Write.is) in
+    let now = c.in_ok-facts-in-Write.ensures.facts c.args.at c.requires.high c.requires.index ∙ ap (λ (l : List Entry). document_facts (current l w.doc)) c.requires.newest in
+    c.take.ensures.same (same_step ledger c.args.at (document w.doc) _ e es step (gave_next entries e c.args.at c.requires.newest same) ∙ sym now)
+
+pub returns-in_default-clause-same : goal.returns-in_default-clause-same
+returns-in_default-clause-same c = λ same.
+    let e = c.args.entry.now in
+    let entries = c.args.log.now.entries in
+    c.take_put.ensures.same (past entries (c.args.at - 1)) (next_place c.args.index.now c.args.ledger.now entries e c.args.at c.requires) c.requires.kept.is_kept
+    (gave_next entries e c.args.at c.requires.newest same)
+
+pub returns-in-Sync-clause-same : goal.returns-in-Sync-clause-same
+returns-in-Sync-clause-same c = λ same.
+    let e = c.args.entry.now in
+    let entries = c.args.log.now.entries in
+    let index = c.args.index.now in
+    let ledger = c.args.ledger.now in
+    let es = past entries (c.args.at - 1) in
+    c.take_replacement.ensures.same e es
+    (subst (λ (marks : List Mark). IsMarking ledger c.args.at marks (by_marks index marks 0) e es) (sym c.as_slice.ensures) (marking_next index ledger entries e c.args.at c.requires _ _ c.in-Sync.is))
+    (gave_next entries e c.args.at c.requires.newest same)

@@ -14,3 +14,8 @@ pub returns-clause-ok : goal.returns-clause-ok
 returns-clause-ok c =
     let same : c.as_slice.result.now ≡ by_marks c.args.index.now c.args.marks.now 0 = c.as_slice.ensures.value ∙ c.in_ok-states.ensures in
     on_ok c.take_marked.result _ _ (λ takes e es is. takes e es (subst (λ (l : List NewState). IsMarking c.args.ledger.now c.args.at c.args.marks.now l e es) (sym same) is)) c.take_marked.ensures.ok
+
+pub returns-clause-same : goal.returns-clause-same
+returns-clause-same c = λ e es is.
+    let same : c.as_slice.result.now ≡ by_marks c.args.index.now c.args.marks.now 0 = c.as_slice.ensures.value ∙ c.in_ok-states.ensures in
+    c.take_marked.ensures.same e es (subst (λ (l : List NewState). IsMarking c.args.ledger.now c.args.at c.args.marks.now l e es) (sym same) is)

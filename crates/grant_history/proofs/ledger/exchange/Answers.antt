@@ -1,18 +1,25 @@
-use Rattle.std.proofs.Common.{◌≡◌, ◌∙◌, ap, List, arith}
+use Rattle.std.proofs.Common.{◌≡◌, ◌∙◌, sym, ap, arith, true, List}
+use Rattle.std.proofs.lemmas.Bool.{false≢true}
 use Rattle.grant_history.specs.declared.facts.Fact.{Fact}
-use Rattle.grant_history.specs.Facts.{times}
-use Rattle.grant_history.specs.declared.ledger.SourceFacts.{SourceFacts}
-use Rattle.grant_history.proofs.Storing.{chained, recounted_at}
+use Rattle.grant_history.specs.Facts.{same_facts, times}
+use Rattle.grant_history.proofs.Same.{list_itself, same_lists}
+use Rattle.grant_history.proofs.Storing.{recounted_at, same_store}
 use Rattle.grant_history.proofs.ledger.exchange.Goals as goal
 
-pub take_all-requires-clause-up_to : goal.take_all-requires-clause-up_to
-take_all-requires-clause-up_to c = c.in_ok-places.ensures.ok.up_to c.args.at (omega arith) c.requires.up_to
+pub returns-then-are_same-clause-store : goal.returns-then-are_same-clause-store
+returns-then-are_same-clause-store c =
+    let same = same_lists c.as_slice.result.now c.as_slice-2.result.now (sym c.are_same.ensures ∙ c.if-are_same.true) in
+    let facts : c.args.list.now.facts.items ≡ c.args.facts.items = sym c.as_slice.ensures.value ∙ same ∙ c.as_slice-2.ensures.value in
+    recounted_at c.args.store.now c.args.store.now c.args.at _ _ (same_store c.args.store.now c.args.at)
+    (λ f. omega (arith, ap (λ (l : List Fact). times l f) facts))
 
-pub returns-clause-store : goal.returns-clause-store
-returns-clause-store c =
-    recounted_at c.args.store.now c.take_all.new.self c.args.at _ _
-    (chained c.args.store.now c.give_all.new.self c.take_all.new.self c.args.at _ _ c.in_ok-places.ensures.ok c.take_all.ensures)
-    (λ f.
-    let gave : times c.as_slice-2.result.now f ≡ times c.args.list.now.facts.items f = ap (λ (l : List Fact). times l f) (c.as_slice-2.ensures.value ∙ ap (λ (s : SourceFacts). s.facts.items) c.replace-before.ensures.value) in
-    let more : times c.as_slice.result.now f ≡ times c.args.facts.items f = ap (λ (l : List Fact). times l f) c.as_slice.ensures.value in
-    omega (arith, gave, more, c.in_ok-places.ensures.ok.counts f))
+pub returns-then-are_same-clause-list : goal.returns-then-are_same-clause-list
+returns-then-are_same-clause-list c =
+    let same = same_lists c.as_slice.result.now c.as_slice-2.result.now (sym c.are_same.ensures ∙ c.if-are_same.true) in
+    sym c.as_slice.ensures.value ∙ same ∙ c.as_slice-2.ensures.value
+
+pub returns-clause-same : goal.returns-clause-same
+returns-clause-same c = λ facts.
+    let itself : same_facts c.as_slice.result.now c.as_slice-2.result.now ≡ true =
+    ap (λ (l : List Fact). same_facts l c.as_slice-2.result.now) (c.as_slice.ensures.value ∙ facts ∙ sym c.as_slice-2.ensures.value) ∙ list_itself c.as_slice-2.result.now in
+    absurd (false≢true (sym c.if-are_same.false ∙ c.are_same.ensures ∙ itself))

@@ -1,4 +1,4 @@
-use Rattle.std.proofs.Common.{rules, ◌≡◌, ◌∙◌, ◌+◌, ◌-◌, sym, ap, arith, List, length, Option, Some, None, if◌then◌else◌}
+use Rattle.std.proofs.Common.{rules, ◌≡◌, ◌<◌, ◌∙◌, ◌+◌, ◌-◌, sym, ap, arith, List, length, Option, Some, None, if◌then◌else◌}
 use Rattle.std.specs.BTreeMap.{get_by_text}
 use Rattle.std.specs.Str.{bytes_eq}
 use Rattle.std.proofs.lemmas.Map.Text.{text_keys}
@@ -56,3 +56,15 @@ returns-clause-store c =
     on_ok c.begin.result _ _ (λ d. recounted_at c.args.store.now c.begin.new.store c.args.at _ _ d (λ f.
     let none : times (facts_in c.args.lists.now c.args.name.now) f ≡ 0 = ap (λ (o : Option SourceFacts). times (facts_of_list o) f) absent in
     omega (arith, none))) c.begin.ensures.store
+
+pub returns-in-Some-clause-same : goal.returns-in-Some-clause-same
+returns-in-Some-clause-same c = λ same.
+    let there : get_by_text c.args.lists.now c.args.name.now ≡ Some c.in-Some.list.now = grind (arith, text_keys) in
+    c.exchange.ensures.same (sym (ap facts_of_list there) ∙ same)
+
+pub returns-clause-same : goal.returns-clause-same
+returns-clause-same c = λ same.
+    let absent : get_by_text c.args.lists.now c.args.name.now ≡ None = grind (arith, text_keys) in
+    let none : length c.args.facts.items ≡ 0 = sym (ap (λ (l : List Fact). length l) same) ∙ ap (λ (o : Option SourceFacts). length (facts_of_list o)) absent in
+    let some : 0 < length c.args.facts.items = search rules in
+    absurd (omega (arith, none, some))

@@ -1,4 +1,6 @@
-use Rattle.std.proofs.Common.{◌≡◌, ◌≤◌, ◌+◌, ◌*◌, ◌-◌, max, min}
+use Rattle.std.proofs.Common.{◌≡◌, ◌<◌, ◌≤◌, ℕ, ◌+◌, ◌*◌, ◌-◌, max, min}
+use Rattle.sg_history.specs.History.{past}
+use Rattle.grant_history.specs.Ledger.{GiveSame}
 use Rattle.grant_history.specs.Stands.{StandsFor}
 use Rattle.grant_history.proofs.history.GrantHistory.apply.Given as goal
 
@@ -11,6 +13,7 @@ invariant-loop-self l = record {
   up_to : l.self.applied ≤ max l.initial.self.applied l.to;
   counted : min (l.initial.log.reads + (l.self.applied - l.initial.self.applied)) 18446744073709551615 ≤ l.log.reads;
   reads : l.log.reads ≤ l.initial.log.reads + 2 * (l.self.applied - l.initial.self.applied);
+  same : ((k : ℕ) → l.initial.self.applied ≤ k → k < l.to → GiveSame (past l.initial.log.entries (k + 1)) (past l.initial.log.entries k)) → l.self.changed ≡ l.initial.self.changed;
 }
 
 abbrev pub decreases-loop-self : goal.decreases-loop-self

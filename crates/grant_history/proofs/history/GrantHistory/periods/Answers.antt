@@ -4,6 +4,7 @@ use Rattle.sg_history.specs.Principals.{has_channel}
 use Rattle.grant_history.specs.declared.periods.Period.{Period}
 use Rattle.grant_history.specs.AppliedLog.{AppliedLog}
 use Rattle.grant_history.specs.Periods.{AreInOrder, ArePeriods}
+use Rattle.grant_history.specs.Store.{last_changes}
 use Rattle.grant_history.specs.Stands.{StandsFor}
 use Rattle.grant_history.proofs.Applied.{held_on, kept_by_log}
 use Rattle.grant_history.proofs.Reading.{user_channels}
@@ -11,7 +12,7 @@ use Rattle.grant_history.proofs.history.GrantHistory.periods.Goals as goal
 
 pub returns-clause-periods : goal.returns-clause-periods
 returns-clause-periods c = λ entries stands.
-    let stood : StandsFor (record { applied = c.self.inside.applied; index = c.self.inside.index }) entries = subst (λ (h : AppliedLog). StandsFor h entries) (sym c.self.view_is) stands in
+    let stood : StandsFor (record { applied = c.self.inside.applied; index = c.self.inside.index; changed = last_changes c.self.inside.ledger.store }) entries = subst (λ (h : AppliedLog). StandsFor h entries) (sym c.self.view_is) stands in
     let kept = kept_by_log c.self.inside.ledger _ entries stood c.self.invariant in
     let end = ap (λ (h : AppliedLog). h.applied) c.self.view_is in
     subst (λ (l : List Period). ArePeriods l (λ x k. has_channel (past entries k) c.args.user.now x) c.args.self.now.applied) (sym c.from_vec.ensures)

@@ -4,8 +4,9 @@ use Rattle.sg_history.specs.declared.entries.Entry.{Entry}
 use Rattle.sg_history.specs.History.{past}
 use Rattle.grant_history.specs.AppliedLog.{AppliedLog}
 use Rattle.grant_history.specs.LedgerAt.{LedgerAt, IsNextApplied}
+use Rattle.grant_history.specs.Store.{last_changes}
 use Rattle.grant_history.specs.Stands.{IsIndexed, StandsFor}
-use Rattle.grant_history.proofs.Applied.{past_next, past_count, to_either, from_either, kept_by_log, kept_by_index, next_one}
+use Rattle.grant_history.proofs.Applied.{past_next, past_count, to_either, from_either, kept_by_log, kept_by_index, next_one, gave_same}
 use Rattle.grant_history.proofs.history.GrantHistory.step.Goals as goal
 
 pub invariant_of-self : goal.invariant_of-self
@@ -13,7 +14,7 @@ invariant_of-self c =
     let entries = c.args.log.now.entries in
     let n = c.self.inside.applied in
     let e = c.entry-entry.result.now in
-    let stood : StandsFor (record { applied = n; index = c.self.inside.index }) entries = subst (λ (h : AppliedLog). StandsFor h entries) (sym c.self.view_is) c.requires.stands in
+    let stood : StandsFor (record { applied = n; index = c.self.inside.index; changed = last_changes c.self.inside.ledger.store }) entries = subst (λ (h : AppliedLog). StandsFor h entries) (sym c.self.view_is) c.requires.stands in
     let minus : n + 1 - 1 ≡ n = omega arith in
     let is : slice_get entries n ≡ Some e = ap (λ (m : ℕ). slice_get entries m) (sym minus) ∙ c.entry-entry.ensures.entry in
     let more : n < length entries = omega (arith, c.requires.more, c.requires.within, ap (λ (h : AppliedLog). h.applied) c.self.view_is) in
@@ -27,7 +28,7 @@ returns-in_err-index_entry-clause-stands c =
     let entries = c.args.log.now.entries in
     let n = c.self.inside.applied in
     let e = c.entry-entry.result.now in
-    let stood : StandsFor (record { applied = n; index = c.self.inside.index }) entries = subst (λ (h : AppliedLog). StandsFor h entries) (sym c.self.view_is) c.requires.stands in
+    let stood : StandsFor (record { applied = n; index = c.self.inside.index; changed = last_changes c.self.inside.ledger.store }) entries = subst (λ (h : AppliedLog). StandsFor h entries) (sym c.self.view_is) c.requires.stands in
     let minus : n + 1 - 1 ≡ n = omega arith in
     let is : slice_get entries n ≡ Some e = ap (λ (m : ℕ). slice_get entries m) (sym minus) ∙ c.entry-entry.ensures.entry in
     let more : n < length entries = omega (arith, c.requires.more, c.requires.within, ap (λ (h : AppliedLog). h.applied) c.self.view_is) in
@@ -40,7 +41,7 @@ take_entry-requires c =
     let entries = c.args.log.now.entries in
     let n = c.self.inside.applied in
     let e = c.entry-entry.result.now in
-    let stood : StandsFor (record { applied = n; index = c.self.inside.index }) entries = subst (λ (h : AppliedLog). StandsFor h entries) (sym c.self.view_is) c.requires.stands in
+    let stood : StandsFor (record { applied = n; index = c.self.inside.index; changed = last_changes c.self.inside.ledger.store }) entries = subst (λ (h : AppliedLog). StandsFor h entries) (sym c.self.view_is) c.requires.stands in
     let minus : n + 1 - 1 ≡ n = omega arith in
     let is : slice_get entries n ≡ Some e = ap (λ (m : ℕ). slice_get entries m) (sym minus) ∙ c.entry-entry.ensures.entry in
     let more : n < length entries = omega (arith, c.requires.more, c.requires.within, ap (λ (h : AppliedLog). h.applied) c.self.view_is) in
@@ -55,7 +56,7 @@ invariant_of-self-in_err-take_entry c =
     let entries = c.args.log.now.entries in
     let n = c.self.inside.applied in
     let e = c.entry-entry.result.now in
-    let stood : StandsFor (record { applied = n; index = c.self.inside.index }) entries = subst (λ (h : AppliedLog). StandsFor h entries) (sym c.self.view_is) c.requires.stands in
+    let stood : StandsFor (record { applied = n; index = c.self.inside.index; changed = last_changes c.self.inside.ledger.store }) entries = subst (λ (h : AppliedLog). StandsFor h entries) (sym c.self.view_is) c.requires.stands in
     let minus : n + 1 - 1 ≡ n = omega arith in
     let is : slice_get entries n ≡ Some e = ap (λ (m : ℕ). slice_get entries m) (sym minus) ∙ c.entry-entry.ensures.entry in
     let more : n < length entries = omega (arith, c.requires.more, c.requires.within, ap (λ (h : AppliedLog). h.applied) c.self.view_is) in
@@ -70,7 +71,7 @@ returns-in_err-take_entry-clause-stands c =
     let entries = c.args.log.now.entries in
     let n = c.self.inside.applied in
     let e = c.entry-entry.result.now in
-    let stood : StandsFor (record { applied = n; index = c.self.inside.index }) entries = subst (λ (h : AppliedLog). StandsFor h entries) (sym c.self.view_is) c.requires.stands in
+    let stood : StandsFor (record { applied = n; index = c.self.inside.index; changed = last_changes c.self.inside.ledger.store }) entries = subst (λ (h : AppliedLog). StandsFor h entries) (sym c.self.view_is) c.requires.stands in
     let minus : n + 1 - 1 ≡ n = omega arith in
     let is : slice_get entries n ≡ Some e = ap (λ (m : ℕ). slice_get entries m) (sym minus) ∙ c.entry-entry.ensures.entry in
     let more : n < length entries = omega (arith, c.requires.more, c.requires.within, ap (λ (h : AppliedLog). h.applied) c.self.view_is) in
@@ -83,7 +84,7 @@ invariant_of-self-2 c =
     let entries = c.args.log.now.entries in
     let n = c.self.inside.applied in
     let e = c.entry-entry.result.now in
-    let stood : StandsFor (record { applied = n; index = c.self.inside.index }) entries = subst (λ (h : AppliedLog). StandsFor h entries) (sym c.self.view_is) c.requires.stands in
+    let stood : StandsFor (record { applied = n; index = c.self.inside.index; changed = last_changes c.self.inside.ledger.store }) entries = subst (λ (h : AppliedLog). StandsFor h entries) (sym c.self.view_is) c.requires.stands in
     let minus : n + 1 - 1 ≡ n = omega arith in
     let is : slice_get entries n ≡ Some e = ap (λ (m : ℕ). slice_get entries m) (sym minus) ∙ c.entry-entry.ensures.entry in
     let more : n < length entries = omega (arith, c.requires.more, c.requires.within, ap (λ (h : AppliedLog). h.applied) c.self.view_is) in
@@ -97,10 +98,25 @@ returns-clause-stands c =
     let entries = c.args.log.now.entries in
     let n = c.self.inside.applied in
     let e = c.entry-entry.result.now in
-    let stood : StandsFor (record { applied = n; index = c.self.inside.index }) entries = subst (λ (h : AppliedLog). StandsFor h entries) (sym c.self.view_is) c.requires.stands in
+    let stood : StandsFor (record { applied = n; index = c.self.inside.index; changed = last_changes c.self.inside.ledger.store }) entries = subst (λ (h : AppliedLog). StandsFor h entries) (sym c.self.view_is) c.requires.stands in
     let minus : n + 1 - 1 ≡ n = omega arith in
     let is : slice_get entries n ≡ Some e = ap (λ (m : ℕ). slice_get entries m) (sym minus) ∙ c.entry-entry.ensures.entry in
     let more : n < length entries = omega (arith, c.requires.more, c.requires.within, ap (λ (h : AppliedLog). h.applied) c.self.view_is) in
     let place : n + 1 ≡ length (past entries n) + 1 = omega (arith, past_count entries n (omega (arith, more))) in
     let ahead : c.index_entry.new.index ≡ past entries (n + 1) = c.in_ok-index_entry.ensures.ok (past entries n) place (to_either c.self.inside.index entries n e is more stood.index) ∙ sym (past_next entries n e is) in
     record { within = omega (arith, more); index = inl ahead }
+
+pub returns-in_err-index_entry-clause-same : goal.returns-in_err-index_entry-clause-same
+returns-in_err-index_entry-clause-same c = λ same. ap (λ (h : AppliedLog). h.changed) c.self.view_is
+
+pub returns-in_err-take_entry-clause-same : goal.returns-in_err-take_entry-clause-same
+returns-in_err-take_entry-clause-same c = λ same.
+    let end : c.self.inside.applied ≡ c.args.self.now.applied = ap (λ (h : AppliedLog). h.applied) c.self.view_is in
+    ap last_changes (c.take_entry.ensures.same (gave_same c.args.log.now.entries _ c.self.inside.applied c.args.self.now.applied c.entry-entry.ensures.kept end same))
+    ∙ ap (λ (h : AppliedLog). h.changed) c.self.view_is
+
+pub returns-clause-same : goal.returns-clause-same
+returns-clause-same c = λ same.
+    let end : c.self.inside.applied ≡ c.args.self.now.applied = ap (λ (h : AppliedLog). h.applied) c.self.view_is in
+    ap last_changes (c.take_entry.ensures.same (gave_same c.args.log.now.entries _ c.self.inside.applied c.args.self.now.applied c.entry-entry.ensures.kept end same))
+    ∙ ap (λ (h : AppliedLog). h.changed) c.self.view_is

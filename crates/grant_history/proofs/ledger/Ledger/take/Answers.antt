@@ -2,7 +2,7 @@ use Rattle.std.proofs.Common.{◌≡◌, ◌<◌, ◌∙◌, sym, ap, subst, ℕ
 use Rattle.grant_history.specs.declared.facts.Fact.{Fact}
 use Rattle.grant_history.specs.declared.ledger.Ledger.{Ledger}
 use Rattle.grant_history.specs.Store.{has_at}
-use Rattle.grant_history.specs.Ledger.{Source, document, user, role, source_in, IsStep}
+use Rattle.grant_history.specs.Ledger.{Source, document, user, role, facts_from, source_in, IsStep}
 use Rattle.grant_tracks.proofs.Tracked.{on_both, on_both_err, on_ok, on_err, either}
 use Rattle.grant_history.proofs.Keeping.{took, kept_on, of_documents, of_users, of_roles, same_documents, same_users, same_roles, asked_up_to, asked_given}
 use Rattle.grant_history.proofs.ledger.Ledger.take.Goals as goal
@@ -126,3 +126,18 @@ returns-in-Role-clause-before c =
     either c.replace-in-Role.result ((f : Fact) (k : ℕ) → k < c.args.at → has_at c.replace-in-Role.new.store f k ≡ has_at c.args.self.now.store f k)
     (on_ok c.replace-in-Role.result _ _ (λ d. d.before) c.replace-in-Role.ensures.store)
     (on_err c.replace-in-Role.result _ _ (λ d. d.before) c.replace-in-Role.ensures.err_store)
+
+pub returns-in-Document-clause-same : goal.returns-in-Document-clause-same
+returns-in-Document-clause-same c = λ same.
+    let is : source_in c.args.source ≡ document c.as_str.result.now = ap source_in c.in-Document.is ∙ ap (λ (n : List ℕ). document n) (sym c.as_str.ensures.value) in
+    c.replace.ensures.same (sym (ap (λ (s : Source). facts_from c.args.self.now s) is) ∙ same)
+
+pub returns-in-User-clause-same : goal.returns-in-User-clause-same
+returns-in-User-clause-same c = λ same.
+    let is : source_in c.args.source ≡ user c.as_str-in-User.result.now = ap source_in c.in-User.is ∙ ap (λ (n : List ℕ). user n) (sym c.as_str-in-User.ensures.value) in
+    c.replace-in-User.ensures.same (sym (ap (λ (s : Source). facts_from c.args.self.now s) is) ∙ same)
+
+pub returns-in-Role-clause-same : goal.returns-in-Role-clause-same
+returns-in-Role-clause-same c = λ same.
+    let is : source_in c.args.source ≡ role c.as_str-in-Role.result.now = ap source_in c.in-Role.is ∙ ap (λ (n : List ℕ). role n) (sym c.as_str-in-Role.ensures.value) in
+    c.replace-in-Role.ensures.same (sym (ap (λ (s : Source). facts_from c.args.self.now s) is) ∙ same)

@@ -1,9 +1,12 @@
-use Rattle.std.proofs.Common.{◌≡◌, ◌<◌, ℕ}
+use Rattle.std.proofs.Common.{rules, ◌≡◌, ◌<◌, ◌∙◌, ℕ, refl, sym, ap, subst, arith, List, [], length}
 use Rattle.grant_history.specs.declared.facts.Fact.{Fact}
 use Rattle.grant_history.specs.Store.{has_at}
-use Rattle.grant_history.specs.Changes.{facts_in_changes}
+use Rattle.grant_history.specs.Changes.{AreChanges, DocumentFacts, facts_in_change, facts_in_changes}
 use Rattle.grant_tracks.proofs.Tracked.{on_both, on_both_err, on_ok, on_err, either}
 use Rattle.grant_history.proofs.Keeping.{each_up_to, each_given, took_each, each_kept_on}
+use Rattle.std.proofs.lemmas.List.{length-map}
+use Rattle.grant_history.proofs.Changing.{none_in}
+use Rattle.grant_history.proofs.Storing.{recounted_at, same_store}
 use Rattle.grant_history.proofs.ledger.Ledger.take_documents.Goals as goal
 
 pub exchange_each-requires : goal.exchange_each-requires
@@ -29,3 +32,16 @@ returns-clause-before c =
     either c.exchange_each.result ((f : Fact) (k : ℕ) → k < c.args.at → has_at c.exchange_each.new.store f k ≡ has_at c.args.self.now.store f k)
     (on_ok c.exchange_each.result _ _ (λ d. d.before) c.exchange_each.ensures.store)
     (on_err c.exchange_each.result _ _ (λ d. d.before) c.exchange_each.ensures.err_store)
+
+-- where none gives something else
+pub returns-then-is_empty-clause-ok : goal.returns-then-is_empty-clause-ok
+returns-then-is_empty-clause-ok c = λ e es are.
+    let old = c.args.self.now in
+    let none : facts_in_changes c.args.changes.now.items ≡ [] = none_in c.args.changes.now.items (search rules) in
+    took_each old c.args.at [] e es (subst (λ (cs : List DocumentFacts). AreChanges old c.args.at cs e es) none are) old.store old.documents
+    (recounted_at old.store old.store c.args.at _ _ (same_store old.store c.args.at) (λ f. omega arith)) (λ d. refl)
+
+pub returns-clause-same : goal.returns-clause-same
+returns-clause-same c = λ same.
+    let some : 0 < length c.args.changes.now.items = search rules in
+    absurd (omega (arith, some, sym (length-map c.args.changes.now.items facts_in_change) ∙ ap (λ (l : List DocumentFacts). length l) same))
