@@ -1,18 +1,17 @@
 -- what a pass knows amid the marks of an entry
-use Rattle.std.proofs.Common.{◌≡◌, ℕ, ◌+◌, ◌<◌, ◌≤◌, refl, sym, ◌∙◌, ap, subst, arith, Bool, true, false, ◌||◌, ◌&&◌, if◌then◌else◌, List, [], ◌∷◌, ◌++◌, length, map, Option, Some, None}
+use Rattle.std.proofs.Common.{◌≡◌, ℕ, ◌+◌, ◌<◌, refl, sym, ◌∙◌, ap, subst, arith, Bool, true, false, ◌||◌, ◌&&◌, if◌then◌else◌, List, [], ◌∷◌, ◌++◌, length, map, Option, Some, None}
 use Rattle.std.proofs.Math.Path.{fun_ext}
 use Rattle.std.specs.Prelude.{is_some, nat_eq, not, slice_get, slice_set}
 use Rattle.std.specs.Borrow.{Bor}
 use Rattle.std.specs.BTreeMap.{BTreeMap}
 use Rattle.std.specs.Str.{bytes_eq}
 use Rattle.std.proofs.lemmas.Bool.{false≢true, and_from, and_parts, eq-eqb, eqb-true}
-use Rattle.std.proofs.lemmas.Option.{none-some}
 use Rattle.sg_names.specs.declared.rev_id.RevId.{RevId}
 use Rattle.sg_names.specs.RevId.{same_rev}
 use Rattle.sg_history.specs.declared.entries.Entry.{Entry}
 use Rattle.sg_history.specs.declared.entries.Mark.{Mark}
 use Rattle.sg_history.specs.declared.entries.Write.{Write}
-use Rattle.sg_history.specs.Current.{Current, current, current_of, mark_by, mark_of, mark_in, marked_by, marked_effects, marked_state, marks_rev}
+use Rattle.sg_history.specs.Current.{Current, current, mark_by, mark_of, mark_in, marked_by, marked_state, marks_rev}
 use Rattle.sg_history.specs.History.{SyncEntry, among, as_sync, as_write, documents, of_document, write_to}
 use Rattle.feed_rows.specs.declared.document.Document.{Document}
 use Rattle.feed_rows.specs.declared.document.Latest.{Latest}
@@ -20,7 +19,7 @@ use Rattle.feed_rows.specs.declared.pass.Pass.{Pass}
 use Rattle.feed_rows.specs.declared.shown.Viewer.{Viewer}
 use Rattle.feed_rows.specs.Index.{IsIndex}
 use Rattle.feed_rows.specs.Known.{Known, blank, known_at, known_in, marks_winner, renews, since_renewed, there, written_names}
-use Rattle.feed_rows.specs.Latest.{current_in, since_in, winner_in}
+use Rattle.feed_rows.specs.Latest.{winner_in}
 use Rattle.feed_rows.specs.PassAt.{AmidAt, HasMarks, IsRenewed, IsViewer, PassAt, known_amid, mark_winner}
 use Rattle.feed_rows.proofs.Names.{any_distinct, distinct_names, get_there, other_texts, same_texts, set_there, text_is_itself}
 use Rattle.feed_rows.proofs.Passes.{known_same, names_are, no_document}
@@ -139,7 +138,7 @@ module _ (law : Unwritten) (e : Entry) (es : List Entry) (viewer : Viewer) (pass
       where
         go : (b : Bool) → mark_winner marks n (current es n) ≡ b → (if b then known_at (e ∷ es) user filter n else known_at es user filter n) ≡ known_at (e ∷ es) user filter n
         go true h = refl
-        go false h = known_same law e es user filter n (renewed_by n ∙ h)
+        go false h = known_same law 1 e es user filter n (renewed_by n ∙ h)
 
     pub ended : AmidAt marks e es viewer pass → PassAt (e ∷ es) viewer pass
     ended known = record {

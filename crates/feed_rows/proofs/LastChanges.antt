@@ -1,14 +1,11 @@
 -- the last change of a document, going back from where it was last renewed
 use Rattle.std.proofs.Common.{◌≡◌, ◌<◌, ◌≤◌, ◌+◌, ◌-◌, ℕ, zero, suc, refl, sym, ◌∙◌, ap, subst, arith, Bool, true, false, if◌then◌else◌, List, [], ◌∷◌, ◌++◌, length, reverse, take, append-nil, Option, Some, None, nat_eq, max, ◌&&◌}
-use Rattle.std.specs.Prelude.{slice_get, option_map, is_some}
-use Rattle.std.specs.Str.{bytes_eq}
-use Rattle.std.specs.Cmp.Lexicographic.{bytes_decides}
+use Rattle.std.specs.Prelude.{slice_get, is_some}
 use Rattle.std.proofs.Math.Seq.{take-length}
 use Rattle.std.proofs.lemmas.Bool.{true≢false, eq-eqb, eqb-true, ne_eqb}
 use Rattle.std.proofs.lemmas.List.{length-append, reverse-reverse}
-use Rattle.std.proofs.lemmas.Option.{none-some, same_Some}
+use Rattle.std.proofs.lemmas.Option.{none-some}
 use Rattle.sg_history.specs.declared.entries.Entry.{Entry}
-use Rattle.sg_history.specs.declared.entries.Entry.TheVariants as entry
 use Rattle.sg_history.specs.declared.entries.Write.{Write}
 use Rattle.sg_history.specs.History.{as_write, write_to, past}
 use Rattle.sg_history.specs.Current.{Current, Effects, Sequenced, current, current_after, current_of, effects_of, last_write, marked_by, sequenced_or, winning_of, with_rev_or, write_of_rev, write_or}
@@ -197,6 +194,14 @@ module _ (entries : List Entry) (n : ℕ) (doc : List ℕ) (high : n ≤ length 
   module _ (d : Document) (at : Some d ≡ document_at (past entries n) doc) where
     abbrev pub won : Sequenced
     won = winning_of (past entries n) doc (found (past entries n) doc d (sym at)).last
+
+    pub won_is : (v : Write) → v ≡ won.write → record { seq = d.winning; write = v } ≡ won
+    won_is v same =
+        let f = found (past entries n) doc d (sym at) in
+        λ i. record { seq = f.winning i; write = same i }
+
+    pub won_doc : won.write.doc ≡ doc
+    won_doc = (found (past entries n) doc d (sym at)).doc_is
 
     pub winning_low : 0 < d.winning
     winning_low = let f = found (past entries n) doc d (sym at) in omega (arith, f.winning, f.at.low)

@@ -55,11 +55,11 @@ module _ (periods : List Period) (filter : Option (List (List ℕ))) (channels :
   shown_through lets = lasts_same _ _ k l (λ j. sym (ap (λ (b : Bool). list_any (λ c. periods_have periods c j) (if b then every ∷ channels else [])) lets))
 
 -- what is kept once a list of channels was put in
-pub switches_put : (viewer : Viewer) (to : ℕ) (old new : BTreeMap (String Global) Kept) (name : List ℕ) (kept : Kept) → AreSwitches viewer to old
-    → IsLastSwitch (is_shown viewer.periods.now viewer.filter.now kept.channels.now) 0 to kept.last
-    → ((text : List ℕ) → get_by_text new text ≡ (if bytes_eq name text then Some kept else get_by_text old text)) → AreSwitches viewer to new
-switches_put viewer to old new name kept are right updated text one got = by (bytes_eq name text) (sym (updated text) ∙ got)
+pub switches_put : (viewer : Viewer) (start to : ℕ) (old new : BTreeMap (String Global) Kept) (name : List ℕ) (kept : Kept) → AreSwitches viewer start to old
+    → IsLastSwitch (is_shown viewer.periods.now viewer.filter.now kept.channels.now) start to kept.last
+    → ((text : List ℕ) → get_by_text new text ≡ (if bytes_eq name text then Some kept else get_by_text old text)) → AreSwitches viewer start to new
+switches_put viewer start to old new name kept are right updated text one got = by (bytes_eq name text) (sym (updated text) ∙ got)
   where
-    by : (b : Bool) → (if b then Some kept else get_by_text old text) ≡ Some one → IsLastSwitch (is_shown viewer.periods.now viewer.filter.now one.channels.now) 0 to one.last
-    by true is = subst (λ (k : Kept). IsLastSwitch (is_shown viewer.periods.now viewer.filter.now k.channels.now) 0 to k.last) (same_Some kept one is) right
+    by : (b : Bool) → (if b then Some kept else get_by_text old text) ≡ Some one → IsLastSwitch (is_shown viewer.periods.now viewer.filter.now one.channels.now) start to one.last
+    by true is = subst (λ (k : Kept). IsLastSwitch (is_shown viewer.periods.now viewer.filter.now k.channels.now) start to k.last) (same_Some kept one is) right
     by false is = are text one is

@@ -19,4 +19,5 @@ mod LastChanges
 mod Amid
 mod Marked
 mod Renewals
+mod FromPlaces
 mod Revisions

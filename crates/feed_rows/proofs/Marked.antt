@@ -1,5 +1,5 @@
 -- since when a document is what it is, by its last write and by the last mark of its winner
-use Rattle.std.proofs.Common.{◌≡◌, ◌<◌, ◌≤◌, ◌+◌, ℕ, refl, sym, ◌∙◌, ap, arith, Bool, true, false, ◌||◌, if◌then◌else◌, List, [], ◌∷◌, length, max, Option, Some, None}
+use Rattle.std.proofs.Common.{◌≡◌, ◌≤◌, ◌+◌, ℕ, refl, sym, ◌∙◌, ap, arith, Bool, true, false, if◌then◌else◌, List, [], ◌∷◌, length, max, Option, Some, None}
 use Rattle.std.specs.Prelude.{is_some, nat_le, suc, option_map}
 use Rattle.std.proofs.lemmas.Bool.{false≢true, leb-true, leb-false}
 use Rattle.std.proofs.lemmas.Int.{clamps}
@@ -9,11 +9,10 @@ use Rattle.sg_history.specs.declared.entries.Entry.{Entry}
 use Rattle.sg_history.specs.declared.entries.Mark.{Mark}
 use Rattle.sg_history.specs.declared.entries.Write.{Write}
 use Rattle.sg_history.specs.History.{SyncEntry, as_sync, write_to}
-use Rattle.sg_history.specs.Current.{Current, Sequenced, current, current_after, effects_of, last_write, mark_by, mark_in, mark_of, marks_rev, sequenced_or, winning_of, with_rev_or, write_of_rev, write_or}
-use Rattle.log_index.specs.declared.marks.Marked.{Marked}
+use Rattle.sg_history.specs.Current.{Sequenced, current_after, last_write, mark_by, mark_in, mark_of, marks_rev, sequenced_or, winning_of, with_rev_or, write_of_rev, write_or}
 use Rattle.log_index.specs.Marks.{mark_place, marked_after, marked_or, place_by, place_in}
 use Rattle.log_views.specs.States.{since_by}
-use Rattle.log_views.proofs.Placed.{IsAt, last_at, winning_at}
+use Rattle.log_views.proofs.Placed.{last_at, winning_at}
 use Rattle.feed_rows.specs.Known.{marks_winner, renews, since_renewed}
 use Rattle.feed_rows.proofs.Steps.{since_other, since_own, unwritten_renews, written_renews}
 

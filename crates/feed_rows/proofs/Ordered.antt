@@ -18,7 +18,7 @@ use Rattle.sg_history.specs.declared.row.Row.{Row}
 use Rattle.sg_history.specs.declared.row.Options.{Options}
 use Rattle.sg_history.specs.History.{among, documents}
 use Rattle.sg_history.specs.Feed.{feed, keeps, row_of, rows_of}
-use Rattle.feed_rows.specs.Laws.{HasRow, IsBelow, Precedes, Rising}
+use Rattle.feed_rows.specs.Laws.{HasRow, IsAskedFor, IsBelow, Precedes, Rising}
 use Rattle.feed_rows.specs.Known.{written_names}
 use Rattle.feed_rows.specs.Ordered.{put_over, insert_over, insert_asked, asked_rows, under_key}
 use Rattle.feed_rows.proofs.Keys.{same_from_tie, not_below_itself, below_trans}
@@ -180,21 +180,32 @@ module _ (es : List Entry) (user : List ℕ) (since : Key) (options : Options) w
       (λ t. has_one d (row_of es user options.filter d) ds r refl (has ds doc r t e k))
       (or_cases (bytes_eq d doc) (among ds doc) h)
 
-  pub is_feed : asked_rows options since (map (row_of es user options.filter) (reverse (written_names es))) ≡ feed es user since options
-  is_feed =
-      rising_same _ _ (rows_rise options since (map (row_of es user options.filter) (reverse (written_names es)))) (ordered_rises (filter (λ row. keeps options since row) (rows_of es user options.filter (documents es))))
-      (λ r h. feed_has _ _ (feed_facts user options.filter) es since options r (had (reverse (written_names es)) r h))
-      (λ r h. let x = feed_had _ _ (feed_facts user options.filter) es since options r h in has (reverse (written_names es)) x.0 r (listed x.0 ((feed_facts user options.filter).written es x.0 r x.1)) x.1 x.2)
+  -- of documents among which each is of which a row is asked for
+  pub is_feed : (docs : List (List ℕ)) → ((doc : List ℕ) (r : Row) → row_of es user options.filter doc ≡ Some r → IsTrue (keeps options since r) → among docs doc ≡ true) → asked_rows options since (map (row_of es user options.filter) (reverse docs)) ≡ feed es user since options
+  is_feed docs all =
+      rising_same _ _ (rows_rise options since (map (row_of es user options.filter) (reverse docs))) (ordered_rises (filter (λ row. keeps options since row) (rows_of es user options.filter (documents es))))
+      (λ r h. feed_has _ _ (feed_facts user options.filter) es since options r (had (reverse docs) r h))
+      (λ r h. let x = feed_had _ _ (feed_facts user options.filter) es since options r h in has (reverse docs) x.0 r (listed x.0 (all x.0 r x.1 x.2)) x.1 x.2)
     where
-      has_among : (docs : List (List ℕ)) (doc : List ℕ) → Has docs doc → among docs doc ≡ true
-      has_among [] doc h = absurd h
-      has_among (d ∷ ds) doc (inl e) = or_left (bytes_eq d doc) (among ds doc) ((bytes_eq-Decides d doc).1 e)
-      has_among (d ∷ ds) doc (inr t) = or_right (bytes_eq d doc) (among ds doc) (has_among ds doc t)
+      listed : (doc : List ℕ) → among docs doc ≡ true → among (reverse docs) doc ≡ true
+      listed doc h = sym (list_any-IsPermutation (λ t. bytes_eq t doc) docs (reverse docs) (IsPermutation-reverse docs)) ∙ h
 
-      listed : (doc : List ℕ) → Has (documents es) doc → among (reverse (written_names es)) doc ≡ true
-      listed doc h =
-          sym (list_any-IsPermutation (λ t. bytes_eq t doc) (written_names es) (reverse (written_names es)) (IsPermutation-reverse (written_names es)))
-          ∙ any_distinct (λ t. bytes_eq t doc) (documents es) ∙ has_among (documents es) doc h
+  -- rising rows that are exactly those asked for
+  pub only_feed : (rows : List Row) → Rising rows → ((r : Row) → HasRow rows r → IsAskedFor es user since options r) → ((r : Row) → IsAskedFor es user since options r → HasRow rows r) → rows ≡ feed es user since options
+  only_feed rows rises had_by has_by =
+      rising_same _ _ rises (ordered_rises (filter (λ row. keeps options since row) (rows_of es user options.filter (documents es))))
+      (λ r h. feed_has _ _ (feed_facts user options.filter) es since options r (had_by r h))
+      (λ r h. has_by r (feed_had _ _ (feed_facts user options.filter) es since options r h))
+
+-- a document with a row was written
+has_among : (docs : List (List ℕ)) (doc : List ℕ) → Has docs doc → among docs doc ≡ true
+has_among [] doc h = absurd h
+has_among (d ∷ ds) doc (inl e) = or_left (bytes_eq d doc) (among ds doc) ((bytes_eq-Decides d doc).1 e)
+has_among (d ∷ ds) doc (inr t) = or_right (bytes_eq d doc) (among ds doc) (has_among ds doc t)
+
+pub all_written : (es : List Entry) (user : List ℕ) (filter : Option (List (List ℕ))) (doc : List ℕ) (r : Row) → row_of es user filter doc ≡ Some r → among (written_names es) doc ≡ true
+all_written es user filter doc r h =
+    any_distinct (λ t. bytes_eq t doc) (documents es) ∙ has_among (documents es) doc ((feed_facts user filter).written es doc r h)
 
 -- a row that is not asked for is not put in
 pub not_asked : (options : Options) (since : Key) (row : Row) (before : List Row) → keeps options since row ≡ false → insert_asked options since (Some row) before ≡ before

@@ -17,7 +17,7 @@ use Rattle.feed_rows.specs.declared.document.Document.{Document}
 use Rattle.feed_rows.specs.declared.pass.Pass.{Pass}
 use Rattle.feed_rows.specs.declared.shown.Viewer.{Viewer}
 use Rattle.feed_rows.specs.Index.{IsIndex}
-use Rattle.feed_rows.specs.Known.{Known, known_at, known_in, blank, add_blank, renews, there, written_names, distinct_of, add_name}
+use Rattle.feed_rows.specs.Known.{Known, from_on, known_at, known_from, known_in, blank, add_blank, renews, there, written_names, distinct_of, add_name}
 use Rattle.feed_rows.specs.PassAt.{PassAt}
 use Rattle.feed_rows.proofs.Names.{any_distinct, distinct_names, get_there, set_there, placed_among, other_texts}
 use Rattle.feed_rows.proofs.Steps.{Unwritten, current_same, current_never, renews_other, row_never, since_never, since_other}
@@ -28,11 +28,11 @@ any_mapped p f [] = refl
 any_mapped p f (x ∷ xs) = ap (λ b. p (f x) || b) (any_mapped p f xs)
 
 -- a document that an entry does not renew
-pub known_same : Unwritten → (e : Entry) (es : List Entry) (user : List ℕ) (filter : Option (List (List ℕ))) (n : List ℕ) → renews e es n ≡ false → known_at es user filter n ≡ known_at (e ∷ es) user filter n
-known_same law e es user filter n none =
+pub known_same : Unwritten → (from : ℕ) (e : Entry) (es : List Entry) (user : List ℕ) (filter : Option (List (List ℕ))) (n : List ℕ) → renews e es n ≡ false → known_from from es user filter n ≡ known_from from (e ∷ es) user filter n
+known_same law from e es user filter n none =
     let now = current_same law e es n none in
     let since = sym (since_other e es n none) in
-    λ i. record { name = n; current = (sym now) i; since = length (since i); row = row_of (since i) user filter n }
+    λ i. record { name = n; current = (sym now) i; since = length (since i); row = from_on from (row_of (since i) user filter n) }
 
 -- an entry that is no write
 pub no_document : (e : Entry) (es : List Entry) → as_write e ≡ None → written_names es ≡ written_names (e ∷ es)
@@ -44,7 +44,7 @@ known_blank law es user filter name h =
     let none : among (documents es) name ≡ false = sym (any_distinct (λ t. bytes_eq t name) (documents es)) ∙ h in
     let a = sym (current_never law es name none) in
     let s = sym (since_never law es name none) in
-    let b = sym (row_never law es user filter name none) in
+    let b = sym (ap (from_on 1) (row_never law es user filter name none)) in
     λ i. record { name = name; current = a i; since = length (s i); row = b i }
 
 added_blank : Unwritten → (es : List Entry) (user : List ℕ) (filter : Option (List (List ℕ))) (name : List ℕ) → add_blank name (map (known_at es user filter) (written_names es)) ≡ map (known_at es user filter) (add_name name (written_names es))
@@ -98,7 +98,7 @@ module _ (law : Unwritten) (w : Write) (es : List Entry) (viewer : Viewer) (befo
   brought =
       ap (λ (ks : List Known). slice_set ks k (new w.doc)) placed_is
       ∙ set_there old new w.doc names k (distinct_names (documents (entry.Write w ∷ es))) here
-      (λ n b. known_same law (entry.Write w) es viewer.user.now viewer.filter.now n (renews_other w es n (other_texts n w.doc b)))
+      (λ n b. known_same law 1 (entry.Write w) es viewer.user.now viewer.filter.now n (renews_other w es n (other_texts n w.doc b)))
 
   pub index_is : (places : BTreeMap (Bor (List ℕ)) ℕ) → IsIndex (map (λ d. d.name.now) placed) places → IsIndex names places
   index_is places is = subst (λ (ns : List (List ℕ)). IsIndex ns places) (names_are old placed names (λ n. refl) placed_is) is

@@ -1,14 +1,14 @@
 -- the row of a document that an entry renews, by what the code knows of it
-use Rattle.std.proofs.Common.{◌≡◌, ℕ, ◌+◌, ◌-◌, refl, sym, ◌∙◌, ap, arith, Bool, ◌&&◌, true, false, List, ◌∷◌, length, Option, Some}
+use Rattle.std.proofs.Common.{◌≡◌, ℕ, ◌+◌, ◌-◌, sym, ◌∙◌, ap, arith, Bool, ◌&&◌, true, false, List, ◌∷◌, length, Some}
 use Rattle.std.specs.Prelude.{is_some, nat_eq}
 use Rattle.sg_history.specs.declared.entries.Entry.{Entry}
-use Rattle.sg_history.specs.Current.{Current, current}
+use Rattle.sg_history.specs.Current.{Current}
 use Rattle.sg_history.specs.Feed.{row_of, row_with}
 use Rattle.sg_history.specs.View.{view}
 use Rattle.grant_history.specs.Periods.{periods_have}
 use Rattle.feed_rows.specs.declared.document.Latest.{Latest}
 use Rattle.feed_rows.specs.declared.shown.Viewer.{Viewer}
-use Rattle.feed_rows.specs.Known.{known_at, row_before, since_renewed, view_when}
+use Rattle.feed_rows.specs.Known.{row_before, since_renewed, view_when}
 use Rattle.feed_rows.specs.Latest.{winner_in}
 use Rattle.feed_rows.specs.PassAt.{IsRenewed, IsViewer}
 use Rattle.feed_rows.proofs.Settled.{Test, turned_by_view, turned_by_write, unturned_there}

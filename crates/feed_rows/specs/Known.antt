@@ -1,5 +1,5 @@
 -- What a pass over the log knows of each document.
-use Rattle.std.specs.Prelude.{◌≡◌, ℕ, Bool, false, ◌||◌, List, [], ◌∷◌, ◌++◌, length, is_some, slice_get, slice_index_or, MatchOption, Option, Some, None, if◌then◌else◌}
+use Rattle.std.specs.Prelude.{◌≡◌, ℕ, Bool, false, ◌||◌, nat_le, List, [], ◌∷◌, ◌++◌, length, is_some, slice_get, slice_index_or, MatchOption, Option, Some, None, if◌then◌else◌}
 use Rattle.std.specs.List.{list_any}
 use Rattle.std.specs.Str.{bytes_eq}
 use Rattle.sg_history.specs.declared.entries.Entry.{Entry}
@@ -37,15 +37,24 @@ since_renewed (e ∷ older) doc = if renews e older doc then e ∷ older else si
 abbrev pub row_before : List Entry → List ℕ → Option (List (List ℕ)) → List ℕ → Option Row
 row_before es user filter doc = row_of (since_renewed es doc) user filter doc
 
--- what is to be known of a document after these entries, the newest first
-abbrev pub known_at : List Entry → List ℕ → Option (List (List ℕ)) → List ℕ → Known
-known_at es user filter name =
+-- a row that is of a place or of one behind it
+abbrev pub from_on : ℕ → Option Row → Option Row
+from_on from None = None
+from_on from (Some row) = if nat_le from row.key.by then Some row else None
+
+-- what is to be known of a document after these entries, the newest first, of its rows those from a place on
+abbrev pub known_from : ℕ → List Entry → List ℕ → Option (List (List ℕ)) → List ℕ → Known
+known_from from es user filter name =
     record {
       name = name;
       current = current es name;
       since = length (since_renewed es name);
-      row = row_before es user filter name;
+      row = from_on from (row_before es user filter name);
     }
+
+-- the same of all its rows
+abbrev pub known_at : List Entry → List ℕ → Option (List (List ℕ)) → List ℕ → Known
+known_at es user filter name = known_from 1 es user filter name
 
 -- a document that was never written
 abbrev pub blank : List ℕ → Known

@@ -4,6 +4,7 @@ pub mod Latest
 pub mod Laws
 pub mod Ordered
 pub mod PassAt
+pub mod KnownDocuments
 pub mod Shown
 pub mod Lasting
 pub mod LastChange

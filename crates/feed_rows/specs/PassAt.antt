@@ -11,7 +11,7 @@ use Rattle.feed_rows.specs.declared.document.Latest.{Latest}
 use Rattle.feed_rows.specs.declared.pass.Pass.{Pass}
 use Rattle.feed_rows.specs.declared.shown.Viewer.{Viewer}
 use Rattle.feed_rows.specs.Index.{IsIndex}
-use Rattle.feed_rows.specs.Known.{Known, known_at, known_in, renews, row_before, row_in, since_renewed, written_names}
+use Rattle.feed_rows.specs.Known.{Known, from_on, known_at, known_in, renews, row_before, row_in, since_renewed, written_names}
 use Rattle.feed_rows.specs.Latest.{current_in, since_in, winner_in}
 use Rattle.grant_history.specs.Periods.{periods_have}
 use Rattle.feed_rows.specs.Lasting.{AreToSearch}
@@ -30,12 +30,12 @@ pub record IsViewer (viewer : Viewer) (es : List Entry) : Type 0 where
   pub to_search : AreToSearch viewer.periods.now
   pub dated : Dated (periods_have viewer.periods.now) viewer.user.now es
 
--- this is what a document is after these entries, and its last change up to where it was last renewed
-pub record IsKnown (viewer : Viewer) (es : List Entry) (doc : List ℕ) (latest : Option Latest) (change : Option Change) : Type 0 where
+-- this is what a document is after these entries, and its last change up to where it was last renewed, where that is from a place on
+pub record IsKnown (viewer : Viewer) (from : ℕ) (es : List Entry) (doc : List ℕ) (latest : Option Latest) (change : Option Change) : Type 0 where
   pub is_viewer : IsViewer viewer es
   pub state : current_in latest ≡ current es doc
   pub since : since_in latest ≡ length (since_renewed es doc)
-  pub row : row_in doc change ≡ row_before es viewer.user.now viewer.filter.now doc
+  pub row : row_in doc change ≡ from_on from (row_before es viewer.user.now viewer.filter.now doc)
 
 -- this is what a document is from the newest of these entries on, which renews it
 pub record IsRenewed (viewer : Viewer) (e : Entry) (es : List Entry) (doc : List ℕ) (latest : Latest) : Type 0 where

@@ -26,8 +26,9 @@ IsLastSwitch test from to (Some switch) =
     × ((j : ℕ) → switch.by ≤ j → j ≤ to → test j ≡ test to)
     × ¬ (test (switch.by - 1) ≡ test to)
 
--- of each list of channels that is kept it is right where it changed last, up to a place, whether a document in them is shown
-abbrev pub AreSwitches : Viewer → ℕ → BTreeMap (String Global) Kept → Type 0
-AreSwitches viewer to kept =
+-- of each list of channels that is kept it is right where it changed last, after one place up to another, whether a document in them
+-- is shown
+abbrev pub AreSwitches : Viewer → ℕ → ℕ → BTreeMap (String Global) Kept → Type 0
+AreSwitches viewer start to kept =
     (text : List ℕ) (one : Kept) → get_by_text kept text ≡ Some one
-    → IsLastSwitch (is_shown viewer.periods.now viewer.filter.now one.channels.now) 0 to one.last
+    → IsLastSwitch (is_shown viewer.periods.now viewer.filter.now one.channels.now) start to one.last

@@ -1,13 +1,14 @@
 //! The rows that are asked for, out of what a pass over the log knows of documents.
 
-ghost use Rattle.std.specs.Prelude.{◌≡◌, List, Option, is_some, length, map, reverse, OnOk, IfOk};
+ghost use Rattle.std.specs.Prelude.{◌≡◌, ◌≤◌, List, Option, is_some, length, map, max, reverse, OnOk, IfOk};
 ghost use Rattle.std.specs.BTreeMap.{values};
 ghost use Rattle.sg_history.specs.declared.entries.Entry.{Entry};
 ghost use Rattle.sg_history.specs.declared.row.Row.{Row};
 ghost use Rattle.sg_history.specs.Feed as feed;
 ghost use Rattle.sg_history.specs.View.{Shown};
 ghost use Rattle.grant_history.specs.NewStates.{AreNewStates};
-ghost use Rattle.feed_rows.specs.Known.{known_at, known_in, row_in};
+ghost use Rattle.feed_rows.specs.Known.{from_on, row_in};
+ghost use Rattle.feed_rows.specs.KnownDocuments.{AreKnown, HaveAll};
 ghost use Rattle.feed_rows.specs.Ordered.{asked_rows, insert_asked, insert_over, under_key};
 ghost use Rattle.feed_rows.specs.PassAt.{IsViewer};
 ghost use Rattle.feed_rows.specs.Lasting.{AreToSearch};
@@ -17,7 +18,7 @@ use crate::document::{Change, Document, change_at};
 use crate::pass::pass_over;
 use crate::shown::Viewer;
 use grant_history::NewStates;
-use sg_history::{DocId, Entry, Key, Options, Row};
+use sg_history::{DocId, Entry, Key, Options, Row, Rows};
 use std::alloc::{AllocError, Global};
 use std::collections::BTreeMap;
 
@@ -130,27 +131,27 @@ fn add_row(
     put_row(row, rows)
 }
 
-/// The rows of these documents that are asked for, after some entries.
+/// The rows of these documents that are asked for, of which those from one place up to another are known.
 fn map_of(
     alloc: Global,
     viewer: &Viewer<'_>,
-    options: &Options,
-    since: &Key,
-    entries: &[Entry],
     documents: &[Document<'_>],
+    from: u64,
+    to: u64,
+    since: &Key,
+    options: &Options,
 ) -> Result<BTreeMap<(u64, u64), Row>, AllocError>
-    requires viewer { IsViewer viewer.now (reverse entries.now) }
-    requires known { map known_in documents.now ≡ map (known_at (reverse entries.now)
-        viewer.now.user.now viewer.now.filter.now) (map (λ d. d.name.now) documents.now) }
-    ensures { IfOk result (λ rows. rows.entries ≡ map under_key
-        (asked_rows options.now since.now (reverse (map (λ d. feed.row_of (reverse entries.now)
-        viewer.now.user.now viewer.now.filter.now d.name.now) documents.now)))) }
+    requires { AreToSearch viewer.now.periods.now }
+    ensures { IfOk result (λ rows. (es : List Entry) → to ≡ length es
+        → AreKnown viewer.now from es documents.now
+        → rows.entries ≡ map under_key (asked_rows options.now since.now
+        (reverse (map (λ d. from_on from (feed.row_of es
+        viewer.now.user.now viewer.now.filter.now d.name.now)) documents.now)))) }
 {
-    let to = entries.len() as u64;
     let mut switches = Switches::new(alloc);
     let mut rows = BTreeMap::new(alloc);
     for document in documents {
-        let change = change_at(alloc, viewer, &mut switches, *document, to)?;
+        let change = change_at(alloc, viewer, &mut switches, *document, from, to)?;
         add_row(alloc, options, since, document.name, change, &mut rows)?;
     }
     Ok(rows)
@@ -162,6 +163,31 @@ fn values_of(alloc: Global, rows: BTreeMap<(u64, u64), Row>) -> Result<Vec<Row>,
     rows.into_values().collect(alloc)
 }
 
+/// The rows of a user's changes feed after a since key, by what is known of documents: of each its changes from one
+/// place on, which is that of the key or before it, up to another one, which is the front. They have to be all the
+/// documents of which a row is asked for; others may be among them.
+pub fn rows_of_documents(
+    alloc: Global,
+    viewer: &Viewer<'_>,
+    documents: &[Document<'_>],
+    from: u64,
+    to: u64,
+    since: &Key,
+    options: &Options,
+) -> Result<Rows, AllocError>
+    requires to_search { AreToSearch viewer.now.periods.now }
+    requires filter { options.now.filter ≡ viewer.now.filter.now }
+    requires from { from ≤ max since.now.by 1 }
+    ensures { IfOk result (λ rows. (es : List Entry) → to ≡ length es
+        → AreKnown viewer.now from es documents.now
+        → HaveAll es viewer.now.user.now since.now options.now documents.now
+        → rows ≡ feed.feed es viewer.now.user.now since.now options.now) }
+{
+    let found = map_of(alloc, viewer, documents, from, to, since, options)?;
+    let rows = values_of(alloc, found)?;
+    Ok(Rows::from_vec(rows))
+}
+
 /// The rows of a user's changes feed at the end of some entries, by one pass over them, given the new states
 /// from them on.
 pub fn rows_of_pass(
@@ -171,16 +197,16 @@ pub fn rows_of_pass(
     states: &NewStates,
     since: &Key,
     options: &Options,
-) -> Result<Vec<Row>, AllocError>
+) -> Result<Rows, AllocError>
     requires states { AreNewStates entries.now states.now (length entries.now) }
     requires viewer { IsViewer viewer.now (reverse entries.now) }
     requires filter { options.now.filter ≡ viewer.now.filter.now }
-    ensures { IfOk result (λ rows. rows.items ≡ feed.feed
+    ensures { IfOk result (λ rows. rows ≡ feed.feed
         (reverse entries.now) viewer.now.user.now since.now options.now) }
 {
     let pass = pass_over(alloc, viewer, entries, states)?;
+    let to = entries.len() as u64;
     let documents = pass.documents.as_slice();
-    let found = map_of(alloc, viewer, options, since, entries, documents)?;
-    let rows = values_of(alloc, found)?;
+    let rows = rows_of_documents(alloc, viewer, documents, 1, to, since, options)?;
     Ok(rows)
 }

@@ -1,6 +1,6 @@
-//! Where it changed last whether documents in the same channels are shown, up to one place.
+//! Where it changed last whether documents in the same channels are shown, after one place up to another.
 
-ghost use Rattle.std.specs.Prelude.{◌≡◌, ℕ, Bool, true, IfOk, OnOk, IfSome, Some};
+ghost use Rattle.std.specs.Prelude.{◌≡◌, ℕ, Bool, true, max, IfOk, OnOk, IfSome, Some};
 ghost use Rattle.std.specs.BTreeMap.{get_by_text};
 ghost use Rattle.feed_rows.specs.Lasting.{AreToSearch};
 ghost use Rattle.feed_rows.specs.Shown.{AreSwitches, IsLastSwitch, is_shown};
@@ -24,13 +24,13 @@ pub struct Switches<'a> {
     pub kept: BTreeMap<String, Kept<'a>>,
 }
 
-/// The last place after one at which it changed, given the last one of all.
-pub fn switch_after(last: Option<Switch>, from: u64) -> Option<Switch>
-    ensures { (test : ℕ → Bool) (to : ℕ) → IsLastSwitch test 0 to last
-        → IsLastSwitch test from to result }
+/// The last place after one at which it changed, given the last one after another one.
+pub fn switch_after(last: Option<Switch>, place: u64) -> Option<Switch>
+    ensures { (test : ℕ → Bool) (start to : ℕ) → IsLastSwitch test start to last
+        → IsLastSwitch test (max place start) to result }
 {
     match last {
-        Some(switch) if switch.by > from => Some(switch),
+        Some(switch) if switch.by > place => Some(switch),
         _ => None,
     }
 }
@@ -80,9 +80,10 @@ fn put<'a>(
     text: String,
     kept: Kept<'a>,
 ) -> Result<(), AllocError>
-    ensures { OnOk result ((viewer : shown.Viewer) (to : ℕ) → AreSwitches viewer to map.old
-        → IsLastSwitch (is_shown viewer.periods.now viewer.filter.now kept.entry.channels.now) 0 to
-        kept.entry.last → AreSwitches viewer to map.new) }
+    ensures { OnOk result ((viewer : shown.Viewer) (start to : ℕ)
+        → AreSwitches viewer start to map.old
+        → IsLastSwitch (is_shown viewer.periods.now viewer.filter.now kept.entry.channels.now)
+        start to kept.entry.last → AreSwitches viewer start to map.new) }
 {
     map.insert(text, kept)?;
     Ok(())
@@ -91,27 +92,29 @@ fn put<'a>(
 impl<'a> Switches<'a> {
     /// Nothing is kept. Allocates nothing.
     pub fn new(alloc: Global) -> Switches<'a>
-        ensures { (viewer : shown.Viewer) (to : ℕ) → AreSwitches viewer to result.kept }
+        ensures { (viewer : shown.Viewer) (start to : ℕ)
+            → AreSwitches viewer start to result.kept }
     {
         Switches {
             kept: BTreeMap::new(alloc),
         }
     }
 
-    /// The last place, up to the one of all that is kept, at which it changed whether a document in these
-    /// channels is shown.
+    /// The last place, after the first and up to the last one of all that is kept, at which it changed whether a
+    /// document in these channels is shown.
     pub fn last(
         &mut self,
         alloc: Global,
         viewer: &Viewer<'_>,
         channels: &'a Channels,
+        start: u64,
         to: u64,
     ) -> Result<Option<Switch>, AllocError>
         requires to_search { AreToSearch viewer.now.periods.now }
-        requires kept { AreSwitches viewer.now to self.old.kept }
-        ensures kept { OnOk result (AreSwitches viewer.now to self.new.kept) }
+        requires kept { AreSwitches viewer.now start to self.old.kept }
+        ensures kept { OnOk result (AreSwitches viewer.now start to self.new.kept) }
         ensures last { IfOk result (λ last. IsLastSwitch (is_shown viewer.now.periods.now
-            viewer.now.filter.now channels.now) 0 to last) }
+            viewer.now.filter.now channels.now) start to last) }
     {
         let names = channels.as_slice();
         let text = text_of(alloc, names)?;
@@ -119,7 +122,7 @@ impl<'a> Switches<'a> {
             drop(text);
             return Ok(kept.last);
         }
-        let last = last_switch(viewer, channels, 0, to);
+        let last = last_switch(viewer, channels, start, to);
         let kept = Kept {
             channels: names,
             last,

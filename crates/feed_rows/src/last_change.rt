@@ -9,18 +9,19 @@ ghost use Rattle.sg_history.specs.Feed.{row_of};
 ghost use Rattle.log_index.specs.declared.documents.Document.{Document};
 ghost use Rattle.log_index.specs.Index.{Indexes};
 ghost use Rattle.log_index.specs.Places.{before_at, document_at};
+ghost use Rattle.log_views.specs.At.{write_at};
 ghost use Rattle.feed_rows.specs.Known.{row_before, since_renewed};
-ghost use Rattle.feed_rows.specs.LastChange.{IsFound, Stood, place_in};
-ghost use Rattle.feed_rows.specs.Latest.{current_in, since_in};
+ghost use Rattle.feed_rows.specs.LastChange.{IsFound, IsWinning, Stood, place_in};
+ghost use Rattle.feed_rows.specs.Latest.{current_in, since_in, winner_in};
 ghost use Rattle.feed_rows.specs.PassAt.{IsViewer};
 ghost use Rattle.feed_rows.specs.Lasting.{AreToSearch};
 
 use crate::document::{Latest, shows_write, was_shown};
 use crate::shown::{Viewer, last_switch, lasting_shown};
 use log_index::{Document, LogIndex};
-use log_views::{effects_at, write_at};
+use log_views::{EffectsOf, effects_at, write_at};
 use sg_history::laws::currents;
-use sg_history::{DocId, Entry};
+use sg_history::{DocId, Entry, Write};
 
 /// The place of the last change, or that it is the last one up to an earlier place, after which the
 /// document stood so.
@@ -28,6 +29,24 @@ use sg_history::{DocId, Entry};
 pub enum Found {
     At(u64),
     Before(Option<Document>, u64),
+}
+
+/// What a document is that stands there, by its winner's write and the effects of that.
+pub fn latest_by<'a>(document: Document, write: &'a Write, effects: EffectsOf<'a>) -> Latest<'a>
+    ensures { (entries : List Entry) (to : ℕ) (doc : List ℕ) → to ≤ length entries
+        → Some document ≡ document_at (past entries to) doc
+        → IsWinning (past entries to) document.winning write.now effects.entry
+        → write_at entries document.winning ≡ Some write.now
+        → (Some (winner_in result) ≡ current (past entries to) doc)
+        × (result.since ≡ length (since_renewed (past entries to) doc))
+        × (result.write.now.doc ≡ doc) }
+{
+    Latest {
+        seq: document.last,
+        since: document.last.max(effects.since),
+        write,
+        effects,
+    }
 }
 
 fn latest_at<'a>(
@@ -44,12 +63,7 @@ fn latest_at<'a>(
 {
     let write = write_at(entries, document.winning)?;
     let effects = effects_at(index, entries, document.winning, to)?;
-    Some(Latest {
-        seq: document.last,
-        since: document.last.max(effects.since),
-        write,
-        effects,
-    })
+    Some(latest_by(document, write, effects))
 }
 
 /// A document by where it stood after some entries.

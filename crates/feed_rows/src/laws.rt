@@ -1,15 +1,19 @@
 //! Laws of the feed. Each is the contract of a function that does nothing.
 
-ghost use Rattle.std.specs.Prelude.{◌≡◌, ◌⊎◌, ◌↔◌, ◌<◌, ◌≤◌, ◌++◌, ◌∷◌, [], ◌||◌, not, nat_eq, ℕ, List, length, IsTrue, Option, Some, None};
+ghost use Rattle.std.specs.Prelude.{◌≡◌, ◌⊎◌, ◌↔◌, ◌<◌, ◌≤◌, ◌++◌, ◌∷◌, [], ◌||◌, false, not, nat_eq, ℕ, List, length, IsTrue, Option, Some, None};
 ghost use Rattle.sg_names.specs.declared.key.Key.{Key};
 ghost use Rattle.sg_history.specs.declared.entries.Entry.{Entry};
 ghost use Rattle.sg_history.specs.declared.row.Row.{Row};
 ghost use Rattle.sg_history.specs.declared.row.Options.{Options};
 ghost use Rattle.sg_history.specs.History.{past};
+ghost use Rattle.sg_history.specs.Current.{current};
 ghost use Rattle.sg_history.specs.Feed.{feed, row_of, is_gone};
 ghost use Rattle.sg_history.specs.View.{view};
 ghost use Rattle.sg_history.specs.Device.{held_after, shown_to, plain, DeviceTurn, IsRun, TakesAll, state_after, live};
+ghost use Rattle.feed_rows.specs.Known.{from_on, known_from, renews, row_before, since_renewed};
 ghost use Rattle.feed_rows.specs.Laws.{HasRow, IsAskedFor, IsBelow, Rising, all_of, WasSent, IsAhead};
+
+use sg_history::laws::currents;
 
 /// A feed has exactly the rows of documents that are asked for, and of each document at most one.
 pub fn members()
@@ -79,3 +83,27 @@ pub fn device()
         ((state_after user options (last ∷ earlier)).copy doc) ≡ live options
         (shown_to (past last.history last.front) user options.filter doc) }
 {}
+
+/// Rising rows that are exactly those of documents that are asked for are the feed.
+pub fn only()
+    ensures { (es : List Entry) (user : List ℕ) (since : Key) (options : Options) (rows : List Row)
+        → Rising rows → ((row : Row) → HasRow rows row ↔ IsAskedFor es user since options row)
+        → rows ≡ feed es user since options }
+{}
+
+/// An entry that does not renew a document leaves what is known of it as it is. Of one that was not renewed from a
+/// place on no change from there on is known. One that is nothing was never renewed.
+pub fn known()
+    ensures current { (e : Entry) (es : List Entry) (doc : List ℕ) → renews e es doc ≡ false
+        → current (e ∷ es) doc ≡ current es doc }
+    ensures same { (from : ℕ) (e : Entry) (es : List Entry) (user : List ℕ)
+        (filter : Option (List (List ℕ))) (doc : List ℕ) → renews e es doc ≡ false
+        → known_from from (e ∷ es) user filter doc ≡ known_from from es user filter doc }
+    ensures none { (from : ℕ) (es : List Entry) (user : List ℕ)
+        (filter : Option (List (List ℕ))) (doc : List ℕ) → length (since_renewed es doc) < from
+        → from_on from (row_before es user filter doc) ≡ None }
+    ensures never { (es : List Entry) (doc : List ℕ) → current es doc ≡ None
+        → 0 ≡ length (since_renewed es doc) }
+{
+    currents();
+}

@@ -13,7 +13,9 @@ mod pass;
 mod scan;
 mod shown;
 
+pub use asked::rows_of_documents;
+pub use document::{Change, Document, Latest, bring_up_at};
 pub use granted::channels_of;
-pub use last_change::changed_last_at;
+pub use last_change::{changed_last_at, latest_by};
 pub use scan::{rows, viewer_of};
 pub use shown::Viewer;

@@ -83,7 +83,7 @@ fn take_write<'a>(
         return Ok(());
     };
     let place = place_for(&mut pass.documents, &mut pass.places, &write.doc)?;
-    bring_up_at(viewer, &mut pass.documents, place, latest);
+    bring_up_at(viewer, &mut pass.documents, place, 1, latest);
     Ok(())
 }
 
@@ -143,7 +143,7 @@ fn take_mark_at<'a>(
     if !is_first_mark(latest, seq, mark) {
         return;
     }
-    bring_up_at(viewer, documents, place, marked(latest, seq, mark));
+    bring_up_at(viewer, documents, place, 1, marked(latest, seq, mark));
 }
 
 /// Takes a mark of the entry of a sequence.

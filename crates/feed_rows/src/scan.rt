@@ -16,16 +16,17 @@ use crate::laws;
 use crate::shown::Viewer;
 use grant_history::{NewStates, Period, new_states, periods_by};
 use log_views::Filter;
-use sg_history::{Entry, Key, Log, Name, Options, Row, Rows};
+use sg_history::{Entry, Key, Log, Name, Options, Rows};
 use std::alloc::{AllocError, Global};
 use std::cmp::Ordering;
 
-/// A user with a filter, by the periods of the user's channels. Allocates nothing.
+/// A user with a filter, by the periods of the user's channels up to a place at the front or behind it. Allocates
+/// nothing.
 pub fn viewer_of<'a>(user: &'a Name, filter: &'a Filter<'a>, periods: &'a [Period]) -> Viewer<'a>
     ensures user { result.user.now ≡ user.now }
     ensures filter { result.filter.now ≡ filter.now }
-    ensures viewer { (entries : List Entry) (front : ℕ) → front ≤ length entries
-        → ArePeriods periods.now (λ c k. has_channel (past entries k) user.now c) front
+    ensures viewer { (entries : List Entry) (front last : ℕ) → front ≤ length entries → front ≤ last
+        → ArePeriods periods.now (λ c k. has_channel (past entries k) user.now c) last
         → AreInOrder periods.now → IsViewer result (past entries front) }
 {
     Viewer {
@@ -44,10 +45,10 @@ fn rows_of(
     filter: &Filter<'_>,
     since: &Key,
     options: &Options,
-) -> Result<Vec<Row>, AllocError>
+) -> Result<Rows, AllocError>
     requires states { AreNewStates entries.now states.now (length entries.now) }
     requires filter { options.now.filter ≡ filter.now }
-    ensures { IfOk result (λ rows. rows.items ≡ feed.feed
+    ensures { IfOk result (λ rows. rows ≡ feed.feed
         (reverse entries.now) user.now since.now options.now) }
 {
     let periods = periods_by(alloc, entries, states, user)?;
@@ -88,6 +89,5 @@ pub fn rows(
     let entries = &log.entries.as_slice()[..front as usize];
     let states = new_states(alloc, entries)?;
     let filter = Filter::new(alloc, &options.filter)?;
-    let rows = rows_of(alloc, entries, &states, user, &filter, since, options)?;
-    Ok(Rows::from_vec(rows))
+    rows_of(alloc, entries, &states, user, &filter, since, options)
 }

@@ -10,7 +10,7 @@ pub returns : goal.returns
 returns c =
     let log = c.args.board.now.log in
     record {
-      index = c.index.ensures log c.requires.stands c.requires.applied;
+      index = c.index.ensures.whole log c.requires.stands c.requires.applied;
       board_is = refl;
       entries = c.as_slice.ensures ∙ c.log.ensures.log;
       sorted = c.in_ok-channels.ensures.sorted;
@@ -20,5 +20,5 @@ returns c =
       filter_is = refl;
       of_user = c.viewer_of.ensures.user;
       by_filter = c.viewer_of.ensures.filter;
-      viewer = λ periods order. subst (λ (es : List Entry). IsViewer c.viewer_of.result es) (whole log) (c.viewer_of.ensures.viewer log (length log) (omega arith) periods order);
+      viewer = λ periods order. subst (λ (es : List Entry). IsViewer c.viewer_of.result es) (whole log) (c.viewer_of.ensures.viewer log (length log) (length log) (omega arith) (omega arith) periods order);
     }

@@ -1,9 +1,8 @@
-use Rattle.std.proofs.Common.{◌≡◌, ◌∙◌, ◌-◌, ◌<◌, ◌&&◌, refl, sym, ap, subst, arith, ℕ, Bool, true, false, length}
-use Rattle.std.specs.Prelude.{is_some, nat_eq}
+use Rattle.std.proofs.Common.{◌≡◌, ◌∙◌, ◌-◌, ◌&&◌, refl, sym, ap, arith, ℕ, true, false}
+use Rattle.std.specs.Prelude.{nat_eq}
 use Rattle.log_index.specs.Places.{document_at}
 use Rattle.sg_history.specs.Current.{current}
 use Rattle.sg_history.specs.History.{past}
-use Rattle.sg_history.specs.View.{view}
 use Rattle.feed_rows.specs.LastChange.{place_in}
 use Rattle.feed_rows.proofs.LastChanges.{earlier, found_before, found_shown, found_turned, since_is_next, stood_so, viewer_before}
 use Rattle.feed_rows.proofs.last_change.found_by_renewal.Goals as goal

@@ -1,6 +1,5 @@
-use Rattle.std.proofs.Common.{◌≡◌, ◌≤◌, ◌∙◌, sym, ap, arith, length}
+use Rattle.std.proofs.Common.{◌≡◌, ◌∙◌, sym, ap, arith, length}
 use Rattle.sg_history.specs.History.{past}
-use Rattle.log_index.specs.Index.{Indexes}
 use Rattle.feed_rows.specs.Known.{since_renewed}
 use Rattle.feed_rows.specs.LastChange.{place_by}
 use Rattle.feed_rows.specs.Latest.{current_in, since_in, winner_in}

@@ -1,7 +1,5 @@
-use Rattle.std.proofs.Common.{◌∙◌, sym, ap, length, Option}
-use Rattle.sg_history.specs.Current.{Current}
+use Rattle.std.proofs.Common.{◌∙◌, sym}
 use Rattle.sg_history.specs.History.{past}
-use Rattle.feed_rows.specs.Known.{since_renewed}
 use Rattle.feed_rows.proofs.LastChanges.{latest_none, never_renewed}
 use Rattle.feed_rows.proofs.last_change.latest_of.Goals as goal
 

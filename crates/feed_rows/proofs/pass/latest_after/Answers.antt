@@ -1,13 +1,12 @@
-use Rattle.std.proofs.Common.{◌≡◌, ◌∙◌, ◌+◌, ℕ, List, reverse, take, sym, ap, refl, arith, Option, Some, None}
+use Rattle.std.proofs.Common.{◌∙◌, ◌+◌, reverse, take, sym, ap, refl}
 use Rattle.std.specs.Prelude.{option_map}
 use Rattle.std.specs.Option.{option_copied}
 use Rattle.std.proofs.lemmas.Option.{none-some, same_Some}
-use Rattle.sg_history.specs.declared.entries.Entry.{Entry}
 use Rattle.log_index.specs.Marks.{effects_by, marked_after}
 use Rattle.log_views.specs.At.{write_at}
 use Rattle.log_views.specs.States.{effects_in}
 use Rattle.grant_history.specs.declared.states.NewState.{NewState}
-use Rattle.feed_rows.proofs.Winners.{es, found, state_there, winner_is, won}
+use Rattle.feed_rows.proofs.Winners.{found, state_there, winner_is, won}
 use Rattle.feed_rows.proofs.pass.latest_after.Goals as goal
 
 pub returns-in_err-state : goal.returns-in_err-state

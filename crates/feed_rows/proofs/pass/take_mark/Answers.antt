@@ -1,8 +1,7 @@
 use Rattle.std.proofs.Common.{◌≡◌, ◌∙◌, map, sym, ap, subst, ℕ, List, Option, Some, false}
 use Rattle.std.specs.Prelude.{slice_get}
 use Rattle.sg_history.specs.History.{among}
-use Rattle.feed_rows.specs.Index.{place_in}
-use Rattle.feed_rows.specs.Known.{PlacedBy, written_names}
+use Rattle.feed_rows.specs.Known.{PlacedBy}
 use Rattle.feed_rows.proofs.Amid.{absent, names_amid}
 use Rattle.feed_rows.proofs.Indexes.{below}
 use Rattle.feed_rows.proofs.pass.take_mark.Goals as goal

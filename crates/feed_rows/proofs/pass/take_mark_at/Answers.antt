@@ -1,4 +1,4 @@
-use Rattle.std.proofs.Common.{◌≡◌, ◌∙◌, ◌<◌, [], ap, get_or, map, refl, sym, List, Option, None, Some}
+use Rattle.std.proofs.Common.{◌≡◌, ◌∙◌, [], ap, get_or, map, refl, sym, List, Option, None, Some}
 use Rattle.feed_rows.specs.declared.document.Document.{Document}
 use Rattle.feed_rows.specs.declared.document.Latest.{Latest}
 use Rattle.feed_rows.specs.declared.pass.Pass.{Pass}

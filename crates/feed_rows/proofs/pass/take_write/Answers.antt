@@ -1,4 +1,4 @@
-use Rattle.std.proofs.Common.{◌≡◌, ◌+◌, ◌∙◌, arith, refl, sym, ap, subst, reverse, length, List, ℕ, Option, Some, None}
+use Rattle.std.proofs.Common.{◌≡◌, ◌+◌, ◌∙◌, arith, refl, sym, ap, subst, reverse, List, ℕ, Option, Some, None}
 use Rattle.std.proofs.lemmas.List.{length-reverse}
 use Rattle.sg_history.specs.declared.entries.Entry.TheVariants as entry
 use Rattle.feed_rows.specs.declared.document.Latest.{Latest}

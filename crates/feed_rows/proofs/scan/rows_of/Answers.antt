@@ -15,4 +15,4 @@ rows_of_pass-rows-requires-clause-viewer c =
     (sym c.as_slice.ensures) c.in_ok-periods.ensures.periods in
     let order = subst (λ (ps : List Period). AreInOrder ps) (sym c.as_slice.ensures) c.in_ok-periods.ensures.in_order in
     subst (λ (es : List Entry). IsViewer c.viewer_of-viewer.result (reverse es)) (take_all entries)
-    (c.viewer_of-viewer.ensures.viewer entries (length entries) (omega arith) periods order)
+    (c.viewer_of-viewer.ensures.viewer entries (length entries) (length entries) (omega arith) (omega arith) periods order)

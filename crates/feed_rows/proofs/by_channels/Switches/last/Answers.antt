@@ -4,5 +4,5 @@ use Rattle.feed_rows.proofs.by_channels.Switches.last.Goals as goal
 
 pub returns-clause-kept : goal.returns-clause-kept
 returns-clause-kept c =
-    c.in_ok-put.ensures c.args.viewer.now c.args.to c.requires.kept
-    (subst (λ (l : List (List ℕ)). IsLastSwitch (is_shown c.args.viewer.now.periods.now c.args.viewer.now.filter.now l) 0 c.args.to c.last_switch-last.result) (sym c.as_slice-names.ensures) c.last_switch-last.ensures)
+    c.in_ok-put.ensures c.args.viewer.now c.args.start c.args.to c.requires.kept
+    (subst (λ (l : List (List ℕ)). IsLastSwitch (is_shown c.args.viewer.now.periods.now c.args.viewer.now.filter.now l) c.args.start c.args.to c.last_switch-last.result) (sym c.as_slice-names.ensures) c.last_switch-last.ensures)
