@@ -1,0 +1,16 @@
+pub mod Having
+pub mod Changing
+pub mod Past
+pub mod Standing
+pub mod Stepping
+pub mod Listing
+pub mod Filled
+pub mod Passed
+pub mod Brought
+pub mod Moving
+pub mod Replacing
+pub mod Names
+pub mod AskedFor
+pub mod Keeping
+pub mod LastAsked
+pub mod Cached
