@@ -1,0 +1,16 @@
+mod Viewing
+mod Placing
+mod Reading
+mod Keeping
+mod Marking
+mod Taking
+mod Adding
+mod OneOrder
+mod Turning
+mod Loops
+mod Outcomes
+mod KeyOrder
+mod PastFront
+mod UserPeriods
+mod Complete
+mod Bounded
