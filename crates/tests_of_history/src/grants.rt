@@ -1,5 +1,8 @@
 //! What users have at a place of a journal, and in which periods.
 
+ghost use Rattle.std.specs.Prelude.{◌≡◌, length, IfOk};
+ghost use Rattle.grant_history.specs.Stands.{StandsFor};
+
 use crate::texts::{cut, number_of, write_all};
 use grant_history::{GrantHistory, Period};
 use sg_history::{Channels, Log, LogReads, Name, Names, TextFault, write_decimal};
@@ -7,7 +10,10 @@ use sg_outside::Bytes;
 use std::alloc::{AllocError, Global};
 
 /// The history of grants of a whole log.
-fn applied(alloc: Global, log: &Log) -> Result<GrantHistory, AllocError> {
+pub fn applied(alloc: Global, log: &Log) -> Result<GrantHistory, AllocError>
+    ensures stands { IfOk result (λ history. StandsFor history log.now.entries.list) }
+    ensures all { IfOk result (λ history. history.applied ≡ length log.now.entries.list) }
+{
     let mut history = GrantHistory::new(alloc);
     let mut reads = LogReads::new(log);
     let length = reads.length();

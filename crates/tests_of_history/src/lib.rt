@@ -1,4 +1,4 @@
-//! Tests of what no clause says of names, journals, grants, feeds, scripts, gates and the outside.
+//! Tests of what no clause says of names, journals, grants, channels, feeds, scripts, gates and the outside.
 #![tactic(auto)]
 
 #[cfg(test)]
@@ -9,6 +9,8 @@ mod fronts;
 mod grants;
 #[cfg(test)]
 mod journals;
+#[cfg(test)]
+mod listed;
 #[cfg(test)]
 mod names;
 #[cfg(test)]

@@ -2,6 +2,7 @@
 
 use crate::feeds::{write_all_channels, write_feed_of};
 use crate::grants::{write_periods_of, write_state_of};
+use crate::listed::{write_asks_of, write_lists_of};
 use crate::texts::{cut, tabbed};
 use sg_history::{Log, TextFault, read_journal};
 use sg_outside::Bytes;
@@ -33,7 +34,11 @@ winner=sgjournal 1;U|ann|-|-;W|g|1-a|-|0|7b7d|-|1|1-a|-|ann=A|-;W|g|1-b|-|0|7b7d
 before_the_user=sgjournal 1;W|g|1-a|-|0|7b7d|-|0|1-a|-|ann=A|-;U|ann|-|-;\n\
 comes_and_goes=sgjournal 1;U|ann|-|-;W|g|1-a|-|0|7b7d|-|1|1-a|-|ann=B|-;W|g|2-a|1-a|0|7b7d|-|2|2-a|-|-|-;W|g|3-a|2-a|0|7b7d|-|3|3-a|-|ann=B|-;W|g|4-a|3-a|0|7b7d|-|4|4-a|-|-|-;W|g|5-a|4-a|0|7b7d|-|5|5-a|-|ann=B|-;\n\
 dropped_twice=sgjournal 1;U|bob|A|-;DU|bob;U|bob|A|-;DU|bob;U|bob|B|-;\n\
-each_role_its_own=sgjournal 1;R|one|C;R|two|D;U|ann|-|one,two;DR|two;";
+each_role_its_own=sgjournal 1;R|one|C;R|two|D;U|ann|-|one,two;DR|two;\n\
+replaced=sgjournal 1;U|ann|A|-;W|d1|1-a|-|0|7b7d|-|1|1-a|A|-|-;S|7b7d|d1|1-a|B|-|-;\n\
+replaced_and_put=sgjournal 1;U|ann|A|-;W|d1|1-a|-|0|7b7d|-|1|1-a|A|-|-;S|7b7d|d1|1-a|B|-|-;U|ann|A,B|-;\n\
+conflict_replaced=sgjournal 1;U|ann|A|-;W|d1|1-a|-|0|7b7d|-|1|1-a|A|-|-;W|d1|1-b|-|0|7b7d|-|2|1-b|B|-|-;S|7b7d|d1|1-a|C|-|-|d1|1-b|A|-|-;W|d1|2-c|1-b|1|7b7d|-|4|1-a|-|-|-;\n\
+all_replaced=sgjournal 1;U|ann|A|-;W|d2|1-b|-|0|7b7d|-|1|1-b|A|-|-;W|d3|1-c|-|0|7b7d|-|2|1-c|B|-|-;W|d1|1-a|-|0|7b7d|-|3|1-a|A|-|-;S|7b7d|d1|1-a|B|-|-|d2|1-b|B|-|-|d3|1-c|-|-|-;";
 
 /// The text of a worked journal.
 fn journal_of(name: &str) -> &'static str {
@@ -55,7 +60,9 @@ pub fn log_of(alloc: Global, text: &str) -> Result<Log, Fail> {
 /// What is answered of worked journals, one a line: the call, the journal, what is asked, and the answer. It is asked for the periods
 /// of a user, what a user has at a place (channels, a bar and roles), a user's channels at a front, and the feed of a user after a
 /// key: `active` where deleted documents are left out, `revocations` where ended grants are rows, `plain` where neither, and the
-/// channels of a filter.
+/// channels of a filter. Of channels that are asked for in turn, each at a place, where so many may be kept, it is asked for the
+/// documents of each with the sequences of their last writes, and whether it was filled; or for the sequences in several channels
+/// at a time, and how many of these were filled.
 const ANSWERS: &str = "\
 periods none ann>\n\
 periods backfill ann>! 1-;A 1-;B 5-;\n\
@@ -111,7 +118,41 @@ rows revocation ann 2 plain>\n\
 rows backfill ann 0 revocations B>5:2 d1 1-a 0;5:3 d2 1-b 0;\n\
 rows first ann 0 revocations *>2 d1 1-a 0;4 d3 1-c 0;\n\
 rows first ann 0 revocations !>4 d3 1-c 0;\n\
-rows first ann 0 revocations B>";
+rows first ann 0 revocations B>\n\
+list first 1 *@4 !@4 *@3 A@4 B@4 C@4>filled d1:2 d2:3 d3:4;filled d3:4;filled d1:2 d2:3;filled d1:2;filled d2:3;filled;\n\
+list first 16 A@0 *@0 A@0 A@4 *@4 A@2 A@4>filled;filled;kept;kept d1:2;kept d1:2 d2:3 d3:4;filled d1:2;kept d1:2;\n\
+list backfill 1 A@5 A@5 B@5 A@5>filled d3:4;kept d3:4;filled d1:2 d2:3;filled d3:4;\n\
+list backfill 1 A@4 B@4 A@5 B@5 A@0>filled d3:4;filled d1:2 d2:3;filled d3:4;filled d1:2 d2:3;filled;\n\
+list backfill 16 A@4 B@4 A@5 B@5 A@0>filled d3:4;filled d1:2 d2:3;kept d3:4;kept d1:2 d2:3;filled;\n\
+list revocation 1 A@2 B@2 A@4 B@4>filled;filled d1:2;filled;filled d1:2;\n\
+list revocation 16 A@2 B@2 A@4 B@4>filled;filled d1:2;kept;kept d1:2;\n\
+list removal 1 A@3 B@3 A@5 B@5>filled d1:2 d2:3;filled;filled;filled d1:4;\n\
+list removal 16 A@3 B@3 A@5 B@5>filled d1:2 d2:3;filled;kept;kept d1:4;\n\
+list removal 16 A@5 A@3 A@5 *@5 *@3 *@5>filled;filled d1:2 d2:3;kept;filled d1:4 d2:5;filled d1:2 d2:3;kept d1:4 d2:5;\n\
+list deleted 1 A@3 B@3 A@6 B@6>filled d1:2 d2:3;filled;filled d3:6;filled d1:4;\n\
+list deleted 16 A@3 B@3 A@6 B@6>filled d1:2 d2:3;filled;kept d3:6;kept d1:4;\n\
+list document_grant 1 A@3 B@3 A@4 B@4>filled g:3;filled d1:2;filled g:4;filled d1:2;\n\
+list document_grant 16 A@3 B@3 A@4 B@4>filled g:3;filled d1:2;kept g:4;kept d1:2;\n\
+list everything 1 A@0 *@0 A@3 *@3>filled;filled;filled d1:2;filled d1:2 d2:3;\n\
+list everything 16 A@0 *@0 A@3 *@3>filled;filled;kept d1:2;kept d1:2 d2:3;\n\
+list dropped_user 1 A@3 *@3 A@4 *@4>filled d1:2;filled d1:2 d2:3;filled d1:2;filled d1:2 d2:3;\n\
+list dropped_user 16 A@3 *@3 A@4 *@4>filled d1:2;filled d1:2 d2:3;kept d1:2;kept d1:2 d2:3;\n\
+list earlier_conflict 1 A@2 B@2 A@3 B@3>filled d1:2;filled;filled;filled d1:3;\n\
+list earlier_conflict 16 A@2 B@2 A@3 B@3>filled d1:2;filled;kept;kept d1:3;\n\
+list conflict 1 A@2 B@2 A@4 B@4>filled d1:2;filled;filled d1:4;filled;\n\
+list conflict 16 A@2 B@2 A@3 B@3 A@4 B@4>filled d1:2;filled;kept;kept d1:3;kept d1:4;kept;\n\
+list replaced 1 A@2 B@2 A@3 B@3>filled d1:2;filled;filled;filled d1:2;\n\
+list replaced 16 A@2 B@2 A@3 B@3 A@2 A@3>filled d1:2;filled;kept;kept d1:2;filled d1:2;kept;\n\
+list replaced_and_put 16 A@3 B@3 A@4 B@4>filled;filled d1:2;kept;kept d1:2;\n\
+list conflict_replaced 1 C@5 B@5 A@5 A@4>filled d1:5;filled;filled;filled d1:3;\n\
+list conflict_replaced 16 A@3 B@3 C@3 A@4 B@4 C@4 A@5 B@5 C@5>filled;filled d1:3;filled;kept d1:3;kept;kept;kept;kept;kept d1:5;\n\
+list all_replaced 16 A@4 B@4 A@5 B@5 *@5>filled d2:2 d1:4;filled d3:3;kept;kept d2:2 d1:4;filled d2:2 d3:3 d1:4;\n\
+ask first 1 A,B@0 B@4>2:;0: 3;\n\
+ask backfill 1 A,B@5 B@5 A@5 A,B@4>2: 2 3 4;0: 2 3;1: 4;2: 2 3 4;\n\
+ask backfill 2 A,B,*@5 B,A@5 *@5 A,A@5>3: 2 3 4;1: 2 3 4;1: 2 3 4;0: 4;\n\
+ask removal 1 A,B,A@3 A,B,A@5>3: 2 3;2: 4;\n\
+ask conflict 16 A,B@2 A,B@3 A,B@4>2: 2;0: 3;0: 4;\n\
+ask all_replaced 2 A,B@4 A,B@5 *@5>2: 2 3 4;0: 2 4;1: 2 3 4;";
 
 fn write_answer(
     alloc: Global,
@@ -124,6 +165,8 @@ fn write_answer(
         "periods" => write_periods_of(alloc, log, asked, text),
         "state" => write_state_of(alloc, log, asked, text),
         "channels" => write_all_channels(alloc, log, asked, text),
+        "list" => write_lists_of(alloc, log, asked, text),
+        "ask" => write_asks_of(alloc, log, asked, text),
         _ => write_feed_of(alloc, log, asked, text),
     }
 }
