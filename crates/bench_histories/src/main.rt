@@ -1,11 +1,11 @@
 //! Does work of histories, gates and the sync language, so that what it takes can be measured from outside. The first word is the job.
 //! `draw`, `turn` and `lock` take how many threads and how often; `set` and `get` besides how many clients have checkpoints for each
 //! thread, and `keep` how many bytes they have and how many there are. All others take a file: `entries`, `apply`, `channels`, `roles` and
-//! `periods` a journal and how often, `look` too; `propose`, `pull`, `lose`, `filter` and `names` a journal and how many; `extend`,
-//! `repeat`, `deny`, `offer` and `bodies` besides a leaf of its document `d`; `share`, `share_costly` and `wait` besides how many threads;
-//! `parse`, `print`, `resolve` and `fault` a function and how often; `judge`, `judge_user`, `judge_change` and `judge_both` besides a
-//! document, `member` the name of a member, how often and a document, and `plain_channels`, `plain_count` and `plain_pass` any file, how
-//! often and a document.
+//! `periods` a journal and how often, `look` too; `list` besides two asks for channels, `CHANNELS@PLACE CHANNELS@PLACE`; `propose`, `pull`,
+//! `lose`, `filter` and `names` a journal and how many; `extend`, `repeat`, `deny`, `offer` and `bodies` besides a leaf of its document `d`;
+//! `share`, `share_costly` and `wait` besides how many threads; `parse`, `print`, `resolve` and `fault` a function and how often; `judge`,
+//! `judge_user`, `judge_change` and `judge_both` besides a document, `member` the name of a member, how often and a document, and
+//! `plain_channels`, `plain_count` and `plain_pass` any file, how often and a document.
 #![tactic(auto)]
 
 mod checkpoints;
@@ -13,6 +13,7 @@ mod functions;
 mod grants;
 mod grounds;
 mod judging;
+mod lists;
 mod passes;
 mod sharing;
 mod stop;
@@ -98,6 +99,18 @@ fn shared<R: Threads + Wait + Clock + Sync, F: Files>(
     text_of(alloc, found)
 }
 
+/// How often an ask for channels reads the log, and how many nanoseconds that takes.
+fn listed<R: Clock, F: Files>(
+    rt: &R,
+    alloc: Global,
+    files: &mut F,
+    asked: &Asked,
+) -> Result<String, Stop> {
+    let journal = load(alloc, files, asked.of.as_str())?;
+    let took = lists::job(rt, alloc, journal, asked.document.as_str(), asked.count)?;
+    Ok(format!(in alloc; "{} {}", took.reads, took.nanoseconds)?)
+}
+
 /// What comes of a function of the sync language.
 fn of_function<F: Files>(
     alloc: Global,
@@ -173,6 +186,7 @@ fn run<R: Threads + Wait + Clock + Sync, F: Files>(
         "draw" | "turn" | "lock" => Ok(of_passes(rt, alloc, asked)?),
         "set" | "get" | "keep" => of_checkpoints(rt, alloc, asked),
         "judge_both" => judged_by_two(rt, alloc, files, asked),
+        "list" => listed(rt, alloc, files, asked),
         "share" | "share_costly" | "wait" | "look" => shared(rt, alloc, files, asked),
         _ => of_file(alloc, files, asked),
     }
