@@ -91,6 +91,7 @@ fn no_memory(text: &[u8]) -> TextFault
 
 /// Puts the bytes of a text of digits in pairs at the end, up to one that has another byte, or for which there
 /// is no memory.
+#[inline(always)]
 fn read_while(text: &[u8], out: &mut Bytes) -> Result<(), TextFault>
     requires { length text.now % 2 ≡ 0 }
     ensures ok { OnOk result (HasRead text.now (length text.now / 2) out.old out.new) }
@@ -115,6 +116,7 @@ fn read_while(text: &[u8], out: &mut Bytes) -> Result<(), TextFault>
 
 /// Puts the bytes of a text at the end: `Bad` exactly where it is empty, odd in length or has a byte that is
 /// no lower-case hexadecimal digit. A refusal leaves `out` as it was.
+#[inline(always)]
 pub fn from_hex(text: &[u8], out: &mut Bytes) -> Result<(), TextFault>
     ensures ok { OnOk result ((bytes : List ℕ) × (text.now ≡ hex.hex_text bytes)
         × (out.new ≡ out.old ++ bytes)) }
