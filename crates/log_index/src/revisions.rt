@@ -10,6 +10,7 @@ ghost use Rattle.log_index.specs.Representation.{first_in, repeat_at, seq_in};
 use sg_history::RevId;
 use std::alloc::{AllocError, Global};
 use std::collections::BTreeMap;
+use std::collections::btree_map::Entry;
 
 /// The sequences of revisions' writes: by the sequence of their document's first write, the
 /// generation and the digest.
@@ -73,9 +74,16 @@ pub fn put_revision(
         → get nat_cmp repeats.new other ≡ get nat_cmp repeats.old other) }
 {
     let digest = String::from_str(alloc, rev.digest.as_str())?;
-    let key = (first, rev.generation, digest);
-    let before = revisions.get(&key).copied();
-    put_repeat(repeats, before, seq)?;
-    revisions.insert(key, seq)?;
-    Ok(())
+    match revisions.entry((first, rev.generation, digest)) {
+        Ok(Entry::Vacant(entry)) => {
+            entry.insert(seq);
+            Ok(())
+        }
+        Ok(Entry::Occupied(mut entry)) => {
+            put_repeat(repeats, Some(*entry.get()), seq)?;
+            entry.insert(seq);
+            Ok(())
+        }
+        Err(_) => Err(AllocError),
+    }
 }
