@@ -14,9 +14,6 @@ use crate::pieces::{cut, fields_of};
 use crate::put_fields::{read_name_field, read_role_fields, read_user_fields};
 use std::alloc::Global;
 
-/// The kind of a line that replaces the sync function.
-const SYNC: &str = "S";
-
 /// The most fields behind the kind of a line that has no marks.
 const MOST: usize = 11;
 
@@ -156,10 +153,11 @@ fn read_behind(alloc: Global, kind: &[u8], line: &[u8]) -> Result<Entry, LineFau
     }
 }
 
+/// Whether a line of this kind replaces the sync function.
 fn is_sync(kind: &[u8]) -> bool
     ensures { result ≡ bytes_eq kind.now (codes "S") }
 {
-    kind == SYNC.as_bytes()
+    matches!(kind, b"S")
 }
 
 /// Reads the fields of a line.

@@ -70,10 +70,9 @@ fn byte_of(high: u8, low: u8) -> Option<u8>
         × (hex.hex_digit (b % 16) ≡ low)) }
     ensures none { IfNone result ((hex.is_hex_digit high && hex.is_hex_digit low) ≡ false) }
 {
-    match (value_of(high), value_of(low)) {
-        (Some(high), Some(low)) => Some(high * 16 + low),
-        _ => None,
-    }
+    let high = value_of(high)?;
+    let low = value_of(low)?;
+    Some(high * 16 + low)
 }
 
 /// Memory ran out, where the text is one of digits, else its refusal.
