@@ -10,7 +10,7 @@ use Rattle.log_views.specs.Sorted.{AreSorted}
 use Rattle.grant_history.specs.declared.periods.Period.{Period}
 use Rattle.grant_history.specs.Periods.{ArePeriods, ArePeriodsApart, EndsBeforeLater, HavePlaces, period_has, periods_have}
 use Rattle.grant_tracks.specs.Spells.{EndsBefore, ends_after}
-use Rattle.changes_feed.specs.Bounds.{ends_within, is_bound, is_bound_of, is_within}
+use Rattle.changes_feed.specs.Bounds.{IsSteady, ends_within, is_bound, is_bound_of, is_within}
 use Rattle.changes_feed.specs.Switches.{AreSwitches, IsSwitched, has_at}
 use Rattle.changes_feed.proofs.OneOrder.{same_name}
 
@@ -251,3 +251,15 @@ no_switches entries user start front none = record {
     by : {c : List ℕ} → (¬ (1 < start)) ⊎ (front < start) → IsSwitched entries user start front c → ⊥
     by (inl begun) s = begun s.more
     by (inr past) s = omega (arith, past, s.first, s.last)
+
+-- nor where the user has the same channels from a place before the segment on
+pub none_when_steady : (entries : List Entry) (user : List ℕ) (changed start front last : ℕ) → changed < start → front ≤ last → IsSteady entries user changed last → AreSwitches [] entries user start front
+none_when_steady entries user changed start front last before behind steady = record {
+  in_order = refl;
+  are = λ c. (
+    (λ h. absurd (false≢true h)),
+    (λ s. absurd (s.turns (
+        steady s.place (omega (arith, before, s.first)) (omega (arith, s.last, behind)) c
+        ∙ sym (steady (s.place - 1) (omega (arith, before, s.first)) (omega (arith, s.last, behind)) c)))),
+  );
+}

@@ -20,12 +20,13 @@ ghost use Rattle.changes_feed.specs.Feeds.{ArePeriodsOf, FeedsStandFor, of_users
 ghost use Rattle.changes_feed.specs.Segment.{SegmentAt};
 ghost use Rattle.changes_feed.specs.Switches as switches;
 ghost use Rattle.changes_feed.specs.Switches.{AreSwitches, has_at};
+ghost use Rattle.changes_feed.specs.Bounds.{IsSteady};
 ghost use Rattle.std.specs.List.{All};
 
 use crate::listed::add_listed;
 use crate::periods::{KeptPeriods, keep_periods, take_periods};
 use crate::segment::{Segment, pass};
-use crate::switched::switched;
+use crate::switched::switched_since;
 use channel_cache::Lists;
 use feed_rows::laws::{known, order};
 use feed_rows::{Viewer, rows_of_documents, viewer_of};
@@ -251,13 +252,15 @@ fn look_at(
     rows_by(alloc, &viewer, gathered, since, front, options)
 }
 
-/// The rows of a feed by the periods of its user's channels up to a place at the front or behind it.
+/// The rows of a feed by the periods of its user's channels up to a place at the front or behind it, and a place from which on
+/// these channels are the same.
 fn look(
     alloc: Global,
     lists: &mut Lists,
     index: &LogIndex,
     log: &mut LogReads<'_>,
     periods: &[Period],
+    changed: u64,
     user: &Name,
     since: &Key,
     front: u64,
@@ -270,6 +273,8 @@ fn look(
     requires periods { (last : ℕ) × (front ≤ last)
         × ArePeriods periods.now (has_at log.old.entries user.now) last }
     requires in_order { AreInOrder periods.now }
+    requires steady { (last : ℕ) × (front ≤ last)
+        × IsSteady log.old.entries user.now changed last }
     ensures rows { IfOk result (λ advanced. advanced.rows ≡ feed
         (past log.old.entries front) user.now since.now options.now) }
     ensures switches { OnOk result ((channels : List (List ℕ)) × AreSwitches channels
@@ -290,7 +295,7 @@ fn look(
         → log.new.reads ≤ log.old.reads + look_reads
         lists.old log.old.entries channels (switches.first_of since.now) front }
 {
-    let channels = switched(alloc, periods, first_of(since), front)?;
+    let channels = switched_since(alloc, periods, changed, first_of(since), front)?;
     let filter = Filter::new(alloc, &options.filter)?;
     look_at(
         alloc,
@@ -349,8 +354,9 @@ fn look_by(
     let taken = take_periods(kept, grants, user)?;
     let periods = taken.periods.as_slice();
     let index = grants.index();
+    let changed = grants.changed(user);
     let advanced = look(
-        alloc, lists, index, log, periods, user, since, front, options,
+        alloc, lists, index, log, periods, changed, user, since, front, options,
     );
     keep_periods(alloc, kept, user, taken);
     advanced

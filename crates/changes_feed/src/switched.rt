@@ -77,7 +77,7 @@ fn bounds(
 
 /// The channels that a user gained or lost in a segment, by the periods of the user's channels up to a place at the
 /// front or behind it.
-pub fn switched(
+fn switched(
     alloc: Global,
     periods: &[Period],
     start: u64,
@@ -92,4 +92,23 @@ pub fn switched(
     }
     let found = bounds(alloc, periods, start, front)?;
     Ok(in_order(found))
+}
+
+/// The same, given a place from which on the user has the same channels.
+pub fn switched_since(
+    alloc: Global,
+    periods: &[Period],
+    changed: u64,
+    start: u64,
+    front: u64,
+) -> Result<Vec<ChannelName>, Memory>
+    ensures { IfOk result (λ channels. (entries : List Entry) (user : List ℕ) (last : ℕ)
+        → front ≤ last → ArePeriods periods.now (has_at entries user) last
+        → (steady : ℕ) → front ≤ steady → bounds.IsSteady entries user changed steady
+        → AreSwitches channels.items entries user start front) }
+{
+    if changed < start {
+        return Ok(Vec::new(alloc));
+    }
+    switched(alloc, periods, start, front)
 }
