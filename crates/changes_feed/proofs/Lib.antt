@@ -5,6 +5,7 @@ mod Keeping
 mod Marking
 mod Taking
 mod Adding
+pub mod Crossing
 mod OneOrder
 mod Turning
 mod Loops

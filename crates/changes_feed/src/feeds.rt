@@ -69,6 +69,13 @@ impl Model for Feeds {
     } };
 }
 
+fn crosses_threads<T: Send>(_value: &T) {}
+
+/// Feeds may be sent to another thread.
+fn feeds_cross_threads(feeds: &Feeds) {
+    crosses_threads(feeds);
+}
+
 /// What a look found in the log: the documents, and how many channels were looked up in the whole log.
 #[derive(Drop)]
 struct Gathered<'a> {

@@ -3,6 +3,7 @@ pub mod Commanded
 pub mod Commanding
 pub mod Committing
 pub mod Crossing
+pub mod Extending
 pub mod Grown
 pub mod OneRead
 pub mod OwnEnds

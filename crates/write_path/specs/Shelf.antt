@@ -2,10 +2,12 @@
 use Rattle.sg_history.specs.Board.{BoardState}
 use Rattle.doc_board.specs.Boards.{board_of}
 use Rattle.doc_board.specs.State.{State}
+use Rattle.changes_feed.specs.Feeds.{FeedsKept}
 
 -- what contracts see of a shelf
 pub record Shelved : Type 0 where
   pub board : State
+  pub feeds : FeedsKept
 
 -- a shelf as a gate and the grounds see it: it counted no fault
 abbrev pub shelf_state : Shelved → BoardState

@@ -11,7 +11,7 @@ ghost use Rattle.write_path.specs.Shared.{IsLookTurn, Rests};
 
 use crate::shelf::Shelf;
 use crate::turns::{enter, leave_as_found};
-use board_steps::{asked_at, feed_at};
+use board_steps::asked_at;
 use doc_board::Kept0;
 use repl_messages::{Asked, Bodies, Fed, Offer};
 use seq_gate::{Gate, Pass};
@@ -25,7 +25,6 @@ pub(crate) fn feed_in_turn<R: Wait>(
     rt: &R,
     gate: &Gate<Shelf>,
     pass: Pass<Shelf>,
-    alloc: Global,
     user: &Name,
     since: &Key,
     options: &Options,
@@ -36,8 +35,9 @@ pub(crate) fn feed_in_turn<R: Wait>(
     ensures looked { (found : BoardState) × IsLookTurn pass.knows result.0.knows found
         × IfOk result.1 (FeedAt found.log user.now since.now options.now) }
 {
+    doc_board::laws::after();
     let mut turn = enter(rt, gate, pass);
-    let fed = feed_at(alloc, turn.board().board().log(), user, since, options);
+    let fed = turn.board().feed(user, since, options);
     (leave_as_found(gate, turn), fed)
 }
 

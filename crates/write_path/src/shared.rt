@@ -133,7 +133,7 @@ impl<'g, R: Wait> Ground for SharedGround<'g, R> {
     /// One turn.
     fn feed(
         &mut self,
-        alloc: Global,
+        _alloc: Global,
         user: &Name,
         since: &Key,
         options: &Options,
@@ -152,7 +152,7 @@ impl<'g, R: Wait> Ground for SharedGround<'g, R> {
     {
         sg_history::laws::boards();
         let pass = self.pass.take().unwrap();
-        let (pass, fed) = feed_in_turn(self.rt, self.gate, pass, alloc, user, since, options);
+        let (pass, fed) = feed_in_turn(self.rt, self.gate, pass, user, since, options);
         self.pass = Some(pass);
         fed
     }

@@ -4,9 +4,12 @@ ghost use Rattle.std.specs.Prelude.{◌≡◌, ◌≢◌, ◌≤◌, ◌<◌, �
 ghost use Rattle.std.specs.Option.{option_copied};
 ghost use Rattle.checkpoint_store.specs.Checkpoints.{pair_text};
 ghost use Rattle.sg_history.specs.declared.entries.Entry.TheVariants as kinds;
+ghost use Rattle.sg_history.specs.Feed.{feed};
+ghost use Rattle.sg_history.specs.History.{past};
 ghost use Rattle.sg_history.specs.Journal.{IsEntry};
 ghost use Rattle.sg_history.specs.Rooms.{without_room};
 ghost use Rattle.pending_front.specs.Storing.{MayStore};
+ghost use Rattle.changes_feed.specs.Feeds.{FeedsStandFor};
 ghost use Rattle.principals.specs.Script.{entry_of};
 ghost use Rattle.doc_board.specs.declared.outcome.Outcome.TheVariants as outcomes;
 ghost use Rattle.doc_board.specs.Boards.{board_of};
@@ -18,6 +21,7 @@ ghost use Rattle.doc_board.specs.Rooms.{is_outstanding, room_for};
 ghost use Rattle.doc_board.specs.State.{State, book_on};
 ghost use Rattle.doc_board.specs.Steps.{history_on, stored_at, swapped_to, with_entry};
 ghost use Rattle.board_steps.specs.Bodies.{BodiesAt};
+ghost use Rattle.board_steps.specs.Feed.{FeedAt};
 ghost use Rattle.board_steps.specs.After.{IsBoardCommanded, IsAsBefore, IsBoardAfter};
 ghost use Rattle.board_steps.specs.Retry.{FitsReady, IsHeldReady};
 ghost use Rattle.write_path.specs.Checkpoints.{IsBoardSet};
@@ -28,36 +32,73 @@ use board_steps::{
     Accepted, Judged, Ready, Retried, bodies_at, command_to, commit_fresh, extension_of,
     propose_to, store_at_fresh, store_or_retry,
 };
+use changes_feed::Feeds;
+use changes_feed::laws::extended;
 use doc_board::{Board, Candidate, NoRoom, Outcome, Room, SetAnswer};
 use principals::Command;
-use repl_messages::{Bodies, Revision};
+use repl_messages::{Bodies, Fed, Revision};
 use seq_gate::Kept;
-use sg_history::{Client, DocId, Entry, Name, Number, Options, Row};
+use sg_history::{Client, DocId, Entry, Key, LogReads, Name, Number, Options, Row, Rows};
 use sg_outside::{Bytes, Memory};
 use std::alloc::Global;
 use std::marker::Model;
 use sync_resolve::Resolved;
 
-/// What the gateway keeps of its documents, behind every ground. It may stand behind a gate.
+/// How many channels the feeds keep lists of, and of how many users the periods.
+const KEPT_CHANNELS: u64 = 1024;
+
+/// What the gateway keeps of its documents, behind every ground: a board, and what looks for feeds keep of its log. It may stand
+/// behind a gate.
 #[derive(Drop)]
 pub struct Shelf {
     board: Board,
+    feeds: Feeds,
 }
 
 impl Model for Shelf {
+    ghost use Rattle.changes_feed.specs.Feeds.{FeedsStandFor};
     ghost use Rattle.write_path.specs.Shelf.{Shelved};
 
     ghost Value = { Shelved };
 
-    ghost view = { λ shelf. record { board = shelf.board } };
+    ghost view = { λ shelf. record { board = shelf.board; feeds = shelf.feeds } };
+
+    ghost invariant = { λ shelf. FeedsStandFor shelf.feeds shelf.board.log };
+}
+
+/// The rows of a user's changes feed at the end of a board's log, to which its history of grants is applied.
+fn rows_at(
+    feeds: &mut Feeds,
+    board: &Board,
+    user: &Name,
+    since: &Key,
+    front: u64,
+    options: &Options,
+) -> Result<Rows, Memory>
+    requires stands { FeedsStandFor feeds.old board.now.log }
+    requires known { board.now.known ≡ length board.now.log }
+    requires front { front ≡ length board.now.log }
+    ensures rows { IfOk result (λ rows. rows
+        ≡ feed (past board.now.log front) user.now since.now options.now) }
+    ensures stands { FeedsStandFor feeds.new board.now.log }
+{
+    let mut log = LogReads::new(board.log());
+    let advanced = feeds.advance_by(board.grants(), &mut log, user, since, front, options)?;
+    Ok(advanced.rows)
 }
 
 impl Shelf {
-    /// The shelf of a board.
+    /// The shelf of a board, of whose log its feeds have read nothing yet.
     pub fn new(board: Board) -> Result<Shelf, Memory>
         ensures { IfOk result (λ shelf. shelf.board ≡ board) }
     {
-        Ok(Shelf { board })
+        match Feeds::new(board.allocator(), KEPT_CHANNELS) {
+            Ok(feeds) => Ok(Shelf { board, feeds }),
+            Err(error) => {
+                drop(board);
+                Err(error)
+            }
+        }
     }
 
     /// The board.
@@ -78,6 +119,7 @@ impl Shelf {
         ensures { IsBoardSet self.old.board self.new.board (pair_text user.now client.now) rev body
             result }
     {
+        extended(&self.feeds);
         self.board.set_checkpoint(user, client, rev, body)
     }
 
@@ -85,13 +127,35 @@ impl Shelf {
     pub fn into_board(self) -> Board
         ensures { result ≡ self.board }
     {
-        let Shelf { board } = self;
+        let Shelf { board, feeds } = self;
+        drop(feeds);
         board
     }
 }
 
-// What a ground with one owner has it do.
+// What every ground has it do.
 impl Shelf {
+    /// What it answers for a user's feed after a since key, at the end of its board's log. A look costs what came since the key, and
+    /// the documents of channels that the user gained or lost since.
+    pub(crate) fn feed(
+        &mut self,
+        user: &Name,
+        since: &Key,
+        options: &Options,
+    ) -> Result<Fed, Memory>
+        ensures answer { IfOk result (FeedAt self.old.board.log user.now since.now options.now) }
+        ensures same { IsAsBefore self.old.board self.new.board }
+    {
+        extended(&self.feeds);
+        let front = self.board.front();
+        if since.by > front {
+            return Ok(Fed::Future { front });
+        }
+        self.board.apply_grants()?;
+        let rows = rows_at(&mut self.feeds, &self.board, user, since, front, options)?;
+        Ok(Fed::Rows { front, rows })
+    }
+
     /// What its board answers for the rows that a device wants.
     pub(crate) fn bodies(
         &mut self,
@@ -105,9 +169,14 @@ impl Shelf {
             (BodiesAt (shelf_state self.old) user.now options.now rows.now most) }
         ensures same { IsAsBefore self.old.board self.new.board }
     {
+        extended(&self.feeds);
         bodies_at(alloc, &mut self.board, user, options, rows, most)
     }
 
+}
+
+// What a ground with one owner has it do.
+impl Shelf {
     /// Proposes a revision to its board, at which nothing waits.
     pub(crate) fn propose(
         &mut self,
@@ -125,6 +194,7 @@ impl Shelf {
         ensures board { IsBoardAfter self.old.board self.new.board program.now
             (option_copied by.entry) revision result }
     {
+        extended(&self.feeds);
         propose_to(alloc, &mut self.board, program, by, strict, revision)
     }
 
@@ -136,6 +206,7 @@ impl Shelf {
         ensures board { IsBoardCommanded self.old.board self.new.board (entry_of command) result }
         ensures limits { IsByLimits 0 (shelf_state self.old) result }
     {
+        extended(&self.feeds);
         command_to(&mut self.board, command)
     }
 }
@@ -154,6 +225,7 @@ impl Shelf {
         ensures judged { IsJudgedAt self.old.board strict (option_copied by.entry) revision.now
             result }
     {
+        extended(&self.feeds);
         extension_of(&mut self.board, revision, strict, by)
     }
 
@@ -171,6 +243,7 @@ impl Shelf {
             ≡ room_for (option_copied doc.entry) bytes) }
         ensures checkpoints { self.new.board.checkpoints ≡ self.old.board.checkpoints }
     {
+        extended(&self.feeds);
         let at = self.board.front();
         (at, self.board.room(doc, bytes))
     }
@@ -191,6 +264,7 @@ impl Shelf {
         ensures checkpoints { self.new.board.checkpoints ≡ self.old.board.checkpoints }
         ensures entries { AreEntries (book_on self.old.board) }
     {
+        extended(&self.feeds);
         let _ = self.board.log();
         commit_fresh(&mut self.board, room, number, Candidate::Plain(entry))
     }
@@ -220,6 +294,7 @@ impl Shelf {
             → IsTried judged self.old.board self.new.board program.now strict
             (option_copied by.entry) revision room number result }
     {
+        extended(&self.feeds);
         store_or_retry(
             alloc,
             &mut self.board,
@@ -257,6 +332,7 @@ impl Shelf {
             ≡ without_room room.made_for self.old.board.rooms }
         ensures checkpoints { self.new.board.checkpoints ≡ self.old.board.checkpoints }
     {
+        extended(&self.feeds);
         store_at_fresh(&mut self.board, room, number, fresh, ready)
     }
 }

@@ -25,7 +25,7 @@ ghost use Rattle.write_path.specs.Solo.{solo_origin};
 use crate::ground::Ground;
 use crate::shelf::Shelf;
 use crate::trail::{OwnEntries, Trail};
-use board_steps::{asked_at, feed_at};
+use board_steps::asked_at;
 use doc_board::{Board, Kept0, Outcome, SetAnswer};
 use principals::Command;
 use repl_messages::{Asked, Bodies, Fed, Offer, Revision};
@@ -152,7 +152,7 @@ impl Ground for SoloGround {
 
     fn feed(
         &mut self,
-        alloc: Global,
+        _alloc: Global,
         user: &Name,
         since: &Key,
         options: &Options,
@@ -172,7 +172,7 @@ impl Ground for SoloGround {
     {
         sg_history::laws::boards();
         self.read.add(&self.shelf);
-        feed_at(alloc, self.shelf.board().log(), user, since, options)
+        self.shelf.feed(user, since, options)
     }
 
     fn bodies(
