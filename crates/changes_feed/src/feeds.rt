@@ -358,10 +358,10 @@ fn look_by(
         → log.new.reads ≤ log.old.reads + look_reads
         lists.old log.old.entries channels (switches.first_of since.now) front }
 {
-    let taken = take_periods(kept, grants, user)?;
+    let changed = grants.changed(user);
+    let taken = take_periods(kept, grants, user, changed)?;
     let periods = taken.periods.as_slice();
     let index = grants.index();
-    let changed = grants.changed(user);
     let advanced = look(
         alloc, lists, index, log, periods, changed, user, since, front, options,
     );

@@ -4,6 +4,7 @@ ghost use Rattle.std.specs.Prelude.{◌≡◌, ◌≤◌, List, IfOk, IfSome, st
 ghost use Rattle.std.specs.List.{All};
 ghost use Rattle.sg_history.specs.declared.entries.Entry.{Entry};
 ghost use Rattle.grant_history.specs.Stands.{StandsFor};
+ghost use Rattle.changes_feed.specs.Bounds.{IsSteady};
 ghost use Rattle.changes_feed.specs.Feeds.{ArePeriodsOf, of_user, of_users};
 
 use grant_history::{GrantHistory, Periods};
@@ -36,14 +37,21 @@ fn take_anew(grants: &GrantHistory, user: &Name) -> Result<TakenPeriods, Memory>
 }
 
 /// Periods that were taken earlier, up to the place to which a history is applied, where the user has had the same
-/// channels since; else none.
-fn renewed(grants: &GrantHistory, user: &Name, taken: TakenPeriods) -> Option<TakenPeriods>
+/// channels since, given a place from which on these are the same; else none.
+fn renewed(
+    grants: &GrantHistory,
+    user: &Name,
+    changed: u64,
+    taken: TakenPeriods,
+) -> Option<TakenPeriods>
+    requires { (entries : List Entry) → StandsFor grants.now entries
+        → IsSteady entries user.now changed grants.now.applied }
     ensures of { IfSome result (λ renewed. (entries : List Entry) → StandsFor grants.now entries
         → ArePeriodsOf entries (of_user user.now taken)
         → ArePeriodsOf entries (of_user user.now renewed)) }
     ensures up_to { IfSome result (λ renewed. grants.now.applied ≤ renewed.place) }
 {
-    if taken.place < grants.changed(user) {
+    if taken.place < changed {
         drop(taken);
         return None;
     }
@@ -55,12 +63,16 @@ fn renewed(grants: &GrantHistory, user: &Name, taken: TakenPeriods) -> Option<Ta
 }
 
 /// The periods of a user's channels up to the place to which a history is applied or one behind it: those that are kept, where
-/// the user has had the same channels since, and else by the history. They are kept no more.
+/// the user has had the same channels since, given a place from which on these are the same, and else by the history. They are
+/// kept no more.
 pub fn take_periods(
     kept: &mut KeptPeriods,
     grants: &GrantHistory,
     user: &Name,
+    changed: u64,
 ) -> Result<TakenPeriods, Memory>
+    requires { (entries : List Entry) → StandsFor grants.now entries
+        → IsSteady entries user.now changed grants.now.applied }
     ensures kept { (entries : List Entry) → All (ArePeriodsOf entries) (of_users kept.old.entries)
         → All (ArePeriodsOf entries) (of_users kept.new.entries) }
     ensures of { IfOk result (λ taken. (entries : List Entry) → StandsFor grants.now entries
@@ -71,7 +83,7 @@ pub fn take_periods(
     let Some(before) = kept.pop(user.as_str()) else {
         return take_anew(grants, user);
     };
-    match renewed(grants, user, before) {
+    match renewed(grants, user, changed, before) {
         None => take_anew(grants, user),
         Some(taken) => Ok(taken),
     }

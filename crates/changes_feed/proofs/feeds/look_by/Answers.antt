@@ -1,7 +1,10 @@
 use Rattle.changes_feed.proofs.feeds.look_by.Goals as goal
 
-pub look-requires-clause-steady : goal.look-requires-clause-steady
-look-requires-clause-steady c = (c.args.grants.now.applied, c.requires.applied, c.changed.ensures.same c.args.log.now.entries c.requires.grants)
+pub take_periods-requires : goal.take_periods-requires
+take_periods-requires c = λ entries stands. c.changed-changed.ensures.same entries stands
+
+pub look-advanced-requires-clause-steady : goal.look-advanced-requires-clause-steady
+look-advanced-requires-clause-steady c = (c.args.grants.now.applied, c.requires.applied, c.changed-changed.ensures.same c.args.log.now.entries c.requires.grants)
 
 pub returns-clause-kept : goal.returns-clause-kept
 returns-clause-kept c =

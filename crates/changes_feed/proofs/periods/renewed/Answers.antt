@@ -12,7 +12,7 @@ returns-clause-of c = λ entries stands is.
     record {
       within = omega (arith, stands.within, is.within, place);
       periods = subst (λ (n : ℕ). ArePeriods periods test n) (sym place)
-          (still test periods c.args.taken.place c.args.grants.now.applied c.changed.result c.if-taken-changed.false
-          (λ k low high x. c.changed.ensures.same entries stands k low high x) is.periods);
+          (still test periods c.args.taken.place c.args.grants.now.applied c.args.changed c.if-taken-changed.false
+          (λ k low high x. c.requires entries stands k low high x) is.periods);
       in_order = is.in_order;
     }
