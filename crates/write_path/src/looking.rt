@@ -11,7 +11,6 @@ ghost use Rattle.write_path.specs.Shared.{IsLookTurn, Rests};
 
 use crate::shelf::Shelf;
 use crate::turns::{enter, leave_as_found};
-use board_steps::asked_at;
 use doc_board::Kept0;
 use repl_messages::{Asked, Bodies, Fed, Offer};
 use seq_gate::{Gate, Pass};
@@ -79,7 +78,7 @@ pub(crate) fn ask_in_turn<R: Wait>(
         × IfOk result.1 (AskedAt found offers.now) }
 {
     let mut turn = enter(rt, gate, pass);
-    let asked = asked_at(alloc, turn.board().board(), offers);
+    let asked = turn.board().ask(alloc, offers);
     (leave_as_found(gate, turn), asked)
 }
 
@@ -98,6 +97,6 @@ pub(crate) fn checkpoint_in_turn<R: Wait>(
         × IfOk result.1 (λ kept. kept ≡ kept_at found.side (pair_text user.now client.now)) }
 {
     let mut turn = enter(rt, gate, pass);
-    let kept = turn.board().board().get_checkpoint(user, client);
+    let kept = turn.board().get_checkpoint(user, client);
     (leave_as_found(gate, turn), kept)
 }

@@ -2,6 +2,7 @@
 
 ghost use Rattle.std.specs.Prelude.{◌≡◌, ◌≢◌, ◌≤◌, ◌<◌, ◌||◌, ◌++◌, ◌∷◌, [], length, None, Some, IfOk, OnOk, OnErr, IsTrue};
 ghost use Rattle.std.specs.Option.{option_copied};
+ghost use Rattle.checkpoint_store.specs.Answers.{kept_at};
 ghost use Rattle.checkpoint_store.specs.Checkpoints.{pair_text};
 ghost use Rattle.sg_history.specs.declared.entries.Entry.TheVariants as kinds;
 ghost use Rattle.sg_history.specs.Feed.{feed};
@@ -20,6 +21,7 @@ ghost use Rattle.doc_board.specs.Outcomes.{IsByLimits, IsOutcome, IsWellFormed, 
 ghost use Rattle.doc_board.specs.Rooms.{is_outstanding, room_for};
 ghost use Rattle.doc_board.specs.State.{State, book_on};
 ghost use Rattle.doc_board.specs.Steps.{history_on, stored_at, swapped_to, with_entry};
+ghost use Rattle.board_steps.specs.Asks.{AskedAt};
 ghost use Rattle.board_steps.specs.Bodies.{BodiesAt};
 ghost use Rattle.board_steps.specs.Feed.{FeedAt};
 ghost use Rattle.board_steps.specs.After.{IsBoardCommanded, IsAsBefore, IsBoardAfter};
@@ -29,14 +31,14 @@ ghost use Rattle.write_path.specs.Shelf.{shelf_state};
 ghost use Rattle.board_steps.specs.Tried.{IsJudgedAt, IsTried, WasAccepted};
 
 use board_steps::{
-    Accepted, Judged, Ready, Retried, bodies_at, command_to, commit_fresh, extension_of,
+    Accepted, Judged, Ready, Retried, asked_at, bodies_at, command_to, commit_fresh, extension_of,
     propose_to, store_at_fresh, store_or_retry,
 };
 use changes_feed::Feeds;
 use changes_feed::laws::extended;
-use doc_board::{Board, Candidate, NoRoom, Outcome, Room, SetAnswer};
+use doc_board::{Board, Candidate, Kept0, NoRoom, Outcome, Room, SetAnswer};
 use principals::Command;
-use repl_messages::{Bodies, Fed, Revision};
+use repl_messages::{Asked, Bodies, Fed, Offer, Revision};
 use seq_gate::Kept;
 use sg_history::{Client, DocId, Entry, Key, LogReads, Name, Number, Options, Row, Rows};
 use sg_outside::{Bytes, Memory};
@@ -44,7 +46,7 @@ use std::alloc::Global;
 use std::marker::Model;
 use sync_resolve::Resolved;
 
-/// How many channels the feeds keep lists of, and of how many users the periods.
+/// The most channels that the feeds keep, and the most users whose periods they keep.
 const KEPT_CHANNELS: u64 = 1024;
 
 /// What the gateway keeps of its documents, behind every ground: a board, and what looks for feeds keep of its log. It may stand
@@ -88,7 +90,7 @@ fn rows_at(
 }
 
 impl Shelf {
-    /// The shelf of a board, of whose log its feeds have read nothing yet.
+    /// The shelf of a board. Out of memory the board is lost.
     pub fn new(board: Board) -> Result<Shelf, Memory>
         ensures { IfOk result (λ shelf. shelf.board ≡ board) }
     {
@@ -108,21 +110,6 @@ impl Shelf {
         &self.board
     }
 
-    /// Gives a user's client at its board this body as its checkpoint, or answers why not.
-    pub(crate) fn set_checkpoint(
-        &mut self,
-        user: &Name,
-        client: &Client,
-        rev: u64,
-        body: Bytes,
-    ) -> SetAnswer
-        ensures { IsBoardSet self.old.board self.new.board (pair_text user.now client.now) rev body
-            result }
-    {
-        extended(&self.feeds);
-        self.board.set_checkpoint(user, client, rev, body)
-    }
-
     /// The board, without the rest.
     pub fn into_board(self) -> Board
         ensures { result ≡ self.board }
@@ -135,8 +122,7 @@ impl Shelf {
 
 // What every ground has it do.
 impl Shelf {
-    /// What it answers for a user's feed after a since key, at the end of its board's log. A look costs what came since the key, and
-    /// the documents of channels that the user gained or lost since.
+    /// What its board answers for a user's feed after a since key, at the end of its log.
     pub(crate) fn feed(
         &mut self,
         user: &Name,
@@ -173,6 +159,35 @@ impl Shelf {
         bodies_at(alloc, &mut self.board, user, options, rows, most)
     }
 
+    /// What its board answers for the revisions that a device offers.
+    pub(crate) fn ask(&self, alloc: Global, offers: &[Offer]) -> Result<Asked, Memory>
+        ensures { IfOk result (AskedAt (shelf_state self.now) offers.now) }
+    {
+        asked_at(alloc, &self.board, offers)
+    }
+
+    /// The checkpoint of a user's client at its board, with its whole body.
+    pub(crate) fn get_checkpoint(&self, user: &Name, client: &Client) -> Result<Kept0, Memory>
+        ensures { IfOk result (λ found. found
+            ≡ kept_at self.now.board.checkpoints (pair_text user.now client.now)) }
+    {
+        self.board.get_checkpoint(user, client)
+    }
+
+    /// Gives a user's client at its board this body as its checkpoint, or answers why not.
+    pub(crate) fn set_checkpoint(
+        &mut self,
+        user: &Name,
+        client: &Client,
+        rev: u64,
+        body: Bytes,
+    ) -> SetAnswer
+        ensures { IsBoardSet self.old.board self.new.board (pair_text user.now client.now) rev body
+            result }
+    {
+        extended(&self.feeds);
+        self.board.set_checkpoint(user, client, rev, body)
+    }
 }
 
 // What a ground with one owner has it do.

@@ -25,7 +25,6 @@ ghost use Rattle.write_path.specs.Solo.{solo_origin};
 use crate::ground::Ground;
 use crate::shelf::Shelf;
 use crate::trail::{OwnEntries, Trail};
-use board_steps::asked_at;
 use doc_board::{Board, Kept0, Outcome, SetAnswer};
 use principals::Command;
 use repl_messages::{Asked, Bodies, Fed, Offer, Revision};
@@ -217,7 +216,7 @@ impl Ground for SoloGround {
     {
         sg_history::laws::boards();
         self.read.add(&self.shelf);
-        asked_at(alloc, self.shelf.board(), offers)
+        self.shelf.ask(alloc, offers)
     }
 
     fn propose(
@@ -299,7 +298,7 @@ impl Ground for SoloGround {
     {
         sg_history::laws::boards();
         self.read.add(&self.shelf);
-        self.shelf.board().get_checkpoint(user, client)
+        self.shelf.get_checkpoint(user, client)
     }
 
     fn set_checkpoint(&mut self, user: &Name, client: &Client, rev: u64, body: Bytes) -> SetAnswer

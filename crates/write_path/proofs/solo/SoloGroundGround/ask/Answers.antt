@@ -1,7 +1,4 @@
-use Rattle.std.proofs.Common.{subst}
-use Rattle.std.specs.Prelude.{IfOk}
 use Rattle.doc_board.specs.Boards.{board_of}
-use Rattle.doc_board.specs.State.{State}
 use Rattle.board_steps.specs.Asks.{AskedAt}
 use Rattle.write_path.proofs.OneRead.{one_read, answers_it}
 use Rattle.write_path.proofs.solo.SoloGroundGround.ask.Goals as goal
@@ -11,6 +8,5 @@ returns-clause-reads c = rw (← c.self.view_is) (one_read _ _ (board_of c.self.
 
 pub returns-clause-answer : goal.returns-clause-answer
 returns-clause-answer c =
-    let A : State → Type 0 = λ s. IfOk c.asked_at.result (AskedAt (board_of s) c.args.offers.now) in
     rw (← c.self.view_is)
-    (answers_it (λ b asked. AskedAt b c.args.offers.now asked) _ _ (board_of c.self.inside.shelf.board) c.asked_at.result c.add.ensures (subst A c.board.ensures c.asked_at.ensures))
+    (answers_it (λ b asked. AskedAt b c.args.offers.now asked) _ _ (board_of c.self.inside.shelf.board) c.ask.result c.add.ensures c.ask.ensures)

@@ -1,9 +1,5 @@
-use Rattle.std.proofs.Common.{◌≡◌, subst}
-use Rattle.std.specs.Prelude.{IfOk}
-use Rattle.checkpoint_store.specs.Answers.{kept_at}
 use Rattle.checkpoint_store.specs.Checkpoints.{pair_text}
 use Rattle.doc_board.specs.Boards.{board_of}
-use Rattle.doc_board.specs.State.{State}
 use Rattle.write_path.proofs.Checkpointing.{kept_here}
 use Rattle.write_path.proofs.OneRead.{one_read}
 use Rattle.write_path.proofs.solo.SoloGroundGround.get_checkpoint.Goals as goal
@@ -13,6 +9,5 @@ returns-clause-reads c = rw (← c.self.view_is) (one_read _ _ (board_of c.self.
 
 pub returns-clause-answer : goal.returns-clause-answer
 returns-clause-answer c =
-    let K : State → Type 0 = λ s. IfOk c.get_checkpoint.result (λ kept. kept ≡ kept_at s.checkpoints (pair_text c.args.user.now c.args.client.now)) in
     rw (← c.self.view_is)
-    (kept_here _ _ c.self.inside.shelf.board (pair_text c.args.user.now c.args.client.now) c.get_checkpoint.result c.add.ensures (subst K c.board.ensures c.get_checkpoint.ensures.kept))
+    (kept_here _ _ c.self.inside.shelf.board (pair_text c.args.user.now c.args.client.now) c.get_checkpoint.result c.add.ensures c.get_checkpoint.ensures)
