@@ -15,7 +15,7 @@ fn filter_of(alloc: Global, filter: &str) -> Result<Option<Channels>, TextFault>
 }
 
 /// Options, and behind a blank the channels of a filter.
-fn options_of(alloc: Global, words: &str) -> Result<Options, TextFault> {
+pub fn options_of(alloc: Global, words: &str) -> Result<Options, TextFault> {
     let (words, filter) = cut(words, ' ');
     Ok(Options {
         filter: filter_of(alloc, filter)?,
@@ -42,7 +42,7 @@ fn write_row(row: &Row, text: &mut Bytes) -> Result<(), AllocError> {
 }
 
 /// Rows as `KEY DOCUMENT REVISION BITS;`, one after another.
-fn write_rows(found: &Rows, text: &mut Bytes) -> Result<(), AllocError> {
+pub fn write_rows(found: &Rows, text: &mut Bytes) -> Result<(), AllocError> {
     for row in found.as_slice() {
         write_row(row, text)?;
     }

@@ -12,6 +12,10 @@ mod journals;
 #[cfg(test)]
 mod listed;
 #[cfg(test)]
+mod long;
+#[cfg(test)]
+mod looks;
+#[cfg(test)]
 mod names;
 #[cfg(test)]
 mod outside;

@@ -12,7 +12,7 @@ use sg_outside::Bytes;
 use std::alloc::{AllocError, Global};
 
 /// How many channels may be kept: the number that a text is, at least 1.
-fn most_of(text: &str) -> u64
+pub fn most_of(text: &str) -> u64
     ensures { 0 < result }
 {
     match number_of(text) {

@@ -36,10 +36,15 @@ pub fn number_of(text: &str) -> u64 {
     read_decimal(text).unwrap_or(0)
 }
 
+/// A word and a number behind it.
+pub fn write_number(word: &[u8], number: u64, text: &mut Bytes) -> Result<(), AllocError> {
+    text.extend_from_slice(word)?;
+    write_decimal(number, text)
+}
+
 /// A word and a number in brackets.
 fn write_numbered(word: &[u8], number: u64, text: &mut Bytes) -> Result<(), AllocError> {
-    text.extend_from_slice(word)?;
-    write_decimal(number, text)?;
+    write_number(word, number, text)?;
     text.push(b')')
 }
 

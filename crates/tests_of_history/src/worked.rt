@@ -38,10 +38,24 @@ each_role_its_own=sgjournal 1;R|one|C;R|two|D;U|ann|-|one,two;DR|two;\n\
 replaced=sgjournal 1;U|ann|A|-;W|d1|1-a|-|0|7b7d|-|1|1-a|A|-|-;S|7b7d|d1|1-a|B|-|-;\n\
 replaced_and_put=sgjournal 1;U|ann|A|-;W|d1|1-a|-|0|7b7d|-|1|1-a|A|-|-;S|7b7d|d1|1-a|B|-|-;U|ann|A,B|-;\n\
 conflict_replaced=sgjournal 1;U|ann|A|-;W|d1|1-a|-|0|7b7d|-|1|1-a|A|-|-;W|d1|1-b|-|0|7b7d|-|2|1-b|B|-|-;S|7b7d|d1|1-a|C|-|-|d1|1-b|A|-|-;W|d1|2-c|1-b|1|7b7d|-|4|1-a|-|-|-;\n\
-all_replaced=sgjournal 1;U|ann|A|-;W|d2|1-b|-|0|7b7d|-|1|1-b|A|-|-;W|d3|1-c|-|0|7b7d|-|2|1-c|B|-|-;W|d1|1-a|-|0|7b7d|-|3|1-a|A|-|-;S|7b7d|d1|1-a|B|-|-|d2|1-b|B|-|-|d3|1-c|-|-|-;";
+all_replaced=sgjournal 1;U|ann|A|-;W|d2|1-b|-|0|7b7d|-|1|1-b|A|-|-;W|d3|1-c|-|0|7b7d|-|2|1-c|B|-|-;W|d1|1-a|-|0|7b7d|-|3|1-a|A|-|-;S|7b7d|d1|1-a|B|-|-|d2|1-b|B|-|-|d3|1-c|-|-|-;\n\
+put_and_dropped=sgjournal 1;U|bob|A|-;W|d1|1-a|-|0|7b7d|-|1|1-a|A|-|-;W|d2|1-b|-|0|7b7d|-|2|1-b|B|-|-;DU|bob;U|bob|A,B|-;DU|bob;U|bob|B|-;\n\
+put_again=sgjournal 1;U|bob|*|-;W|d1|1-a|-|0|7b7d|-|1|1-a|A|-|-;W|d2|1-b|-|0|7b7d|-|2|1-b|-|-|-;DU|bob;U|bob|A|-;\n\
+everything_for_a_while=sgjournal 1;U|ann|A|-;W|d1|1-a|-|0|7b7d|-|1|1-a|A|-|-;W|d2|1-b|-|0|7b7d|-|2|1-b|B|-|-;W|d3|1-c|-|0|7b7d|-|3|1-c|-|-|-;U|ann|*,A|-;U|ann|A|-;\n\
+role_dropped=sgjournal 1;R|staff|B;U|ann|A|staff;W|d1|1-a|-|0|7b7d|-|2|1-a|B|-|-;W|g|1-g|-|0|7b7d|-|3|1-g|-|role:staff=C|-;W|d2|1-c|-|0|7b7d|-|4|1-c|C|-|-;DR|staff;R|staff|D;\n\
+returns_by_a_grant=sgjournal 1;U|ann|A|-;W|d1|1-a|-|0|7b7d|-|1|1-a|A|-|-;W|d1|2-a|1-a|0|7b7d|-|2|2-a|B|-|-;U|ann|A,B|-;\n\
+moves_within=sgjournal 1;U|ann|A,B|-;W|d1|1-a|-|0|7b7d|-|1|1-a|A|-|-;W|d1|2-a|1-a|0|7b7d|-|2|2-a|B|-|-;\n\
+deleted_and_revoked=sgjournal 1;U|ann|A|-;W|d1|1-a|-|1|7b7d|-|1|1-a|A|-|-;U|ann|-|-;\n\
+third_winner=sgjournal 1;U|ann|A|-;U|bob|B|-;W|d1|1-a|-|0|7b7d|-|2|1-a|A|-|-;W|d1|1-b|-|0|7b7d|-|3|1-b|B|-|-;W|d1|1-c|-|0|7b7d|-|4|1-c|C|-|-;W|d1|2-d|1-c|1|7b7d|-|5|1-b|-|-|-;W|d1|2-e|1-b|1|7b7d|-|6|1-a|-|-|-;\n\
+two_users=sgjournal 1;U|ann|A|-;U|bob|A|-;W|d1|1-a|-|0|7b7d|-|2|1-a|B|-|-;W|d2|1-b|-|0|7b7d|-|3|1-b|C|-|-;U|ann|A,B|-;U|bob|A,C|-;\n\
+two_channels=sgjournal 1;U|ann|A|-;W|d1|1-a|-|0|7b7d|-|1|1-a|B|-|-;W|d2|1-b|-|0|7b7d|-|2|1-b|C|-|-;U|ann|A,B,C|-;\n\
+replaced_twice=sgjournal 1;U|ann|B|-;U|cat|A,C|-;W|d1|1-a|-|0|7b7d|-|2|1-a|A|-|-;S|7b7d|d1|1-a|B|-|-;S|7b7d|d1|1-a|C|-|-;\n\
+grant_replaced=sgjournal 1;U|ann|-|-;W|d1|1-a|-|0|7b7d|-|1|1-a|B|-|-;W|g|1-g|-|0|7b7d|-|2|1-g|-|ann=B|-;W|h|1-h|-|0|7b7d|-|3|1-h|-|-|-;S|7b7d|d1|1-a|B|-|-|g|1-g|-|-|-|h|1-h|-|ann=B|-;S|7b7d|h|1-h|-|-|-;\n\
+loser_marked=sgjournal 1;U|ann|A|-;W|d1|1-a|-|0|7b7d|-|1|1-a|B|-|-;W|d1|1-b|-|0|7b7d|-|2|1-b|C|-|-;S|7b7d|d1|1-a|A|-|-;W|d1|2-c|1-b|1|7b7d|-|4|1-a|-|-|-;\n\
+kept_and_replaced=sgjournal 1;U|ann|A|-;W|d1|1-a|-|0|7b7d|-|1|1-a|A|-|-;W|d2|1-b|-|0|7b7d|-|2|1-b|B|-|-;U|bob|B|-;S|7b7d|d1|1-a|B|-|-|d2|1-b|C|-|-;U|ann|A,B|-;W|d1|2-a|1-a|0|7b7d|-|6|2-a|A|-|-;";
 
 /// The text of a worked journal.
-fn journal_of(name: &str) -> &'static str {
+pub fn journal_of(name: &str) -> &'static str {
     for line in JOURNALS.split('\n') {
         let (named, text) = cut(line, '=');
         if named == name {
