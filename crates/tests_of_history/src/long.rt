@@ -1,6 +1,8 @@
 //! Journals that are too long for a table: a user who gains a thousand channels by one entry, and a channel that ten thousand
 //! writes of one document pass through.
 
+ghost use Rattle.std.specs.Prelude.{◌<◌};
+
 use crate::listed::write_lists_of;
 use crate::looks::write_looks;
 use crate::texts::write_number;
