@@ -417,7 +417,7 @@ fn apply_and_look(
 }
 
 impl Feeds {
-    /// Of nothing: lists of at most so many channels, and periods of as many users.
+    /// Of nothing: lists of at most so many channels.
     pub fn new(alloc: Global, channels: u64) -> Result<Feeds, Memory>
         requires { 0 < channels }
         ensures empty { IfOk result (λ feeds. AreEmpty feeds.lists channels) }

@@ -21,21 +21,21 @@ fn changed_role(roles: &Holders, role: &Name) -> u64
     }
 }
 
-/// The last change of the role that something is.
-fn changed_what(roles: &Holders, what: &What) -> u64
-    ensures last { result ≡ role_changed roles.now what.now }
-    ensures settled { (x : List ℕ) → IsSettled result (λ k. gives_channel roles.now what.now k x) }
-{
-    match what {
-        What::Role(role) => changed_role(roles, role),
-        _ => 0,
-    }
-}
-
 fn later(one: u64, other: u64) -> u64
     ensures { result ≡ max one other }
 {
     one.max(other)
+}
+
+/// This change, or that of the role that something is where that came later.
+fn later_role(roles: &Holders, last: u64, what: &What) -> u64
+    ensures last { result ≡ max last (role_changed roles.now what.now) }
+    ensures settled { (x : List ℕ) → IsSettled result (λ k. gives_channel roles.now what.now k x) }
+{
+    match what {
+        What::Role(role) => later(last, changed_role(roles, role)),
+        _ => last,
+    }
 }
 
 /// The last change of the roles among these.
@@ -45,7 +45,7 @@ fn changed_roles(roles: &Holders, all: &[Held]) -> u64
 {
     let mut last = 0;
     for held in all {
-        last = later(last, changed_what(roles, &held.what));
+        last = later_role(roles, last, &held.what);
     }
     last
 }

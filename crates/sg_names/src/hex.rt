@@ -57,11 +57,12 @@ fn value_of(digit: u8) -> Option<u8>
     ensures some { IfSome result (λ n. (n < 16) × (hex.hex_digit n ≡ digit)) }
     ensures none { IfNone result (hex.is_hex_digit digit ≡ false) }
 {
-    match digit {
-        b'0'..=b'9' => Some(digit - b'0'),
-        b'a'..=b'f' => Some(digit - b'a' + 10),
-        _ => None,
+    let low = digit.wrapping_sub(b'0');
+    if low < 10 {
+        return Some(low);
     }
+    let high = digit.wrapping_sub(b'a');
+    if high < 6 { Some(high + 10) } else { None }
 }
 
 /// The byte of two digits; none where one is another byte.

@@ -4,20 +4,16 @@ use Rattle.std.specs.Prelude.{nat_eq}
 use Rattle.std.proofs.lemmas.List.{append_assoc, append-nil}
 use Rattle.sg_history.specs.declared.book.Waiting.{Waiting}
 use Rattle.sg_history.specs.declared.entries.Entry.{Entry}
-use Rattle.sg_history.specs.declared.entries.Entry.TheVariants as kinds
 use Rattle.sg_history.specs.declared.number.Number.{Number}
 use Rattle.sg_history.specs.History.{Extends}
 use Rattle.sg_history.specs.World.{Released, release}
 use Rattle.repl_messages.specs.declared.revision.Revision.{Revision}
 use Rattle.sync_syntax.specs.declared.tree.Program.{Program}
-use Rattle.doc_board.specs.declared.outcome.Outcome.{Outcome}
-use Rattle.doc_board.specs.declared.outcome.Outcome.TheVariants as outcome
 use Rattle.doc_board.specs.declared.room.Room.{Room}
 use Rattle.doc_board.specs.State.{State}
-use Rattle.doc_board.specs.Steps.{history_on, stored_at, swapped_to}
+use Rattle.doc_board.specs.Steps.{history_on}
 use Rattle.board_steps.specs.declared.retry.Retried.{Retried}
 use Rattle.board_steps.specs.declared.retry.Retried.TheVariants as retried
-use Rattle.board_steps.specs.After.{IsBoardAfter, IsBoardCommanded}
 use Rattle.board_steps.specs.Retry.{IsSpent, IsTriedAgain}
 use Rattle.board_steps.specs.Tried.{IsTried}
 
@@ -53,30 +49,3 @@ pub tried_extends : (judged s t : State) (program : Program) (strict : Bool) (by
 tried_extends judged s t program strict by r room number (retried.Answered answer) (inl first) = spent_extends s t room number _ first.spent
 tried_extends judged s t program strict by r room number (retried.Answered answer) (inr again) = again_extends s t program strict by r room number (retried.Answered answer) again
 tried_extends judged s t program strict by r room number (retried.Overtaken given held ready) again = again_extends s t program strict by r room number (retried.Overtaken given held ready) again
-
--- a proposal and a command at a board with one owner
-pub proposed_extends : (s t : State) (program : Program) (by : Option (List ℕ)) (r : Revision) (answer : Outcome) → IsBoardAfter s t program by r answer → Extends s.log t.log
-proposed_extends s t program by r (outcome.Bad400 field) left = same_log s.log t.log left.log
-proposed_extends s t program by r (outcome.TooLarge413 bytes) left = same_log s.log t.log left.log
-proposed_extends s t program by r (outcome.UserGone401 at) left = same_log s.log t.log left.log
-proposed_extends s t program by r (outcome.Known at) left = same_log s.log t.log left.log
-proposed_extends s t program by r (outcome.BadHistory400 at) left = same_log s.log t.log left.log
-proposed_extends s t program by r (outcome.Conflict409 at leaf) left = same_log s.log t.log left.log
-proposed_extends s t program by r (outcome.Denied403 at rule) left = same_log s.log t.log left.log
-proposed_extends s t program by r (outcome.Stored sequence at) left = one_more s.log t.log (kinds.Write left.write) left.log
-proposed_extends s t program by r (outcome.Full503 at places) left = same_log s.log t.log left.log
-proposed_extends s t program by r (outcome.LogFull509 at entries bytes) left = same_log s.log t.log left.log
-proposed_extends s t program by r outcome.Memory507 left = same_log s.log t.log left.log
-
-pub commanded_extends : (s t : State) (e : Entry) (answer : Outcome) → IsBoardCommanded s t e answer → Extends s.log t.log
-commanded_extends s t e (outcome.Stored sequence at) left = one_more s.log t.log e left.log
-commanded_extends s t e (outcome.Full503 at places) left = same_log s.log t.log left.0.log
-commanded_extends s t e (outcome.LogFull509 at entries bytes) left = same_log s.log t.log left.0.log
-commanded_extends s t e outcome.Memory507 left = same_log s.log t.log left.log
-commanded_extends s t e (outcome.Bad400 field) left = absurd left
-commanded_extends s t e (outcome.TooLarge413 bytes) left = absurd left
-commanded_extends s t e (outcome.UserGone401 at) left = absurd left
-commanded_extends s t e (outcome.Known at) left = absurd left
-commanded_extends s t e (outcome.BadHistory400 at) left = absurd left
-commanded_extends s t e (outcome.Conflict409 at leaf) left = absurd left
-commanded_extends s t e (outcome.Denied403 at rule) left = absurd left

@@ -208,7 +208,7 @@ impl<'g, R: Wait> Ground for SharedGround<'g, R> {
         asked
     }
 
-    /// At most three turns, between which the program judges and a number is drawn.
+    /// At least one turn wherever a board is needed for the outcome.
     fn propose(
         &mut self,
         alloc: Global,
@@ -247,7 +247,7 @@ impl<'g, R: Wait> Ground for SharedGround<'g, R> {
         }
     }
 
-    /// Two turns, and a draw between them; or one turn where there is no room.
+    /// At least one turn.
     fn command(&mut self, command: Command) -> Outcome
         requires entry { IsEntry (entry_of command) }
         requires draws { 2 ≤ self.old.knows.left }
