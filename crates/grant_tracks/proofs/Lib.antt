@@ -6,6 +6,7 @@ pub mod Tracked
 pub mod Picking
 pub mod HeldBy
 pub mod Settling
+pub mod Named
 pub mod Once
 pub mod Sweeping
 pub mod Counting

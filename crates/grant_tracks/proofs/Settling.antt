@@ -1,5 +1,5 @@
 -- what is the same from the last change on
-use Rattle.std.proofs.Common.{◌≡◌, ◌<◌, ◌≤◌, ◌+◌, ℕ, refl, sym, ◌∙◌, ap, subst, arith, Bool, false, ◌&&◌, ◌||◌, max, List, [], ◌∷◌, length, drop, get_or, Option, Some, None}
+use Rattle.std.proofs.Common.{◌≡◌, ◌≤◌, ℕ, refl, sym, ◌∙◌, ap, arith, Bool, false, ◌&&◌, ◌||◌, List, [], ◌∷◌, Option, Some, None}
 use Rattle.std.specs.BTreeMap.{get_by_text}
 use Rattle.std.specs.Str.{bytes_eq}
 use Rattle.sg_history.specs.Principals.{everyone}
@@ -12,7 +12,6 @@ use Rattle.grant_tracks.specs.Holdings.{Holders, held_in, AreUpTo, AreAllUpTo}
 use Rattle.grant_tracks.specs.Reads.{by_roles, channel_among, channel_by, gives_channel, is_channel, list_channel}
 use Rattle.grant_tracks.specs.Things.{Things}
 use Rattle.grant_tracks.specs.Tracks.{IsTrack, held_at}
-use Rattle.grant_tracks.proofs.Gathered.{split}
 use Rattle.grant_tracks.proofs.HeldBy.{settled_list, settled_track}
 use Rattle.grant_tracks.proofs.Tracked.{later_list, later_track}
 
@@ -76,18 +75,3 @@ changed_within users roles n up rest user = by (get_by_text users user) refl
     by : (o : Option Things) → get_by_text users user ≡ o → user_changed roles o ≤ n
     by None is = omega arith
     by (Some list) is = omega (arith, (up user list is).2, roles_within roles n rest list.items)
-
--- one of these more, in a loop over all of them
-module _ (roles : Holders) (all : List Held) (i : ℕ) (h : Held) (within : i < length all) (is : h ≡ get_or all i h) where
-  pub greatest_next : (last one next : ℕ) → one ≡ role_changed roles h.what → next ≡ max last one → max next (roles_changed roles (drop (i + 1) all)) ≡ max last (roles_changed roles (drop i all))
-  greatest_next last one next at more =
-      let rest : roles_changed roles (h ∷ drop (i + 1) all) ≡ roles_changed roles (drop i all) = ap (λ (l : List Held). roles_changed roles l) (split all i h within is) in
-      plain last one next (role_changed roles h.what) (roles_changed roles (drop (i + 1) all)) (roles_changed roles (drop i all)) at more rest
-    where
-      plain : (last one next r left before : ℕ) → one ≡ r → next ≡ max last one → max r left ≡ before → max next left ≡ max last before
-      plain last one next r left before at more rest = omega (arith, at, more, rest)
-
-  pub settled_next : (one m : ℕ) → one ≤ m → ((x : List ℕ) → IsSettled one (λ k. gives_channel roles h.what k x)) → AreSettled roles (drop (i + 1) all) m → AreSettled roles (drop i all) m
-  settled_next one m low here rest =
-      subst (λ (l : List Held). AreSettled roles l m) (split all i h within is)
-      (λ x. settled_later one m (λ k. gives_channel roles h.what k x) low (here x), rest)

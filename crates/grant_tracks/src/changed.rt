@@ -2,20 +2,20 @@
 
 ghost use Rattle.std.specs.Prelude.{◌≡◌, ℕ, max, List, Some};
 ghost use Rattle.std.specs.BTreeMap.{get_by_text};
-ghost use Rattle.grant_tracks.specs.Changed.{AreSettled, IsSettled, changed_by, role_changed, roles_changed, user_changed};
-ghost use Rattle.grant_tracks.specs.Reads.{gives_channel, list_channel, role_channel, user_channel};
+ghost use Rattle.grant_tracks.specs.Changed.{AreNamesSettled, IsSettled, changed_by, names_changed, user_changed};
+ghost use Rattle.grant_tracks.specs.Reads.{list_channel, role_channel, user_channel};
 
-use crate::held::{Held, Holding};
+use crate::held::Holding;
 use crate::holders::Holders;
-use crate::things::What;
+use crate::places::ByName;
 use sg_history::Name;
 
 /// The last change of a role.
-fn changed_role(roles: &Holders, role: &Name) -> u64
+fn changed_role(roles: &Holders, role: &str) -> u64
     ensures last { result ≡ changed_by (get_by_text roles.now role.now) }
     ensures settled { (x : List ℕ) → IsSettled result (λ k. role_channel roles.now role.now k x) }
 {
-    match roles.get(role.as_str()) {
+    match roles.get(role) {
         None => 0,
         Some(all) => all.changed(),
     }
@@ -27,25 +27,14 @@ fn later(one: u64, other: u64) -> u64
     one.max(other)
 }
 
-/// This change, or that of the role that something is where that came later.
-fn later_role(roles: &Holders, last: u64, what: &What) -> u64
-    ensures last { result ≡ max last (role_changed roles.now what.now) }
-    ensures settled { (x : List ℕ) → IsSettled result (λ k. gives_channel roles.now what.now k x) }
-{
-    match what {
-        What::Role(role) => later(last, changed_role(roles, role)),
-        _ => last,
-    }
-}
-
-/// The last change of the roles among these.
-fn changed_roles(roles: &Holders, all: &[Held]) -> u64
-    ensures last { result ≡ roles_changed roles.now all.now }
-    ensures settled { AreSettled roles.now all.now result }
+/// The last change of the roles of these names.
+fn changed_roles(roles: &Holders, names: &ByName) -> u64
+    ensures last { result ≡ names_changed roles.now names.now.entries }
+    ensures settled { AreNamesSettled roles.now names.now.entries result }
 {
     let mut last = 0;
-    for held in all {
-        last = later_role(roles, last, &held.what);
+    for (name, _) in names.iter() {
+        last = later(last, changed_role(roles, name.as_str()));
     }
     last
 }
@@ -55,7 +44,7 @@ fn changed_in(roles: &Holders, all: &Holding) -> u64
     ensures last { result ≡ user_changed roles.now (Some all.now) }
     ensures settled { (x : List ℕ) → IsSettled result (λ k. list_channel roles.now all.now.items k x) }
 {
-    later(all.changed(), changed_roles(roles, all.all()))
+    later(all.changed(), changed_roles(roles, all.roles()))
 }
 
 /// The last change of what a user has, and of what the roles have that it has or had: from there on

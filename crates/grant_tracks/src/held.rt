@@ -1,6 +1,7 @@
 //! What one user or role has or had.
 
-ghost use Rattle.std.specs.Prelude.{◌≡◌, ◌<◌, ◌≤◌, ◌&&◌, ◌||◌, ◌++◌, ◌∷◌, [], ℕ, Bool, true, false, nat_eq, None, Some, MatchOption, IfOk, OnOk, OnErr};
+ghost use Rattle.std.specs.Prelude.{◌≡◌, ◌<◌, ◌≤◌, ◌&&◌, ◌||◌, ◌++◌, ◌∷◌, [], ℕ, Bool, List, true, false, nat_eq, None, Some, MatchOption, IfOk, OnOk, OnErr};
+ghost use Rattle.std.specs.BTreeMap.{get_by_text};
 ghost use Rattle.std.specs.List.{list_any};
 ghost use Rattle.std.specs.Option.{option_copied};
 ghost use Rattle.grant_tracks.specs.declared.things.What.TheVariants as what;
@@ -14,7 +15,7 @@ ghost use Rattle.grant_tracks.specs.Tracks.{BeginsAt, held_at};
 ghost use Rattle.grant_tracks.specs.Ways.{track_has};
 
 use crate::blocks::Blocks;
-use crate::places::Places;
+use crate::places::{ByName, Places};
 use crate::things::What;
 use crate::track::Track;
 use crate::ways::ChannelTracks;
@@ -186,6 +187,14 @@ impl Holding {
         ensures { result.now ≡ self.now.items }
     {
         self.list.as_slice()
+    }
+
+    /// Where each role stands among all that is or was held, by its name.
+    pub(crate) fn roles(&self) -> &ByName
+        ensures { (role : List ℕ) → get_by_text result.now role
+            ≡ place_of self.now.items (what.Role role) }
+    {
+        self.places.roles()
     }
 
     /// When something is held, if it ever was.

@@ -15,7 +15,7 @@ use std::alloc::Global;
 use std::collections::BTreeMap;
 
 /// Places by names.
-type ByName = BTreeMap<String, usize>;
+pub type ByName = BTreeMap<String, usize>;
 
 /// The place of each thing that has one.
 #[derive(Drop)]
@@ -53,6 +53,13 @@ impl Places {
         ensures { result ≡ get_by_text self.now.channels channel.now }
     {
         self.channels.get(channel.as_str()).copied()
+    }
+
+    /// The places of the roles that have one, by their names.
+    pub fn roles(&self) -> &ByName
+        ensures { result.now ≡ self.now.roles }
+    {
+        &self.roles
     }
 
     /// Puts something at a place.

@@ -1,26 +1,36 @@
-use Rattle.std.proofs.Common.{◌∙◌, refl, sym, ap, subst, arith, List}
-use Rattle.std.proofs.lemmas.List.{drop_all}
-use Rattle.grant_tracks.specs.declared.held.Held.{Held}
-use Rattle.grant_tracks.specs.Changed.{AreSettled, role_changed, roles_changed}
-use Rattle.grant_tracks.proofs.Settling.{greatest_next, settled_next}
+use Rattle.std.proofs.Common.{◌≡◌, ◌∙◌, sym, ap, subst, arith, rules, ℕ, List, [], ◌∷◌, String, string_bytes}
+use Rattle.std.specs.Global.{Global}
+use Rattle.std.specs.BTreeMap.{get_by_text}
+use Rattle.grant_tracks.specs.Changed.{AreNamesSettled, IsSettled, changed_by, names_changed}
+use Rattle.grant_tracks.specs.Reads.{role_channel}
+use Rattle.grant_tracks.proofs.Settling.{settled_later}
 use Rattle.grant_tracks.proofs.changed.changed_roles.Goals as goal
 
-pub loop-held-preserved : goal.loop-held-preserved
-loop-held-preserved c =
-    let roles = c.args.roles.now in
-    let i = c.loop-held.held-index in
+pub loop-name-init : goal.loop-name-init
+loop-name-init c =
+    let same : c.into_iter-name-iterator.result ≡ c.args.names.now.entries = search rules in
     record {
-      last = greatest_next roles c.args.all.now i c.held-item.result (omega arith) c.held-item.is c.loop-held.last (role_changed roles c.held-item.result.what) c.later_role-last.result refl c.later_role-last.ensures.last ∙ c.loop-held.invariant.last;
-      settled = λ m low rest. c.loop-held.invariant.settled m (omega (arith, low, c.later_role-last.ensures.last))
-          (settled_next roles c.args.all.now i c.held-item.result (omega arith) c.held-item.is c.later_role-last.result m low c.later_role-last.ensures.settled rest);
+      last = omega (arith, ap (names_changed c.args.roles.now) same);
+      settled = λ m low rest. subst (λ (es : List (String Global × ℕ)). AreNamesSettled c.args.roles.now es m) same rest;
     }
 
-pub returns-clause-last : goal.returns-clause-last
-returns-clause-last c =
-    let none = drop_all c.loop-held.held-index c.args.all.now (omega (arith, c.loop-held-test.false)) in
-    omega (arith, ap (roles_changed c.args.roles.now) none, c.loop-held.invariant.last)
+pub loop-name-preserved : goal.loop-name-preserved
+loop-name-preserved c =
+    let roles = c.args.roles.now in
+    let name = string_bytes c.in-Some.name.now in
+    let split : c.loop-name.name-iterator ≡ (c.in-Some.name.now, c.in-Some.field-0-1.now) ∷ c.next.new.self = search rules in
+    let one : c.changed_role.result ≡ changed_by (get_by_text roles name) = c.changed_role.ensures.last ∙ ap (λ (r : List ℕ). changed_by (get_by_text roles r)) c.as_str.ensures.value in
+    record {
+      last = omega (arith, one, c.later-last.ensures, ap (names_changed roles) split, c.loop-name.invariant.last);
+      settled = λ m low rest. c.loop-name.invariant.settled m (omega (arith, low, c.later-last.ensures))
+          (subst (λ (es : List (String Global × ℕ)). AreNamesSettled roles es m) (sym split) (
+            (λ x. settled_later c.changed_role.result m (λ k. role_channel roles name k x) (omega (arith, low, c.later-last.ensures))
+                (subst (λ (r : List ℕ). IsSettled c.changed_role.result (λ k. role_channel roles r k x)) c.as_str.ensures.value (c.changed_role.ensures.settled x))),
+            rest,
+          ));
+    }
 
 pub returns-clause-settled : goal.returns-clause-settled
 returns-clause-settled c =
-    let none = drop_all c.loop-held.held-index c.args.all.now (omega (arith, c.loop-held-test.false)) in
-    c.loop-held.invariant.settled c.loop-held.last (omega arith) (subst (λ (l : List Held). AreSettled c.args.roles.now l c.loop-held.last) (sym none) tt)
+    let none : c.loop-name.name-iterator ≡ [] = search rules in
+    c.loop-name.invariant.settled c.loop-name.last (omega arith) (subst (λ (es : List (String Global × ℕ)). AreNamesSettled c.args.roles.now es c.loop-name.last) (sym none) tt)

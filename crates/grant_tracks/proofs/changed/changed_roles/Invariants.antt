@@ -1,10 +1,10 @@
-use Rattle.std.proofs.Common.{◌≡◌, ◌≤◌, ℕ, max, drop}
-use Rattle.grant_tracks.specs.Changed.{AreSettled, roles_changed}
+use Rattle.std.proofs.Common.{◌≡◌, ◌≤◌, ℕ, max}
+use Rattle.grant_tracks.specs.Changed.{AreNamesSettled, names_changed}
 use Rattle.grant_tracks.proofs.changed.changed_roles.Given as goal
 
 -- the greatest so far, with those that are left, is that of all
-abbrev pub invariant-loop-held : goal.invariant-loop-held
-invariant-loop-held l = record {
-  last : max l.last (roles_changed l.roles (drop l.held-index l.all)) ≡ roles_changed l.roles l.all;
-  settled : (m : ℕ) → l.last ≤ m → AreSettled l.roles (drop l.held-index l.all) m → AreSettled l.roles l.all m;
+abbrev pub invariant-loop-name : goal.invariant-loop-name
+invariant-loop-name l = record {
+  last : max l.last (names_changed l.roles l.name-iterator) ≡ names_changed l.roles l.names.entries;
+  settled : (m : ℕ) → l.last ≤ m → AreNamesSettled l.roles l.name-iterator m → AreNamesSettled l.roles l.names.entries m;
 }
