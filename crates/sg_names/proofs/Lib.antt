@@ -1,3 +1,4 @@
+pub mod HexValues
 pub mod Cuts
 pub mod Decimals
 pub mod GranteeOrder
