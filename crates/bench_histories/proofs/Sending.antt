@@ -15,6 +15,7 @@ use Rattle.write_path.specs.contracts.shared.SharedGround as ground
 use Rattle.write_path.specs.contracts.shelf.Shelf as shelf
 use Rattle.write_path.specs.contracts.shelf.ShelfKept.TheImpl.{ghosts}
 use Rattle.bench_histories.specs.contracts.checkpoints.Keeping as keeping
+use Rattle.bench_histories.specs.contracts.sharing.Looking as looking
 use Rattle.bench_histories.specs.contracts.sharing.Proposing as proposing
 use Rattle.bench_histories.specs.contracts.sharing.Waiting as waiting
 
@@ -34,6 +35,10 @@ proposing_send κ κ′ R y =
 pub waiting_send : (κ : NamedLft) (R : RattleType) → IsSync R → IsSend (waiting.the_row κ R)
 waiting_send κ R y =
     recorded_send _ _ _ ((waiting.the_type κ R).to_one) (struct_send (Declared.shape (waiting.the_type κ R)) (search sendable depth 30, (search (gate_sync, sendable) depth 30, (search (pass_send, sendable) depth 30, (search sendable depth 30, tt)))))
+
+pub looking_send : (κ κ′ : NamedLft) (R : RattleType) → IsSync R → IsSend (looking.the_row κ κ′ R)
+looking_send κ κ′ R y =
+    recorded_send _ _ _ ((looking.the_type κ κ′ R).to_one) (struct_send (Declared.shape (looking.the_type κ κ′ R)) (search sendable depth 30, (search (heap.crosses, sendable) depth 30, (search (ground_send, sendable) depth 30, (search (heap.crosses, sendable) depth 60, (search sendable depth 30, tt))))))
 
 pub keeping_send : (κ : NamedLft) (R : RattleType) → IsSync R → IsSend (keeping.the_row κ R)
 keeping_send κ R y =

@@ -24,12 +24,15 @@ pub const FUNCTION: &str = "function(doc, oldDoc) { channel(doc.channels); }";
 /// The most ancestors that a body is asked for with.
 const ANCESTORS: u64 = 100;
 
+/// A body by which a document is in channel A.
+pub const IN_A: &[u8] = b"{\"channels\":[\"A\"]}";
+
 pub const START: Key = Key { by: 0, seq: 0 };
 
 /// After the put of the user who pulls, so that what left since then is a row.
 const AFTER_START: Key = Key { by: 1, seq: 1 };
 
-const OPTIONS: Options = Options {
+pub const OPTIONS: Options = Options {
     filter: None,
     active_only: false,
     revocations: false,
@@ -60,8 +63,8 @@ fn first_rev(alloc: Global) -> Result<RevId, Stop> {
     })
 }
 
-/// The first revision of a document that no journal has.
-pub fn revision_of(alloc: Global, number: u64) -> Result<Revision, Stop> {
+/// The first revision of a document that no journal has, with a body.
+pub fn revision_with(alloc: Global, number: u64, body: &[u8]) -> Result<Revision, Stop> {
     let doc = doc_of(alloc, number)?;
     let rev = first_rev(alloc)?;
     Ok(Revision {
@@ -70,8 +73,13 @@ pub fn revision_of(alloc: Global, number: u64) -> Result<Revision, Stop> {
         ancestors: Revs::new(alloc),
         deleted: false,
         noconflicts: true,
-        body: Bytes::from_slice(alloc, b"{\"channels\":[\"A\"]}")?,
+        body: Bytes::from_slice(alloc, body)?,
     })
+}
+
+/// The first revision of a document that no journal has.
+pub fn revision_of(alloc: Global, number: u64) -> Result<Revision, Stop> {
+    revision_with(alloc, number, IN_A)
 }
 
 fn parsed(alloc: Global, function: &str) -> Result<Program, Stop> {
@@ -88,7 +96,23 @@ pub fn program_of(alloc: Global, function: &str) -> Result<Resolved, Stop> {
     }
 }
 
-/// Whether the revision of this number is stored; it is not proposed where no draws are left for it.
+/// Whether a revision is stored; it is not proposed where no draws are left for it.
+pub fn is_revision_stored<G: Ground>(
+    alloc: Global,
+    ground: &mut G,
+    program: &Resolved,
+    user: &Name,
+    revision: Revision,
+) -> bool {
+    if ground.left() < 2 {
+        drop(revision);
+        return false;
+    }
+    let outcome = ground.propose(alloc, program, Some(user), true, revision);
+    matches!(outcome, Outcome::Stored { .. })
+}
+
+/// The same of the revision of this number.
 pub fn is_stored<G: Ground>(
     alloc: Global,
     ground: &mut G,
@@ -96,12 +120,8 @@ pub fn is_stored<G: Ground>(
     user: &Name,
     number: u64,
 ) -> Result<bool, Stop> {
-    if ground.left() < 2 {
-        return Ok(false);
-    }
     let revision = revision_of(alloc, number)?;
-    let outcome = ground.propose(alloc, program, Some(user), true, revision);
-    Ok(matches!(outcome, Outcome::Stored { .. }))
+    Ok(is_revision_stored(alloc, ground, program, user, revision))
 }
 
 /// Proposes so many revisions, and counts those that are stored.

@@ -72,7 +72,7 @@ fn ask_times(
 }
 
 /// How many nanoseconds have passed since then; none where the clock can't be read.
-fn passed_since<R: Clock>(rt: &R, then: io::Result<Instant>) -> u64 {
+pub fn passed_since<R: Clock>(rt: &R, then: io::Result<Instant>) -> u64 {
     let passed = match then {
         Ok(start) => start.elapsed(rt).map_or(0, |time| time.as_nanos()),
         Err(_) => 0,

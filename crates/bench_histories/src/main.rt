@@ -3,12 +3,14 @@
 //! thread, and `keep` how many bytes they have and how many there are. All others take a file: `entries`, `apply`, `channels`, `roles` and
 //! `periods` a journal and how often, `look` too; `list` besides two asks for channels, `CHANNELS@PLACE CHANNELS@PLACE`; `propose`, `pull`,
 //! `lose`, `filter` and `names` a journal and how many; `extend`, `repeat`, `deny`, `offer` and `bodies` besides a leaf of its document `d`;
-//! `share`, `share_costly` and `wait` besides how many threads; `parse`, `print`, `resolve` and `fault` a function and how often; `judge`,
+//! `share`, `share_costly`, `wait` and `share_looks` besides how many threads; `follow`, `follow_granting` and `advance` how many users, and
+//! `gain` none; `parse`, `print`, `resolve` and `fault` a function and how often; `judge`,
 //! `judge_user`, `judge_change` and `judge_both` besides a document, `member` the name of a member, how often and a document, and
 //! `plain_channels`, `plain_count` and `plain_pass` any file, how often and a document.
 #![tactic(auto)]
 
 mod checkpoints;
+mod feeds;
 mod functions;
 mod grants;
 mod grounds;
@@ -20,6 +22,7 @@ mod stop;
 mod threads;
 mod trees;
 
+use feeds::Looked;
 use functions::told;
 use sg_outside::{Bytes, Files, RealFiles};
 use std::alloc::{AllocError, Global};
@@ -111,6 +114,48 @@ fn listed<R: Clock, F: Files>(
     Ok(format!(in alloc; "{} {}", took.reads, took.nanoseconds)?)
 }
 
+fn looked_text(alloc: Global, looked: &Looked) -> Result<String, AllocError> {
+    let Looked {
+        rows,
+        reads,
+        most,
+        refills,
+        nanoseconds,
+    } = looked;
+    format!(in alloc; "{rows} {reads} {most} {refills} {nanoseconds}")
+}
+
+/// What looks for feeds have, and what they take.
+fn of_feeds<R: Threads + Wait + Clock + Sync, F: Files>(
+    rt: &R,
+    alloc: Global,
+    files: &mut F,
+    asked: &Asked,
+) -> Result<String, Stop> {
+    let journal = load(alloc, files, asked.of.as_str())?;
+    let of = number_of(asked.document.as_str());
+    match asked.job.as_str() {
+        "gain" => {
+            let (first, second) = feeds::gain(rt, alloc, journal)?;
+            let (first, second) = (looked_text(alloc, &first)?, looked_text(alloc, &second)?);
+            Ok(format!(in alloc; "{first} {second}")?)
+        }
+        "advance" => {
+            let looked = feeds::advance(rt, alloc, journal, asked.count, of)?;
+            Ok(looked_text(alloc, &looked)?)
+        }
+        "share_looks" => {
+            let (longest, all) = sharing::looked(rt, alloc, journal, of, asked.count)?;
+            Ok(format!(in alloc; "{longest} {all}")?)
+        }
+        job => {
+            let grants = job == "follow_granting";
+            let found = feeds::follow(alloc, files, journal, grants, asked.count, of)?;
+            Ok(format!(in alloc; "{} {}", found.rows, found.nanoseconds)?)
+        }
+    }
+}
+
 /// What comes of a function of the sync language.
 fn of_function<F: Files>(
     alloc: Global,
@@ -187,6 +232,9 @@ fn run<R: Threads + Wait + Clock + Sync, F: Files>(
         "set" | "get" | "keep" => of_checkpoints(rt, alloc, asked),
         "judge_both" => judged_by_two(rt, alloc, files, asked),
         "list" => listed(rt, alloc, files, asked),
+        "follow" | "follow_granting" | "advance" | "gain" | "share_looks" => {
+            of_feeds(rt, alloc, files, asked)
+        }
         "share" | "share_costly" | "wait" | "look" => shared(rt, alloc, files, asked),
         _ => of_file(alloc, files, asked),
     }

@@ -1,15 +1,19 @@
 //! A board of a journal that threads share behind a gate: each proposes revisions at a ground of its own; or one does, and another pass
-//! takes turn after turn, which tells how long a turn is held; or one looks for bodies, a turn each.
+//! takes turn after turn, which tells how long a turn is held; or one looks for bodies, a turn each; or each looks for feeds.
 
 ghost use Rattle.std.specs.Prelude.{◌≡◌, ◌≤◌, ◌^◌, [], length, IfOk};
 ghost use Rattle.write_path.specs.Shared.{Rests};
 
-use crate::grounds::{FUNCTION, START, bodies, is_stored, log_of, look, program_of, rows_of};
+use crate::feeds::plain;
+use crate::grounds::{
+    FUNCTION, START, bodies, ground_of, is_stored, log_of, look, program_of, rows_of,
+};
+use crate::lists::passed_since as nanoseconds_since;
 use crate::stop::Stop;
 use doc_board::Board;
 use seq_gate::laws::turns;
 use seq_gate::{Gate, Pass, open};
-use sg_history::{Name, Row};
+use sg_history::{Key, Name, Row};
 use sg_outside::Bytes;
 use std::alloc::Global;
 use std::io;
@@ -55,8 +59,14 @@ fn found(rt: &(impl Threads + Wait), started: Started) -> u64 {
     }
 }
 
-/// Does all four jobs, the last of them in this thread, and adds up what they find.
-fn by_four<J: Job>(rt: &(impl Threads + Wait), one: J, two: J, three: J, four: J) -> u64 {
+/// Does all four jobs, the last of them in this thread.
+fn by_four<J: Job>(
+    rt: &(impl Threads + Wait),
+    one: J,
+    two: J,
+    three: J,
+    four: J,
+) -> (u64, u64, u64, u64) {
     let (one, two, three, fourth) = scope(
         scope_env(),
         rt,
@@ -67,10 +77,7 @@ fn by_four<J: Job>(rt: &(impl Threads + Wait), one: J, two: J, three: J, four: J
             (one, two, three, four.run())
         },
     );
-    found(rt, one)
-        .saturating_add(found(rt, two))
-        .saturating_add(found(rt, three))
-        .saturating_add(fourth)
+    (found(rt, one), found(rt, two), found(rt, three), fourth)
 }
 
 /// Whose revisions are proposed, under which program, and how many by each thread.
@@ -215,7 +222,11 @@ fn by_threads<R: Threads + Wait + Sync>(
     let fourth = pass.split(gate);
     let three = work_at(rt, alloc, gate, fourth, work, 3);
     let four = work_at(rt, alloc, gate, pass, work, 0);
-    by_four(rt, one, two, three, four)
+    let (first, second, third, fourth) = by_four(rt, one, two, three, four);
+    first
+        .saturating_add(second)
+        .saturating_add(third)
+        .saturating_add(fourth)
 }
 
 /// The longest wait for a turn while another thread proposes.
@@ -328,4 +339,131 @@ pub fn longest_look<R: Wait + Clock>(
     let (gate, pass) = open(alloc, shelf_of(alloc, journal)?)?;
     let mut ground = SharedGround::new(rt, &gate, pass);
     longest_of(rt, alloc, &mut ground, &user, count)
+}
+
+/// A ground at which a user looks so often for the feed behind the last entry but one.
+#[derive(Drop)]
+struct Looking<'g, 'p, R: Clock + Wait + Sync> {
+    rt: &'g R,
+    alloc: Global,
+    ground: SharedGround<'g, R>,
+    user: &'p Name,
+    count: u64,
+}
+
+/// How many microseconds a look for a feed takes.
+fn feed_time<R: Clock, G: Ground>(
+    rt: &R,
+    alloc: Global,
+    ground: &mut G,
+    user: &Name,
+    since: &Key,
+) -> u64 {
+    let before = Instant::now(rt);
+    let rows = rows_of(alloc, ground, user, since);
+    let took = passed_since(rt, before);
+    drop(rows);
+    took
+}
+
+impl<'g, 'p, R: Clock + Wait + Sync> Job for Looking<'g, 'p, R> {
+    /// The most microseconds that one of the looks takes.
+    fn run(self) -> u64 {
+        let Looking {
+            rt,
+            alloc,
+            mut ground,
+            user,
+            count,
+        } = self;
+        let since = plain(ground.front().saturating_sub(1));
+        let mut longest = 0u64;
+        for _ in 0..count {
+            longest = longest.max(feed_time(rt, alloc, &mut ground, user, &since));
+        }
+        drop(ground);
+        longest
+    }
+}
+
+/// The looks of a thread.
+fn looking_at<'g, 'p, R: Clock + Wait + Sync>(
+    rt: &'g R,
+    alloc: Global,
+    gate: &'g Gate<Shelf>,
+    pass: Pass<Shelf>,
+    user: &'p Name,
+    count: u64,
+) -> Looking<'g, 'p, R>
+    requires here { pass.gate ≡ gate.now }
+    requires rests { Rests pass.knows }
+{
+    Looking {
+        rt,
+        alloc,
+        ground: SharedGround::new(rt, gate, pass),
+        user,
+        count,
+    }
+}
+
+/// The most microseconds that one of so many looks of each of one thread or of four takes.
+fn longest_by_threads<R: Threads + Wait + Clock + Sync>(
+    rt: &R,
+    alloc: Global,
+    gate: &Gate<Shelf>,
+    pass: Pass<Shelf>,
+    user: &Name,
+    threads: u64,
+    count: u64,
+) -> u64
+    requires here { pass.gate ≡ gate.now }
+    requires rests { Rests pass.knows }
+    requires left { 2 ^ 35 ≤ pass.knows.left }
+{
+    let mut pass = pass;
+    if threads < 4 {
+        return looking_at(rt, alloc, gate, pass, user, count).run();
+    }
+    let second = pass.split(gate);
+    let one = looking_at(rt, alloc, gate, second, user, count);
+    let third = pass.split(gate);
+    let two = looking_at(rt, alloc, gate, third, user, count);
+    let fourth = pass.split(gate);
+    let three = looking_at(rt, alloc, gate, fourth, user, count);
+    let four = looking_at(rt, alloc, gate, pass, user, count);
+    let (first, second, third, fourth) = by_four(rt, one, two, three, four);
+    first.max(second).max(third).max(fourth)
+}
+
+/// The shelf of a journal, which has read its log for a user.
+fn read_shelf_of(alloc: Global, journal: Bytes, user: &Name) -> Result<Shelf, Stop>
+    ensures pending { IfOk result (λ shelf. shelf.board.pending ≡ []) }
+    ensures rooms { IfOk result (λ shelf. shelf.board.rooms ≡ []) }
+    ensures short { IfOk result (λ shelf. length shelf.board.log ≤ 10000000) }
+{
+    let mut ground = ground_of(alloc, journal)?;
+    let since = plain(ground.front());
+    let rows = rows_of(alloc, &mut ground, user, &since)?;
+    drop(rows);
+    let shelf = ground.into_inner();
+    if shelf.board().front() > MOST_ENTRIES {
+        return Err(Stop::Board);
+    }
+    Ok(shelf)
+}
+
+/// The most microseconds that one of so many looks of each of one thread or of four takes at a gate, and the nanoseconds that all take.
+pub fn looked<R: Threads + Wait + Clock + Sync>(
+    rt: &R,
+    alloc: Global,
+    journal: Bytes,
+    threads: u64,
+    count: u64,
+) -> Result<(u64, u64), Stop> {
+    let user = Name::parse(alloc, "ann")?;
+    let (gate, pass) = open(alloc, read_shelf_of(alloc, journal, &user)?)?;
+    let then = Instant::now(rt);
+    let longest = longest_by_threads(rt, alloc, &gate, pass, &user, threads, count);
+    Ok((longest, nanoseconds_since(rt, then)))
 }
