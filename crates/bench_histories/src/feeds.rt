@@ -12,6 +12,7 @@ use crate::lists::passed_since;
 use crate::stop::{Stop, load};
 use changes_feed::Feeds;
 use grant_history::GrantHistory;
+use repl_messages::Revision;
 use sg_history::{Key, Log, LogReads, Name, take_journal};
 use sg_outside::{Bytes, Files};
 use std::alloc::{AllocError, Global};
@@ -86,8 +87,20 @@ fn processor_time<F: Files>(alloc: Global, files: &mut F) -> Result<u64, Stop> {
     Ok(first.parse::<u64>().unwrap_or(0))
 }
 
-/// Writes a document in channel A, which grants a user `g` where that is asked for.
-fn write(
+/// A revision of a document in channel A, which grants a user `g` where that is asked for.
+fn revision_of(alloc: Global, number: u64, grants: bool) -> Result<Revision, Stop> {
+    if !grants {
+        return revision_with(alloc, number, IN_A);
+    }
+    let user = number / GRANTS_EVERY;
+    let body = format!(in alloc;
+        "{{\"channels\":[\"A\"],\"user\":\"u{user}\",\"granted\":\"g\"}}"
+    )?;
+    revision_with(alloc, number, body.as_bytes())
+}
+
+/// Whether such a revision is stored.
+fn is_written(
     alloc: Global,
     ground: &mut SoloGround,
     program: &Resolved,
@@ -95,15 +108,7 @@ fn write(
     grants: bool,
 ) -> Result<bool, Stop> {
     let writer = Name::parse(alloc, "ann")?;
-    if !grants {
-        let revision = revision_with(alloc, number, IN_A)?;
-        return Ok(is_revision_stored(alloc, ground, program, &writer, revision));
-    }
-    let user = number / GRANTS_EVERY;
-    let body = format!(in alloc;
-        "{{\"channels\":[\"A\"],\"user\":\"u{user}\",\"granted\":\"g\"}}"
-    )?;
-    let revision = revision_with(alloc, number, body.as_bytes())?;
+    let revision = revision_of(alloc, number, grants)?;
     Ok(is_revision_stored(alloc, ground, program, &writer, revision))
 }
 
@@ -130,7 +135,7 @@ fn looks_after(
     for number in 0..writes {
         let since = plain(ground.front());
         let grants = granting && number % GRANTS_EVERY == 0;
-        if write(alloc, ground, &program, number, grants)? {
+        if is_written(alloc, ground, &program, number, grants)? {
             count = count.saturating_add(looks(alloc, ground, users, &since)?);
         }
     }

@@ -125,7 +125,51 @@ fn looked_text(alloc: Global, looked: &Looked) -> Result<String, AllocError> {
     format!(in alloc; "{rows} {reads} {most} {refills} {nanoseconds}")
 }
 
-/// What looks for feeds have, and what they take.
+/// What two users' looks find who just gained a channel.
+fn gained<R: Clock>(rt: &R, alloc: Global, journal: Bytes) -> Result<String, Stop> {
+    let (first, second) = feeds::gain(rt, alloc, journal)?;
+    let (first, second) = (looked_text(alloc, &first)?, looked_text(alloc, &second)?);
+    Ok(format!(in alloc; "{first} {second}")?)
+}
+
+/// What users' looks at the last places of a journal find.
+fn advanced<R: Clock>(
+    rt: &R,
+    alloc: Global,
+    journal: Bytes,
+    places: u64,
+    users: u64,
+) -> Result<String, Stop> {
+    let looked = feeds::advance(rt, alloc, journal, places, users)?;
+    Ok(looked_text(alloc, &looked)?)
+}
+
+/// How many rows users' looks after writes have, and what they and the writes take.
+fn followed<F: Files>(
+    alloc: Global,
+    files: &mut F,
+    journal: Bytes,
+    asked: &Asked,
+    users: u64,
+) -> Result<String, Stop> {
+    let granting = asked.job.as_str() == "follow_granting";
+    let found = feeds::follow(alloc, files, journal, granting, asked.count, users)?;
+    Ok(format!(in alloc; "{} {}", found.rows, found.nanoseconds)?)
+}
+
+/// The most microseconds of a look by threads at one gate, and the nanoseconds of all.
+fn looked_by_threads<R: Threads + Wait + Clock + Sync>(
+    rt: &R,
+    alloc: Global,
+    journal: Bytes,
+    threads: u64,
+    count: u64,
+) -> Result<String, Stop> {
+    let (longest, all) = sharing::looked(rt, alloc, journal, threads, count)?;
+    Ok(format!(in alloc; "{longest} {all}")?)
+}
+
+/// What looks for feeds find, and what they take.
 fn of_feeds<R: Threads + Wait + Clock + Sync, F: Files>(
     rt: &R,
     alloc: Global,
@@ -135,24 +179,10 @@ fn of_feeds<R: Threads + Wait + Clock + Sync, F: Files>(
     let journal = load(alloc, files, asked.of.as_str())?;
     let of = number_of(asked.document.as_str());
     match asked.job.as_str() {
-        "gain" => {
-            let (first, second) = feeds::gain(rt, alloc, journal)?;
-            let (first, second) = (looked_text(alloc, &first)?, looked_text(alloc, &second)?);
-            Ok(format!(in alloc; "{first} {second}")?)
-        }
-        "advance" => {
-            let looked = feeds::advance(rt, alloc, journal, asked.count, of)?;
-            Ok(looked_text(alloc, &looked)?)
-        }
-        "share_looks" => {
-            let (longest, all) = sharing::looked(rt, alloc, journal, of, asked.count)?;
-            Ok(format!(in alloc; "{longest} {all}")?)
-        }
-        job => {
-            let grants = job == "follow_granting";
-            let found = feeds::follow(alloc, files, journal, grants, asked.count, of)?;
-            Ok(format!(in alloc; "{} {}", found.rows, found.nanoseconds)?)
-        }
+        "gain" => gained(rt, alloc, journal),
+        "advance" => advanced(rt, alloc, journal, asked.count, of),
+        "share_looks" => looked_by_threads(rt, alloc, journal, of, asked.count),
+        _ => followed(alloc, files, journal, asked, of),
     }
 }
 
