@@ -18,5 +18,5 @@ by_two-first-requires-send-J g c κs within = search (proposing_send, sendable) 
 pub by_two-first-requires-send-K : goal.by_two-first-requires-send-K
 by_two-first-requires-send-K g c κs within = search (proposing_send, sendable) depth 30
 
-pub by_four-requires-send-J : goal.by_four-requires-send-J
-by_four-requires-send-J g c κs within = search (proposing_send, sendable) depth 30
+pub by_four-first-requires-send-J : goal.by_four-first-requires-send-J
+by_four-first-requires-send-J g c κs within = search (proposing_send, sendable) depth 30

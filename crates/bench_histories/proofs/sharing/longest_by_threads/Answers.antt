@@ -12,5 +12,5 @@ split-third-requires-send-B g c κs = search (shelf_send, sendable) depth 20
 pub split-fourth-requires-send-B : goal.split-fourth-requires-send-B
 split-fourth-requires-send-B g c κs = search (shelf_send, sendable) depth 20
 
-pub by_four-requires-send-J : goal.by_four-requires-send-J
-by_four-requires-send-J g c κs within = search (looking_send, sendable) depth 30
+pub by_four-first-requires-send-J : goal.by_four-first-requires-send-J
+by_four-first-requires-send-J g c κs within = search (looking_send, sendable) depth 30
