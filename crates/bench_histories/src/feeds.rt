@@ -122,7 +122,27 @@ fn looks(alloc: Global, ground: &mut SoloGround, users: &[Name], since: &Key) ->
     Ok(count)
 }
 
-/// How many rows the users' looks have, of which each has one after each of so many writes.
+/// How many rows the users' looks have, of which each has one after each of so many writes under a program.
+fn looks_under(
+    alloc: Global,
+    ground: &mut SoloGround,
+    program: &Resolved,
+    users: &[Name],
+    granting: bool,
+    writes: u64,
+) -> Result<u64, Stop> {
+    let mut count = 0u64;
+    for number in 0..writes {
+        let since = plain(ground.front());
+        let grants = granting && number % GRANTS_EVERY == 0;
+        if is_written(alloc, ground, program, number, grants)? {
+            count = count.saturating_add(looks(alloc, ground, users, &since)?);
+        }
+    }
+    Ok(count)
+}
+
+/// The same under a program that grants what a document says.
 fn looks_after(
     alloc: Global,
     ground: &mut SoloGround,
@@ -131,15 +151,26 @@ fn looks_after(
     writes: u64,
 ) -> Result<u64, Stop> {
     let program = program_of(alloc, GRANTING)?;
-    let mut count = 0u64;
-    for number in 0..writes {
-        let since = plain(ground.front());
-        let grants = granting && number % GRANTS_EVERY == 0;
-        if is_written(alloc, ground, &program, number, grants)? {
-            count = count.saturating_add(looks(alloc, ground, users, &since)?);
-        }
-    }
-    Ok(count)
+    let count = looks_under(alloc, ground, &program, users, granting, writes);
+    drop(program);
+    count
+}
+
+/// The rows and the time of the users' looks and of the writes between them, behind a first look of each.
+fn timed<F: Files>(
+    alloc: Global,
+    files: &mut F,
+    ground: &mut SoloGround,
+    users: &[Name],
+    granting: bool,
+    writes: u64,
+) -> Result<Followed, Stop> {
+    let since = plain(ground.front());
+    looks(alloc, ground, users, &since)?;
+    let before = processor_time(alloc, files)?;
+    let rows = looks_after(alloc, ground, users, granting, writes)?;
+    let nanoseconds = processor_time(alloc, files)?.saturating_sub(before);
+    Ok(Followed { rows, nanoseconds })
 }
 
 /// So many users look at the ground of a journal, and then each after each of so many writes, of which every tenth may grant one of them a
@@ -153,13 +184,16 @@ pub fn follow<F: Files>(
     users: u64,
 ) -> Result<Followed, Stop> {
     let mut ground = ground_of(alloc, journal)?;
-    let users = users_of(alloc, users.max(1))?;
-    let since = plain(ground.front());
-    looks(alloc, &mut ground, users.as_slice(), &since)?;
-    let before = processor_time(alloc, files)?;
-    let rows = looks_after(alloc, &mut ground, users.as_slice(), granting, writes)?;
-    let nanoseconds = processor_time(alloc, files)?.saturating_sub(before);
-    Ok(Followed { rows, nanoseconds })
+    let followed = match users_of(alloc, users.max(1)) {
+        Ok(users) => {
+            let found = timed(alloc, files, &mut ground, users.as_slice(), granting, writes);
+            drop(users);
+            found
+        }
+        Err(stop) => Err(stop),
+    };
+    drop(ground);
+    followed
 }
 
 /// No look.
