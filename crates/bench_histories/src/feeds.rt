@@ -186,7 +186,14 @@ pub fn follow<F: Files>(
     let mut ground = ground_of(alloc, journal)?;
     let followed = match users_of(alloc, users.max(1)) {
         Ok(users) => {
-            let found = timed(alloc, files, &mut ground, users.as_slice(), granting, writes);
+            let found = timed(
+                alloc,
+                files,
+                &mut ground,
+                users.as_slice(),
+                granting,
+                writes,
+            );
             drop(users);
             found
         }
