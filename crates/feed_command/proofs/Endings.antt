@@ -4,11 +4,12 @@ use Rattle.sg_outside.specs.Files.{largest_file}
 use Rattle.sg_history.specs.BadLine.{IsBadJournal}
 use Rattle.sg_history.specs.History.{History}
 use Rattle.sg_history.specs.Journal.{Spells}
-use Rattle.feed_command.specs.declared.status.Status.{Status}
-use Rattle.feed_command.specs.declared.status.Status.TheVariants as status
+use Rattle.command_line.specs.declared.status.Status.{Status}
+use Rattle.command_line.specs.declared.status.Status.TheVariants as status
 use Rattle.feed_command.specs.FeedText.{feed_text}
-use Rattle.feed_command.specs.FeedWords.{FeedWords}
-use Rattle.feed_command.specs.Run.{Ends, EndsFeed, IsLoaded, Prints}
+use Rattle.command_line.specs.FeedWords.{FeedWords}
+use Rattle.feed_command.specs.Run.{Ends, EndsFeed}
+use Rattle.command_line.specs.Run.{IsLoaded, Prints}
 
 -- what was printed is the feed of the journal's history
 pub printed : (s : Status) (h : History) (journal : List ℕ) (f : FeedWords) (faults faults' : ℕ) (before after : Option (List ℕ)) → Spells journal h → Prints s (feed_text h f.user f.since f.options) faults faults' before after → EndsFeed s journal f faults faults' before after

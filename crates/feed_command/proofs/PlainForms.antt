@@ -11,9 +11,9 @@ use Rattle.clap.proofs.OnLiterals.{clap_on_literals}
 use Rattle.sg_names.specs.Key.{ReadsKey}
 use Rattle.sg_names.specs.Grammar.{is_name}
 use Rattle.sg_history.specs.declared.row.Options.{Options}
-use Rattle.feed_command.specs.CommandLines.{feed_app}
-use Rattle.feed_command.specs.FeedWords.{FeedWords, HasFeedValues, IsFeedWords, is_channel_list, names_in, options_of}
-use Rattle.feed_command.specs.Matches.{Takes}
+use Rattle.command_line.specs.CommandLines.{feed_app}
+use Rattle.command_line.specs.FeedWords.{FeedWords, HasFeedValues, IsFeedWords, is_channel_list, names_in, options_of}
+use Rattle.command_line.specs.Matches.{Takes}
 use Rattle.feed_command.specs.PlainWords.{AreRead, AskFor, ListsAskForFilters, is_plain_word, whole_feed}
 use Rattle.feed_command.proofs.PlainWords.{at_place, option_fault, option_walked, plain_walked, plain_words_fault, waits_for}
 

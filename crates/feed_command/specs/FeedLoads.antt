@@ -5,8 +5,8 @@ use Rattle.sg_history.specs.BadLine.{IsBadJournal}
 use Rattle.sg_history.specs.History.{History}
 use Rattle.sg_history.specs.Journal.{Spells}
 use Rattle.sg_history.specs.declared.fault.Why.{Why}
-use Rattle.feed_command.specs.declared.status.Status.{Status}
-use Rattle.feed_command.specs.Loads.{EndsLoads}
+use Rattle.command_line.specs.declared.status.Status.{Status}
+use Rattle.command_line.specs.Loads.{EndsLoads}
 
 -- the bytes are the journal of a history
 abbrev pub IsGoodJournal : ℕ → List ℕ → Type 0

@@ -1,13 +1,4 @@
-pub mod CommandLines
-pub mod Exit
 pub mod FeedLoads
-pub mod FeedRequest
 pub mod FeedText
-pub mod FeedWords
-pub mod Loads
-pub mod Matches
 pub mod PlainWords
-pub mod ReplayRequest
-pub mod ReplayWords
-pub mod ServeWords
 pub mod Run

@@ -3,7 +3,7 @@ use Rattle.std.specs.Prelude.{◌≡◌, ◌==◌, ◌↔◌, ◌++◌, ℕ, Boo
 use Rattle.sg_names.specs.Key.{ReadsKey}
 use Rattle.sg_names.specs.Grammar.{is_name}
 use Rattle.sg_history.specs.declared.row.Options.{Options}
-use Rattle.feed_command.specs.FeedWords.{FeedWords, IsFeedWords, is_channel_list, names_in}
+use Rattle.command_line.specs.FeedWords.{FeedWords, IsFeedWords, is_channel_list, names_in}
 
 -- the word does not begin with `-`
 abbrev pub is_plain_word : List ℕ → Bool

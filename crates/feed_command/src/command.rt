@@ -1,14 +1,13 @@
 //! The command by its words.
 
 ghost use Rattle.std.specs.Prelude.{◌≡◌, ℕ, List, map, string_bytes};
-ghost use Rattle.feed_command.specs.Run.{Counted, Ends, EndsAbsent, HasFile, HasNoFile, IsRefusal, Silent};
+ghost use Rattle.command_line.specs.Run.{Counted, EndsAbsent, HasFile, HasNoFile, IsRefusal, Silent};
+ghost use Rattle.feed_command.specs.Run.{Ends};
 ghost use Rattle.feed_command.specs.FeedLoads.{LoadsJournal};
-ghost use Rattle.feed_command.specs.FeedWords.{FeedWords, IsFeedWords};
+ghost use Rattle.command_line.specs.FeedWords.{FeedWords, IsFeedWords};
 
 use crate::feed::run_feed;
-use crate::feed_words::read_feed;
-use crate::status::Status;
-use crate::words_fault::WordsFault;
+use command_line::{Status, WordsFault, read_feed};
 use sg_outside::{Files, Sink};
 use std::alloc::Global;
 

@@ -4,16 +4,15 @@ ghost use Rattle.std.specs.Prelude.{◌≡◌, ◌≢◌, ℕ, List, IfOk};
 ghost use Rattle.sg_history.specs.History.{history};
 ghost use Rattle.feed_command.specs.FeedText.{feed_text};
 ghost use Rattle.feed_command.specs.FeedLoads.{LoadsJournal};
-ghost use Rattle.feed_command.specs.FeedRequest.{feed_of};
-ghost use Rattle.feed_command.specs.Run.{Counted, Ends, EndsAbsent, EndsFeed, HasFile, HasNoFile, Prints, Silent};
+ghost use Rattle.command_line.specs.FeedRequest.{feed_of};
+ghost use Rattle.command_line.specs.Run.{Counted, EndsAbsent, HasFile, HasNoFile, Prints, Silent};
+ghost use Rattle.feed_command.specs.Run.{Ends, EndsFeed};
 
-use crate::feed_words::FeedRequest;
-use crate::files::load;
-use crate::status::Status;
 use crate::text::print_rows;
+use command_line::{FeedRequest, Status, load, print};
 use feed_rows::rows;
 use sg_history::{BadLine, Key, Log, Name, Options, ReadLog, take_journal};
-use sg_outside::{Bytes, Files, Gave, Memory, Sink};
+use sg_outside::{Bytes, Files, Memory, Sink};
 use std::alloc::Global;
 
 /// The number of the journal among the command's files.
@@ -34,18 +33,6 @@ fn feed_of_log(
     let text = print_rows(alloc, found.as_slice());
     drop(found);
     text
-}
-
-/// Writes a text to the output at once.
-pub fn print<O: Sink>(text: &[u8], out: &mut O) -> Status
-    ensures { Prints result text.now
-        (O.faults out.old) (O.faults out.new) (O.taken out.old) (O.taken out.new) }
-{
-    match out.give(text) {
-        Gave::Done => Status::Ok,
-        Gave::Failed => Status::WriteFault,
-        Gave::Memory => Status::Memory,
-    }
 }
 
 /// Prints the feed of a log.

@@ -1,7 +1,8 @@
 //! The program `sgate` with its command `feed` alone: it stands on a few crates, and so is soon built.
 #![tactic(auto)]
 
-use feed_command::{end, run, words_of};
+use command_line::{end, words_of};
+use feed_command::run;
 use sg_outside::{RealFiles, StdoutSink};
 use std::process::ExitCode;
 

@@ -1,15 +1,15 @@
 -- how the parts of a run of `serve` make the whole
 use Rattle.std.proofs.Common.{◌≡◌, ◌⊎◌, ℕ, List, Option, Some, None, Err, refl, sym, subst, arith, inl, inr}
-use Rattle.feed_command.specs.declared.status.Status.{Status}
-use Rattle.feed_command.specs.declared.status.Status.TheVariants as status
-use Rattle.feed_command.specs.Run.{Counted, EndsLoaded}
+use Rattle.command_line.specs.declared.status.Status.{Status}
+use Rattle.command_line.specs.declared.status.Status.TheVariants as status
+use Rattle.command_line.specs.Run.{Counted, EndsLoaded}
 use Rattle.gateway_config.specs.declared.config.Config.{Config}
 use Rattle.sg_outside.specs.declared.sink.Gave.{Gave}
 use Rattle.sg_outside.specs.declared.sink.Gave.TheVariants as gave
 use Rattle.sg_lines.specs.Door.{DoorRecord, OpensIfRecorded}
 use Rattle.sg_lines.specs.Line.{TraceRecord}
-use Rattle.gateway_app.specs.Inputs.{IsConfigIn}
-use Rattle.gateway_app.specs.Loading.{IsConfigRead}
+use Rattle.replay_command.specs.Inputs.{IsConfigIn}
+use Rattle.replay_command.specs.Loading.{IsConfigRead}
 use Rattle.gateway_server.specs.declared.stop.DoorEnd.{DoorEnd}
 use Rattle.gateway_server.specs.declared.stop.DoorEnd.TheVariants as end
 use Rattle.session_server.specs.Served.{ServesIfRecorded}

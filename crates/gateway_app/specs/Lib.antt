@@ -1,4 +1,1 @@
-pub mod Inputs
-pub mod Loading
-pub mod Replays
 pub mod Serves

@@ -8,10 +8,10 @@ use Rattle.gateway_config.specs.declared.config.Config.{Config}
 use Rattle.gateway_server.specs.declared.stop.DoorEnd.{DoorEnd}
 use Rattle.gateway_server.specs.declared.stop.DoorEnd.TheVariants as end
 use Rattle.session_server.specs.Served.{ServesIfRecorded}
-use Rattle.feed_command.specs.declared.status.Status.{Status}
-use Rattle.feed_command.specs.declared.status.Status.TheVariants as status
-use Rattle.feed_command.specs.Loads.{AreAccepted, IsStopped}
-use Rattle.gateway_app.specs.Inputs.{IsBadConfig, IsBadFileAt, IsConfigIn, IsGoodFile}
+use Rattle.command_line.specs.declared.status.Status.{Status}
+use Rattle.command_line.specs.declared.status.Status.TheVariants as status
+use Rattle.command_line.specs.Loads.{AreAccepted, IsStopped}
+use Rattle.replay_command.specs.Inputs.{IsBadConfig, IsBadFileAt, IsConfigIn, IsGoodFile}
 
 -- the status that serving ends with
 abbrev pub status_of : DoorEnd → Status

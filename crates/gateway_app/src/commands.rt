@@ -1,19 +1,20 @@
 //! The commands, by their words.
 
 ghost use Rattle.std.specs.Prelude.{◌≡◌, ℕ, List, map, string_bytes};
-ghost use Rattle.gateway_app.specs.Inputs.{Contents, HaveContents, LoadsInputs};
-ghost use Rattle.gateway_app.specs.Replays.{EndsReplay};
+ghost use Rattle.replay_command.specs.Inputs.{Contents, HaveContents, LoadsInputs};
+ghost use Rattle.replay_command.specs.Replays.{EndsReplay};
 ghost use Rattle.gateway_app.specs.Serves.{CountedAll, EndsServe, LoadsConfig};
-ghost use Rattle.feed_command.specs.FeedWords.{FeedWords, IsFeedWords};
+ghost use Rattle.command_line.specs.FeedWords.{FeedWords, IsFeedWords};
 ghost use Rattle.feed_command.specs.FeedLoads.{LoadsJournal};
-ghost use Rattle.feed_command.specs.ReplayWords.{IsReplayWords, ReplayWords};
-ghost use Rattle.feed_command.specs.ServeWords.{IsServeWords};
-ghost use Rattle.feed_command.specs.Run.{Counted, Ends, EndsAbsent, HasFile, HasNoFile, IsRefusal, Silent};
+ghost use Rattle.command_line.specs.ReplayWords.{IsReplayWords, ReplayWords};
+ghost use Rattle.command_line.specs.ServeWords.{IsServeWords};
+ghost use Rattle.command_line.specs.Run.{Counted, EndsAbsent, HasFile, HasNoFile, IsRefusal, Silent};
+ghost use Rattle.feed_command.specs.Run.{Ends};
 ghost use Rattle.replay.specs.Replay.{IsReplay};
 
-use crate::replay_command::run_replay;
 use crate::serve_command::run_serve;
-use feed_command::{Status, WordsFault, read_replay, read_serve};
+use command_line::{Status, WordsFault, read_replay, read_serve};
+use replay_command::run_replay;
 use sg_lines::Door;
 use sg_outside::{Files, Sink};
 use std::alloc::Global;

@@ -1,10 +1,8 @@
-//! The gateway's commands.
+//! The gateway's commands, and `serve` among them.
 #![tactic(auto)]
 
 mod commands;
-mod replay_command;
 mod serve_command;
 
+pub use command_line::Status;
 pub use commands::run;
-pub use feed_command::Status;
-pub use replay_command::run_in_turn;

@@ -1,16 +1,16 @@
 //! The command `serve`: opens a door, and serves the devices that come there over one history.
 
 ghost use Rattle.std.specs.Prelude.{◌≡◌, ◌≢◌, ◌≤◌, [], ℕ, List, IfOk};
-ghost use Rattle.feed_command.specs.Run.{HasFile};
+ghost use Rattle.command_line.specs.Run.{HasFile};
 ghost use Rattle.gateway_app.specs.Serves.{CountedAll, EndsServe, EndsServing, LoadsConfig, OpensAndServes, status_of};
 ghost use Rattle.session_server.specs.Served.{ServesIfRecorded};
 ghost use Rattle.gateway_server.specs.declared.stop.DoorEnd.{DoorEnd};
 
-use crate::replay_command::load_config;
+use command_line::Status;
 use doc_board::Board;
-use feed_command::Status;
 use gateway_config::Config;
 use gateway_server::DoorEnd;
+use replay_command::load_config;
 use session_server::serve_devices;
 use sg_lines::Door;
 use sg_outside::{Files, Gave, Memory};

@@ -2,7 +2,7 @@
 //! and says how they ended: one line on standard error for each status but Ok, and the exit number.
 #![tactic(auto)]
 
-use feed_command::{end, words_of};
+use command_line::{end, words_of};
 use gateway_app::run;
 use sg_outside::{RealFiles, StdoutSink};
 use sg_sockets::TcpDoor;

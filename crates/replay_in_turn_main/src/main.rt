@@ -2,8 +2,8 @@
 //! it prints is one text alone, with which the tables of worked cases are compared.
 #![tactic(auto)]
 
-use feed_command::{end, words_of};
-use gateway_app::run_in_turn;
+use command_line::{end, words_of};
+use replay_command::run_in_turn;
 use sg_outside::{RealFiles, StdoutSink};
 use std::process::ExitCode;
 

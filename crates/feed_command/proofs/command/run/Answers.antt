@@ -1,7 +1,8 @@
 use Rattle.std.proofs.Common.{sym, subst, ap, Err}
-use Rattle.feed_command.specs.Run.{Ends, HasFile}
+use Rattle.feed_command.specs.Run.{Ends}
+use Rattle.command_line.specs.Run.{HasFile}
 use Rattle.feed_command.specs.FeedLoads.{LoadsJournal}
-use Rattle.feed_command.specs.FeedWords.{FeedWords}
+use Rattle.command_line.specs.FeedWords.{FeedWords}
 use Rattle.feed_command.proofs.Loads.{none_loaded}
 use Rattle.feed_command.proofs.command.run.Goals as goal
 

@@ -1,6 +1,6 @@
 use Rattle.std.proofs.Common.{refl}
 use Rattle.sg_history.specs.History.{history}
-use Rattle.feed_command.specs.FeedRequest.{feed_of}
+use Rattle.command_line.specs.FeedRequest.{feed_of}
 use Rattle.feed_command.proofs.Endings.{printed}
 use Rattle.feed_command.proofs.feed.print_feed.Goals as goal
 

@@ -1,4 +1,4 @@
-use Rattle.feed_command.specs.FeedRequest.{feed_of}
+use Rattle.command_line.specs.FeedRequest.{feed_of}
 use Rattle.feed_command.proofs.Endings.{with_bytes, not_loaded}
 use Rattle.feed_command.proofs.Loads.{journal_came, not_come}
 use Rattle.feed_command.proofs.feed.run_feed.Goals as goal

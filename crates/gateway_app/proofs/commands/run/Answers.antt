@@ -1,4 +1,4 @@
-use Rattle.feed_command.proofs.OneCommand.{feed_or_serve, replay_or_serve}
+use Rattle.command_line.proofs.OneCommand.{feed_or_serve, replay_or_serve}
 use Rattle.gateway_app.proofs.commands.run.Goals as goal
 
 pub returns-in-Ok-clause-outside : goal.returns-in-Ok-clause-outside

@@ -1,5 +1,5 @@
-use Rattle.feed_command.specs.ReplayRequest.{replay_of}
-use Rattle.feed_command.proofs.OneCommand.{feed_or_replay}
+use Rattle.command_line.specs.ReplayRequest.{replay_of}
+use Rattle.command_line.proofs.OneCommand.{feed_or_replay}
 use Rattle.gateway_app.proofs.commands.run_on_files.Goals as goal
 
 pub returns-in-Ok-clause-outside : goal.returns-in-Ok-clause-outside

@@ -1,7 +1,7 @@
 use Rattle.std.proofs.Common.{◌⊎◌, [], ◌∷◌, inl, inr}
-use Rattle.feed_command.specs.Loads.{AreAccepted, IsStopped}
-use Rattle.gateway_app.specs.Inputs.{IsBadFileAt, IsGoodFile}
-use Rattle.gateway_app.proofs.Loading.{only}
+use Rattle.command_line.specs.Loads.{AreAccepted, IsStopped}
+use Rattle.replay_command.specs.Inputs.{IsBadFileAt, IsGoodFile}
+use Rattle.replay_command.proofs.Loading.{only}
 use Rattle.gateway_app.specs.Serves.{EndsServing}
 use Rattle.gateway_app.proofs.Serving.{counted_door, counted_read, served_file, unread}
 use Rattle.gateway_app.proofs.serve_command.run_serve.Goals as goal

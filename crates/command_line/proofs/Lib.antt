@@ -1,0 +1,4 @@
+pub mod CommandLines
+pub mod Loads
+pub mod OneCommand
+pub mod Reading

@@ -1,0 +1,10 @@
+pub mod CommandLines
+pub mod Exit
+pub mod FeedRequest
+pub mod FeedWords
+pub mod Loads
+pub mod Matches
+pub mod ReplayRequest
+pub mod ReplayWords
+pub mod Run
+pub mod ServeWords

@@ -1,0 +1,4 @@
+pub mod Endings
+pub mod Loading
+pub mod Reading
+pub mod Refusing
