@@ -1,27 +1,25 @@
 //! Expressions, each rule by its own function. They take what evaluates an expression inside as a
 //! parameter, so that each is proved by itself.
 
-ghost use Rattle.std.specs.Prelude.{◌≡◌, ◌&&◌, ◌++◌, ◌∷◌, [], Ok, IsTrue, OnOk};
-ghost use Rattle.sync_values.specs.declared.value.Value as Value;
-ghost use Rattle.sync_meaning.specs.declared.scope.Scope.{Scope};
-ghost use Rattle.sync_meaning.specs.Acts.{Does};
+ghost use Rattle.std.specs.Prelude.{◌≡◌, ◌&&◌, ◌++◌, ◌∷◌, [], OnOk};
 ghost use Rattle.sync_meaning.specs.Expressions as spec;
 ghost use Rattle.sync_meaning.specs.Expressions.{evaluated};
 ghost use Rattle.sync_code.specs.Code.{source, sources, tail_source, tail_sources, member_sources};
 ghost use Rattle.sync_code.specs.Code.{operand_sources};
 ghost use Rattle.sync_code.specs.Code.{fits, all_fit, tail_fits, tails_fit, members_fit};
-ghost use Rattle.sync_code.specs.Code.{operands_fit, slot_fits};
+ghost use Rattle.sync_code.specs.Code.{operands_fit};
 ghost use Rattle.sync_eval.specs.Nested.{DoesWhere, Nests};
 ghost use Rattle.sync_eval.specs.Rests as rests;
 
-use crate::variables::read;
+use crate::callee::{called_by, calls_is_array, is_called, node_count, without_first};
+use crate::leaf::{as_value, call_by, literal, member_or_method, name, text};
 use json_doc::DocText;
 use sqlite_items::Items;
 use std::alloc::Global;
 use sync_code::{Code, Memory, Tail};
 use sync_meaning::{
-    Builtin, ByName, FaultKind, Literal, Method, Rule, RuleKind, Slot, State, Stop, Target, Value,
-    bounded, built_in, by_method, combined, indexed, listed, member, prefixed, truth,
+    Builtin, ByName, Rule, RuleKind, State, Stop, Target, Value, bounded, combined, indexed,
+    listed, prefixed, truth,
 };
 use sync_syntax::tree::{Operator, Prefix};
 use sync_tokens::Place;
@@ -43,235 +41,6 @@ pub(crate) fn place_of(code: &Code) -> Place
         Code::Postfix(first, _) => place_of(first.get()),
         Code::Chain(first, _) => place_of(first.get()),
         Code::Choice(condition, _, _) => place_of(condition.get()),
-    }
-}
-
-/// The function of this name by which a rule denies.
-fn rule_named(name: &str) -> Option<Builtin>
-    ensures { result ≡ spec.lookup rests.rules name.now }
-{
-    if name == "requireUser" {
-        Some(Builtin::RequireUser)
-    } else if name == "requireRole" {
-        Some(Builtin::RequireRole)
-    } else if name == "requireAccess" {
-        Some(Builtin::RequireAccess)
-    } else if name == "requireAdmin" {
-        Some(Builtin::RequireAdmin)
-    } else {
-        None
-    }
-}
-
-/// The function of this name that is built in.
-fn builtin_named(name: &str) -> Option<Builtin>
-    ensures { result ≡ spec.lookup spec.builtins name.now }
-{
-    if name == "channel" {
-        Some(Builtin::Channel)
-    } else if name == "access" {
-        Some(Builtin::Access)
-    } else if name == "role" {
-        Some(Builtin::Role)
-    } else {
-        rule_named(name)
-    }
-}
-
-/// What a name calls.
-#[tactic(auto, unfolding(sync_meaning::specs::Expressions::called_by))]
-fn called_by(name: &str) -> Target
-    ensures { result ≡ spec.called_by name.now }
-{
-    match builtin_named(name) {
-        Some(builtin) => Target::Builtin(builtin),
-        None => Target::Nothing,
-    }
-}
-
-/// The method of this name.
-fn method_named(name: &str) -> Option<Method>
-    ensures { result ≡ spec.lookup spec.methods name.now }
-{
-    if name == "indexOf" {
-        Some(Method::IndexOf)
-    } else if name == "concat" {
-        Some(Method::Concat)
-    } else if name == "startsWith" {
-        Some(Method::StartsWith)
-    } else {
-        None
-    }
-}
-
-/// What a name behind a value calls.
-#[tactic(auto, unfolding(sync_meaning::specs::Expressions::method_of))]
-fn method_of(value: Value, name: &str) -> Target
-    ensures { result ≡ spec.method_of value name.now }
-{
-    match method_named(name) {
-        Some(method) => Target::Method(value, method),
-        None => Target::Nothing,
-    }
-}
-
-#[tactic(auto, using(crate::proofs::Layers::out_tail_source))]
-fn is_call(suffix: &Tail) -> bool
-    ensures { result ≡ spec.is_call (tail_source suffix.now) }
-{
-    matches!(suffix, Tail::Call(_))
-}
-
-/// Whether a call comes next; behind the last suffix as it is said.
-fn is_called(behind: bool, suffixes: &[Tail]) -> bool
-    ensures { result ≡ spec.is_called behind (tail_sources suffixes.now) }
-{
-    match suffixes {
-        [next, ..] => is_call(next),
-        [] => behind,
-    }
-}
-
-#[tactic(auto, using(crate::proofs::Layers::out_source))]
-fn is_array_name(expr: &Code) -> bool
-    ensures { result ≡ spec.is_array_name (source expr.now) }
-{
-    match expr {
-        Code::Name(_, slot) => slot.name.as_str() == "Array",
-        _ => false,
-    }
-}
-
-#[tactic(auto, using(crate::proofs::Layers::out_tail_source))]
-fn is_array_member(suffix: &Tail) -> bool
-    ensures { result ≡ spec.is_array_member (tail_source suffix.now) }
-{
-    match suffix {
-        Tail::Member(name) => name.as_str() == "isArray",
-        _ => false,
-    }
-}
-
-/// Whether this is `Array.isArray` before a call.
-fn calls_is_array(behind: bool, first: &Code, suffixes: &[Tail]) -> bool
-    ensures { result ≡ spec.calls_is_array behind (source first.now) (tail_sources suffixes.now) }
-{
-    match suffixes {
-        [next, rest @ ..] => {
-            is_array_name(first) && is_array_member(next) && is_called(behind, rest)
-        }
-        [] => false,
-    }
-}
-
-/// Whether a suffix ends a node: `.name` before a call doesn't.
-#[tactic(auto, using(crate::proofs::Layers::out_tail_source))]
-fn ends_node(called: bool, suffix: &Tail) -> bool
-    ensures { result ≡ spec.ends_node called (tail_source suffix.now) }
-{
-    match suffix {
-        Tail::Member(_) => !called,
-        _ => true,
-    }
-}
-
-/// How many nodes end with these suffixes.
-fn node_count(behind: bool, suffixes: &[Tail]) -> u64
-    ensures { result ≡ spec.node_count behind (tail_sources suffixes.now) }
-{
-    let mut count = 0;
-    let mut left = suffixes;
-    while let [suffix, rest @ ..] = left {
-        if ends_node(is_called(behind, rest), suffix) {
-            count += 1;
-        }
-        left = rest;
-    }
-    count
-}
-
-/// The value that was found, if it is one.
-fn as_value(place: Place, target: Target) -> Result<Value, Stop>
-    ensures { result ≡ spec.as_value place target }
-{
-    match target {
-        Target::Value(value) => Ok(value),
-        _ => Err(Stop::fault(FaultKind::TypeFault, place)),
-    }
-}
-
-/// What a literal evaluates to.
-#[tactic(auto, unfolding(sync_meaning::specs::Expressions::literal))]
-fn literal(state: &mut State, place: Place, found: Result<Value, Stop>) -> Result<Value, Stop>
-    ensures { Does (spec.literal place found state.old) result state.new }
-{
-    match state.visit(place) {
-        Ok(()) => found,
-        Err(stop) => {
-            drop(found);
-            Err(stop)
-        }
-    }
-}
-
-/// What a text of the program evaluates to.
-#[tactic(auto, unfolding(sync_meaning::specs::Expressions::literal))]
-fn text(alloc: Global, state: &mut State, place: Place, text: &Literal) -> Result<Value, Stop>
-    ensures { Does (spec.literal place (Ok (Value.Text text.now.text)) state.old) result state.new }
-{
-    state.visit(place)?;
-    Ok(Value::Text(state.variables.literal(alloc, text)?))
-}
-
-/// What a name evaluates to.
-#[tactic(auto, unfolding(sync_meaning::specs::Expressions::name))]
-fn name(state: &mut State, place: Place, slot: &Slot) -> Result<Value, Stop>
-    ensures { DoesWhere (slot_fits slot.now) (λ scope. spec.name scope place slot.now.name)
-        state.old result state.new }
-{
-    state.visit(place)?;
-    read(state, slot)
-}
-
-/// What is called is called with these arguments.
-fn call_by(
-    alloc: Global,
-    state: &mut State,
-    place: Place,
-    target: Target,
-    values: &[Value],
-) -> Result<Value, Stop>
-    ensures { Does (spec.call_by place target values.now state.old) result state.new }
-{
-    match target {
-        Target::Method(value, method) => {
-            let found = by_method(alloc, place, method, &value, values);
-            drop(value);
-            found
-        }
-        Target::Builtin(builtin) => built_in(alloc, place, builtin, values, state),
-        Target::Value(_) | Target::Nothing => Err(Stop::fault(FaultKind::TypeFault, place)),
-    }
-}
-
-/// A member, or before a call a method.
-#[tactic(auto, unfolding(sync_meaning::specs::Expressions::member_or_method))]
-fn member_or_method(
-    state: &mut State,
-    called: bool,
-    place: Place,
-    target: Target,
-    name: &str,
-) -> Result<Target, Stop>
-    ensures { Does (spec.member_or_method called place target name.now state.old) result state.new }
-{
-    let value = as_value(place, target)?;
-    if called {
-        Ok(method_of(value, name))
-    } else {
-        let found = member(place, name, &value);
-        drop(value);
-        Ok(Target::Value(found?))
     }
 }
 
@@ -798,18 +567,6 @@ impl<F: Fn(Global, u64, &mut State, &Code, bool) -> Result<Target, Stop>> Expres
         } else {
             Ok(Target::Value(self.node(state, expr)?))
         }
-    }
-}
-
-/// The suffixes but the first.
-fn without_first(suffixes: &[Tail]) -> &[Tail]
-    ensures source { tail_sources result.now ≡ spec.without_first (tail_sources suffixes.now) }
-    ensures fits { (scope : Scope) → IsTrue (tails_fit suffixes.now scope)
-        → IsTrue (tails_fit result.now scope) }
-{
-    match suffixes {
-        [_, rest @ ..] => rest,
-        [] => suffixes,
     }
 }
 

@@ -4,8 +4,10 @@
 //! run lets what it wrote go newest first, an expression.
 #![tactic(auto)]
 
+mod callee;
 mod expression;
 pub mod laws;
+mod leaf;
 mod meaning;
 mod simple;
 mod statement;

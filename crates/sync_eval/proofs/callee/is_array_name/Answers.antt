@@ -4,7 +4,7 @@ use Rattle.sync_meaning.specs.Expressions as spec
 use Rattle.sync_meaning.specs.Expressions.{is_array_name_at}
 use Rattle.sync_code.specs.Code.{source}
 use Rattle.sync_eval.proofs.Layers.{name_layer}
-use Rattle.sync_eval.proofs.expression.is_array_name.Goals as goal
+use Rattle.sync_eval.proofs.callee.is_array_name.Goals as goal
 
 pub returns-in-Name : goal.returns-in-Name
 returns-in-Name c =

@@ -4,7 +4,7 @@ use Rattle.sync_meaning.specs.Expressions as spec
 use Rattle.sync_meaning.specs.Expressions.{is_array_member_at}
 use Rattle.sync_code.specs.Code.{tail_source}
 use Rattle.sync_eval.proofs.Layers.{member_layer}
-use Rattle.sync_eval.proofs.expression.is_array_member.Goals as goal
+use Rattle.sync_eval.proofs.callee.is_array_member.Goals as goal
 
 pub returns-in-Member : goal.returns-in-Member
 returns-in-Member c =
