@@ -8,34 +8,67 @@ use std::test::Fail;
 use sync_print::print;
 use sync_syntax::{ParseFault, Place, Program, SyntaxFault, SyntaxWhy, parse};
 
-/// Programs, with an empty line between each two.
+/// Programs, with an empty line between each two: behind a `@` stands what is printed of each, which has the parentheses that the
+/// rules want and no others.
 const PROGRAMS: &str = "\
-function(doc, oldDoc) { channel(doc.channels); }\n\n\
-function sync(doc) {}\n\n\
-function(doc) {};\n\n\
-/* a */ function // b\n(doc) {} /* c **/ ; // d\n\n\
-function($_1) { a\n}\n\n\
-function(doc) { ; {} {;} }\n\n\
-function(doc) { for (;;) ; }\n\n\
-function(doc) { if (a) if (b) x(); else y(); }\n\n\
-function(doc) { if (a) { x() } else if (b) y(); else { z() } }\n\n\
-function(doc) { var a = 1, b; let c; const d = 2 }\n\n\
-function(doc) { for (var i = 0, n = 9; i < n; i++) { continue; } }\n\n\
-function(doc) { for (i = 0; ; i += 2) break; }\n\n\
-function(doc) { for (const c of doc.list) { if (c) break } }\n\n\
-function(doc) { return }\n\n\
-function(doc) { return 1; }\n\n\
-function(doc) { throw({forbidden: \"no\"}); }\n\n\
-function(doc) { x = a ? b : c ? d : e; }\n\n\
-function(doc) { x += - 1 * ! typeof y; x -= 1; x--; x++ }\n\n\
-function(doc) { a.b[c](d, e)[0].f(); (a.b)(c) }\n\n\
-function(doc) { x = [1, 2, [], {}, {a: 1, \"b c\": 2, a: 3}] }\n\n\
-function(doc) { ({}) }\n\n\
-function(doc) { x = 'a\\n\\t\\r\\\\\\'\\\"\\u0041\\u00e9\\uFFFF\t\u{e9}\u{1f600}' }\n\n\
-function(doc) { x = 9007199254740991 + 0 }\n\n\
-function(doc) { a === b == c !== d != e < f <= g > h >= i && j || k }\n\n\
-function(doc) { for (let x of a ? b : c) for (;;) { break; } }\n\n\
-function(doc) { a - - b; a - -b * -(c) }";
+function(doc, oldDoc) { channel(doc.channels); }@\
+function (doc, oldDoc) { channel(doc.channels); }\n\n\
+function sync(doc) {}@\
+function sync(doc) { }\n\n\
+function(doc) {};@\
+function (doc) { }\n\n\
+/* a */ function // b\n(doc) {} /* c **/ ; // d@\
+function (doc) { }\n\n\
+function($_1) { a\n}@\
+function ($_1) { a; }\n\n\
+function(doc) { ; {} {;} }@\
+function (doc) {; { } {; } }\n\n\
+function(doc) { for (;;) ; }@\
+function (doc) { for (;;); }\n\n\
+function(doc) { if (a) if (b) x(); else y(); }@\
+function (doc) { if (a) if (b) x(); else y(); }\n\n\
+function(doc) { if (a) { x() } else if (b) y(); else { z() } }@\
+function (doc) { if (a) { x(); } else if (b) y(); else { z(); } }\n\n\
+function(doc) { var a = 1, b; let c; const d = 2 }@\
+function (doc) { var a = 1, b; let c; const d = 2; }\n\n\
+function(doc) { for (var i = 0, n = 9; i < n; i++) { continue; } }@\
+function (doc) { for (var i = 0, n = 9; i < n; i ++) { continue; } }\n\n\
+function(doc) { for (i = 0; ; i += 2) break; }@\
+function (doc) { for (i = 0;; i += 2) break; }\n\n\
+function(doc) { for (const c of doc.list) { if (c) break } }@\
+function (doc) { for (const c of doc.list) { if (c) break; } }\n\n\
+function(doc) { return }@\
+function (doc) { return; }\n\n\
+function(doc) { return 1; }@\
+function (doc) { return 1; }\n\n\
+function(doc) { throw({forbidden: \"no\"}); }@\
+function (doc) { throw { \"forbidden\": \"no\" }; }\n\n\
+function(doc) { x = a ? b : c ? d : e; }@\
+function (doc) { x = a ? b: c ? d: e; }\n\n\
+function(doc) { x += - 1 * ! typeof y; x -= 1; x--; x++ }@\
+function (doc) { x += - 1 * ! typeof y; x -= 1; x --; x ++; }\n\n\
+function(doc) { a.b[c](d, e)[0].f(); (a.b)(c) }@\
+function (doc) { a.b[c](d, e)[0].f(); (a.b)(c); }\n\n\
+function(doc) { x = [1, 2, [], {}, {a: 1, \"b c\": 2, a: 3}] }@\
+function (doc) { x = [1, 2, [], { }, { \"a\": 1, \"b c\": 2, \"a\": 3 }]; }\n\n\
+function(doc) { ({}) }@\
+function (doc) { ({ }); }\n\n\
+function(doc) { x = 'a\\n\\t\\r\\\\\\'\\\"\\u0041\\u00e9\\uFFFF\t\u{e9}\u{1f600}' }@\
+function (doc) { x = \"a\\n\t\r\\\\'\\\"A\u{e9}\u{ffff}\t\u{e9}\u{1f600}\"; }\n\n\
+function(doc) { x = 9007199254740991 + 0 }@\
+function (doc) { x = 9007199254740991 + 0; }\n\n\
+function(doc) { a === b == c !== d != e < f <= g > h >= i && j || k }@\
+function (doc) { a === b == c !== d != e < f <= g > h >= i && j || k; }\n\n\
+function(doc) { for (let x of a ? b : c) for (;;) { break; } }@\
+function (doc) { for (let x of a ? b: c) for (;;) { break; } }\n\n\
+function(doc) { a - - b; a - -b * -(c) }@\
+function (doc) { a - - b; a - - b * - c; }\n\n\
+function f(a,b){x=((a||b)&&c)===(d<(e+f)*-g);y=a||b&&c==d<e+f*!typeof h;z=(a-b)-c-(d-e)*(f*g)}@\
+function f(a, b) { x = ((a || b) && c) === d < (e + f) * - g; y = a || b && c == d < e + f * ! typeof h; z = (a - b) - c - (d - e) * (f * g); }\n\n\
+function(doc) { x = (a ? b : c) ? (d) : (e ? f : g); y = (!a).b; z = !(a && b); w = -(-a); v = (-a)(b) }@\
+function (doc) { x = (a ? b: c) ? d: e ? f: g; y = (! a).b; z = ! (a && b); w = - - a; v = (- a)(b); }\n\n\
+function(doc) { ({a: 1}).a; x = ({a: 1}).a; ({} + 1) }@\
+function (doc) { ({ \"a\": 1 }.a); x = { \"a\": 1 }.a; ({ } + 1); }";
 
 /// The program that a text is.
 pub fn program(alloc: Global, text: &str) -> Result<Program, Fail> {
@@ -58,17 +91,17 @@ fn printed_of(alloc: Global, text: &str) -> Result<DocText, Fail> {
     printed(alloc, &program)
 }
 
-/// Whether what is printed of a program is a program of which the same is printed.
-fn comes_back(alloc: Global, text: &str) -> Result<bool, Fail> {
-    let first = printed_of(alloc, text)?;
-    let again = printed_of(alloc, first.as_str())?;
-    Ok(first.as_str() == again.as_str())
+/// Whether this is printed of the program that a text is.
+fn is_printed(alloc: Global, case: &str) -> Result<bool, Fail> {
+    let (text, want) = cut(case, '@');
+    let found = printed_of(alloc, text)?;
+    Ok(found.as_str() == want)
 }
 
 #[test]
-fn programs_come_back(rt: HostRuntime) -> Result<(), Fail> {
-    for text in PROGRAMS.split("\n\n") {
-        assert!(rt; comes_back(rt.alloc(), text)?, "{text}");
+fn programs_are_printed_by_the_rules(rt: HostRuntime) -> Result<(), Fail> {
+    for case in PROGRAMS.split("\n\n") {
+        assert!(rt; is_printed(rt.alloc(), case)?, "{case}");
     }
     Ok(())
 }
