@@ -341,6 +341,22 @@ fn written_request(alloc: Global, crc: &mut Crc) -> Result<Bytes, AllocError> {
     Ok(out)
 }
 
+/// Request 2, with an empty payload.
+fn written_empty(alloc: Global, crc: &mut Crc) -> Result<Bytes, AllocError> {
+    let mut out = Bytes::new(alloc);
+    let request = Frame {
+        number: 2,
+        kind: Kind::Msg,
+        urgent: false,
+        no_reply: false,
+        more: false,
+        payload: b"",
+    };
+    write_frame(crc, &request, &mut out)?;
+    Ok(out)
+}
+
+/// The acknowledgement of request 1.
 fn written_acknowledgement(alloc: Global, crc: &mut Crc) -> Result<Bytes, AllocError> {
     let mut out = Bytes::new(alloc);
     let acknowledgement = Frame {
@@ -360,8 +376,10 @@ fn frames_written_on_one_state(rt: HostRuntime) -> Result<(), Fail> {
     let mut crc = Crc::new();
     let first = written_request(rt.alloc(), &mut crc)?;
     assert!(rt; first.as_slice() == b"\x01\x20123456789\xcb\xf4\x39\x26".as_slice());
-    let second = written_acknowledgement(rt.alloc(), &mut crc)?;
-    assert!(rt; second.as_slice() == b"\x01\x34\x80\x80\x04".as_slice());
+    let second = written_empty(rt.alloc(), &mut crc)?;
+    assert!(rt; second.as_slice() == b"\x02\x00\xcb\xf4\x39\x26".as_slice());
+    let third = written_acknowledgement(rt.alloc(), &mut crc)?;
+    assert!(rt; third.as_slice() == b"\x01\x34\x80\x80\x04".as_slice());
     assert!(rt; crc.value == 0xcbf4_3926);
     assert!(rt; !Kind::AckRpy.has_checksum());
     Ok(())
