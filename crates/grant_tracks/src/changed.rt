@@ -1,10 +1,11 @@
 //! The last change of what a user has.
 
-ghost use Rattle.std.specs.Prelude.{◌≡◌, ℕ, max, List, Some};
+ghost use Rattle.std.specs.Prelude.{◌≡◌, ℕ, List, Some};
 ghost use Rattle.std.specs.BTreeMap.{get_by_text};
 ghost use Rattle.grant_tracks.specs.Changed.{AreNamesSettled, IsSettled, changed_by, names_changed, user_changed};
 ghost use Rattle.grant_tracks.specs.Reads.{list_channel, role_channel, user_channel};
 
+use crate::events::later;
 use crate::held::Holding;
 use crate::holders::Holders;
 use crate::places::ByName;
@@ -19,12 +20,6 @@ fn changed_role(roles: &Holders, role: &str) -> u64
         None => 0,
         Some(all) => all.changed(),
     }
-}
-
-fn later(one: u64, other: u64) -> u64
-    ensures { result ≡ max one other }
-{
-    one.max(other)
 }
 
 /// The last change of the roles of these names.

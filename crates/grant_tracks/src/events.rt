@@ -25,7 +25,8 @@ fn count_to(places: &[u64], k: u64) -> usize
     places.partition_point(|place| *place <= k)
 }
 
-fn later(a: u64, b: u64) -> u64
+/// The later one of two places.
+pub(crate) fn later(a: u64, b: u64) -> u64
     ensures { result ≡ max a b }
 {
     if b <= a {
