@@ -14,12 +14,11 @@ use Rattle.sg_history.specs.History.{SyncEntry, as_sync, as_write, of_document, 
 use Rattle.sg_history.specs.Current.{Current, Sequenced, current, current_after, mark_in, mark_of, marks_rev}
 use Rattle.log_index.specs.declared.documents.Document.{Document}
 use Rattle.log_index.specs.declared.marks.Marked.{Marked}
-use Rattle.log_index.specs.Marks.{mark_place, marked_after, marked_by, marked_or, marked_up_to, place_by, place_in, write_of}
+use Rattle.log_index.specs.Marks.{is_mark, mark_place, marked_after, marked_by, marked_or, marked_up_to, place_by, place_in, write_of}
 use Rattle.log_index.specs.Places.{document_at}
 use Rattle.log_index.proofs.GoingBack.{all_up_to}
 use Rattle.log_index.proofs.Nexts.{stays_at}
 use Rattle.log_views.proofs.Placed.{nothing}
-use Rattle.channel_cache.specs.Moves.{is_mark}
 use Rattle.channel_cache.proofs.Standing.{IsDocument, is_document}
 use Rattle.channel_cache.proofs.Stepping.{write_other}
 use Rattle.feed_rows.specs.Known.{marks_winner, renews}

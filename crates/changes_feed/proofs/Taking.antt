@@ -13,11 +13,10 @@ use Rattle.sg_history.specs.History.{SyncEntry, as_sync, as_write, of_document, 
 use Rattle.sg_history.specs.Current.{Current, Sequenced, current, mark_in}
 use Rattle.log_index.specs.declared.documents.Document.{Document}
 use Rattle.log_index.specs.declared.marks.Marked.{Marked}
-use Rattle.log_index.specs.Marks.{entries_up_to, marked_after, marked_up_to}
+use Rattle.log_index.specs.Marks.{entries_up_to, is_mark, marked_after, marked_up_to}
 use Rattle.log_index.specs.Places.{after_at, before_at, document_at, document_before}
 use Rattle.log_index.proofs.Nexts.{after_newest, before_newest, before_older}
 use Rattle.channel_cache.specs.Forward.{replaced_at, replaced_by}
-use Rattle.channel_cache.specs.Moves.{is_mark}
 use Rattle.channel_cache.specs.Stands.{IndexesTo}
 use Rattle.channel_cache.proofs.Standing.{writes_after}
 use Rattle.channel_cache.proofs.Past.{index_after, index_up_to}

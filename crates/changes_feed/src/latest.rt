@@ -14,8 +14,8 @@ ghost use Rattle.feed_rows.specs.LastChange.{IsWinning};
 ghost use Rattle.feed_rows.specs.Latest.{current_in, since_in, winner_in};
 
 use feed_rows::{Latest, latest_by};
-use log_index::{Document, LogIndex, Marked};
-use log_views::{EffectsOf, mark_in, of_mark, recorded};
+use log_index::{Document, LogIndex, Marked, mark_in};
+use log_views::{EffectsOf, of_mark, recorded};
 use sg_history::{Entry, LogReads, Write};
 
 /// The effects of a mark of an entry, those that the write recorded where it has none there.

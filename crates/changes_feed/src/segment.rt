@@ -10,7 +10,6 @@ ghost use Rattle.sg_history.specs.CountedLog.{marks_between};
 ghost use Rattle.sg_history.specs.History.{past};
 ghost use Rattle.log_index.specs.Places.{after_at, before_at, document_at};
 ghost use Rattle.channel_cache.specs.Forward.{replaced_at};
-ghost use Rattle.channel_cache.specs.Moves as moves;
 ghost use Rattle.channel_cache.specs.Reads.{passed};
 ghost use Rattle.channel_cache.specs.Stands.{IndexesTo};
 ghost use Rattle.feed_rows.specs.KnownDocuments.{names_in};
@@ -21,7 +20,7 @@ ghost use Rattle.changes_feed.specs.Segment.{SegmentAt};
 
 use crate::latest::{latest_at, latest_of};
 use feed_rows::{Document, Viewer, bring_up_at};
-use log_index::{LogIndex, Marked};
+use log_index::{LogIndex, is_mark};
 use sg_history::{DocId, LogReads, Mark};
 use sg_outside::Memory;
 use std::alloc::Global;
@@ -127,16 +126,6 @@ fn renew<'a>(
     let place = place_for(index, log, segment, before, after, &latest.write.doc, at)?;
     bring_up_at(viewer, &mut segment.documents, place, start, latest);
     Ok(())
-}
-
-/// Whether this is the mark of this number of the entry of a sequence.
-fn is_mark(marked: Option<Marked>, sync: u64, number: usize) -> bool
-    ensures { result ≡ moves.is_mark marked sync number }
-{
-    match marked {
-        None => false,
-        Some(marked) => marked.sync == sync && marked.mark == number as u64,
-    }
 }
 
 /// Takes a mark of the entry at a place, given where the document that it is of stands: where the mark has the effects of

@@ -17,7 +17,7 @@ use Rattle.sg_history.specs.Current.{Current, Sequenced, current, effects_of, ma
 use Rattle.sg_history.specs.View.{every}
 use Rattle.log_index.specs.declared.documents.Document.{Document}
 use Rattle.log_index.specs.declared.marks.Marked.{Marked}
-use Rattle.log_index.specs.Marks.{effects_by, entries_up_to, mark_at, mark_in_place, mark_place, marked_after, marked_or, marked_up_to, place_by, place_in, write_of}
+use Rattle.log_index.specs.Marks.{effects_by, entries_up_to, is_mark, mark_at, mark_in_place, mark_place, marked_after, marked_or, marked_up_to, place_by, place_in, write_of}
 use Rattle.log_index.specs.Marks as marks
 use Rattle.log_index.specs.Places.{document_at, next_at, written_again}
 use Rattle.log_index.specs.Representation.{last_kept}
@@ -26,7 +26,7 @@ use Rattle.log_index.proofs.GoingBack.{all_up_to}
 use Rattle.log_index.proofs.Nexts.{last_writes_it, stays_at}
 use Rattle.channel_cache.specs.Counting.{AreLists, is_in_list, is_listed_by}
 use Rattle.channel_cache.specs.Listed.{is_in, is_in_one, is_listed}
-use Rattle.channel_cache.specs.Moves.{Move, channels_at, enters, entered_by, is_mark, leaves, left_by, move_by, move_of, moves_of}
+use Rattle.channel_cache.specs.Moves.{Move, channels_at, enters, entered_by, leaves, left_by, move_by, move_of, moves_of}
 use Rattle.channel_cache.specs.Read.{marked_channels}
 use Rattle.channel_cache.specs.Sequences.{Changed, Counted, Lists, holds_of, is_kept}
 use Rattle.channel_cache.specs.Stands.{is_last}

@@ -1,5 +1,5 @@
 -- The documents that a replaced sync function moves. Only proofs and the lists' own functions need it.
-use Rattle.std.specs.Prelude.{◌+◌, ℕ, nat_eq, Bool, false, not, ◌&&◌, ◌||◌, List, [], ◌∷◌, ◌++◌, length, Option, Some, None, if◌then◌else◌}
+use Rattle.std.specs.Prelude.{◌+◌, ℕ, nat_eq, Bool, not, ◌&&◌, ◌||◌, List, [], ◌∷◌, ◌++◌, length, Option, Some, None, if◌then◌else◌}
 use Rattle.std.specs.List.{list_any}
 use Rattle.std.specs.Str.{bytes_eq}
 use Rattle.sg_history.specs.declared.entries.Entry.{Entry}
@@ -9,8 +9,7 @@ use Rattle.sg_history.specs.History.{among}
 use Rattle.sg_history.specs.Current.{effects_of}
 use Rattle.sg_history.specs.View.{every}
 use Rattle.log_index.specs.declared.documents.Document.{Document}
-use Rattle.log_index.specs.declared.marks.Marked.{Marked}
-use Rattle.log_index.specs.Marks.{marked_up_to, write_of}
+use Rattle.log_index.specs.Marks.{is_mark, marked_up_to, write_of}
 use Rattle.log_index.specs.Places.{document_at}
 use Rattle.channel_cache.specs.declared.moved.Moved.{Moved}
 
@@ -36,11 +35,6 @@ move_in m = record { last = m.last; before = m.before.now; after = m.after.now }
 abbrev pub optional : {X : Type 0} → Option X → List X
 optional None = []
 optional (Some x) = x ∷ []
-
--- whether this is the mark of this number, counted from 0, of the replacement of this sequence
-abbrev pub is_mark : Option Marked → ℕ → ℕ → Bool
-is_mark None sync number = false
-is_mark (Some m) sync number = nat_eq m.sync sync && nat_eq m.mark number
 
 -- what a mark of the newest entry moves, by the older ones, all, and where its document stands: nothing but where it has the effects
 -- of the document's winner

@@ -1,15 +1,14 @@
 //! The channels that documents are in.
 
 ghost use Rattle.std.specs.Prelude.{◌≡◌, ◌≤◌, ◌<◌, ◌+◌, ◌-◌, length, slice_get};
-ghost use Rattle.std.specs.Option.{option_copied};
 ghost use Rattle.sg_history.specs.History.{as_sync, as_write, past};
 ghost use Rattle.log_index.specs.Marks as marks;
 ghost use Rattle.channel_cache.specs.Moves.{channels_at};
 ghost use Rattle.channel_cache.specs.Read.{channels_marked, channels_written, marked_channels, written_channels};
 ghost use Rattle.channel_cache.specs.Stands.{IndexesTo};
 
-use log_index::{LogIndex, Marked, laws};
-use sg_history::{ChannelName, Entry, LogReads, Mark};
+use log_index::{LogIndex, Marked, laws, mark_in};
+use sg_history::{ChannelName, Entry, LogReads};
 
 /// The channels that a write recorded, none where the entry is no write.
 fn of_write(entry: &Entry) -> &[ChannelName]
@@ -18,16 +17,6 @@ fn of_write(entry: &Entry) -> &[ChannelName]
     match entry.as_write() {
         None => &[],
         Some(write) => write.channels.as_slice(),
-    }
-}
-
-/// The mark at a place of an entry, if it has one there.
-fn mark_in(entry: &Entry, place: u64) -> Option<&Mark>
-    ensures { option_copied result ≡ marks.mark_in_place (as_sync entry.now) place }
-{
-    match entry.as_sync() {
-        None => None,
-        Some(replacement) => replacement.marks.as_slice().get(place as usize),
     }
 }
 

@@ -3,12 +3,11 @@
 ghost use Rattle.std.specs.Prelude.{◌≡◌, ◌≤◌, ◌<◌, ◌+◌, ◌-◌, ◌++◌, Some, None, length, map, IfOk, OnOk};
 ghost use Rattle.sg_history.specs.History.{past};
 ghost use Rattle.log_index.specs.Marks.{write_of};
-ghost use Rattle.channel_cache.specs.Moves as moves;
 ghost use Rattle.channel_cache.specs.Moves.{move_by, move_in, move_of, moves_of, optional};
 ghost use Rattle.channel_cache.specs.Stands.{IndexesTo};
 
 use crate::channels::channels_of;
-use log_index::{Document, LogIndex, Marked};
+use log_index::{Document, LogIndex, is_mark};
 use sg_history::{ChannelName, LogReads, Mark};
 use sg_outside::Memory;
 use std::alloc::Global;
@@ -19,16 +18,6 @@ pub struct Moved<'a> {
     pub last: u64,
     pub before: &'a [ChannelName],
     pub after: &'a [ChannelName],
-}
-
-/// Whether this is the mark of this number of the entry of a sequence.
-fn is_mark(marked: Option<Marked>, sync: u64, number: usize) -> bool
-    ensures { result ≡ moves.is_mark marked sync number }
-{
-    match marked {
-        None => false,
-        Some(marked) => marked.sync == sync && marked.mark == number as u64,
-    }
 }
 
 /// The document that stands there, by where it is written, where the mark of this number of the entry at a place

@@ -18,7 +18,7 @@ use Rattle.sg_history.specs.Current.{Current, Sequenced, current, current_after,
 use Rattle.sg_history.specs.Principals.{PrincipalState, as_put}
 use Rattle.log_index.specs.declared.documents.Document.{Document}
 use Rattle.log_index.specs.declared.marks.Marked.{Marked}
-use Rattle.log_index.specs.Marks.{mark_place, marked_after, marked_or, place_by, place_in}
+use Rattle.log_index.specs.Marks.{is_mark, mark_place, marked_after, marked_or, place_by, place_in}
 use Rattle.log_index.specs.Places.{document_by}
 use Rattle.log_views.proofs.Placed.{found, last_at, winning_at}
 use Rattle.grant_history.specs.declared.facts.Fact.{Fact}
@@ -27,7 +27,7 @@ use Rattle.grant_history.specs.declared.states.NewState.{NewState}
 use Rattle.grant_history.specs.Changes.{DocumentFacts, given_with, given_after, given_at, change_by, changes_by, mark_among, others, AreChanges, IsMarking}
 use Rattle.grant_history.specs.Facts.{times, document_facts, effect_facts, mark_facts, put_facts}
 use Rattle.grant_history.specs.Ledger.{facts_of_mark, kept_of, GiveSame}
-use Rattle.grant_history.specs.NewStates.{by_mark, by_marks, is_mark, state_by, state_of}
+use Rattle.grant_history.specs.NewStates.{by_mark, by_marks, state_by, state_of}
 use Rattle.grant_history.specs.Sources.{documents_once, given_by, principal_of}
 use Rattle.grant_history.proofs.Others.{AreOnce, fewer_changes, has_doc, no_changes}
 use Rattle.grant_history.proofs.Standing.{MarkLaws, marked_is}

@@ -1,5 +1,5 @@
 -- The states that documents have from each entry of a log on: where the winner's write stands, and where its effects do.
-use Rattle.std.specs.Prelude.{◌≡◌, ◌<◌, ◌+◌, ℕ, Bool, false, ◌&&◌, nat_eq, List, [], ◌∷◌, ◌++◌, length, Option, Some, None, slice_get, if◌then◌else◌}
+use Rattle.std.specs.Prelude.{◌≡◌, ◌<◌, ◌+◌, ℕ, nat_eq, List, [], ◌∷◌, ◌++◌, length, Option, Some, None, slice_get, if◌then◌else◌}
 use Rattle.std.specs.BTreeMap.{is_at}
 use Rattle.std.specs.Map.{lookup}
 use Rattle.std.specs.Ordering.{nat_cmp}
@@ -9,7 +9,7 @@ use Rattle.sg_history.specs.declared.entries.Write.{Write}
 use Rattle.sg_history.specs.History.{SyncEntry, as_sync, past}
 use Rattle.log_index.specs.declared.documents.Document.{Document}
 use Rattle.log_index.specs.declared.marks.Marked.{Marked}
-use Rattle.log_index.specs.Marks.{marked_up_to}
+use Rattle.log_index.specs.Marks.{is_mark, marked_up_to}
 use Rattle.log_index.specs.Places.{document_at}
 use Rattle.log_views.specs.At.{written}
 use Rattle.grant_history.specs.declared.states.NewState.{NewState}
@@ -27,11 +27,6 @@ state_of es doc = state_by es (document_at es doc)
 abbrev pub state_written : List Entry → Option Write → Option NewState
 state_written es None = None
 state_written es (Some w) = state_of es w.doc
-
--- whether this is the mark of this number, counted from 0, of the replacement of this sequence
-abbrev pub is_mark : Option Marked → ℕ → ℕ → Bool
-is_mark None sync number = false
-is_mark (Some m) sync number = nat_eq m.sync sync && nat_eq m.mark number
 
 -- a state where this mark has its effects
 abbrev pub by_mark : Option NewState → ℕ → ℕ → List NewState

@@ -5,14 +5,12 @@ ghost use Rattle.std.specs.Option.{option_copied};
 ghost use Rattle.sg_history.specs.Puts as puts;
 ghost use Rattle.sg_names.specs.declared.grants.Grantee.TheVariants as grantees;
 ghost use Rattle.grant_tracks.specs.declared.things.What.TheVariants as what;
-ghost use Rattle.sg_history.specs.History.{as_sync};
-ghost use Rattle.log_index.specs.Marks.{mark_in_place};
 ghost use Rattle.grant_history.specs.Facts.{fact, channel_facts, role_facts, put_facts, grant_facts, gift_facts, mark_facts};
 ghost use Rattle.grant_history.specs.Ledger.{facts_of_mark, facts_read, facts_read_in, write_facts};
 
 use crate::facts::Fact;
 use grant_tracks::What;
-use log_index::Marked;
+use log_index::{Marked, mark_in};
 use sg_history::{
     ChannelName, Entry, Given, Grant, Grantee, Mark, Name, Principal, Put, RoleGrant,
 };
@@ -179,13 +177,6 @@ pub fn of_mark(alloc: Global, mark: &Mark) -> Result<Vec<Fact>, Memory>
     ensures { IfOk result (λ list. list.items ≡ mark_facts mark.now) }
 {
     of_effects(alloc, mark.grants.as_slice(), mark.roles.as_slice())
-}
-
-/// The mark of this number, counted from 0, that an entry has, if it has one.
-fn mark_in(entry: &Entry, number: u64) -> Option<&Mark>
-    ensures { option_copied result ≡ mark_in_place (as_sync entry.now) number }
-{
-    entry.as_sync()?.marks.as_slice().get(number as usize)
 }
 
 /// What a mark gives, where there is one.

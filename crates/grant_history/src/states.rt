@@ -9,7 +9,7 @@ ghost use Rattle.grant_history.specs.MoreStates.{HasNoneAbove, IsOneMore};
 ghost use Rattle.grant_history.specs.NewStates.{AreNewStates, by_mark, by_marks, marked_in, state_written, written_in};
 ghost use Rattle.grant_history.specs.NewStates as new;
 
-use log_index::{Document, LogIndex, Marked};
+use log_index::{Document, LogIndex, Marked, is_mark};
 use sg_history::{DocId, Entry, Mark};
 use sg_outside::Memory;
 use std::alloc::Global;
@@ -154,16 +154,6 @@ pub fn since(state: NewState) -> u64
     match state.marked {
         None => state.winning,
         Some(marked) => marked.sync,
-    }
-}
-
-/// Whether this is the mark of this number of the entry of a sequence.
-fn is_mark(marked: Option<Marked>, sync: u64, number: usize) -> bool
-    ensures { result ≡ new.is_mark marked sync number }
-{
-    match marked {
-        None => false,
-        Some(marked) => marked.sync == sync && marked.mark == number as u64,
     }
 }
 

@@ -1,5 +1,5 @@
 -- Where the effects of written revisions stand in a history, given its entries, the newest first.
-use Rattle.std.specs.Prelude.{ℕ, nat_eq, nat_le, ◌+◌, suc, List, [], ◌∷◌, length, Option, Some, None, option_map, slice_get, if◌then◌else◌}
+use Rattle.std.specs.Prelude.{ℕ, nat_eq, nat_le, ◌+◌, suc, Bool, false, ◌&&◌, List, [], ◌∷◌, length, Option, Some, None, option_map, slice_get, if◌then◌else◌}
 use Rattle.sg_names.specs.declared.rev_id.RevId.{RevId}
 use Rattle.sg_history.specs.declared.entries.Entry.{Entry}
 use Rattle.sg_history.specs.declared.entries.Mark.{Mark}
@@ -38,6 +38,11 @@ marked_after (e ∷ older) written =
 abbrev pub mark_in_place : Option SyncEntry → ℕ → Option Mark
 mark_in_place None place = None
 mark_in_place (Some sync) place = slice_get sync.marks place
+
+-- whether this is the mark of this number, counted from 0, of the replacement of this sequence
+abbrev pub is_mark : Option Marked → ℕ → ℕ → Bool
+is_mark None sync number = false
+is_mark (Some m) sync number = nat_eq m.sync sync && nat_eq m.mark number
 
 -- the mark that stands there, if one does
 abbrev pub mark_at : List Entry → Marked → Option Mark

@@ -8,6 +8,7 @@ mod entry_places;
 mod index;
 pub mod laws;
 mod mark_places;
+mod mark_reads;
 mod marks;
 mod revisions;
 mod tables;
@@ -15,4 +16,5 @@ mod taken;
 
 pub use documents::Document;
 pub use index::LogIndex;
+pub use mark_reads::{is_mark, mark_in};
 pub use marks::Marked;

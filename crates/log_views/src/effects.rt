@@ -11,7 +11,7 @@ ghost use Rattle.log_views.specs.States.{effects_at_write, effects_in, since_at_
 
 use crate::at;
 use crate::at::entry_at;
-use log_index::{LogIndex, Marked, laws};
+use log_index::{LogIndex, Marked, laws, mark_in};
 use sg_history::{Channels, Entry, Grants, Mark, RoleGrants, Write};
 
 /// The effects of a revision, and since when it has them: the sequence of its write, or of the
@@ -47,16 +47,6 @@ pub fn of_mark(mark: &Mark, since: u64) -> EffectsOf<'_>
         channels: &mark.channels,
         grants: &mark.grants,
         roles: &mark.roles,
-    }
-}
-
-/// The mark at a place of an entry, counted from 0, if it has one there. Allocates nothing.
-pub fn mark_in(entry: &Entry, place: u64) -> Option<&Mark>
-    ensures { option_copied result ≡ marks.mark_in_place (as_sync entry.now) place }
-{
-    match entry.as_sync() {
-        None => None,
-        Some(replacement) => replacement.marks.as_slice().get(place as usize),
     }
 }
 

@@ -10,7 +10,7 @@ mod views;
 
 pub use at::write_at;
 pub use documents::{DocState, state, write_of_rev};
-pub use effects::{EffectsOf, effects_at, effects_by, mark_in, of_mark, recorded};
+pub use effects::{EffectsOf, effects_at, effects_by, of_mark, recorded};
 pub use filter::Filter;
 pub use sorted::in_order;
 pub use views::shown;
