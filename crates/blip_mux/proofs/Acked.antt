@@ -8,9 +8,9 @@ use Rattle.blip_frame.specs.declared.frame.Kind.TheVariants as kinds
 use Rattle.blip_mux.specs.declared.class.Class.{Class}
 use Rattle.blip_mux.specs.declared.ready.Ready.{Ready}
 use Rattle.blip_mux.specs.Sending.{Waiting, is_of, acked, acked_of, acked_in}
-use Rattle.blip_mux.specs.Class.{class_of}
-use Rattle.blip_mux.specs.Entries.{Entries, look, with_message}
-use Rattle.blip_mux.specs.Stamped.{is_message, IsKept}
+use Rattle.blip_mux.specs.inner.Class.{class_of}
+use Rattle.blip_mux.specs.inner.Entries.{Entries, look, with_message}
+use Rattle.blip_mux.specs.inner.Stamped.{is_message, IsKept}
 use Rattle.blip_mux.proofs.Cuts.{some_same}
 use Rattle.blip_mux.proofs.Listed.{some_none, find_of, find_none, any_of, any_none, acked_of_all, acked_by_none}
 

@@ -6,7 +6,7 @@ use Rattle.blip_frame.specs.Frame.{kind_number, has_checksum}
 use Rattle.blip_frame.specs.declared.frame.Kind.{Kind}
 use Rattle.blip_frame.specs.declared.frame.Kind.TheVariants as kinds
 use Rattle.blip_mux.specs.Joining.{is_request, is_reply}
-use Rattle.blip_mux.specs.Class.{class_of}
+use Rattle.blip_mux.specs.inner.Class.{class_of}
 use Rattle.blip_mux.specs.declared.class.Class.TheVariants as classes
 
 -- the kind of a number

@@ -8,10 +8,10 @@ use Rattle.std.specs.Ordering.{nat_cmp}
 use Rattle.blip_mux.specs.declared.ready.Ready.{Ready}
 use Rattle.blip_mux.specs.declared.ready.ReadyMessage.{ReadyMessage}
 use Rattle.blip_mux.specs.Sending.{Waiting, may_send, chosen, taken_out}
-use Rattle.blip_mux.specs.Stamps.{times, same_flag}
-use Rattle.blip_mux.specs.Ready.{stamps_in, NoneUrgent, IsFirst}
-use Rattle.blip_mux.specs.Entries.{Entries, look, without}
-use Rattle.blip_mux.specs.Stamped.{turns}
+use Rattle.blip_mux.specs.inner.Stamps.{times, same_flag}
+use Rattle.blip_mux.specs.inner.Ready.{stamps_in, NoneUrgent, IsFirst}
+use Rattle.blip_mux.specs.inner.Entries.{Entries, look, without}
+use Rattle.blip_mux.specs.inner.Stamped.{turns}
 use Rattle.blip_mux.proofs.Cuts.{Found}
 use Rattle.blip_mux.proofs.Listed.{out_of_all, none_out}
 

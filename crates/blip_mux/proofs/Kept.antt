@@ -21,11 +21,11 @@ use Rattle.blip_mux.specs.declared.class.Class.{Class}
 use Rattle.blip_mux.specs.declared.class.Class.TheVariants as classes
 use Rattle.blip_mux.specs.declared.ready.Ready.{Ready}
 use Rattle.blip_mux.specs.Sending.{Waiting, may_send}
-use Rattle.blip_mux.specs.Class.{class_of, is_in, is_same}
-use Rattle.blip_mux.specs.Stamps.{times, same_flag}
-use Rattle.blip_mux.specs.Ready.{stamps_in, count_in, room_in}
-use Rattle.blip_mux.specs.Entries.{Entries, look, with_message, without}
-use Rattle.blip_mux.specs.Stamped.{is_message, turns, IsKept}
+use Rattle.blip_mux.specs.inner.Class.{class_of, is_in, is_same}
+use Rattle.blip_mux.specs.inner.Stamps.{times, same_flag}
+use Rattle.blip_mux.specs.inner.Ready.{stamps_in, count_in, room_in}
+use Rattle.blip_mux.specs.inner.Entries.{Entries, look, with_message, without}
+use Rattle.blip_mux.specs.inner.Stamped.{is_message, turns, IsKept}
 use Rattle.blip_mux.proofs.Listed.{at_is, at_same, at_other, AreBelow, are_below, below_without, values_last, some_none, parted}
 
 -- ---- the keys of messages

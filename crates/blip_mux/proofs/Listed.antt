@@ -14,7 +14,7 @@ use Rattle.std.proofs.lemmas.Map.Keys.{sorted_head, sorted_tail}
 use Rattle.std.specs.List.{AllByRecursion}
 use Rattle.blip_frame.specs.declared.frame.Kind.{Kind}
 use Rattle.blip_mux.specs.Sending.{Waiting, taken_out, is_of, acked, acked_in}
-use Rattle.blip_mux.specs.Entries.{Entries, look, with_message, without}
+use Rattle.blip_mux.specs.inner.Entries.{Entries, look, with_message, without}
 use Rattle.blip_mux.proofs.Cuts.{Found, behind}
 
 -- ---- the test of a stamp

@@ -10,7 +10,7 @@ use Rattle.std.proofs.lemmas.Map.Keys.{ge_from_not_lt}
 use Rattle.std.proofs.lemmas.Bool.{eq-eqb, ne_eqb, cases_lt}
 use Rattle.std.specs.declared.cmp.Reverse.{Reverse}
 use Rattle.std.specs.declared.cmp.Ordering.{Ordering}
-use Rattle.blip_mux.specs.Stamps.{times, IsLowest}
+use Rattle.blip_mux.specs.inner.Stamps.{times, IsLowest}
 
 abbrev pub falls : Reverse ℕ → Reverse ℕ → Ordering
 falls x y = nat_cmp y.0 x.0

@@ -15,11 +15,11 @@ use Rattle.blip_mux.specs.declared.class.Class.{Class}
 use Rattle.blip_mux.specs.declared.ready.Ready.{Ready}
 use Rattle.blip_mux.specs.declared.ready.ReadyMessage.{ReadyMessage}
 use Rattle.blip_mux.specs.Sending.{Waiting, may_send, pause_above, acked, without_piece}
-use Rattle.blip_mux.specs.Class.{class_of, is_same}
-use Rattle.blip_mux.specs.Stamps.{times, same_flag}
-use Rattle.blip_mux.specs.Ready.{stamps_in, count_in, room_in}
-use Rattle.blip_mux.specs.Entries.{Entries, look, with_message, without}
-use Rattle.blip_mux.specs.Stamped.{is_message, turns, IsKept}
+use Rattle.blip_mux.specs.inner.Class.{class_of, is_same}
+use Rattle.blip_mux.specs.inner.Stamps.{times, same_flag}
+use Rattle.blip_mux.specs.inner.Ready.{stamps_in, count_in, room_in}
+use Rattle.blip_mux.specs.inner.Entries.{Entries, look, with_message, without}
+use Rattle.blip_mux.specs.inner.Stamped.{is_message, turns, IsKept}
 use Rattle.blip_mux.proofs.Listed.{at_is, at_same, some_none, below_without, are_below, put_last, put_over, without_last, without_front, parted}
 use Rattle.blip_mux.proofs.Cuts.{some_same}
 use Rattle.blip_mux.proofs.Kept.{self_same, same_key, its_key, own_key, look_last, look_without, look_with, length_without, sorted_front, turns_within, put_kept_by}

@@ -15,7 +15,7 @@ use Rattle.blip_mux.specs.Begun.{Begun}
 use Rattle.blip_mux.specs.Remembered.{InboxState}
 use Rattle.blip_mux.specs.InboxStates.{held_after, so_far_at, answer_at}
 use Rattle.blip_mux.specs.Joining.{longest_message, most_held, begun_or, with_frame, held_by, with_fault, read_as, part_by, whole, given_by, within, may_come, acknowledged, count_in, IsEarly}
-use Rattle.blip_mux.specs.Room.{bytes_come, held_for, with_payload, room_for}
+use Rattle.blip_mux.specs.inner.Room.{bytes_come, held_for, with_payload, room_for}
 
 -- a frame that gives something gives what one does that has room
 pub inside : (held : ℕ) (o : Option Begun) (f : FrameParts) (taken : Taken) → within held o f ≡ Ok taken → given_by (begun_or o f) f ≡ Ok taken

@@ -2,9 +2,7 @@ pub mod Begun
 pub mod Remembered
 pub mod Joining
 pub mod InboxStates
-pub mod Room
 pub mod Owing
-pub mod Owed
 pub mod Order
 pub mod Acknowledgements
 pub mod Sending
@@ -12,8 +10,4 @@ pub mod Cutting
 pub mod Between
 pub mod Apart
 pub mod Arriving
-pub mod Stamps
-pub mod Class
-pub mod Ready
-pub mod Entries
-pub mod Stamped
+pub mod inner

@@ -1,7 +1,7 @@
 //! The two classes of messages.
 
 ghost use Rattle.std.specs.Prelude.{◌≡◌};
-ghost use Rattle.blip_mux.specs.Class.{class_of};
+ghost use Rattle.blip_mux.specs.inner.Class.{class_of};
 
 use blip_frame::Kind;
 

@@ -7,7 +7,7 @@ ghost use Rattle.blip_frame.specs.Frame.{parts_of, has_checksum};
 ghost use Rattle.blip_frame.specs.Varint.{number_at};
 ghost use Rattle.blip_mux.specs.Joining.{begun_or, given_by, may_begin, may_come, acknowledged, count_in, longest_message, most_held, IsEarly};
 ghost use Rattle.blip_mux.specs.InboxStates.{new_inbox, expecting, so_far_at, answer_at, held_after, taken_after};
-ghost use Rattle.blip_mux.specs.Room.{bytes_come, held_for, room_for};
+ghost use Rattle.blip_mux.specs.inner.Room.{bytes_come, held_for, room_for};
 
 use crate::class::{Class, class_of};
 use crate::message::Message;

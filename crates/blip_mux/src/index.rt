@@ -2,7 +2,7 @@
 
 ghost use Rattle.std.specs.Prelude.{◌≡◌, if◌then◌else◌, ℕ, Some, None, OnOk, OnErr};
 ghost use Rattle.blip_mux.specs.declared.class.Class.{Class as AClass};
-ghost use Rattle.blip_mux.specs.Class.{stamp_at, is_same};
+ghost use Rattle.blip_mux.specs.inner.Class.{stamp_at, is_same};
 
 use crate::class::Class;
 use std::alloc::{AllocError, Global};

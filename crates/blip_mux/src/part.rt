@@ -4,7 +4,7 @@ ghost use Rattle.std.specs.Prelude.{◌≡◌, ◌≢◌, ◌≤◌, ◌<◌, �
 ghost use Rattle.blip_frame.specs.Frame.{parts_of};
 ghost use Rattle.blip_frame.specs.Payload.{payload_at};
 ghost use Rattle.blip_mux.specs.Joining.{begun_by, with_frame, message_by, with_fault, acknowledges, acknowledge_after};
-ghost use Rattle.blip_mux.specs.Owed.{owed_by, taken_of};
+ghost use Rattle.blip_mux.specs.inner.Owed.{owed_by, taken_of};
 
 use crate::class::{Class, class_of};
 use crate::inbox::{TakeFault, Taken};

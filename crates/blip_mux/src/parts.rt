@@ -5,8 +5,8 @@ ghost use Rattle.std.specs.FinMap as map;
 ghost use Rattle.blip_frame.specs.Frame.{parts_of};
 ghost use Rattle.blip_mux.specs.Joining.{begun_by, begun_or, with_frame, message_by, given_by};
 ghost use Rattle.blip_mux.specs.InboxStates.{begun_after};
-ghost use Rattle.blip_mux.specs.Owed.{owed_by};
-ghost use Rattle.blip_mux.specs.Room.{bytes_come};
+ghost use Rattle.blip_mux.specs.inner.Owed.{owed_by};
+ghost use Rattle.blip_mux.specs.inner.Room.{bytes_come};
 
 use crate::inbox::{TakeFault, Taken};
 use crate::message::Message;

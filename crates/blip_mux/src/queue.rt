@@ -24,7 +24,7 @@ impl Model for Queue {
     ghost use Rattle.std.specs.Prelude.{List};
     ghost use Rattle.std.specs.Map.{values_of};
     ghost use Rattle.blip_mux.specs.Sending.{Waiting};
-    ghost use Rattle.blip_mux.specs.Stamped.{Keeps};
+    ghost use Rattle.blip_mux.specs.inner.Stamped.{Keeps};
 
     ghost Value = { List Waiting };
 

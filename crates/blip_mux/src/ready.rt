@@ -1,7 +1,7 @@
 //! The messages that may send, each with its turn.
 
 ghost use Rattle.std.specs.Prelude.{◌≡◌, ◌+◌, ◌<◌, ◌≤◌, ◌&&◌, ◌==◌, cond, Bool, true, false, ℕ, IfSome, IfNone, OnOk};
-ghost use Rattle.blip_mux.specs.Stamps.{times, IsLowest, same_flag};
+ghost use Rattle.blip_mux.specs.inner.Stamps.{times, IsLowest, same_flag};
 
 use crate::stamps::Stamps;
 use std::alloc::{AllocError, Global};
@@ -21,7 +21,7 @@ pub(crate) struct Ready {
 }
 
 impl Ready {
-    ghost use Rattle.blip_mux.specs.Ready.{stamps_in, count_in, room_in, IsFirst};
+    ghost use Rattle.blip_mux.specs.inner.Ready.{stamps_in, count_in, room_in, IsFirst};
 
     /// No messages. Allocates nothing.
     pub(crate) fn new(alloc: Global) -> Ready

@@ -5,10 +5,10 @@ ghost use Rattle.std.specs.BTreeMap.{IsOrdered, insert_entry};
 ghost use Rattle.std.specs.Ordering.{nat_cmp};
 ghost use Rattle.blip_frame.specs.Frame.{has_checksum};
 ghost use Rattle.blip_mux.specs.declared.class.Class.{Class as AClass};
-ghost use Rattle.blip_mux.specs.Class.{class_of, is_same};
-ghost use Rattle.blip_mux.specs.Entries.{look, with_message, without};
+ghost use Rattle.blip_mux.specs.inner.Class.{class_of, is_same};
+ghost use Rattle.blip_mux.specs.inner.Entries.{look, with_message, without};
 ghost use Rattle.blip_mux.specs.Sending.{back, chosen, unsent, without_piece, has_more, may_send, acked};
-ghost use Rattle.blip_mux.specs.Stamped.{stamp_in, Writes};
+ghost use Rattle.blip_mux.specs.inner.Stamped.{stamp_in, Writes};
 
 use crate::class::Class;
 use crate::index::Index;
@@ -30,7 +30,7 @@ pub(crate) struct Stamped {
 }
 
 impl Stamped {
-    ghost use Rattle.blip_mux.specs.Stamped.{listed, listed_without, message_at, stands, Keeps, HasRoom, IsNextReady, IsMoved};
+    ghost use Rattle.blip_mux.specs.inner.Stamped.{listed, listed_without, message_at, stands, Keeps, HasRoom, IsNextReady, IsMoved};
 
     /// No messages. Allocates nothing.
     pub(crate) fn new(alloc: Global) -> Stamped

@@ -4,7 +4,7 @@ ghost use Rattle.std.specs.Prelude.{◌≡◌, ◌==◌, ◌+◌, ◌<◌, ◌�
 ghost use Rattle.std.specs.BinaryHeap.{IsHeap, heap_items, heap_len, heap_capacity};
 ghost use Rattle.std.specs.Ordering.{nat_cmp};
 ghost use Rattle.std.proofs.Props.{props};
-ghost use Rattle.blip_mux.specs.Stamps.{times, IsLowest};
+ghost use Rattle.blip_mux.specs.inner.Stamps.{times, IsLowest};
 
 use std::alloc::{AllocError, Global};
 use std::cmp::Reverse;

@@ -3,8 +3,8 @@
 ghost use Rattle.std.specs.Prelude.{◌≡◌, ◌≤◌, ◌<◌, ◌+◌, ◌^◌, ◌++◌, ◌&&◌, not, length, take, drop, true, OnOk, OnErr};
 ghost use Rattle.blip_frame.specs.Frame.{has_checksum, largest_written};
 ghost use Rattle.blip_mux.specs.Sending.{has_more, without_piece, may_send, unsent, acked};
-ghost use Rattle.blip_mux.specs.Stamped.{Writes};
-ghost use Rattle.blip_mux.specs.Class.{class_of};
+ghost use Rattle.blip_mux.specs.inner.Stamped.{Writes};
+ghost use Rattle.blip_mux.specs.inner.Class.{class_of};
 
 use crate::class::{Class, class_of};
 use blip_frame::{Crc, Frame, Kind, write_frame_with};

@@ -20,7 +20,7 @@ use Rattle.repl_messages.specs.Looks.{winner_after, winning_write, said_by, left
 use Rattle.log_views.specs.States.{winning, view_by}
 use Rattle.grant_history.specs.declared.periods.Period.{Period}
 use Rattle.feed_rows.specs.LastChange.{place_by}
-use Rattle.board_steps.specs.ByLook.{LooksIn, answer, looked}
+use Rattle.board_steps.specs.inner.ByLook.{LooksIn, answer, looked}
 use Rattle.board_steps.specs.declared.bodies.Look.{Look}
 use Rattle.board_steps.proofs.RowsSay.{place_now}
 

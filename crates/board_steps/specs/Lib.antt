@@ -2,9 +2,9 @@ pub mod Accepted
 pub mod After
 pub mod Asks
 pub mod Bodies
-pub mod ByLook
 pub mod Feed
 pub mod Retry
 pub mod Shape
 pub mod Tried
 pub mod Verdicts
+pub mod inner

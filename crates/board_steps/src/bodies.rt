@@ -12,14 +12,14 @@ ghost use Rattle.sg_history.specs.Feed as feed;
 ghost use Rattle.log_index.specs.Index.{Indexes};
 ghost use Rattle.log_views.specs.States.{shown_in};
 ghost use Rattle.grant_history.specs.Periods.{AreInOrder, ArePeriods};
-ghost use Rattle.grant_history.specs.Sorted.{AreSorted};
+ghost use Rattle.grant_history.specs.inner.Sorted.{AreSorted};
 ghost use Rattle.grant_history.specs.Stands.{StandsFor};
 ghost use Rattle.feed_rows.specs.PassAt.{IsViewer};
 ghost use Rattle.doc_board.specs.Offers.{nodes_or_none};
 ghost use Rattle.doc_board.specs.State.{tree_on};
 ghost use Rattle.repl_messages.specs.Looks as bodies;
 ghost use Rattle.board_steps.specs.Bodies.{BodiesAt};
-ghost use Rattle.board_steps.specs.ByLook as by_look;
+ghost use Rattle.board_steps.specs.inner.ByLook as by_look;
 ghost use Rattle.board_steps.specs.After.{IsAsBefore};
 
 use doc_board::Board;

@@ -14,7 +14,7 @@ use Rattle.log_index.specs.Marks.{write_of}
 use Rattle.log_index.specs.Places.{after_at, document_at, first_seq}
 use Rattle.log_index.specs.Representation.{last_kept}
 use Rattle.log_index.proofs.Nexts.{IsLastWrite, Stands, last_writes_it, stands}
-use Rattle.channel_cache.specs.Counting.{is_listed_by}
+use Rattle.channel_cache.specs.inner.Counting.{is_listed_by}
 use Rattle.channel_cache.specs.Listed.{is_in_one, is_listed, listed_in, sequences_of}
 use Rattle.channel_cache.specs.Stands.{has}
 use Rattle.channel_cache.proofs.Changing.{taken_more}
@@ -29,8 +29,8 @@ use Rattle.feed_rows.specs.Known.{known_from, since_renewed}
 use Rattle.feed_rows.specs.KnownDocuments.{names_in}
 use Rattle.feed_rows.specs.Latest.{current_in}
 use Rattle.changes_feed.specs.declared.segment.Segment.{Segment}
-use Rattle.changes_feed.specs.Amid.{HasLast, HasMore}
-use Rattle.changes_feed.specs.Segment.{SegmentAt, renewed_last}
+use Rattle.changes_feed.specs.inner.Amid.{HasLast, HasMore}
+use Rattle.changes_feed.specs.inner.Segment.{SegmentAt, renewed_last}
 use Rattle.changes_feed.proofs.Keeping.{Early, added_known, added_more, added_placed, first_is, first_low, known_new}
 use Rattle.changes_feed.proofs.Placing.{is_among, not_placed, placed_is}
 use Rattle.changes_feed.proofs.Taking.{write_renews}

@@ -26,7 +26,7 @@ use Rattle.channel_cache.specs.Stands.{has}
 use Rattle.channel_cache.specs.declared.found.DocSeq.{DocSeq}
 use Rattle.feed_rows.specs.Known.{renews}
 use Rattle.channel_cache.proofs.Past.{got, past_count, past_next}
-use Rattle.changes_feed.specs.Segment.{renewed_last}
+use Rattle.changes_feed.specs.inner.Segment.{renewed_last}
 use Rattle.changes_feed.specs.Switches.{AreSwitches, first_of}
 use Rattle.changes_feed.proofs.KeyOrder.{Under, kept_above, under_from_below}
 use Rattle.changes_feed.proofs.OneOrder.{itself, same_name}

@@ -24,8 +24,8 @@ use Rattle.feed_rows.specs.KnownDocuments.{names_in}
 use Rattle.feed_rows.specs.Latest.{current_in, since_in, winner_in}
 use Rattle.feed_rows.specs.PassAt.{IsRenewed, IsViewer}
 use Rattle.changes_feed.specs.declared.segment.Segment.{Segment}
-use Rattle.changes_feed.specs.Amid.{HasMore, PartAt, Renews, known_amid, with_one}
-use Rattle.changes_feed.specs.Segment.{ArePlaced, SegmentAt, renewed_last}
+use Rattle.changes_feed.specs.inner.Amid.{HasMore, PartAt, Renews, known_amid, with_one}
+use Rattle.changes_feed.specs.inner.Segment.{ArePlaced, SegmentAt, renewed_last}
 use Rattle.changes_feed.proofs.Placing.{is_among, last_there, left_there, not_placed, one_place, placed_is, placed_more, placed_one, set_one, stands_among}
 use Rattle.changes_feed.proofs.Viewing.{IsNext, next, renewed_before}
 

@@ -22,7 +22,7 @@ use Rattle.log_views.proofs.Placed.{nothing}
 use Rattle.channel_cache.proofs.Standing.{IsDocument, is_document}
 use Rattle.channel_cache.proofs.Stepping.{write_other}
 use Rattle.feed_rows.specs.Known.{marks_winner, renews}
-use Rattle.changes_feed.specs.Amid.{is_before, taken, winner_place, with_one}
+use Rattle.changes_feed.specs.inner.Amid.{is_before, taken, winner_place, with_one}
 
 -- ---- the place of a mark
 

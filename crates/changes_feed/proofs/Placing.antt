@@ -12,7 +12,7 @@ use Rattle.sg_history.specs.declared.entries.Write.{Write}
 use Rattle.sg_history.specs.History.{among, write_to}
 use Rattle.log_index.specs.Places.{earlier_or, first_seq}
 use Rattle.log_index.proofs.Firsts.{one_first}
-use Rattle.changes_feed.specs.Segment.{ArePlaced}
+use Rattle.changes_feed.specs.inner.Segment.{ArePlaced}
 
 -- a first write stays the first
 first_stays : (e : Entry) (older : List Entry) (doc : List ℕ) → 0 < first_seq older doc → first_seq (e ∷ older) doc ≡ first_seq older doc

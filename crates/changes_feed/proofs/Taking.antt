@@ -16,15 +16,15 @@ use Rattle.log_index.specs.declared.marks.Marked.{Marked}
 use Rattle.log_index.specs.Marks.{entries_up_to, is_mark, marked_after, marked_up_to}
 use Rattle.log_index.specs.Places.{after_at, before_at, document_at, document_before}
 use Rattle.log_index.proofs.Nexts.{after_newest, before_newest, before_older}
-use Rattle.channel_cache.specs.Forward.{replaced_at, replaced_by}
+use Rattle.channel_cache.specs.inner.Forward.{replaced_at, replaced_by}
 use Rattle.channel_cache.specs.Stands.{IndexesTo}
 use Rattle.channel_cache.proofs.Standing.{writes_after}
 use Rattle.channel_cache.proofs.Past.{index_after, index_up_to}
 use Rattle.feed_rows.specs.declared.shown.Viewer.{Viewer}
 use Rattle.feed_rows.specs.Known.{marks_winner, renews}
 use Rattle.changes_feed.specs.declared.segment.Segment.{Segment}
-use Rattle.changes_feed.specs.Amid.{PartAt, Renewing, Renews, taken, winner_place, with_one}
-use Rattle.changes_feed.specs.Segment.{renewed_last}
+use Rattle.changes_feed.specs.inner.Amid.{PartAt, Renewing, Renews, taken, winner_place, with_one}
+use Rattle.changes_feed.specs.inner.Segment.{renewed_last}
 use Rattle.changes_feed.proofs.Marking.{all_last, is_place, marked_is, none_first, none_more, not_yet, nowhere, one_more, renews_is, stays, winner_there}
 use Rattle.changes_feed.proofs.Viewing.{IsNext, next}
 

@@ -10,7 +10,7 @@ use Rattle.log_views.specs.Sorted.{AreSorted}
 use Rattle.grant_history.specs.declared.periods.Period.{Period}
 use Rattle.grant_history.specs.Periods.{ArePeriods, ArePeriodsApart, EndsBeforeLater, HavePlaces, period_has, periods_have}
 use Rattle.grant_tracks.specs.Spells.{EndsBefore, ends_after}
-use Rattle.changes_feed.specs.Bounds.{IsSteady, ends_within, is_bound, is_bound_of, is_within}
+use Rattle.changes_feed.specs.inner.Bounds.{IsSteady, ends_within, is_bound, is_bound_of, is_within}
 use Rattle.changes_feed.specs.Switches.{AreSwitches, IsSwitched, has_at}
 use Rattle.changes_feed.proofs.OneOrder.{same_name}
 

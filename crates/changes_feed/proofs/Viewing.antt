@@ -8,7 +8,7 @@ use Rattle.feed_rows.specs.declared.shown.Viewer.{Viewer}
 use Rattle.feed_rows.specs.Known.{renews, since_renewed}
 use Rattle.feed_rows.specs.PassAt.{IsViewer}
 use Rattle.channel_cache.proofs.Past.{got, past_count, past_next}
-use Rattle.changes_feed.specs.Segment.{renewed_last}
+use Rattle.changes_feed.specs.inner.Segment.{renewed_last}
 
 -- the entry at a place, before which stand the others
 pub record IsNext (entries : List Entry) (at : ℕ) : Type 0 where

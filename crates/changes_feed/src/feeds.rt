@@ -17,10 +17,10 @@ ghost use Rattle.channel_cache.specs.Reads.{ask_reads, passed};
 ghost use Rattle.channel_cache.specs.Stands.{IndexesTo, StandsFor, has};
 ghost use Rattle.changes_feed.specs.FeedReads.{advance_reads, look_reads};
 ghost use Rattle.changes_feed.specs.Feeds.{ArePeriodsOf, FeedsStandFor, of_users};
-ghost use Rattle.changes_feed.specs.Segment.{SegmentAt};
+ghost use Rattle.changes_feed.specs.inner.Segment.{SegmentAt};
 ghost use Rattle.changes_feed.specs.Switches as switches;
 ghost use Rattle.changes_feed.specs.Switches.{AreSwitches, has_at};
-ghost use Rattle.changes_feed.specs.Bounds.{IsSteady};
+ghost use Rattle.changes_feed.specs.inner.Bounds.{IsSteady};
 ghost use Rattle.std.specs.List.{All};
 
 use crate::listed::add_listed;

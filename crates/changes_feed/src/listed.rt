@@ -7,8 +7,8 @@ ghost use Rattle.log_index.specs.Places.{document_at};
 ghost use Rattle.channel_cache.specs.Listed.{listed_in, sequences_of};
 ghost use Rattle.channel_cache.specs.Stands.{IndexesTo, has};
 ghost use Rattle.feed_rows.specs.KnownDocuments.{names_in};
-ghost use Rattle.changes_feed.specs.Segment.{SegmentAt};
-ghost use Rattle.changes_feed.specs.Amid.{HasLast, HasMore};
+ghost use Rattle.changes_feed.specs.inner.Segment.{SegmentAt};
+ghost use Rattle.changes_feed.specs.inner.Amid.{HasLast, HasMore};
 
 use crate::latest::latest_at;
 use crate::segment::{Segment, add, place_of};

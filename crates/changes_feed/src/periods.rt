@@ -4,7 +4,7 @@ ghost use Rattle.std.specs.Prelude.{◌≡◌, ◌≤◌, List, IfOk, IfSome, st
 ghost use Rattle.std.specs.List.{All};
 ghost use Rattle.sg_history.specs.declared.entries.Entry.{Entry};
 ghost use Rattle.grant_history.specs.Stands.{StandsFor};
-ghost use Rattle.changes_feed.specs.Bounds.{IsSteady};
+ghost use Rattle.changes_feed.specs.inner.Bounds.{IsSteady};
 ghost use Rattle.changes_feed.specs.Feeds.{ArePeriodsOf, of_user, of_users};
 
 use grant_history::{GrantHistory, Periods};

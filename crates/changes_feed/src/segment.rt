@@ -9,14 +9,14 @@ ghost use Rattle.sg_history.specs.declared.entries.Mark as kinds;
 ghost use Rattle.sg_history.specs.CountedLog.{marks_between};
 ghost use Rattle.sg_history.specs.History.{past};
 ghost use Rattle.log_index.specs.Places.{after_at, before_at, document_at};
-ghost use Rattle.channel_cache.specs.Forward.{replaced_at};
+ghost use Rattle.channel_cache.specs.inner.Forward.{replaced_at};
 ghost use Rattle.channel_cache.specs.Reads.{passed};
 ghost use Rattle.channel_cache.specs.Stands.{IndexesTo};
 ghost use Rattle.feed_rows.specs.KnownDocuments.{names_in};
 ghost use Rattle.feed_rows.specs.PassAt.{IsViewer};
 ghost use Rattle.feed_rows.specs.declared.shown.Viewer as shown;
-ghost use Rattle.changes_feed.specs.Amid.{PartAt, Renewing, taken, with_one};
-ghost use Rattle.changes_feed.specs.Segment.{SegmentAt};
+ghost use Rattle.changes_feed.specs.inner.Amid.{PartAt, Renewing, taken, with_one};
+ghost use Rattle.changes_feed.specs.inner.Segment.{SegmentAt};
 
 use crate::latest::{latest_at, latest_of};
 use feed_rows::{Document, Viewer, bring_up_at};

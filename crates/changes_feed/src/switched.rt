@@ -8,7 +8,7 @@ ghost use Rattle.sg_history.specs.History.{among};
 ghost use Rattle.log_views.specs.Sorted.{AreSorted};
 ghost use Rattle.grant_history.specs.Periods.{ArePeriods};
 ghost use Rattle.changes_feed.specs.Switches.{AreSwitches, has_at};
-ghost use Rattle.changes_feed.specs.Bounds as bounds;
+ghost use Rattle.changes_feed.specs.inner.Bounds as bounds;
 
 use grant_history::Period;
 use log_views::in_order;

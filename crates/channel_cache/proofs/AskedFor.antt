@@ -11,8 +11,8 @@ use Rattle.sg_history.specs.History.{among}
 use Rattle.sg_history.specs.Current.{Current, current}
 use Rattle.log_index.specs.Marks.{write_of}
 use Rattle.log_index.specs.Places.{next_at}
-use Rattle.channel_cache.specs.Asking.{AreFull, Asks, HasNothing, names_of}
-use Rattle.channel_cache.specs.Counting.{AreLists, is_in_list, is_listed_by}
+use Rattle.channel_cache.specs.inner.Asking.{AreFull, Asks, HasNothing, names_of}
+use Rattle.channel_cache.specs.inner.Counting.{AreLists, is_in_list, is_listed_by}
 use Rattle.channel_cache.specs.Listed.{is_in, is_in_one, is_listed}
 use Rattle.channel_cache.specs.Sequences.{Lists, holds, holds_in, holds_of, is_kept, list_of}
 use Rattle.channel_cache.specs.Stands.{has, is_last}

@@ -11,9 +11,9 @@ use Rattle.log_index.specs.declared.documents.Document.{Document}
 use Rattle.log_index.specs.Marks.{write_of}
 use Rattle.log_index.specs.Places.{after_at, document_at, document_before, next_at}
 use Rattle.log_index.proofs.Nexts.{after_newest, stood_after}
-use Rattle.channel_cache.specs.Counting.{AreLists, counts_at}
-use Rattle.channel_cache.specs.Forward.{IsForward}
-use Rattle.channel_cache.specs.Moves.{channels_at}
+use Rattle.channel_cache.specs.inner.Counting.{AreLists, counts_at}
+use Rattle.channel_cache.specs.inner.Forward.{IsForward}
+use Rattle.channel_cache.specs.inner.Moves.{channels_at}
 use Rattle.channel_cache.specs.Sequences.{Counted, Lists, entered}
 use Rattle.channel_cache.specs.Stands.{IndexesTo, is_last}
 use Rattle.channel_cache.proofs.Past.{got, index_after, index_counts, index_high, index_write, past_count, past_next}

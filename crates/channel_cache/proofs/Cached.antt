@@ -7,8 +7,8 @@ use Rattle.sg_history.specs.declared.entries.Write.{Write}
 use Rattle.sg_history.specs.History.{as_write, past}
 use Rattle.sg_history.specs.Current.{current}
 use Rattle.log_index.specs.Marks.{write_of}
-use Rattle.channel_cache.specs.Counting.{is_listed_by}
-use Rattle.channel_cache.specs.DocumentsRead.{document_by, document_read, documents_read}
+use Rattle.channel_cache.specs.inner.Counting.{is_listed_by}
+use Rattle.channel_cache.specs.inner.DocumentsRead.{document_by, document_read, documents_read}
 use Rattle.channel_cache.specs.Listed.{is_listed, listed_by, listed_from, listed_in, sequences_of}
 use Rattle.channel_cache.specs.Stands.{has}
 use Rattle.channel_cache.specs.declared.found.DocSeq.{DocSeq}

@@ -10,7 +10,7 @@ use Rattle.std.proofs.lemmas.Bool.{false≢true, true≢false}
 use Rattle.std.proofs.lemmas.List.{drop_more, drop_all}
 use Rattle.sg_history.specs.History.{among}
 use Rattle.sg_history.specs.View.{every}
-use Rattle.channel_cache.specs.Moves.{Move, enters, entered_by, leaves, left_by}
+use Rattle.channel_cache.specs.inner.Moves.{Move, enters, entered_by, leaves, left_by}
 use Rattle.channel_cache.specs.Sequences.{Changed, Counted, Lists, entered, holds, holds_in, holds_of, is_kept, left, list_of}
 use Rattle.channel_cache.specs.declared.sequences.Sequences.{Sequences}
 

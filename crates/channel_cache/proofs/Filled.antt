@@ -14,10 +14,10 @@ use Rattle.log_index.specs.Places.{after_at, document_at, document_before, next_
 use Rattle.log_index.specs.Representation.{last_kept}
 use Rattle.log_index.proofs.Nexts.{after_newest, last_writes_it, stood_after}
 use Rattle.channel_cache.specs.Asked.{refills_of}
-use Rattle.channel_cache.specs.Asking.{AreFull, HasNothing, IsFilledFrom}
-use Rattle.channel_cache.specs.Counting.{counts_at, is_in_list, is_listed_by}
+use Rattle.channel_cache.specs.inner.Asking.{AreFull, HasNothing, IsFilledFrom}
+use Rattle.channel_cache.specs.inner.Counting.{counts_at, is_in_list, is_listed_by}
 use Rattle.channel_cache.specs.Listed.{is_in, is_in_one, is_listed}
-use Rattle.channel_cache.specs.Moves.{channels_at}
+use Rattle.channel_cache.specs.inner.Moves.{channels_at}
 use Rattle.channel_cache.specs.Reads.{filling}
 use Rattle.channel_cache.specs.Sequences.{Changed, Lists, entered, holds_of}
 use Rattle.channel_cache.specs.Stands.{IndexesTo, is_last}

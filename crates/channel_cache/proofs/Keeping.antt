@@ -12,8 +12,8 @@ use Rattle.sg_history.specs.History.{Extends, among, past}
 use Rattle.sg_history.proofs.Books.{same_past}
 use Rattle.log_index.specs.Places.{next_at}
 use Rattle.channel_cache.specs.Asked.{asked_after_all, refills_of}
-use Rattle.channel_cache.specs.Asking.{Apart, names_of}
-use Rattle.channel_cache.specs.Counting.{AreLists, is_in_list}
+use Rattle.channel_cache.specs.inner.Asking.{Apart, names_of}
+use Rattle.channel_cache.specs.inner.Counting.{AreLists, is_in_list}
 use Rattle.channel_cache.specs.Kept.{AreAsBefore, Cached, KeptList, KeptLists, WereAsked, asked, is_filled, refills_at}
 use Rattle.channel_cache.specs.Reads.{ask_reads, filling, passed}
 use Rattle.channel_cache.specs.Sequences.{Lists, holds_in, holds_of, is_kept, list_of, sequences_in}

@@ -5,7 +5,7 @@ use Rattle.std.proofs.lemmas.Bool.{true≢false}
 use Rattle.std.proofs.lemmas.List.{append-nil, reverse-append}
 use Rattle.sg_history.specs.History.{among}
 use Rattle.channel_cache.specs.Asked.{asked_after, asked_after_all, last_distinct, others}
-use Rattle.channel_cache.specs.Asking.{Apart}
+use Rattle.channel_cache.specs.inner.Asking.{Apart}
 use Rattle.channel_cache.proofs.Changing.{same_name}
 use Rattle.channel_cache.proofs.Names.{others_none}
 

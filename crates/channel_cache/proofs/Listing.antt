@@ -12,8 +12,8 @@ use Rattle.sg_history.specs.History.{among, as_write}
 use Rattle.sg_history.specs.Current.{Current, current}
 use Rattle.log_index.specs.Marks.{write_of}
 use Rattle.log_index.proofs.FirstRevisions.{at_newest, not_there, written_within}
-use Rattle.channel_cache.specs.Asking.{Asks}
-use Rattle.channel_cache.specs.Counting.{is_in_list, is_listed_by}
+use Rattle.channel_cache.specs.inner.Asking.{Asks}
+use Rattle.channel_cache.specs.inner.Counting.{is_in_list, is_listed_by}
 use Rattle.channel_cache.specs.Listed.{is_in, is_in_one, is_listed, listed_by, listed_from, listed_in, sequences_of}
 use Rattle.channel_cache.specs.Sequences.{Lists}
 use Rattle.channel_cache.specs.Stands.{has}

@@ -24,10 +24,10 @@ use Rattle.log_index.specs.Representation.{last_kept}
 use Rattle.log_index.proofs.FirstRevisions.{at_newest, not_there}
 use Rattle.log_index.proofs.GoingBack.{all_up_to}
 use Rattle.log_index.proofs.Nexts.{last_writes_it, stays_at}
-use Rattle.channel_cache.specs.Counting.{AreLists, is_in_list, is_listed_by}
+use Rattle.channel_cache.specs.inner.Counting.{AreLists, is_in_list, is_listed_by}
 use Rattle.channel_cache.specs.Listed.{is_in, is_in_one, is_listed}
-use Rattle.channel_cache.specs.Moves.{Move, channels_at, enters, entered_by, leaves, left_by, move_by, move_of, moves_of}
-use Rattle.channel_cache.specs.Read.{marked_channels}
+use Rattle.channel_cache.specs.inner.Moves.{Move, channels_at, enters, entered_by, leaves, left_by, move_by, move_of, moves_of}
+use Rattle.channel_cache.specs.inner.Read.{marked_channels}
 use Rattle.channel_cache.specs.Sequences.{Changed, Counted, Lists, holds_of, is_kept}
 use Rattle.channel_cache.specs.Stands.{is_last}
 use Rattle.channel_cache.proofs.Changing.{kept_same}

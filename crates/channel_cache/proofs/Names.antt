@@ -13,7 +13,7 @@ use Rattle.std.proofs.lemmas.List.{take_all}
 use Rattle.lru.specs.LruCache.{lru_cache, promoted, put_entries}
 use Rattle.sg_history.specs.History.{among}
 use Rattle.channel_cache.specs.Asked.{asked_after, others}
-use Rattle.channel_cache.specs.Asking.{Apart, names_of}
+use Rattle.channel_cache.specs.inner.Asking.{Apart, names_of}
 use Rattle.channel_cache.specs.Sequences.{Lists, holds, holds_in, holds_of, is_kept, list_of}
 use Rattle.channel_cache.specs.declared.sequences.Sequences.{Sequences}
 use Rattle.channel_cache.proofs.Changing.{list_set, named, names_apart, same_name}

@@ -15,9 +15,9 @@ use Rattle.log_index.specs.Places.{after_at, next_at, next_or, written_again}
 use Rattle.log_index.proofs.FirstRevisions.{at_older}
 use Rattle.log_index.proofs.GoingBack.{all_up_to, up_to_older}
 use Rattle.log_index.proofs.Nexts.{after_older}
-use Rattle.channel_cache.specs.Counting.{counts_at, is_behind}
-use Rattle.channel_cache.specs.Moves.{channels_at, channels_by}
-use Rattle.channel_cache.specs.Read.{channels_marked, channels_written, marked_channels, written_channels}
+use Rattle.channel_cache.specs.inner.Counting.{counts_at, is_behind}
+use Rattle.channel_cache.specs.inner.Moves.{channels_at, channels_by}
+use Rattle.channel_cache.specs.inner.Read.{channels_marked, channels_written, marked_channels, written_channels}
 use Rattle.channel_cache.specs.Stands.{IndexesTo, is_last}
 
 take_next : (entries : List Entry) (n : ℕ) (e : Entry) → slice_get entries n ≡ Some e → take (suc n) entries ≡ take n entries ++ e ∷ []

@@ -8,9 +8,9 @@ use Rattle.sg_history.specs.declared.entries.Mark.{Mark}
 use Rattle.sg_history.specs.History.{SyncEntry, as_sync, as_write, past}
 use Rattle.log_index.specs.Marks.{write_of}
 use Rattle.log_index.specs.Places.{next_at}
-use Rattle.channel_cache.specs.Counting.{AreLists, counts_at}
-use Rattle.channel_cache.specs.Forward.{IsForward, replaced_at, replaced_by}
-use Rattle.channel_cache.specs.Moves.{Move, entered_by, left_by, moves_of}
+use Rattle.channel_cache.specs.inner.Counting.{AreLists, counts_at}
+use Rattle.channel_cache.specs.inner.Forward.{IsForward, replaced_at, replaced_by}
+use Rattle.channel_cache.specs.inner.Moves.{Move, entered_by, left_by, moves_of}
 use Rattle.channel_cache.specs.Sequences.{Changed, Counted, Lists}
 use Rattle.channel_cache.specs.Stands.{IndexesTo, is_last}
 use Rattle.channel_cache.proofs.Brought.{newest}

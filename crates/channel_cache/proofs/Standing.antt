@@ -15,7 +15,7 @@ use Rattle.log_index.specs.Places.{document_at, document_before, document_by, af
 use Rattle.log_index.specs.Representation.{last_kept}
 use Rattle.log_index.proofs.FirstRevisions.{at_newest, at_older, of_doc}
 use Rattle.log_index.proofs.Nexts.{after_newest, last_one, stands, last_is}
-use Rattle.channel_cache.specs.Moves.{channels_at, channels_by}
+use Rattle.channel_cache.specs.inner.Moves.{channels_at, channels_by}
 
 -- a write stands at its sequence, and is one of a document
 pub record IsAt (es : List Entry) (doc : List ℕ) (s : Sequenced) : Type 0 where

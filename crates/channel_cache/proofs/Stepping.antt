@@ -15,7 +15,7 @@ use Rattle.log_index.specs.Marks.{write_of}
 use Rattle.log_index.specs.Places.{next_at, next_or, written_again}
 use Rattle.log_index.proofs.FirstRevisions.{at_newest, not_there}
 use Rattle.log_index.proofs.Nexts.{next_newest, next_of_none}
-use Rattle.channel_cache.specs.Counting.{AreLists, is_in_list, is_listed_by}
+use Rattle.channel_cache.specs.inner.Counting.{AreLists, is_in_list, is_listed_by}
 use Rattle.channel_cache.specs.Listed.{is_in, is_in_one, is_listed}
 use Rattle.channel_cache.specs.Sequences.{Counted, Lists, entered, holds_of, is_kept}
 use Rattle.channel_cache.specs.Stands.{is_last}

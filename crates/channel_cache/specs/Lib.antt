@@ -4,9 +4,4 @@ pub mod Kept
 pub mod Stands
 pub mod Reads
 pub mod Sequences
-pub mod Counting
-pub mod Moves
-pub mod Read
-pub mod Forward
-pub mod Asking
-pub mod DocumentsRead
+pub mod inner

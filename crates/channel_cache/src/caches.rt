@@ -7,7 +7,7 @@ ghost use Rattle.channel_cache.specs.Kept.{AreAsBefore, AreEmpty, WereAsked, ask
 ghost use Rattle.channel_cache.specs.Listed.{listed, sequences_of};
 ghost use Rattle.channel_cache.specs.Reads.{ask_reads, list_reads};
 ghost use Rattle.channel_cache.specs.Stands.{CachedOf, IndexesTo, StandsFor, has};
-ghost use Rattle.channel_cache.specs.DocumentsRead.{document_read, documents_read};
+ghost use Rattle.channel_cache.specs.inner.DocumentsRead.{document_read, documents_read};
 
 use crate::found::{DocSeq, DocSeqs, Found, Listed};
 use crate::lists::Lists;

@@ -3,8 +3,8 @@
 ghost use Rattle.std.specs.Prelude.{◌≡◌, ◌≤◌, ◌<◌, ◌+◌, ◌-◌, length, slice_get};
 ghost use Rattle.sg_history.specs.History.{as_sync, as_write, past};
 ghost use Rattle.log_index.specs.Marks as marks;
-ghost use Rattle.channel_cache.specs.Moves.{channels_at};
-ghost use Rattle.channel_cache.specs.Read.{channels_marked, channels_written, marked_channels, written_channels};
+ghost use Rattle.channel_cache.specs.inner.Moves.{channels_at};
+ghost use Rattle.channel_cache.specs.inner.Read.{channels_marked, channels_written, marked_channels, written_channels};
 ghost use Rattle.channel_cache.specs.Stands.{IndexesTo};
 
 use log_index::{LogIndex, Marked, laws, mark_in};

@@ -3,8 +3,8 @@
 ghost use Rattle.std.specs.Prelude.{◌≡◌, ◌≤◌, ◌<◌, ◌+◌, ◌-◌, None, OnOk, if◌then◌else◌};
 ghost use Rattle.sg_history.specs.History.{past};
 ghost use Rattle.log_index.specs.Places.{after_at};
-ghost use Rattle.channel_cache.specs.Asking.{IsFilledFrom};
-ghost use Rattle.channel_cache.specs.Counting.{counts_at};
+ghost use Rattle.channel_cache.specs.inner.Asking.{IsFilledFrom};
+ghost use Rattle.channel_cache.specs.inner.Counting.{counts_at};
 ghost use Rattle.channel_cache.specs.Stands.{IndexesTo};
 
 use crate::channels::channels_of;

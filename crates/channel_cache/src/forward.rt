@@ -3,7 +3,7 @@
 ghost use Rattle.std.specs.Prelude.{◌≡◌, ◌≤◌, ◌<◌, ◌+◌, ◌-◌, None, Some, length, option_map, OnOk};
 ghost use Rattle.sg_history.specs.CountedLog.{marks_between};
 ghost use Rattle.log_index.specs.Places.{after_at};
-ghost use Rattle.channel_cache.specs.Forward.{IsForward, replaced_at};
+ghost use Rattle.channel_cache.specs.inner.Forward.{IsForward, replaced_at};
 ghost use Rattle.channel_cache.specs.Reads.{passed};
 ghost use Rattle.channel_cache.specs.Stands.{IndexesTo};
 

@@ -4,9 +4,9 @@ ghost use Rattle.std.specs.Prelude.{◌≡◌, ◌≤◌, ◌<◌, ◌∷◌, �
 ghost use Rattle.std.specs.Str.{bytes_eq};
 ghost use Rattle.sg_history.specs.History.{among};
 ghost use Rattle.sg_history.specs.View.{every};
-ghost use Rattle.channel_cache.specs.Asking.{Apart, names_of};
+ghost use Rattle.channel_cache.specs.inner.Asking.{Apart, names_of};
 ghost use Rattle.channel_cache.specs.Sequences.{Changed, entered, left};
-ghost use Rattle.channel_cache.specs.Moves.{left_by, move_in};
+ghost use Rattle.channel_cache.specs.inner.Moves.{left_by, move_in};
 
 use crate::moved::Moved;
 use crate::sequences::Sequences;

@@ -3,7 +3,7 @@
 ghost use Rattle.std.specs.Prelude.{◌≡◌, ◌≤◌, ◌<◌, ◌+◌, ◌-◌, ◌++◌, Some, None, length, map, IfOk, OnOk};
 ghost use Rattle.sg_history.specs.History.{past};
 ghost use Rattle.log_index.specs.Marks.{write_of};
-ghost use Rattle.channel_cache.specs.Moves.{move_by, move_in, move_of, moves_of, optional};
+ghost use Rattle.channel_cache.specs.inner.Moves.{move_by, move_in, move_of, moves_of, optional};
 ghost use Rattle.channel_cache.specs.Stands.{IndexesTo};
 
 use crate::channels::channels_of;

@@ -2,7 +2,7 @@
 
 ghost use Rattle.std.specs.Prelude.{◌≡◌, ◌∷◌, [], ◌||◌, ◌&&◌, ℕ, nat_eq, not, OnOk};
 ghost use Rattle.channel_cache.specs.Sequences.{holds, sequences_in};
-ghost use Rattle.channel_cache.specs.Counting.{counts_at};
+ghost use Rattle.channel_cache.specs.inner.Counting.{counts_at};
 ghost use Rattle.channel_cache.specs.Stands.{has};
 
 use crate::order::{in_order, lacks};

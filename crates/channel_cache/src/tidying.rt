@@ -4,8 +4,8 @@ ghost use Rattle.std.specs.Prelude.{◌≡◌, ◌∷◌, map, OnOk};
 ghost use Rattle.std.specs.Str.{bytes_eq};
 ghost use Rattle.sg_history.specs.History.{among};
 ghost use Rattle.sg_history.specs.View.{every};
-ghost use Rattle.channel_cache.specs.Counting.{counts_at};
-ghost use Rattle.channel_cache.specs.Moves.{entered_by, move_in};
+ghost use Rattle.channel_cache.specs.inner.Counting.{counts_at};
+ghost use Rattle.channel_cache.specs.inner.Moves.{entered_by, move_in};
 ghost use Rattle.channel_cache.specs.Sequences.{Counted, entered};
 
 use crate::kept::Kept;

@@ -14,7 +14,7 @@ use Rattle.sync_resolve.specs.Resolving.{faults}
 use Rattle.gateway_config.specs.Faults.{config_fault, is_sound, no_faults}
 use Rattle.gateway_config.specs.Members.{json_of}
 use Rattle.config_check.specs.declared.function.FunctionFault.{FunctionFault}
-use Rattle.config_check.specs.Finding.{IsFoundIn}
+use Rattle.config_check.specs.inner.Finding.{IsFoundIn}
 use Rattle.config_check.specs.Verdict.{IsPlaced, IsRefusalOf, function_text}
 use Rattle.config_check.proofs.Reasons.{unsound}
 

@@ -3,4 +3,4 @@ pub mod Words
 pub mod Verdict
 pub mod Line
 pub mod Run
-pub mod Finding
+pub mod inner

@@ -2,7 +2,7 @@
 
 ghost use Rattle.std.specs.Prelude.{IfOk, Ok};
 ghost use Rattle.sync_syntax.specs.Statements.{parsed};
-ghost use Rattle.config_check.specs.Finding.{IsFoundOf, IsNamedBy};
+ghost use Rattle.config_check.specs.inner.Finding.{IsFoundOf, IsNamedBy};
 
 use std::alloc::{AllocError, Global};
 use sync_resolve::{Memory, ResolveFault, resolve};

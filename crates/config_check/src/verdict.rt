@@ -4,7 +4,7 @@ ghost use Rattle.std.specs.Prelude.{◌≡◌, ◌≤◌, length, IfOk, Some};
 ghost use Rattle.serde_json.specs.View.{view};
 ghost use Rattle.sg_outside.specs.Files.{largest_file};
 ghost use Rattle.gateway_config.specs.Faults.{config_fault};
-ghost use Rattle.config_check.specs.Finding.{IsFoundIn};
+ghost use Rattle.config_check.specs.inner.Finding.{IsFoundIn};
 ghost use Rattle.config_check.specs.Verdict.{IsRefusalOf, IsVerdict, function_text};
 
 use crate::function::{FunctionFault, function_fault};

@@ -13,7 +13,7 @@ use Rattle.sg_history.specs.Book.{Book, book_of, book_with, waiting_at, write_at
 use Rattle.sg_history.specs.Current.{Sequenced, sequenced_before, write_alone}
 use Rattle.sg_history.specs.History.{as_write, of_document}
 use Rattle.rev_tree.specs.Documents.{sequence_of, last_in}
-use Rattle.doc_board.specs.Based.{IsFound, entry_write}
+use Rattle.doc_board.specs.inner.Based.{IsFound, entry_write}
 use Rattle.doc_board.specs.Kept.{AreBases}
 use Rattle.doc_board.specs.State.{top_of}
 use Rattle.doc_board.proofs.Documents.{same_names}

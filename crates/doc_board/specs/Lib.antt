@@ -1,5 +1,4 @@
 pub mod Answers
-pub mod Based
 pub mod Boards
 pub mod Candidates
 pub mod Contexts
@@ -11,9 +10,9 @@ pub mod Lawful
 pub mod Limits
 pub mod Offers
 pub mod Outcomes
-pub mod Outstanding
 pub mod Recorded
 pub mod Rooms
 pub mod State
 pub mod Steps
 pub mod Storage
+pub mod inner

@@ -7,7 +7,7 @@ ghost use Rattle.sg_history.specs.Book.{waiting_at};
 ghost use Rattle.sg_history.specs.History.{entries_of};
 ghost use Rattle.log_index.specs.Index.{Indexes};
 ghost use Rattle.rev_tree.specs.Documents.{last_in, base_in};
-ghost use Rattle.doc_board.specs.Based.{IsFound, entry_write, written_rev};
+ghost use Rattle.doc_board.specs.inner.Based.{IsFound, entry_write, written_rev};
 ghost use Rattle.doc_board.specs.Storage.{StandsWith, book_in, top_in};
 
 use crate::storage::Storage;

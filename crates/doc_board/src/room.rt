@@ -43,7 +43,7 @@ pub(crate) struct RoomList {
 impl Model for RoomList {
     ghost use Rattle.std.specs.Prelude.{List};
     ghost use Rattle.sg_history.specs.declared.room.RoomFor.{RoomFor};
-    ghost use Rattle.doc_board.specs.Outstanding.{rooms_in};
+    ghost use Rattle.doc_board.specs.inner.Outstanding.{rooms_in};
 
     ghost Value = { List RoomFor };
 

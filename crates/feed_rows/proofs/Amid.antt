@@ -17,7 +17,7 @@ use Rattle.feed_rows.specs.declared.document.Document.{Document}
 use Rattle.feed_rows.specs.declared.document.Latest.{Latest}
 use Rattle.feed_rows.specs.declared.pass.Pass.{Pass}
 use Rattle.feed_rows.specs.declared.shown.Viewer.{Viewer}
-use Rattle.feed_rows.specs.Index.{IsIndex}
+use Rattle.feed_rows.specs.inner.Index.{IsIndex}
 use Rattle.feed_rows.specs.Known.{Known, blank, known_at, known_in, marks_winner, renews, since_renewed, there, written_names}
 use Rattle.feed_rows.specs.Latest.{winner_in}
 use Rattle.feed_rows.specs.PassAt.{AmidAt, HasMarks, IsRenewed, IsViewer, PassAt, known_amid, mark_winner}

@@ -12,7 +12,7 @@ use Rattle.sg_history.specs.Current.{Current, current}
 use Rattle.sg_history.specs.View.{Shown}
 use Rattle.sg_history.specs.Feed.{keeps, row_of, row_with}
 use Rattle.feed_rows.specs.Known.{from_on, renews, row_before, since_renewed}
-use Rattle.feed_rows.specs.Ordered.{asked_rows, insert_asked, insert_over}
+use Rattle.feed_rows.specs.inner.Ordered.{asked_rows, insert_asked, insert_over}
 use Rattle.feed_rows.specs.PassAt.{Dated}
 use Rattle.feed_rows.proofs.AnyFeed.{kept_above}
 use Rattle.feed_rows.proofs.Keys.{Under, under_from_below}

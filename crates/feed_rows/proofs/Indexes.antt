@@ -13,7 +13,7 @@ use Rattle.std.proofs.lemmas.Map.Text.{btree_map_updates_str}
 use Rattle.std.proofs.lemmas.Option.{none-some}
 use Rattle.sg_history.specs.History.{among}
 use Rattle.feed_rows.specs.declared.document.Document.{Document}
-use Rattle.feed_rows.specs.Index.{place_in, IsIndex}
+use Rattle.feed_rows.specs.inner.Index.{place_in, IsIndex}
 use Rattle.feed_rows.specs.Known.{PlacedBy}
 use Rattle.feed_rows.proofs.Names.{same_texts}
 

@@ -12,7 +12,7 @@ use Rattle.grant_history.specs.declared.periods.Period.{Period}
 use Rattle.grant_history.specs.Periods.{periods_have}
 use Rattle.feed_rows.specs.declared.shown.Viewer.{Viewer}
 use Rattle.feed_rows.specs.declared.by_channels.Kept.{Kept}
-use Rattle.feed_rows.specs.Shown.{is_shown, AreSwitches, IsLastSwitch}
+use Rattle.feed_rows.specs.inner.Shown.{is_shown, AreSwitches, IsLastSwitch}
 use Rattle.feed_rows.specs.Lasting.{Lasts}
 
 -- one test for another that answers alike

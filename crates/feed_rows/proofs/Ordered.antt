@@ -20,7 +20,7 @@ use Rattle.sg_history.specs.History.{among, documents}
 use Rattle.sg_history.specs.Feed.{feed, keeps, row_of, rows_of}
 use Rattle.feed_rows.specs.Laws.{HasRow, IsAskedFor, IsBelow, Precedes, Rising}
 use Rattle.feed_rows.specs.Known.{written_names}
-use Rattle.feed_rows.specs.Ordered.{put_over, insert_over, insert_asked, asked_rows, under_key}
+use Rattle.feed_rows.specs.inner.Ordered.{put_over, insert_over, insert_asked, asked_rows, under_key}
 use Rattle.feed_rows.proofs.Keys.{same_from_tie, not_below_itself, below_trans}
 use Rattle.feed_rows.proofs.RowLists.{Has, above_is_below, first_below, ordered_rises}
 use Rattle.feed_rows.proofs.AnyFeed.{feed_had, feed_has}

@@ -16,7 +16,7 @@ use Rattle.sg_history.specs.Feed.{row_of}
 use Rattle.feed_rows.specs.declared.document.Document.{Document}
 use Rattle.feed_rows.specs.declared.pass.Pass.{Pass}
 use Rattle.feed_rows.specs.declared.shown.Viewer.{Viewer}
-use Rattle.feed_rows.specs.Index.{IsIndex}
+use Rattle.feed_rows.specs.inner.Index.{IsIndex}
 use Rattle.feed_rows.specs.Known.{Known, from_on, known_at, known_from, known_in, blank, add_blank, renews, there, written_names, distinct_of, add_name}
 use Rattle.feed_rows.specs.PassAt.{PassAt}
 use Rattle.feed_rows.proofs.Names.{any_distinct, distinct_names, get_there, set_there, placed_among, other_texts}

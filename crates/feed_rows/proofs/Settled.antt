@@ -18,7 +18,7 @@ use Rattle.sg_history.specs.View.{Shown, every, passes, view, view_of, same_view
 use Rattle.sg_history.specs.Feed.{changed, row_at, row_of, row_with, writes}
 use Rattle.feed_rows.specs.Known.{renews, row_before, since_renewed, view_when}
 use Rattle.feed_rows.specs.PassAt.{Dated, IsNow}
-use Rattle.feed_rows.specs.Shown.{sought}
+use Rattle.feed_rows.specs.inner.Shown.{sought}
 use Rattle.feed_rows.proofs.Names.{text_is_itself}
 use Rattle.feed_rows.proofs.Steps.{Left, Unwritten, current_same, left_there, not_written_to, seq_is, seq_written, since_other, since_own}
 

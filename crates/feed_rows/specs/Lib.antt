@@ -1,10 +1,8 @@
-pub mod Index
 pub mod Known
 pub mod Latest
 pub mod Laws
-pub mod Ordered
 pub mod PassAt
 pub mod KnownDocuments
-pub mod Shown
 pub mod Lasting
 pub mod LastChange
+pub mod inner

@@ -10,7 +10,7 @@ use Rattle.feed_rows.specs.declared.document.Change.{Change}
 use Rattle.feed_rows.specs.declared.document.Latest.{Latest}
 use Rattle.feed_rows.specs.declared.pass.Pass.{Pass}
 use Rattle.feed_rows.specs.declared.shown.Viewer.{Viewer}
-use Rattle.feed_rows.specs.Index.{IsIndex}
+use Rattle.feed_rows.specs.inner.Index.{IsIndex}
 use Rattle.feed_rows.specs.Known.{Known, from_on, known_at, known_in, renews, row_before, row_in, since_renewed, written_names}
 use Rattle.feed_rows.specs.Latest.{current_in, since_in, winner_in}
 use Rattle.grant_history.specs.Periods.{periods_have}

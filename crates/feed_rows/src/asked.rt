@@ -9,7 +9,7 @@ ghost use Rattle.sg_history.specs.View.{Shown};
 ghost use Rattle.grant_history.specs.NewStates.{AreNewStates};
 ghost use Rattle.feed_rows.specs.Known.{from_on, row_in};
 ghost use Rattle.feed_rows.specs.KnownDocuments.{AreKnown, HaveAll};
-ghost use Rattle.feed_rows.specs.Ordered.{asked_rows, insert_asked, insert_over, under_key};
+ghost use Rattle.feed_rows.specs.inner.Ordered.{asked_rows, insert_asked, insert_over, under_key};
 ghost use Rattle.feed_rows.specs.PassAt.{IsViewer};
 ghost use Rattle.feed_rows.specs.Lasting.{AreToSearch};
 

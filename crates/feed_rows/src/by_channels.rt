@@ -3,7 +3,7 @@
 ghost use Rattle.std.specs.Prelude.{◌≡◌, ℕ, Bool, true, max, IfOk, OnOk, IfSome, Some};
 ghost use Rattle.std.specs.BTreeMap.{get_by_text};
 ghost use Rattle.feed_rows.specs.Lasting.{AreToSearch};
-ghost use Rattle.feed_rows.specs.Shown.{AreSwitches, IsLastSwitch, is_shown};
+ghost use Rattle.feed_rows.specs.inner.Shown.{AreSwitches, IsLastSwitch, is_shown};
 ghost use Rattle.feed_rows.specs.declared.shown.Viewer as shown;
 
 use crate::shown::{Switch, Viewer, last_switch};

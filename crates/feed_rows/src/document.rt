@@ -7,7 +7,7 @@ ghost use Rattle.sg_history.specs.Feed.{row_of};
 ghost use Rattle.sg_history.specs.View.{view};
 ghost use Rattle.feed_rows.specs.Known.{from_on, known_from, known_in, row_in, there};
 ghost use Rattle.feed_rows.specs.Latest.{current_in};
-ghost use Rattle.feed_rows.specs.Shown.{AreSwitches, IsLastSwitch, is_shown};
+ghost use Rattle.feed_rows.specs.inner.Shown.{AreSwitches, IsLastSwitch, is_shown};
 ghost use Rattle.feed_rows.specs.declared.shown.Viewer as shown;
 ghost use Rattle.feed_rows.specs.PassAt.{IsKnown, IsRenewed, IsViewer};
 ghost use Rattle.feed_rows.specs.Lasting.{AreToSearch};

@@ -2,7 +2,7 @@
 
 ghost use Rattle.std.specs.Prelude.{◌≡◌, ℕ, List, Some, OnOk, if◌then◌else◌};
 ghost use Rattle.std.specs.Str.{bytes_eq};
-ghost use Rattle.feed_rows.specs.Index.{place_in};
+ghost use Rattle.feed_rows.specs.inner.Index.{place_in};
 
 use sg_history::DocId;
 use std::alloc::AllocError;

@@ -12,7 +12,7 @@ ghost use Rattle.sg_names.specs.RevId.{same_rev};
 ghost use Rattle.sg_history.specs.Current.{current, marked_state};
 ghost use Rattle.sg_history.specs.History.{as_write, past};
 ghost use Rattle.grant_history.specs.NewStates.{AreNewStates, written_at};
-ghost use Rattle.feed_rows.specs.Index.{IsIndex};
+ghost use Rattle.feed_rows.specs.inner.Index.{IsIndex};
 ghost use Rattle.feed_rows.specs.Lasting.{AreToSearch};
 ghost use Rattle.feed_rows.specs.Latest.{current_in, since_in, winner_in};
 ghost use Rattle.feed_rows.specs.Known.{add_blank, known_in, written_names};

@@ -5,8 +5,8 @@ ghost use Rattle.std.specs.List.{list_any};
 ghost use Rattle.sg_history.specs.View as view;
 ghost use Rattle.grant_history.specs.Periods.{periods_have};
 ghost use Rattle.feed_rows.specs.Lasting.{AreToSearch, Lasts};
-ghost use Rattle.feed_rows.specs.Shown as shown;
-ghost use Rattle.feed_rows.specs.Shown.{IsLastSwitch};
+ghost use Rattle.feed_rows.specs.inner.Shown as shown;
+ghost use Rattle.feed_rows.specs.inner.Shown.{IsLastSwitch};
 
 use crate::lasting::{Lasting, channel_lasting};
 use grant_history::Period;

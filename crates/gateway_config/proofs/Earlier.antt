@@ -7,7 +7,7 @@ use Rattle.sg_names.specs.Grammar.{is_name}
 use Rattle.gateway_config.specs.Faults.{name_why, needed_why, optional_why, session_why, twice_why}
 use Rattle.gateway_config.specs.Grammar.{is_session}
 use Rattle.gateway_config.specs.Members.{read_or, text_in}
-use Rattle.gateway_config.specs.Objects.{role_fault, user_fault}
+use Rattle.gateway_config.specs.inner.Objects.{role_fault, user_fault}
 
 name_same : (f g : List ℕ → Bool) (d : Option Data) → ((t : List ℕ) → f t ≡ g t) → name_why f d ≡ name_why g d
 name_same f g d h = ap (λ b. option_or (needed_why (text_in (λ t. is_name t)) d) (twice_why b)) (h (read_or (text_in (λ t. is_name t)) [] d))

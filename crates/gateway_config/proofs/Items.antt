@@ -13,7 +13,7 @@ use Rattle.gateway_config.specs.declared.config.ConfigUser.{ConfigUser}
 use Rattle.gateway_config.specs.declared.fault.ConfigFault.{ConfigFault}
 use Rattle.gateway_config.specs.Faults.{Fault, NamesFault, has_session, is_role_of, is_session_of, is_user_of, roles_fault, users_fault}
 use Rattle.gateway_config.specs.Members.{put_first, text_in, texts_of}
-use Rattle.gateway_config.specs.Objects.{role_fault, user_fault}
+use Rattle.gateway_config.specs.inner.Objects.{role_fault, user_fault}
 use Rattle.gateway_config.specs.Values.{role_in, roles_of, user_in, users_of}
 use Rattle.gateway_config.proofs.Earlier.{role_same, user_same}
 use Rattle.gateway_config.proofs.Firsts.{first_named}

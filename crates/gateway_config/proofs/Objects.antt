@@ -9,7 +9,7 @@ use Rattle.gateway_config.specs.declared.config.ConfigRole.{ConfigRole}
 use Rattle.gateway_config.specs.declared.config.ConfigUser.{ConfigUser}
 use Rattle.gateway_config.specs.declared.fault.ConfigFault.{ConfigFault}
 use Rattle.gateway_config.specs.Faults.{Fault, IsResultOf, NamesFault, item_path, members_fault, object_fault, role_object_fault, user_object_fault}
-use Rattle.gateway_config.specs.Objects.{role_fault, user_fault}
+use Rattle.gateway_config.specs.inner.Objects.{role_fault, user_fault}
 use Rattle.gateway_config.specs.Values.{Says, SaysIn, role_in, role_of, user_in, user_of}
 
 pub role_read : (place : ℕ) (had : List ℕ → Bool) (d : Data) (ms : Members) (path : List ℕ) (r : Result ConfigRole ConfigFault) → Some ms ≡ as_object d → path ≡ item_path (codes "roles") place

@@ -6,7 +6,7 @@ use Rattle.std.specs.BTreeMap.{BTreeMap, UpdatesBy, get_by}
 use Rattle.std.specs.Cmp.Lexicographic.{slice_cmp}
 use Rattle.std.specs.Ordering.{nat_cmp}
 use Rattle.std.specs.Str.{bytes_eq}
-use Rattle.gateway_config.specs.Seen.{has}
+use Rattle.gateway_config.specs.inner.Seen.{has}
 
 choice : (b : Bool) (v : Unit {0}) (o : Option (Unit {0})) → is_some (if b then Some v else o) ≡ (b || is_some o)
 choice true v o = refl

@@ -2,6 +2,4 @@ pub mod Grammar
 pub mod Members
 pub mod Faults
 pub mod Values
-pub mod Seen
-pub mod Objects
-pub mod Programs
+pub mod inner

@@ -6,8 +6,8 @@ ghost use Rattle.serde_json.specs.Find.{as_str, get_member};
 ghost use Rattle.sync_syntax.specs.Statements as syntax;
 ghost use Rattle.sync_resolve.specs.Resolving.{faults};
 ghost use Rattle.gateway_config.specs.Faults.{IsResultOf, at_member, is_sound, no_faults, optional_why, sync_fault};
-ghost use Rattle.gateway_config.specs.Objects.{members_of};
-ghost use Rattle.gateway_config.specs.Programs.{IsFoundIn};
+ghost use Rattle.gateway_config.specs.inner.Objects.{members_of};
+ghost use Rattle.gateway_config.specs.inner.Programs.{IsFoundIn};
 ghost use Rattle.gateway_config.specs.Values.{sync_of};
 
 use crate::fault::ConfigFault;

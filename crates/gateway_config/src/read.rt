@@ -6,7 +6,7 @@ ghost use Rattle.serde_json.specs.View.{view};
 ghost use Rattle.sync_syntax.specs.Statements.{parsed};
 ghost use Rattle.gateway_config.specs.Faults.{Fault, IsResultOf, NamesFault, config_fault, first_of, members_fault, object_fault};
 ghost use Rattle.gateway_config.specs.Members.{json_of};
-ghost use Rattle.gateway_config.specs.Objects.{HasSettings, first_tests, known_tests, members_of, principal_tests};
+ghost use Rattle.gateway_config.specs.inner.Objects.{HasSettings, first_tests, known_tests, members_of, principal_tests};
 ghost use Rattle.gateway_config.specs.Values.{IsTextOf, Says, SaysIn, items_at, roles_of, sync_of, users_of};
 
 use crate::config::{Config, ConfigRoles, ConfigUsers};

@@ -7,8 +7,8 @@ ghost use Rattle.serde_json.specs.View.{view, items_view};
 ghost use Rattle.sg_names.specs.Grammar.{is_name};
 ghost use Rattle.gateway_config.specs.Faults.{IsResultOf, at_member, channels_fault, first_of, name_fault, needed_why, role_object_fault, roles_fault};
 ghost use Rattle.gateway_config.specs.Members.{text_in};
-ghost use Rattle.gateway_config.specs.Objects.{holder_tests, members_of, role_fault, roles_test};
-ghost use Rattle.gateway_config.specs.Seen.{has};
+ghost use Rattle.gateway_config.specs.inner.Objects.{holder_tests, members_of, role_fault, roles_test};
+ghost use Rattle.gateway_config.specs.inner.Seen.{has};
 ghost use Rattle.gateway_config.specs.Values.{channels_of, items_at, name_of, role_in, role_of, roles_of};
 
 use crate::config::{ConfigRole, ConfigRoles};

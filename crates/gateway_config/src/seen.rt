@@ -2,7 +2,7 @@
 
 ghost use Rattle.std.specs.Prelude.{◌≡◌, ◌||◌, ℕ, List, not, IfOk, OnOk};
 ghost use Rattle.std.specs.Str.{bytes_eq};
-ghost use Rattle.gateway_config.specs.Seen.{has};
+ghost use Rattle.gateway_config.specs.inner.Seen.{has};
 
 use sg_outside::Memory;
 use std::collections::BTreeMap;

@@ -4,7 +4,7 @@ ghost use Rattle.std.specs.Prelude.{◌≡◌, []};
 ghost use Rattle.serde_json.specs.View.{view};
 ghost use Rattle.gateway_config.specs.Faults.{IsResultOf, accepts_fault, bind_fault, conflicts_fault, database_fault, first_of};
 ghost use Rattle.gateway_config.specs.Members as members;
-ghost use Rattle.gateway_config.specs.Objects.{HasSettings, limit_tests, members_of, setting_tests, text_tests};
+ghost use Rattle.gateway_config.specs.inner.Objects.{HasSettings, limit_tests, members_of, setting_tests, text_tests};
 ghost use Rattle.gateway_config.specs.Values.{accepts_of, bind_of, conflicts_of, database_of};
 
 use crate::fault::ConfigFault;

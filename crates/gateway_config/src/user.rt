@@ -6,8 +6,8 @@ ghost use Rattle.serde_json.specs.View.{view, items_view};
 ghost use Rattle.gateway_config.specs.Faults.{IsResultOf, at_member, first_of, has_session, is_session_text, names_fault, session_fault, session_why, user_object_fault, users_fault};
 ghost use Rattle.gateway_config.specs.Grammar.{is_session};
 ghost use Rattle.gateway_config.specs.Members.{text_in};
-ghost use Rattle.gateway_config.specs.Objects.{further_tests, members_of, user_fault, user_tests, users_test};
-ghost use Rattle.gateway_config.specs.Seen.{has};
+ghost use Rattle.gateway_config.specs.inner.Objects.{further_tests, members_of, user_fault, user_tests, users_test};
+ghost use Rattle.gateway_config.specs.inner.Seen.{has};
 ghost use Rattle.gateway_config.specs.Values.{items_at, name_of, names_of, session_of, user_in, user_of, users_of};
 
 use crate::config::{ConfigRole, ConfigUser, ConfigUsers};

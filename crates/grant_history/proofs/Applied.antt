@@ -24,7 +24,7 @@ use Rattle.grant_history.specs.Store.{has_at}
 use Rattle.grant_history.specs.Sources.{is_held}
 use Rattle.grant_history.specs.Ledger.{facts_read, given, GiveSame, IsLedger, Took}
 use Rattle.grant_history.specs.LedgerAt.{LedgerAt, IsNextApplied}
-use Rattle.grant_history.specs.Changes.{IsMarking}
+use Rattle.grant_history.specs.inner.Changes.{IsMarking}
 use Rattle.grant_history.specs.NewStates.{by_marks, state_of}
 use Rattle.grant_history.specs.Stands.{IsIndexed, StandsFor}
 use Rattle.grant_history.proofs.Keeping.{settled, later_store}

@@ -7,7 +7,7 @@ use Rattle.std.proofs.lemmas.List.{append-nil, drop_all, length-map, take_all, t
 use Rattle.std.proofs.lemmas.Option.{none-some, same_Some, slice_get-get_or, slice_get-map}
 use Rattle.grant_history.specs.declared.changes.Change.{Change}
 use Rattle.grant_history.specs.declared.facts.Fact.{Fact}
-use Rattle.grant_history.specs.Changes.{AreKept, DocumentFacts, all_times, facts_in_change, facts_in_changes, given_after, given_before, given_with}
+use Rattle.grant_history.specs.inner.Changes.{AreKept, DocumentFacts, all_times, facts_in_change, facts_in_changes, given_after, given_before, given_with}
 use Rattle.grant_history.specs.Facts.{times}
 use Rattle.grant_history.specs.Ledger.{Lists}
 use Rattle.grant_history.proofs.Summing.{Gives, after_more, all_append, before_more}

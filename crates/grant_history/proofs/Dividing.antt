@@ -17,7 +17,7 @@ use Rattle.grant_tracks.specs.Holdings.{Holders, held_in}
 use Rattle.grant_tracks.specs.Reads.{is_channel, channel_among, channel_by, gives_channel, by_roles, list_channel}
 use Rattle.grant_tracks.specs.Spells.{spell_has, spells_have, IsBeforeAll, AreApart}
 use Rattle.grant_history.specs.Periods.{period_has, periods_have, EndsBeforeLater, ArePeriodsApart, HavePlaces, ever_among, ever_by, ever_gives, ever_by_roles, may_have, period_of, period_order, Adds, AreOf, AreSoFar, AreInOrder, AreAllPeriods}
-use Rattle.grant_history.specs.Sorted.{AreSorted}
+use Rattle.grant_history.specs.inner.Sorted.{AreSorted}
 use Rattle.sg_names.specs.ItemList.{rises}
 use Rattle.std.specs.Ordering.{nat_cmp, is_lt, is_eq, ordering_then}
 use Rattle.std.specs.Cmp.Lexicographic.{slice_cmp}

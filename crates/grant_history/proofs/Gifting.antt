@@ -9,7 +9,7 @@ use Rattle.grant_history.specs.declared.givers.Giver.{Giver}
 use Rattle.grant_tracks.specs.declared.held.Held.{Held}
 use Rattle.grant_tracks.specs.declared.track.Track.{Track}
 use Rattle.grant_tracks.specs.declared.spells.Spell.{Spell}
-use Rattle.grant_history.specs.Gifts.{Gifts, gifts_have, held_gives, list_has}
+use Rattle.grant_history.specs.inner.Gifts.{Gifts, gifts_have, held_gives, list_has}
 use Rattle.grant_tracks.specs.Reads.{is_channel, channel_among}
 use Rattle.grant_tracks.specs.Tracks.{held_at}
 use Rattle.grant_tracks.specs.Spells.{spell_has, spells_have}

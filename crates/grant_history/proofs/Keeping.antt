@@ -23,7 +23,7 @@ use Rattle.grant_history.specs.Facts.{times, put_facts, document_facts}
 use Rattle.grant_history.specs.Store.{count_to, held_to, count_at, has_at, IsStore}
 use Rattle.grant_history.specs.Sources.{principal_of, sources}
 use Rattle.grant_history.specs.Ledger.{Source, document, user, role, holder, same_source, given, Lists, facts_of_list, facts_in, facts_from, GiveSame, IsLedger, IsStep, Took}
-use Rattle.grant_history.specs.Changes.{DocumentFacts, all_times, given_after, given_before, given_at, AreChanges}
+use Rattle.grant_history.specs.inner.Changes.{DocumentFacts, all_times, given_after, given_before, given_at, AreChanges}
 use Rattle.grant_history.proofs.Summing.{after_same, before_same}
 use Rattle.grant_tracks.proofs.HeldBy.{later_all, settled_holders}
 use Rattle.grant_history.proofs.Same.{grantees}

@@ -8,7 +8,7 @@ use Rattle.std.proofs.lemmas.Bool.{eq-eqb, ne_eqb}
 use Rattle.std.proofs.lemmas.List.{length-append}
 use Rattle.log_index.specs.declared.marks.Marked.{Marked}
 use Rattle.grant_history.specs.declared.states.StateList.{StateList}
-use Rattle.grant_history.specs.MoreStates.{HasNoneAbove, IsOneMore}
+use Rattle.grant_history.specs.inner.MoreStates.{HasNoneAbove, IsOneMore}
 use Rattle.grant_history.specs.NewStates.{KeptStates, list_of, winner_in}
 
 -- what is kept at a place

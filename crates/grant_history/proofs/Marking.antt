@@ -24,7 +24,7 @@ use Rattle.log_views.proofs.Placed.{found, last_at, winning_at}
 use Rattle.grant_history.specs.declared.facts.Fact.{Fact}
 use Rattle.grant_history.specs.declared.ledger.Ledger.{Ledger}
 use Rattle.grant_history.specs.declared.states.NewState.{NewState}
-use Rattle.grant_history.specs.Changes.{DocumentFacts, given_with, given_after, given_at, change_by, changes_by, mark_among, others, AreChanges, IsMarking}
+use Rattle.grant_history.specs.inner.Changes.{DocumentFacts, given_with, given_after, given_at, change_by, changes_by, mark_among, others, AreChanges, IsMarking}
 use Rattle.grant_history.specs.Facts.{times, document_facts, effect_facts, mark_facts, put_facts}
 use Rattle.grant_history.specs.Ledger.{facts_of_mark, kept_of, GiveSame}
 use Rattle.grant_history.specs.NewStates.{by_mark, by_marks, state_by, state_of}

@@ -7,7 +7,7 @@ use Rattle.sg_history.specs.declared.entries.Entry.{Entry}
 use Rattle.grant_history.specs.declared.facts.Fact.{Fact}
 use Rattle.grant_history.specs.declared.ledger.Ledger.{Ledger}
 use Rattle.grant_history.specs.Facts.{same_facts, times}
-use Rattle.grant_history.specs.Changes.{AreChanges, DocumentFacts, all_times, given_after, given_at, given_before, given_with, others}
+use Rattle.grant_history.specs.inner.Changes.{AreChanges, DocumentFacts, all_times, given_after, given_at, given_before, given_with, others}
 use Rattle.grant_history.specs.Ledger.{document, kept_of, GiveSame}
 use Rattle.grant_history.proofs.Same.{list_itself, same_lists}
 use Rattle.grant_history.proofs.Summing.{Gives, after_same, before_same}

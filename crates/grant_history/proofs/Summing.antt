@@ -8,7 +8,7 @@ use Rattle.sg_history.specs.History.{among}
 use Rattle.grant_history.specs.declared.facts.Fact.{Fact}
 use Rattle.grant_history.specs.Facts.{times}
 use Rattle.grant_history.specs.Sources.{given_by}
-use Rattle.grant_history.specs.Changes.{DocumentFacts, all_times, given_with, given_after, given_before, given_at}
+use Rattle.grant_history.specs.inner.Changes.{DocumentFacts, all_times, given_with, given_after, given_before, given_at}
 use Rattle.grant_history.proofs.Steps.{IsOnce, or_left, or_right, or_other}
 use Rattle.grant_tracks.proofs.Same.{texts_swap}
 

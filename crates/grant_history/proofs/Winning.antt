@@ -24,8 +24,8 @@ use Rattle.grant_history.specs.Ledger.{document, IsStep, Took}
 use Rattle.grant_history.specs.Periods.{AreAllPeriods, ArePeriods}
 use Rattle.grant_tracks.specs.Reads.{user_channel}
 use Rattle.grant_history.specs.LedgerAt.{LedgerAt, StoreAt}
-use Rattle.grant_history.specs.Changes.{IsMarking}
-use Rattle.grant_history.specs.MoreStates.{IsOneMore}
+use Rattle.grant_history.specs.inner.Changes.{IsMarking}
+use Rattle.grant_history.specs.inner.MoreStates.{IsOneMore}
 use Rattle.grant_history.specs.NewStates.{AreNewStates, KeptStates, by_marks, marked_at, marked_in, replaced, state_of, state_written, states_marked, written_at, written_in}
 use Rattle.grant_history.proofs.Applied.{advanced, held_on, past_count, past_next}
 use Rattle.grant_history.proofs.Keeping.{write_is_step}

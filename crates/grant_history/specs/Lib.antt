@@ -6,9 +6,5 @@ pub mod Ledger
 pub mod LedgerAt
 pub mod Stands
 pub mod NewStates
-pub mod MoreStates
-pub mod Changes
-pub mod Givers
-pub mod Gifts
-pub mod Sorted
 pub mod Periods
+pub mod inner

@@ -6,7 +6,7 @@ ghost use Rattle.std.specs.Option.{option_copied};
 ghost use Rattle.std.specs.Str.{bytes_eq};
 ghost use Rattle.sg_history.specs.declared.entries.Entry.{Entry};
 ghost use Rattle.grant_tracks.specs.Dated.{Dated};
-ghost use Rattle.grant_history.specs.Changes.{AreKept, IsMarking, all_times, change_by, changes_by, facts_in_change, facts_in_changes, given_after, given_before, mark_among, others};
+ghost use Rattle.grant_history.specs.inner.Changes.{AreKept, IsMarking, all_times, change_by, changes_by, facts_in_change, facts_in_changes, given_after, given_before, mark_among, others};
 ghost use Rattle.grant_history.specs.Facts.{mark_facts, times};
 ghost use Rattle.grant_history.specs.Ledger.{GiveSame, IsLedger, Took, facts_in, kept_of};
 ghost use Rattle.grant_history.specs.Store.{IsStore, count_at, has_at};

@@ -6,7 +6,7 @@ ghost use Rattle.sg_history.specs.History.{among};
 ghost use Rattle.sg_history.specs.Principals as principals;
 ghost use Rattle.grant_history.specs.Periods.{ever_among, ever_by, ever_by_roles, ever_gives, may_have, names_of};
 ghost use Rattle.grant_tracks.specs.Reads.{is_channel};
-ghost use Rattle.grant_history.specs.Sorted.{AreSorted};
+ghost use Rattle.grant_history.specs.inner.Sorted.{AreSorted};
 ghost use Rattle.std.specs.BTreeMap.{get_by_text};
 
 use grant_tracks::{Held, Holders, What};

@@ -5,8 +5,8 @@ ghost use Rattle.std.specs.BTreeMap.{get_by_text};
 ghost use Rattle.std.specs.List.{list_any};
 ghost use Rattle.std.specs.Str.{bytes_eq};
 ghost use Rattle.grant_tracks.specs.Events.{is_open};
-ghost use Rattle.grant_history.specs.Gifts.{gifts_have, held_gives};
-ghost use Rattle.grant_history.specs.Givers.{giver_has};
+ghost use Rattle.grant_history.specs.inner.Gifts.{gifts_have, held_gives};
+ghost use Rattle.grant_history.specs.inner.Givers.{giver_has};
 ghost use Rattle.grant_tracks.specs.Spells.{spells_have};
 ghost use Rattle.grant_tracks.specs.Ways.{ways_have};
 

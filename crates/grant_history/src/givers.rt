@@ -3,7 +3,7 @@
 ghost use Rattle.std.specs.Prelude.{◌≡◌, ◌&&◌, ◌||◌, ℕ, List, IfOk, OnOk};
 ghost use Rattle.std.specs.List.{list_any};
 ghost use Rattle.std.specs.Option.{option_copied};
-ghost use Rattle.grant_history.specs.Givers.{giver_has};
+ghost use Rattle.grant_history.specs.inner.Givers.{giver_has};
 ghost use Rattle.grant_tracks.specs.Reads.{channel_by};
 ghost use Rattle.grant_tracks.specs.Reads as reads;
 ghost use Rattle.grant_tracks.specs.Tracks.{held_at};

@@ -8,13 +8,13 @@ ghost use Rattle.sg_history.specs.Principals.{exists, user_at, has_channel, has_
 ghost use Rattle.sg_history.specs.Current.{current};
 ghost use Rattle.grant_history.specs.declared.facts.Fact as facts_of;
 ghost use Rattle.grant_history.specs.AppliedLog.{changed_at};
-ghost use Rattle.grant_history.specs.Changes.{IsMarking};
+ghost use Rattle.grant_history.specs.inner.Changes.{IsMarking};
 ghost use Rattle.grant_history.specs.Facts as facts;
 ghost use Rattle.grant_history.specs.Ledger.{GiveSame, IsLedger, Took};
 ghost use Rattle.grant_history.specs.NewStates.{by_marks};
 ghost use Rattle.grant_history.specs.Store.{has_at};
 ghost use Rattle.grant_history.specs.Periods.{AreInOrder, ArePeriods};
-ghost use Rattle.grant_history.specs.Sorted.{AreSorted};
+ghost use Rattle.grant_history.specs.inner.Sorted.{AreSorted};
 ghost use Rattle.grant_history.specs.LedgerAt.{IsNextApplied, LedgerAt};
 ghost use Rattle.grant_history.specs.Stands.{IsIndexed, StandsFor};
 

@@ -9,7 +9,7 @@ ghost use Rattle.grant_history.specs.Store.{count_at, has_at, IsStore};
 ghost use Rattle.grant_history.specs.Ledger.{facts_from, facts_in, kept_of, source_in, holder, GiveSame, IsLedger, IsStep, Took};
 ghost use Rattle.grant_history.specs.LedgerAt.{IsBefore};
 ghost use Rattle.sg_history.specs.History.{as_sync, as_write};
-ghost use Rattle.grant_history.specs.Changes.{AreChanges, facts_in_changes};
+ghost use Rattle.grant_history.specs.inner.Changes.{AreChanges, facts_in_changes};
 ghost use Rattle.sg_history.specs.Puts as puts;
 
 use crate::changes::{Change, exchange_each};

@@ -5,7 +5,7 @@ ghost use Rattle.std.specs.BTreeMap.{get};
 ghost use Rattle.std.specs.Ordering.{nat_cmp};
 ghost use Rattle.sg_history.specs.History.{as_sync, as_write};
 ghost use Rattle.log_views.specs.States.{since_by};
-ghost use Rattle.grant_history.specs.MoreStates.{HasNoneAbove, IsOneMore};
+ghost use Rattle.grant_history.specs.inner.MoreStates.{HasNoneAbove, IsOneMore};
 ghost use Rattle.grant_history.specs.NewStates.{AreNewStates, by_mark, by_marks, marked_in, state_written, written_in};
 ghost use Rattle.grant_history.specs.NewStates as new;
 

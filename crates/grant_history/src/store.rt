@@ -8,7 +8,7 @@ ghost use Rattle.sg_names.specs.declared.grants.Grantee.TheVariants.{User};
 ghost use Rattle.grant_tracks.specs.declared.things.What.TheVariants as what;
 ghost use Rattle.grant_history.specs.AppliedLog.{changed_at};
 ghost use Rattle.grant_history.specs.Periods.{AreAllPeriods};
-ghost use Rattle.grant_history.specs.Sorted.{AreSorted};
+ghost use Rattle.grant_history.specs.inner.Sorted.{AreSorted};
 ghost use Rattle.grant_tracks.specs.Changed.{IsSettled};
 ghost use Rattle.grant_tracks.specs.Reads.{user_channel, user_role};
 ghost use Rattle.grant_history.specs.Facts.{fact, times};

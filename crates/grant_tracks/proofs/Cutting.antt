@@ -10,7 +10,7 @@ use Rattle.grant_tracks.specs.declared.ways.Ways.{Ways}
 use Rattle.grant_tracks.specs.declared.spells.Sweep.{Sweep}
 use Rattle.grant_tracks.specs.declared.track.Span.{Span}
 use Rattle.grant_tracks.specs.declared.track.Track.{Track}
-use Rattle.grant_tracks.specs.Cuts.{is_cut, IsSteady, Covers, Rise}
+use Rattle.grant_tracks.specs.inner.Cuts.{is_cut, IsSteady, Covers, Rise}
 use Rattle.grant_tracks.specs.Spells.{Stays, Swept, spells_have, open_has}
 use Rattle.grant_tracks.specs.Tracks.{has_place, was_held, held_last, held_at}
 use Rattle.grant_tracks.specs.Counts.{up_to, open_at}

@@ -16,7 +16,7 @@ use Rattle.grant_tracks.specs.HeldLists.{AreUpTo}
 use Rattle.grant_tracks.specs.Listed.{is_in}
 use Rattle.grant_tracks.specs.Blocks.{near}
 use Rattle.grant_tracks.specs.Near.{MissNothing}
-use Rattle.grant_tracks.specs.Passing.{passes, passes_at, is_given, is_given_at, given_in}
+use Rattle.grant_tracks.specs.inner.Passing.{passes, passes_at, is_given, is_given_at, given_in}
 use Rattle.grant_tracks.proofs.Ordered.{none_left}
 use Rattle.grant_tracks.proofs.Tracked.{track_up_to, fresh_held}
 

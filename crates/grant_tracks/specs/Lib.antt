@@ -12,8 +12,7 @@ pub mod Places
 pub mod Listed
 pub mod Blocks
 pub mod Near
-pub mod Passing
 pub mod Reads
 pub mod Changed
-pub mod Cuts
 pub mod Spells
+pub mod inner

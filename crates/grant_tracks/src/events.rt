@@ -53,7 +53,7 @@ fn add_spell(begins: &mut Vec<u64>, ends: &mut Vec<u64>, spell: &Spell) -> Resul
 impl Events {
     ghost use Rattle.std.specs.Prelude.{IfOk};
     ghost use Rattle.grant_tracks.specs.Counts.{open_at};
-    ghost use Rattle.grant_tracks.specs.Cuts.{Covers};
+    ghost use Rattle.grant_tracks.specs.inner.Cuts.{Covers};
     ghost use Rattle.grant_tracks.specs.Events.{is_open};
     ghost use Rattle.grant_tracks.specs.Spells.{spells_have};
 

@@ -8,7 +8,7 @@ ghost use Rattle.grant_tracks.specs.declared.things.What.TheVariants as what;
 ghost use Rattle.grant_tracks.specs.Dated.{Dated};
 ghost use Rattle.grant_tracks.specs.Holdings.{place_of, count_in, held_in, AreUpTo, one_more, one_less};
 ghost use Rattle.grant_tracks.specs.Listed.{is_in};
-ghost use Rattle.grant_tracks.specs.Passing.{fits, given_in, is_given_at, passes_at};
+ghost use Rattle.grant_tracks.specs.inner.Passing.{fits, given_in, is_given_at, passes_at};
 ghost use Rattle.grant_tracks.specs.Reads.{channel_among};
 ghost use Rattle.grant_tracks.specs.declared.held.Held.{Held};
 ghost use Rattle.grant_tracks.specs.Tracks.{BeginsAt, held_at};

@@ -1,7 +1,7 @@
 //! The spells in which a user has a channel.
 
 ghost use Rattle.std.specs.Prelude.{◌≡◌, ◌≤◌, ℕ, max, IfOk};
-ghost use Rattle.grant_tracks.specs.Cuts.{IsSteady, Rise};
+ghost use Rattle.grant_tracks.specs.inner.Cuts.{IsSteady, Rise};
 ghost use Rattle.grant_tracks.specs.Spells.{AreApart, Stays, Swept, spells_have};
 ghost use Rattle.grant_tracks.specs.Ways.{ways_have};
 

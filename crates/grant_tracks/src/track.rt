@@ -3,7 +3,7 @@
 ghost use Rattle.std.specs.Prelude.{◌≡◌, ◌≤◌, ◌<◌, ◌+◌, ◌-◌, ◌++◌, ◌∷◌, [], ℕ, length, slice_index_or, nat_lt, IfOk, OnOk, OnErr};
 ghost use Rattle.std.specs.List.{list_any};
 ghost use Rattle.std.specs.List.Sorted.{IsNonDecreasingBy};
-ghost use Rattle.grant_tracks.specs.Cuts.{Covers};
+ghost use Rattle.grant_tracks.specs.inner.Cuts.{Covers};
 ghost use Rattle.grant_tracks.specs.Spans.{closed_with, has_place};
 ghost use Rattle.grant_tracks.specs.declared.track.Span.{Span};
 

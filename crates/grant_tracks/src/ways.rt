@@ -4,7 +4,7 @@
 ghost use Rattle.std.specs.Prelude.{◌≡◌, ◌&&◌, ℕ, OnOk};
 ghost use Rattle.std.specs.Str.{bytes_eq};
 ghost use Rattle.sg_history.specs.Principals.{everyone};
-ghost use Rattle.grant_tracks.specs.Cuts.{Covers};
+ghost use Rattle.grant_tracks.specs.inner.Cuts.{Covers};
 ghost use Rattle.grant_tracks.specs.Events.{is_open};
 ghost use Rattle.grant_tracks.specs.Reads.{has_by};
 ghost use Rattle.grant_tracks.specs.Tracks.{held_at};

@@ -1,5 +1,5 @@
 pub mod Tree
 pub mod Reading
 pub mod View
-pub mod Verdict
 pub mod System
+pub mod inner

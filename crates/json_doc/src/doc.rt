@@ -3,7 +3,7 @@ ghost use Rattle.serde_json.specs.View.{view};
 ghost use Rattle.json_doc.specs.Tree.{Tree, object, is_object, get_member};
 ghost use Rattle.json_doc.specs.Reading.{ReadsAs, IsNotJson, IsNotObject, IsReserved, IsDocument};
 ghost use Rattle.json_doc.specs.View.{node_tree, members_fields};
-ghost use Rattle.json_doc.specs.Verdict.{IsVerdict};
+ghost use Rattle.json_doc.specs.inner.Verdict.{IsVerdict};
 
 use crate::Memory;
 use crate::convert::{has_reserved, members_of};

@@ -1,5 +1,5 @@
 pub mod Places
 pub mod Marks
 pub mod Representation
-pub mod Taken
 pub mod Index
+pub mod inner

@@ -22,7 +22,7 @@ pub struct Taken {
 impl Model for Taken {
     ghost use Rattle.std.specs.Prelude.{List};
     ghost use Rattle.sg_history.specs.declared.entries.Entry.{Entry};
-    ghost use Rattle.log_index.specs.Taken.{entries_in};
+    ghost use Rattle.log_index.specs.inner.Taken.{entries_in};
 
     ghost Value = { List Entry };
 

@@ -21,7 +21,7 @@ use Rattle.principals.specs.Faults.{Part, IsFault, IsPart, parts_of}
 use Rattle.principals.specs.Faults as faults
 use Rattle.principals.specs.declared.kind.Kind.{Kind}
 use Rattle.principals.specs.declared.kind.Kind.TheVariants as kind
-use Rattle.principals.specs.Kinds.{kind_text}
+use Rattle.principals.specs.inner.Kinds.{kind_text}
 use Rattle.principals.proofs.Texts.{line_pieces}
 
 abbrev AreFine : List (List ℕ) → Type 0

@@ -1,3 +1,3 @@
 pub mod Script
 pub mod Faults
-pub mod Kinds
+pub mod inner

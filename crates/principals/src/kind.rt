@@ -2,7 +2,7 @@
 
 ghost use Rattle.std.specs.Prelude.{◌≡◌, None, IfSome, IfNone};
 ghost use Rattle.principals.specs.Faults.{parts_of};
-ghost use Rattle.principals.specs.Kinds.{kind_text};
+ghost use Rattle.principals.specs.inner.Kinds.{kind_text};
 
 /// What a line says, by its first field.
 #[derive(Clone, Copy)]

@@ -5,7 +5,7 @@ ghost use Rattle.sg_history.specs.Faults.{HasReason};
 ghost use Rattle.sg_history.specs.Pieces.{pieces};
 ghost use Rattle.principals.specs.Script.{IsLine, fields_of, line_of};
 ghost use Rattle.principals.specs.Faults.{IsFault};
-ghost use Rattle.principals.specs.Kinds.{kind_text};
+ghost use Rattle.principals.specs.inner.Kinds.{kind_text};
 
 use crate::admin_line::AdminLine;
 use crate::command::Command;

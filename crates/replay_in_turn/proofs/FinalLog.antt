@@ -14,7 +14,7 @@ use Rattle.write_path.specs.Own.{EndsWith, in_order}
 use Rattle.write_path.specs.Solo.{Solo}
 use Rattle.replay_in_turn.specs.Replay.{IsReplay}
 use Rattle.replay_in_turn.specs.Sessions.{moment_of}
-use Rattle.replay_in_turn.specs.Shape.{AreSessionsRun, IsReplayBy, IsScriptRun}
+use Rattle.replay_in_turn.specs.inner.Shape.{AreSessionsRun, IsReplayBy, IsScriptRun}
 use Rattle.transcripts.specs.Transcript.{runs_text}
 
 in_order_more : (added own : List Waiting) → in_order (added ++ own) ≡ in_order own ++ in_order added

@@ -6,7 +6,7 @@ use Rattle.principals.specs.declared.admin_line.AdminLine.{AdminLine}
 use Rattle.sync_syntax.specs.declared.tree.Program.{Program}
 use Rattle.doc_board.specs.declared.outcome.Outcome.{Outcome}
 use Rattle.replay_in_turn.specs.Script.{AreLinesRun, IsLineRun}
-use Rattle.replay_in_turn.specs.Shape.{IsScriptRun}
+use Rattle.replay_in_turn.specs.inner.Shape.{IsScriptRun}
 use Rattle.transcripts.specs.Transcript.{outcome_line, outcome_lines}
 use Rattle.transcripts.proofs.Texts.{outcomes_text_more}
 

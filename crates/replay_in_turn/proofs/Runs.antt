@@ -9,7 +9,7 @@ use Rattle.sync_syntax.specs.declared.tree.Program.{Program}
 use Rattle.write_path.specs.Reads.{IsLaterThanAll, Reads}
 use Rattle.session_run.specs.Answered.{Moment}
 use Rattle.replay_in_turn.specs.Sessions.{AreRuns, IsRun}
-use Rattle.replay_in_turn.specs.Shape.{AreSessionsRun, IsSessionRun}
+use Rattle.replay_in_turn.specs.inner.Shape.{AreSessionsRun, IsSessionRun}
 use Rattle.transcripts.specs.Transcript.{Run, run_text, runs_text}
 use Rattle.transcripts.proofs.Texts.{runs_text_more}
 

@@ -17,7 +17,7 @@ use Rattle.session_run.specs.Answered.{Moment}
 use Rattle.session_run.specs.Judged.{AreJudged}
 use Rattle.session_run.specs.Served.{IsServed, IsSession}
 use Rattle.replay_in_turn.specs.Sessions.{IsSetup}
-use Rattle.replay_in_turn.specs.Shape.{IsServedTo, IsSessionRun}
+use Rattle.replay_in_turn.specs.inner.Shape.{IsServedTo, IsSessionRun}
 use Rattle.transcripts.specs.Transcript.{ended_lines, title_line}
 
 abbrev pub OwnLaw : Type 0

@@ -2,4 +2,4 @@ pub mod Devices
 pub mod Replay
 pub mod Script
 pub mod Sessions
-pub mod Shape
+pub mod inner

@@ -5,7 +5,7 @@ ghost use Rattle.principals.specs.Script.{AreLines, IsLine};
 ghost use Rattle.session_threads.specs.Opened.{HasOwnLog};
 ghost use Rattle.transcripts.specs.Transcript.{outcome_line};
 ghost use Rattle.replay_in_turn.specs.Script.{IsLineRun, IsWritten};
-ghost use Rattle.replay_in_turn.specs.Shape.{IsScriptRun};
+ghost use Rattle.replay_in_turn.specs.inner.Shape.{IsScriptRun};
 
 use principals::{AdminLine, AdminLines};
 use repl_messages::Revision;

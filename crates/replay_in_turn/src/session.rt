@@ -5,7 +5,7 @@ ghost use Rattle.std.specs.Arc.{arc_value};
 ghost use Rattle.sg_outside.specs.MemWire.{traffic};
 ghost use Rattle.record_file.specs.Record as records;
 ghost use Rattle.replay_in_turn.specs.Sessions.{IsSetup, moment_of};
-ghost use Rattle.replay_in_turn.specs.Shape.{AreSessionsRun, IsServedTo, IsSessionRun};
+ghost use Rattle.replay_in_turn.specs.inner.Shape.{AreSessionsRun, IsServedTo, IsSessionRun};
 
 use record_file::Recorded;
 use session_run::{Setup, serve_session};

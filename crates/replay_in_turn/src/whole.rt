@@ -5,7 +5,7 @@ ghost use Rattle.principals.specs.Script.{AreLines};
 ghost use Rattle.session_threads.specs.Opening.{IsOpening};
 ghost use Rattle.replay_in_turn.specs.Replay.{IsReplay};
 ghost use Rattle.session_threads.specs.Opened.{HasOwnLog};
-ghost use Rattle.replay_in_turn.specs.Shape.{AreServed, IsReplayBy, IsScripted};
+ghost use Rattle.replay_in_turn.specs.inner.Shape.{AreServed, IsReplayBy, IsScripted};
 ghost use Rattle.std.specs.Arc.{arc_value};
 
 use crate::script::run_script;

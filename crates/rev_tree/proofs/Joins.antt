@@ -7,7 +7,7 @@ use Rattle.std.proofs.lemmas.List.{take_more}
 use Rattle.sg_names.specs.declared.rev_id.RevId.{RevId}
 use Rattle.rev_tree.specs.declared.tree.Node.{Node}
 use Rattle.rev_tree.specs.Rising.{rises, starts}
-use Rattle.rev_tree.specs.Parts.{joined, are_sound, is_row, AreParts, IsHead}
+use Rattle.rev_tree.specs.inner.Parts.{joined, are_sound, is_row, AreParts, IsHead}
 
 and_assoc : (x y z : Bool) → (x && (y && z)) ≡ ((x && y) && z)
 and_assoc true y z = refl

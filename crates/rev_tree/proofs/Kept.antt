@@ -5,7 +5,7 @@ use Rattle.sg_names.specs.declared.rev_id.RevId.{RevId}
 use Rattle.rev_tree.specs.declared.tree.Node.{Node}
 use Rattle.rev_tree.specs.Tree.{knows}
 use Rattle.rev_tree.specs.Extension.{falls, kept_of, first_of, added, with_write}
-use Rattle.rev_tree.specs.Search.{known_place}
+use Rattle.rev_tree.specs.inner.Search.{known_place}
 use Rattle.rev_tree.specs.Writes.{only_last_known, is_accepted}
 use Rattle.rev_tree.proofs.Places.{falls_take}
 

@@ -7,7 +7,7 @@ use Rattle.sg_names.specs.declared.rev_id.RevId.{RevId}
 use Rattle.rev_tree.specs.declared.tree.Node.{Node}
 use Rattle.rev_tree.specs.Tree.{knows}
 use Rattle.rev_tree.specs.Extension.{falls, added, first_known}
-use Rattle.rev_tree.specs.Search.{known_place}
+use Rattle.rev_tree.specs.inner.Search.{known_place}
 
 -- a history falls on from its second revision
 pub falls_on : (a : RevId) (more : List RevId) → falls (a ∷ more) ≡ true → falls more ≡ true

@@ -10,7 +10,7 @@ use Rattle.rev_tree.specs.declared.leaf.Leaf.{Leaf}
 use Rattle.rev_tree.specs.declared.tree.Node.{Node}
 use Rattle.rev_tree.specs.Tree.{knows}
 use Rattle.rev_tree.specs.Rising.{rises, insert_node, without, last_node, last_where, falling, starts, is_within}
-use Rattle.rev_tree.specs.Parts.{joined}
+use Rattle.rev_tree.specs.inner.Parts.{joined}
 use Rattle.rev_tree.proofs.RevOrder.{Closed, within_strictly}
 use Rattle.rev_tree.proofs.Rises.{found_in, put_in_part, insert_past, take_from_part, or_false, last_past, last_front, falling_append}
 use Rattle.rev_tree.proofs.Joins.{joined_at, joined_by}

@@ -2,11 +2,9 @@ pub mod Answer
 pub mod Extension
 pub mod Order
 pub mod OwnRev
-pub mod Layers
-pub mod Parts
 pub mod Rising
-pub mod Search
 pub mod Shape
 pub mod Tree
 pub mod Writes
 pub mod Documents
+pub mod inner

@@ -7,7 +7,7 @@ ghost use Rattle.std.specs.Option.{option_copied};
 ghost use Rattle.rev_tree.specs.Tree as trees;
 ghost use Rattle.rev_tree.specs.Rising.{insert_node};
 ghost use Rattle.rev_tree.specs.Extension as extension;
-ghost use Rattle.rev_tree.specs.Search as search_for;
+ghost use Rattle.rev_tree.specs.inner.Search as search_for;
 
 use crate::rising::RisingNodes;
 use crate::tree::Node;

@@ -26,7 +26,7 @@ impl<P: Part> Model for Layer<P> {
     ghost use Rattle.std.specs.Prelude.{List, IsTrue};
     ghost use Rattle.rev_tree.specs.declared.tree.Node.{Node};
     ghost use Rattle.rev_tree.specs.Rising.{rises};
-    ghost use Rattle.rev_tree.specs.Parts.{joined, are_sound};
+    ghost use Rattle.rev_tree.specs.inner.Parts.{joined, are_sound};
 
     ghost Value = { List Node };
 

@@ -35,7 +35,7 @@ pub struct RisingNodes {
 impl Model for RisingNodes {
     ghost use Rattle.std.specs.Prelude.{List};
     ghost use Rattle.rev_tree.specs.declared.tree.Node.{Node};
-    ghost use Rattle.rev_tree.specs.Layers.{nodes_in};
+    ghost use Rattle.rev_tree.specs.inner.Layers.{nodes_in};
 
     ghost Value = { List Node };
 

@@ -4,7 +4,7 @@ ghost use Rattle.std.specs.Prelude.{◌≡◌, ◌++◌, ◌+◌, ◌≤◌, ◌
 ghost use Rattle.std.specs.Arc.{arc_value};
 ghost use Rattle.std.specs.Option.{option_copied};
 ghost use Rattle.rev_tree.specs.Rising.{rises, is_within, last_where, last_alive, falling, insert_node, without, starts};
-ghost use Rattle.rev_tree.specs.Parts.{joined, are_sound, is_row, AreParts};
+ghost use Rattle.rev_tree.specs.inner.Parts.{joined, are_sound, is_row, AreParts};
 ghost use Rattle.rev_tree.specs.Tree as trees;
 
 use crate::bound::Bound;

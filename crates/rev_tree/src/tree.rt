@@ -9,7 +9,7 @@ ghost use Rattle.rev_tree.specs.Extension as extension;
 ghost use Rattle.rev_tree.specs.Extension.{is_known, has_bad_history, makes_conflict, extends_tree};
 ghost use Rattle.rev_tree.specs.Answer.{IfNewTree, IfConflict};
 ghost use Rattle.rev_tree.specs.declared.extend.Extended.TheVariants.{Known, BadHistory400};
-ghost use Rattle.rev_tree.specs.Search.{known_place};
+ghost use Rattle.rev_tree.specs.inner.Search.{known_place};
 ghost use Rattle.rev_tree.specs.Shape as shape;
 ghost use Rattle.rev_tree.specs.Rising.{rises, insert_node, first_or, last_alive};
 ghost use Rattle.rev_tree.specs.Writes.{is_accepted};

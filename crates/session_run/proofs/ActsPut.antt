@@ -19,7 +19,7 @@ use Rattle.session_core.specs.Acts.{messages_from, request_message, reply_messag
 use Rattle.session_core.specs.Conduct.{AreAnswers, are_requests, requests_among}
 use Rattle.session_mux.specs.declared.mux.Mux.{Mux}
 use Rattle.session_mux.specs.Sent.{expecting_by}
-use Rattle.session_run.specs.Putting.{MayReply, put_one, put_all, put_as}
+use Rattle.session_run.specs.inner.Putting.{MayReply, put_one, put_all, put_as}
 
 requests_put : (acts : List Act) (m : Mux) → are_requests acts ≡ true → put_all acts m ≡ put_as m (messages_from (m.outbox.requests + 1) acts)
 requests_put [] m e = refl

@@ -22,8 +22,8 @@ use Rattle.session_mux.specs.declared.mux.Mux.{Mux}
 use Rattle.session_mux.specs.Sent.{expecting_by, expecting_all}
 use Rattle.session_run.specs.declared.session.Session.{Session}
 use Rattle.session_run.specs.Answered.{Moment, HasRead, IsAnswered}
-use Rattle.session_run.specs.Held.{IsReady, Makes, Halts, Conversed, Conversing}
-use Rattle.session_run.specs.Putting.{MayReply, put_as}
+use Rattle.session_run.specs.inner.Held.{IsReady, Makes, Halts, Conversed, Conversing}
+use Rattle.session_run.specs.inner.Putting.{MayReply, put_as}
 use Rattle.session_run.specs.Spent.{spent_by, spent_of}
 use Rattle.session_run.specs.Turns.{IsExchange, puts_all}
 

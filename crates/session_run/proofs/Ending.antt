@@ -33,7 +33,7 @@ use Rattle.session_run.specs.declared.ended.Ended.{Ended}
 use Rattle.session_run.specs.declared.serve.Setup.{Setup}
 use Rattle.session_run.specs.declared.session.Session.{Session}
 use Rattle.session_run.specs.Answered.{Moment, HasRead, AreAnswered}
-use Rattle.session_run.specs.Held.{IsAtRest, Holds, Turned, Leaves, Takes, Runs, RunsOn}
+use Rattle.session_run.specs.inner.Held.{IsAtRest, Holds, Turned, Leaves, Takes, Runs, RunsOn}
 use Rattle.session_run.specs.Served.{bytes_of, IsBadAfter, EndsBy, IsSentAt, IsClosedAt, IsStillAt, IsSession, IsServed}
 use Rattle.session_run.specs.Spent.{most_looks, spent_of, NeedsMore}
 use Rattle.session_run.specs.Turns.{SessionTurn, undone, steps_of, frames_of, events_of}

@@ -30,7 +30,7 @@ use Rattle.session_mux.specs.Sent.{expecting_by, expecting_all}
 use Rattle.session_run.specs.declared.serve.Setup.{Setup}
 use Rattle.session_run.specs.declared.session.Session.{Session}
 use Rattle.session_run.specs.Answered.{Moment, IsAnswered, AreAnswered}
-use Rattle.session_run.specs.Held.{IsAtRest, IsRead, Holds, Turned, inbox_after, counted}
+use Rattle.session_run.specs.inner.Held.{IsAtRest, IsRead, Holds, Turned, inbox_after, counted}
 use Rattle.session_run.specs.Served.{are_frames, bytes_of}
 use Rattle.session_run.specs.Spent.{most_looks, spent_of}
 use Rattle.session_run.specs.Turns.{SessionTurn, steps_of, frame_in, frames_of, is_frame, framed, framed_by, events_of, came_after, put_after, all_put_after, IsJoined}

@@ -12,8 +12,8 @@ use Rattle.session_core.specs.Transitions.{Done, Does, IsDoneBy}
 use Rattle.session_mux.specs.declared.mux.Mux.{Mux}
 use Rattle.blip_mux.specs.Apart.{AreApart}
 use Rattle.session_run.specs.declared.session.Session.{Session}
-use Rattle.session_run.specs.Held.{IsReady, Makes, Halts}
-use Rattle.session_run.specs.Putting.{MayReply, put_all, put_as}
+use Rattle.session_run.specs.inner.Held.{IsReady, Makes, Halts}
+use Rattle.session_run.specs.inner.Putting.{MayReply, put_all, put_as}
 use Rattle.session_run.proofs.ActsPut.{PutsApart, acts_put, acts_counted, answers_apart}
 
 -- what the laws of a session say

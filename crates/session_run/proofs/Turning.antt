@@ -35,8 +35,8 @@ use Rattle.session_run.specs.declared.ended.End.{End}
 use Rattle.session_run.specs.declared.ended.End.TheVariants as end
 use Rattle.session_run.specs.declared.session.Session.{Session}
 use Rattle.session_run.specs.Answered.{Moment, HasRead, AreAnswered}
-use Rattle.session_run.specs.Held.{IsReady, IsAtRest, IsCalled, Conversed, Conversing, Went, GoesOn, IsEndOf, Turned, Takes}
-use Rattle.session_run.specs.Putting.{MayReply, put_as}
+use Rattle.session_run.specs.inner.Held.{IsReady, IsAtRest, IsCalled, Conversed, Conversing, Went, GoesOn, IsEndOf, Turned, Takes}
+use Rattle.session_run.specs.inner.Putting.{MayReply, put_as}
 use Rattle.session_run.specs.Spent.{spent_of, NeedsMore, IsMet}
 use Rattle.session_run.specs.Turns.{undone, IsForTaken, IsForIdle, puts_all}
 use Rattle.session_run.proofs.Conversing.{at_rest, outbox_steps_on}

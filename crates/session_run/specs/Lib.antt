@@ -1,10 +1,8 @@
 pub mod Answered
-pub mod Held
 pub mod Judged
-pub mod Listed
 pub mod Numbers
 pub mod Own
-pub mod Putting
 pub mod Served
 pub mod Spent
 pub mod Turns
+pub mod inner

@@ -28,7 +28,7 @@ const MOST_LOOKS: u64 = 1_000_000;
 
 impl Model for Listing {
     ghost use Rattle.std.specs.Prelude.{◌-◌, vec_len, vec_capacity};
-    ghost use Rattle.session_run.specs.Listed.{Listed};
+    ghost use Rattle.session_run.specs.inner.Listed.{Listed};
 
     ghost Value = { Listed };
 

@@ -2,7 +2,7 @@
 
 ghost use Rattle.std.specs.Prelude.{◌≡◌, ◌+◌, ◌<◌, OnOk};
 ghost use Rattle.session_core.specs.Conduct.{requests_among};
-ghost use Rattle.session_run.specs.Putting.{MayPut, MayPutAll, put_one, put_all};
+ghost use Rattle.session_run.specs.inner.Putting.{MayPut, MayPutAll, put_one, put_all};
 
 use session_core::Act;
 use session_mux::Mux;

@@ -15,8 +15,8 @@ ghost use Rattle.session_core.specs.Steps.{Step};
 ghost use Rattle.session_run.specs.declared.ended.End.{End};
 ghost use Rattle.session_run.specs.declared.serve.Setup.{Setup};
 ghost use Rattle.session_run.specs.Answered.{Moment, moment, HasRead, IsAnswered};
-ghost use Rattle.session_run.specs.Held.{IsAtRest, IsReady, Makes, Halts, Conversed, Conversing, IsEndOf, Holds, GoesOn, Takes, Runs, RunsOn};
-ghost use Rattle.session_run.specs.Putting.{MayReply};
+ghost use Rattle.session_run.specs.inner.Held.{IsAtRest, IsReady, Makes, Halts, Conversed, Conversing, IsEndOf, Holds, GoesOn, Takes, Runs, RunsOn};
+ghost use Rattle.session_run.specs.inner.Putting.{MayReply};
 ghost use Rattle.session_run.specs.Spent.{most_looks, spent_by, looks_for, IsMet, CanLook, Draws};
 
 use crate::ended::{End, Ended};

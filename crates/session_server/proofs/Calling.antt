@@ -16,9 +16,9 @@ use Rattle.session_run.specs.declared.ended.End.TheVariants.{WireFault}
 use Rattle.session_run.specs.declared.ended.Ended.{Ended}
 use Rattle.session_run.specs.declared.serve.Setup.{Setup}
 use Rattle.session_run.specs.Served.{IsServed}
-use Rattle.session_threads.specs.Runs.{moment_at}
+use Rattle.session_threads.specs.inner.Runs.{moment_at}
 use Rattle.session_server.specs.Callers.{HasNoSession}
-use Rattle.session_server.specs.Runs.{IsCallLeft, IsLetIn, IsServedOver, IsSetupOf, read_line}
+use Rattle.session_server.specs.inner.Runs.{IsCallLeft, IsLetIn, IsServedOver, IsSetupOf, read_line}
 
 -- a line without a socket was shut, and its pass knows what it knew
 pub shut_left : (config : Config) (before after : Known) (recorded : Option LinkRecord) (line : LinkRecord) (trace : Option TraceRecord) → recorded ≡ Some line → trace ≡ shut_trace recorded → HasNoSession config line → after ≡ before → IsCallLeft config before trace after

@@ -16,7 +16,7 @@ use Rattle.write_path.specs.Reads.{IsLaterThanAll, IsOneOf}
 use Rattle.write_path.specs.Origins.{Origin}
 use Rattle.write_path.specs.Shared.{Rests, Shared, shared_origin}
 use Rattle.session_threads.proofs.Closing.{after_parts, later_parts}
-use Rattle.session_server.specs.Runs.{Holds, IsCallLeft, IsCallerDone, IsKept, IsSplit}
+use Rattle.session_server.specs.inner.Runs.{Holds, IsCallLeft, IsCallerDone, IsKept, IsSplit}
 
 module _ (opened : BoardState) where
   -- ---- the first of the boards that were read

@@ -14,13 +14,13 @@ use Rattle.write_path.specs.Reads.{IsLaterThanAll, IsOneOf}
 use Rattle.session_threads.specs.Opening.{IsOpening}
 use Rattle.session_threads.specs.Pairs.{AllPairs}
 use Rattle.session_threads.specs.Played.{IsSetup}
-use Rattle.session_threads.specs.Runs.{moment_at}
+use Rattle.session_threads.specs.inner.Runs.{moment_at}
 use Rattle.session_threads.proofs.Closing as closing
 use Rattle.session_threads.proofs.Closing.{SessionLaws, Stored, numbers-append, stored_of, times-append}
 use Rattle.session_threads.proofs.Lining.{AllJudgedIn, JudgedLater, all_judged}
 use Rattle.session_threads.proofs.Reading.{WasReadLaws, after_one}
 use Rattle.session_server.specs.Callers.{HasSession, IsTraceOf}
-use Rattle.session_server.specs.Runs.{AllAfter, AllLater, Call, Holds, IsCall, IsCaller, IsServedCaller, own_of}
+use Rattle.session_server.specs.inner.Runs.{AllAfter, AllLater, Call, Holds, IsCall, IsCaller, IsServedCaller, own_of}
 use Rattle.sg_lines.specs.Door.{DoorRecord}
 use Rattle.gateway_server.specs.declared.serve.NoJob.{NoJob}
 use Rattle.gateway_server.specs.declared.serve.NoJob.TheVariants as refusal

@@ -1,4 +1,3 @@
 pub mod Callers
 pub mod Served
-pub mod Lines
-pub mod Runs
+pub mod inner

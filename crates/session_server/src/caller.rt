@@ -4,7 +4,7 @@ ghost use Rattle.std.specs.Prelude.{◌≡◌, ◌≤◌, List, Some, Ok};
 ghost use Rattle.std.specs.Arc.{arc_value};
 ghost use Rattle.sg_outside.specs.Wire.{LineRead, no_line};
 ghost use Rattle.ws_door.specs.Heads.{head_in};
-ghost use Rattle.session_server.specs.Runs.{IsCallerDone, IsLetIn, IsSetupOf, read_line};
+ghost use Rattle.session_server.specs.inner.Runs.{IsCallerDone, IsLetIn, IsSetupOf, read_line};
 
 use gateway_config::Config;
 use gateway_server::Job;

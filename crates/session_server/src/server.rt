@@ -5,8 +5,8 @@ ghost use Rattle.std.specs.Prelude.{◌≡◌, ◌≤◌, ◌+◌, ◌*◌, ◌^
 ghost use Rattle.seq_gate.specs.Passes.{first_known, share};
 ghost use Rattle.write_path.specs.Shared.{Rests};
 ghost use Rattle.write_path.specs.Shelf.{shelf_state};
-ghost use Rattle.session_server.specs.Lines.{lines_in, AreFresh};
-ghost use Rattle.session_server.specs.Runs.{Holds, IsKept, IsMade};
+ghost use Rattle.session_server.specs.inner.Lines.{lines_in, AreFresh};
+ghost use Rattle.session_server.specs.inner.Runs.{Holds, IsKept, IsMade};
 ghost use Rattle.session_server.specs.Served.{most_callers};
 
 use crate::caller::{Caller, Left};

@@ -30,7 +30,7 @@ use Rattle.session_threads.specs.declared.played.LineOutcome.{LineOutcome}
 use Rattle.session_threads.specs.declared.played.LineOutcome.TheVariants.{Plain}
 use Rattle.session_threads.specs.Bounds.{AreBoundedLines, AreBoundedSteps, IsBounded, IsBoundedEvent}
 use Rattle.session_threads.specs.OwnRevisions.{revision_of}
-use Rattle.session_threads.specs.Runs.{AreLinesRun, IsLineRun}
+use Rattle.session_threads.specs.inner.Runs.{AreLinesRun, IsLineRun}
 use Rattle.session_threads.proofs.Reading.{WasReadLaws, after_one, by_length, one_in_first, one_in_second, was_one}
 use Rattle.session_threads.proofs.Lining.{line_reads, lines_read}
 

@@ -29,7 +29,7 @@ use Rattle.session_threads.specs.declared.played.LineOutcome.{LineOutcome}
 use Rattle.session_threads.specs.declared.played.LineOutcome.TheVariants.{Plain}
 use Rattle.session_threads.specs.Lines.{AreLinesAt, IsLimited, IsLineAt, IsLineBy, IsRevisionBy, sequence_before, sequences_of}
 use Rattle.session_threads.specs.OwnRevisions.{revision_of}
-use Rattle.session_threads.specs.Runs.{AreLinesRun, IsLineRun}
+use Rattle.session_threads.specs.inner.Runs.{AreLinesRun, IsLineRun}
 use Rattle.session_threads.proofs.Reading.{IsBy, Newest, WasReadLaws, after_one, by_all, by_kept, by_length, by_newest, later_one, next_newest, read_one, was_one}
 
 -- ---- entries that stand in the history, of which the writes were judged

@@ -31,7 +31,7 @@ use Rattle.session_threads.specs.Lines.{AreLinesAt, sequences_of}
 use Rattle.session_threads.specs.Opening.{IsOpening}
 use Rattle.session_threads.specs.Pairs.{AllPairs}
 use Rattle.session_threads.specs.Played.{Device, IsPlayed, IsSessionOf, Leaves}
-use Rattle.session_threads.specs.Runs.{AreClosed, AreThreaded, Begun, Gone, IsGone, IsReadyFor, joined_all, moment_at}
+use Rattle.session_threads.specs.inner.Runs.{AreClosed, AreThreaded, Begun, Gone, IsGone, IsReadyFor, joined_all, moment_at}
 use Rattle.session_threads.proofs.Reading.{Newest, WasReadLaws}
 use Rattle.session_threads.proofs.Lining.{AllJudgedIn, JudgedLater, all_judged, lines_at, lines_own}
 use Rattle.session_threads.proofs.Bounding.{bounded_lines}

@@ -15,7 +15,7 @@ use Rattle.session_run.specs.declared.serve.Setup.{Setup}
 use Rattle.session_threads.specs.Pairs.{AllOf, AllPairs}
 use Rattle.session_threads.specs.Played.{Leaves}
 use Rattle.session_threads.specs.declared.played.LineOutcome.{LineOutcome}
-use Rattle.session_threads.specs.Runs.{AreThreaded, Begun, Gone, IsGone, IsLessBy, IsScriptDone, IsSessionDone, joined_all}
+use Rattle.session_threads.specs.inner.Runs.{AreThreaded, Begun, Gone, IsGone, IsLessBy, IsScriptDone, IsSessionDone, joined_all}
 
 pub less_none : (p : Known) → IsLessBy p 0 p
 less_none p = record { left = omega arith; made = refl; others = refl; rests = λ r. r; own = refl; opening = refl; read = refl }

@@ -5,5 +5,5 @@ pub mod Lines
 pub mod Bounds
 pub mod Played
 pub mod Opened
-pub mod Runs
 pub mod Devices
+pub mod inner

@@ -5,7 +5,7 @@ ghost use Rattle.principals.specs.Script.{AreLines, IsLine, is_parent};
 ghost use Rattle.write_path.specs.Origins.{Spends};
 ghost use Rattle.session_run.specs.Answered.{moment};
 ghost use Rattle.session_threads.specs.OwnRevisions.{ancestors_of, revision_of};
-ghost use Rattle.session_threads.specs.Runs.{AreLinesRun, IsLineRun};
+ghost use Rattle.session_threads.specs.inner.Runs.{AreLinesRun, IsLineRun};
 
 use crate::played::LineOutcome;
 use doc_board::Outcome;

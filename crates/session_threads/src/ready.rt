@@ -4,7 +4,7 @@ ghost use Rattle.std.specs.Prelude.{◌≡◌, ◌≤◌, ◌+◌, ◌*◌, ◌^
 ghost use Rattle.std.specs.Arc.{arc_value};
 ghost use Rattle.seq_gate.specs.Passes.{split_from, split_off};
 ghost use Rattle.session_threads.specs.Pairs.{AllPairs};
-ghost use Rattle.session_threads.specs.Runs.{IsLessBy, IsReadyFor};
+ghost use Rattle.session_threads.specs.inner.Runs.{IsLessBy, IsReadyFor};
 
 use crate::played::Sessions;
 use crate::session::SessionJob;

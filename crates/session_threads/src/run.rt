@@ -9,7 +9,7 @@ ghost use Rattle.write_path.specs.Shared.{Rests};
 ghost use Rattle.write_path.specs.Shelf.{shelf_state};
 ghost use Rattle.session_threads.specs.Pairs.{AllOf, AllPairs};
 ghost use Rattle.session_threads.specs.Played.{IsPlayed};
-ghost use Rattle.session_threads.specs.Runs.{AreClosed, AreThreaded, IsScriptDone, joined_all};
+ghost use Rattle.session_threads.specs.inner.Runs.{AreClosed, AreThreaded, IsScriptDone, joined_all};
 
 use crate::job::{Job, Started, finish_all, start_all};
 use crate::opening::opened;

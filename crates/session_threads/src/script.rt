@@ -3,7 +3,7 @@
 ghost use Rattle.std.specs.Prelude.{◌≡◌, ◌≤◌, ◌*◌, [], length, vec_capacity};
 ghost use Rattle.principals.specs.Script.{AreLines};
 ghost use Rattle.write_path.specs.Shared.{Rests};
-ghost use Rattle.session_threads.specs.Runs.{IsScriptDone};
+ghost use Rattle.session_threads.specs.inner.Runs.{IsScriptDone};
 
 use crate::line::run_lines;
 use crate::played::LineOutcome;

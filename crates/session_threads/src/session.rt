@@ -1,7 +1,7 @@
 //! A session that is to run in a thread.
 
 ghost use Rattle.std.specs.Prelude.{◌≤◌};
-ghost use Rattle.session_threads.specs.Runs.{IsSessionDone};
+ghost use Rattle.session_threads.specs.inner.Runs.{IsSessionDone};
 
 use crate::job::Job;
 use session_run::{Ended, Setup, serve_session};

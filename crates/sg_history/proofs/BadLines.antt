@@ -17,7 +17,7 @@ use Rattle.sg_history.specs.History.{History, entries_of, history}
 use Rattle.sg_history.specs.Journal.{IsNext, Spells, header_of, is_limit, line_of, title_of}
 use Rattle.sg_history.specs.Line.{IsLine}
 use Rattle.sg_history.specs.Pieces.{pieces}
-use Rattle.sg_history.specs.Reading.{EndsAs, StopsBehind, journal_texts, ran_out}
+use Rattle.sg_history.specs.inner.Reading.{EndsAs, StopsBehind, journal_texts, ran_out}
 use Rattle.sg_history.specs.Refusal.{RefusesLog}
 use Rattle.sg_history.specs.Rules.{broken_or, first_broken, rule_fault}
 use Rattle.sg_history.proofs.FaultLemmas.{fault_one, no_entry}

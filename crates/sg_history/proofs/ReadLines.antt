@@ -15,7 +15,7 @@ use Rattle.sg_history.specs.BadLine.{NamesLine, refusal_at}
 use Rattle.sg_history.specs.Faults.{HasReason}
 use Rattle.sg_history.specs.Files.{LineGrammar, AreSaid, Begins, Stops, IsBadBehind, IsBadFile, IsFileOf, AreAmong, IsBadAmong, IsTitleFault}
 use Rattle.sg_history.specs.Pieces.{pieces}
-use Rattle.sg_history.specs.Reading.{EndsAs, FailsIn, Reaches, StopsBehind}
+use Rattle.sg_history.specs.inner.Reading.{EndsAs, FailsIn, Reaches, StopsBehind}
 use Rattle.sg_history.proofs.FileLaws.{reversed}
 use Rattle.sg_history.proofs.PieceLemmas.{pieces-some}
 

@@ -11,7 +11,7 @@ use Rattle.std.specs.declared.cmp.Ordering.TheVariants.{Less, Equal, Greater}
 use Rattle.std.proofs.lemmas.Map.Text.{is_eq-slice_cmp}
 use Rattle.std.proofs.lemmas.Slice.Eq.{bytes_eq-Decides}
 use Rattle.sg_names.specs.declared.rev_id.RevId.{RevId}
-use Rattle.sg_history.specs.Written.{DocRev, Key, AreNumbered, IsNumbered, digest_number, is_rev_of, has, key_eq}
+use Rattle.sg_history.specs.inner.Written.{DocRev, Key, AreNumbered, IsNumbered, digest_number, is_rev_of, has, key_eq}
 
 abbrev pub doc_rev : Key → DocRev
 doc_rev k = record { doc = k.1.now; rev = record { generation = k.2; digest = k.3.now } }

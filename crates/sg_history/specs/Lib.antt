@@ -17,12 +17,11 @@ pub mod World
 pub mod Journal
 pub mod Line
 pub mod Pieces
-pub mod Reading
 pub mod Refusal
 pub mod Rules
-pub mod Written
 pub mod FieldFaults
 pub mod Faults
 pub mod Files
 pub mod BadLine
 pub mod CountedLog
+pub mod inner

@@ -8,7 +8,7 @@ ghost use Rattle.sg_history.specs.BadLine.{IsBadJournal, NamesLine, journal_line
 ghost use Rattle.sg_history.specs.Files.{AreSaid, IsBadBehind};
 ghost use Rattle.sg_history.specs.History.{History, history, entries_of};
 ghost use Rattle.sg_history.specs.Journal.{Spells};
-ghost use Rattle.sg_history.specs.Reading.{EndsAs, journal_texts, ran_out};
+ghost use Rattle.sg_history.specs.inner.Reading.{EndsAs, journal_texts, ran_out};
 ghost use Rattle.sg_history.specs.Refusal.{RefusesLog};
 
 use crate::entries::{Entries, Entry, Log};

@@ -5,7 +5,7 @@ ghost use Rattle.sg_history.specs.BadLine.{NamesLine, refusal_at};
 ghost use Rattle.sg_history.specs.Faults.{HasReason};
 ghost use Rattle.sg_history.specs.Files.{LineGrammar, IsBadFile, IsFileOf, Stops};
 ghost use Rattle.sg_history.specs.Pieces.{pieces};
-ghost use Rattle.sg_history.specs.Reading.{EndsAs, FailsIn, Reaches};
+ghost use Rattle.sg_history.specs.inner.Reading.{EndsAs, FailsIn, Reaches};
 
 use crate::fault::{BadLine, LineFault, ReadLog, Why};
 use crate::pieces::cut;

@@ -6,7 +6,7 @@ ghost use Rattle.sg_names.specs.RevId.{same_rev};
 ghost use Rattle.sg_history.specs.History.{entries_of};
 ghost use Rattle.sg_history.specs.Journal as journal;
 ghost use Rattle.sg_history.specs.Rules as rules;
-ghost use Rattle.sg_history.specs.Written.{Knows};
+ghost use Rattle.sg_history.specs.inner.Written.{Knows};
 
 use crate::entries::{Entry, Log, Mark, Write};
 use crate::fault::{BadLine, Why};

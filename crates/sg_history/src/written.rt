@@ -5,7 +5,7 @@
 
 ghost use Rattle.std.specs.Prelude.{◌≡◌, ◌||◌, [], not, List, ℕ, IfOk, OnOk};
 ghost use Rattle.sg_names.specs.declared.rev_id.RevId.{RevId};
-ghost use Rattle.sg_history.specs.Written.{digest_number, has, is_rev_of};
+ghost use Rattle.sg_history.specs.inner.Written.{digest_number, has, is_rev_of};
 
 use sg_names::{DocId, RevId};
 use std::alloc::{AllocError, Global};
@@ -47,7 +47,7 @@ pub struct Written<'a> {
 
 impl<'a> Model for Written<'a> {
     ghost use Rattle.std.specs.Prelude.{List, map};
-    ghost use Rattle.sg_history.specs.Written.{DocRev, AreNumbered};
+    ghost use Rattle.sg_history.specs.inner.Written.{DocRev, AreNumbered};
 
     ghost Value = { List DocRev };
 

@@ -2,10 +2,9 @@ pub mod Link
 pub mod Line
 pub mod Door
 pub mod Inputs
-pub mod Trail
-pub mod ReadTrail
 pub mod LineSocket
 pub mod MemLink
 pub mod DoorState
 pub mod MemDoor
 pub mod Scripts
+pub mod inner

@@ -26,7 +26,7 @@ pub(crate) struct ReadTrail {
 impl Model for ReadTrail {
     ghost use Rattle.std.specs.Prelude.{List};
     ghost use Rattle.sg_outside.specs.Wire.{LineRead};
-    ghost use Rattle.sg_lines.specs.ReadTrail.{results_in};
+    ghost use Rattle.sg_lines.specs.inner.ReadTrail.{results_in};
 
     ghost Value = { List LineRead };
 

@@ -20,7 +20,7 @@ pub(crate) struct Trail<T: Drop> {
 
 impl<T: Drop> Model for Trail<T> {
     ghost use Rattle.std.specs.Prelude.{List};
-    ghost use Rattle.sg_lines.specs.Trail.{values_in};
+    ghost use Rattle.sg_lines.specs.inner.Trail.{values_in};
 
     ghost Value = { List T };
 

@@ -1,10 +1,9 @@
 pub mod Bytes
 pub mod Files
-pub mod SeenName
-pub mod Loads
 pub mod MemFiles
 pub mod Sink
 pub mod Wire
 pub mod MemWire
 pub mod Scripts
 pub mod Streams
+pub mod inner

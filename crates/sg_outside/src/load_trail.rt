@@ -23,7 +23,7 @@ pub(crate) struct LoadTrail {
 impl Model for LoadTrail {
     ghost use Rattle.std.specs.Prelude.{List};
     ghost use Rattle.sg_outside.specs.Files.{Load};
-    ghost use Rattle.sg_outside.specs.Loads.{loads_in};
+    ghost use Rattle.sg_outside.specs.inner.Loads.{loads_in};
 
     ghost Value = { List Load };
 

@@ -20,7 +20,7 @@ pub(crate) struct SeenName {
 
 impl Model for SeenName {
     ghost use Rattle.std.specs.Prelude.{List, ℕ};
-    ghost use Rattle.sg_outside.specs.SeenName.{letters_in};
+    ghost use Rattle.sg_outside.specs.inner.SeenName.{letters_in};
 
     ghost Value = { List ℕ };
 

@@ -20,7 +20,7 @@ use Rattle.sync_code.specs.declared.code.Step.TheOpen.{Step-F}
 use Rattle.sync_code.specs.declared.code.Step.TheVariants as steps
 use Rattle.sync_code.specs.declared.statement.WhileHead.{WhileHead}
 use Rattle.sync_code.specs.Code.{source, fits, source_or_none, fits_or_none}
-use Rattle.sync_code.specs.Heads.{IsWhileHead}
+use Rattle.sync_code.specs.inner.Heads.{IsWhileHead}
 use Rattle.sync_code.specs.Made.{IsCode}
 use Rattle.sync_code.specs.Steps.{held_source, name_sources, new_fits, names_fit, begin_or_none, plain_or_none_fits, said, source_at, fits_at, step_source, step_fits, step_sources, steps_fit}
 

@@ -1,4 +1,4 @@
 pub mod Code
 pub mod Steps
 pub mod Made
-pub mod Heads
+pub mod inner

@@ -4,7 +4,7 @@ ghost use Rattle.std.specs.Prelude.{◌≡◌, ◌&&◌, IfOk, OnOk};
 ghost use Rattle.sync_syntax.specs.declared.tree.Statement as Statement;
 ghost use Rattle.sync_meaning.specs.Variables as spec;
 ghost use Rattle.sync_meaning.specs.Variables.{behind, behind_all, started};
-ghost use Rattle.sync_code.specs.Heads.{IsOfHead, IsWhileHead};
+ghost use Rattle.sync_code.specs.inner.Heads.{IsOfHead, IsWhileHead};
 ghost use Rattle.sync_code.specs.Made.{IsCode};
 ghost use Rattle.sync_code.specs.Steps.{step_fits, step_source, step_sources, steps_fit};
 

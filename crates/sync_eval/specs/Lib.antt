@@ -1,4 +1,2 @@
 pub mod Verdicts
-pub mod Nested
-pub mod NestedSteps
-pub mod Rests
+pub mod inner

@@ -5,7 +5,7 @@ ghost use Rattle.sync_meaning.specs.declared.scope.Scope.{Scope};
 ghost use Rattle.sync_meaning.specs.Expressions as spec;
 ghost use Rattle.sync_code.specs.Code.{source, tail_source, tail_sources};
 ghost use Rattle.sync_code.specs.Code.{tails_fit};
-ghost use Rattle.sync_eval.specs.Rests as rests;
+ghost use Rattle.sync_eval.specs.inner.Rests as rests;
 
 use sync_code::{Code, Tail};
 use sync_meaning::{Builtin, Method, Target, Value};

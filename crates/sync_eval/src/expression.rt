@@ -8,8 +8,8 @@ ghost use Rattle.sync_code.specs.Code.{source, sources, tail_source, tail_source
 ghost use Rattle.sync_code.specs.Code.{operand_sources};
 ghost use Rattle.sync_code.specs.Code.{fits, all_fit, tail_fits, tails_fit, members_fit};
 ghost use Rattle.sync_code.specs.Code.{operands_fit};
-ghost use Rattle.sync_eval.specs.Nested.{DoesWhere, Nests};
-ghost use Rattle.sync_eval.specs.Rests as rests;
+ghost use Rattle.sync_eval.specs.inner.Nested.{DoesWhere, Nests};
+ghost use Rattle.sync_eval.specs.inner.Rests as rests;
 
 use crate::callee::{called_by, calls_is_array, is_called, node_count, without_first};
 use crate::leaf::{as_value, call_by, literal, member_or_method, name, text};

@@ -5,7 +5,7 @@ ghost use Rattle.sync_values.specs.declared.value.Value as Value;
 ghost use Rattle.sync_meaning.specs.Acts.{Does};
 ghost use Rattle.sync_meaning.specs.Expressions as spec;
 ghost use Rattle.sync_code.specs.Code.{slot_fits};
-ghost use Rattle.sync_eval.specs.Nested.{DoesWhere};
+ghost use Rattle.sync_eval.specs.inner.Nested.{DoesWhere};
 
 use crate::callee::method_of;
 use crate::variables::read;

@@ -11,9 +11,9 @@ ghost use Rattle.sync_code.specs.Steps.{begin_or_none, begin_or_none_fits, held_
 ghost use Rattle.sync_code.specs.Steps.{other_of, other_said, other_source, plain_or_none};
 ghost use Rattle.sync_code.specs.Steps.{rounds_fit, step_fits, step_source, step_sources};
 ghost use Rattle.sync_code.specs.Steps.{steps_fit};
-ghost use Rattle.sync_eval.specs.Nested.{DoesWhere};
-ghost use Rattle.sync_eval.specs.NestedSteps.{NestsStep};
-ghost use Rattle.sync_eval.specs.Rests as rests;
+ghost use Rattle.sync_eval.specs.inner.Nested.{DoesWhere};
+ghost use Rattle.sync_eval.specs.inner.NestedSteps.{NestsStep};
+ghost use Rattle.sync_eval.specs.inner.Rests as rests;
 
 use crate::simple::{Parts, items_in, jump, place_of_simple};
 use sqlite_items::Boxed;

@@ -3,7 +3,7 @@
 ghost use Rattle.sync_meaning.specs.Expressions as expressions;
 ghost use Rattle.sync_meaning.specs.Statements as statements;
 ghost use Rattle.sync_code.specs.Code.{slot_fits};
-ghost use Rattle.sync_eval.specs.Nested.{DoesWhere};
+ghost use Rattle.sync_eval.specs.inner.Nested.{DoesWhere};
 
 use std::alloc::Global;
 use sync_meaning::{Slot, State, Stop, Value};

@@ -17,7 +17,7 @@ use Rattle.sync_meaning.specs.declared.state.Context.{Context}
 use Rattle.sync_meaning.specs.declared.state.State.{State}
 use Rattle.sync_meaning.specs.Acts.{Does}
 use Rattle.sync_meaning.specs.Builtins.{texts_in, itself, bare_role, grantee_of, names_in, users_in, roles_in, channels_in, all_channels, is_in, share_one, or_administrator, passes_user, passes_role, passes_access, unless_passing, with_effects, for_each, add_channels, add_grants, add_roles, channel, access, role, require_user, require_role, require_access}
-use Rattle.sync_meaning.specs.Arguments.{texts, AreSame, AreFound, add_channel_named, add_grants_named_to, add_roles_named_to}
+use Rattle.sync_meaning.specs.inner.Arguments.{texts, AreSame, AreFound, add_channel_named, add_grants_named_to, add_roles_named_to}
 use Rattle.sync_meaning.proofs.Named.{AllFound, texts-all, all_channels-all, channels_added, grants_added, roles_added, grantees_by_texts}
 
 -- ---- who passes

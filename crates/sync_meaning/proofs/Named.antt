@@ -23,7 +23,7 @@ use Rattle.sync_values.specs.Found.{Found, fails}
 use Rattle.sync_values.specs.Values.{found_then}
 use Rattle.sync_meaning.specs.declared.effects.Effects.{Effects}
 use Rattle.sync_meaning.specs.Builtins.{put, stripped, role_in, bare_role, grantee_by, grantee_of, itself, one, named_from, named, names_in, texts_in, users_in, roles_in, channels_in, grantees_in, all_channels, is_in, within, effect_count, for_each, add_channel, add_channels, add_grant, add_grants_to, add_grants, add_role, add_roles_to, add_roles}
-use Rattle.sync_meaning.specs.Arguments.{AreSame, add_channel_named, grant_named, add_grant_named, add_grants_named_to, role_grant_named, add_role_named, add_roles_named_to}
+use Rattle.sync_meaning.specs.inner.Arguments.{AreSame, add_channel_named, grant_named, add_grant_named, add_grants_named_to, role_grant_named, add_role_named, add_roles_named_to}
 use Rattle.sync_meaning.proofs.Puts.{put_grows, put_once, put_commutes}
 use Rattle.sync_meaning.proofs.Sets.{first_in, more_in, IsPut, ArePut, for_each_same, for_each_alike, for_both_same}
 

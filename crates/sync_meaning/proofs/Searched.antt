@@ -12,7 +12,7 @@ use Rattle.std.proofs.lemmas.Bool.{false≢true, cases_lt, or_from}
 use Rattle.std.proofs.lemmas.Cmp.{nat_list_cmp_total}
 use Rattle.std.proofs.lemmas.Map.Text.{is_eq-slice_cmp}
 use Rattle.sg_names.specs.ItemList.{rises}
-use Rattle.sync_meaning.specs.Arguments.{AreSorted}
+use Rattle.sync_meaning.specs.inner.Arguments.{AreSorted}
 use Rattle.sync_meaning.specs.Builtins.{is_in}
 
 first : (a b : Bool) → (a && b) ≡ true → a ≡ true

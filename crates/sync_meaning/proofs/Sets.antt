@@ -10,7 +10,7 @@ use Rattle.sync_values.specs.Found.{Found, fails}
 use Rattle.sync_values.specs.Values.{found_then}
 use Rattle.sync_meaning.specs.declared.effects.Effects.{Effects}
 use Rattle.sync_meaning.specs.Builtins.{is_in, effect_count, within, for_each}
-use Rattle.sync_meaning.specs.Arguments.{AreSame}
+use Rattle.sync_meaning.specs.inner.Arguments.{AreSame}
 
 same_bytes : (x : List ℕ) → bytes_eq x x ≡ true
 same_bytes x = (bytes_decides x x).1 refl

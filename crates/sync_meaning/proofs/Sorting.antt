@@ -13,7 +13,7 @@ use Rattle.std.proofs.lemmas.Bool.{true≢false}
 use Rattle.std.proofs.lemmas.Cmp.{nat_list_cmp_total}
 use Rattle.std.proofs.lemmas.Map.Text.{is_eq-slice_cmp}
 use Rattle.sg_names.specs.ItemList.{rises}
-use Rattle.sync_meaning.specs.Arguments.{AreSame, AreSorted}
+use Rattle.sync_meaning.specs.inner.Arguments.{AreSame, AreSorted}
 use Rattle.sync_meaning.specs.Builtins.{is_in}
 
 -- a name that ties is the same

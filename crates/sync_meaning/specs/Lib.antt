@@ -1,11 +1,10 @@
 pub mod Acts
-pub mod Leaves
 pub mod Variables
 pub mod Slots
 pub mod Builtins
-pub mod Arguments
 pub mod Gathered
 pub mod Expressions
 pub mod Statements
 pub mod Meaning
 pub mod Laws
+pub mod inner

@@ -6,8 +6,8 @@ ghost use Rattle.std.specs.Cmp.Lexicographic.{slice_cmp};
 ghost use Rattle.sg_names.specs.Grammar.{is_name, is_channel_name};
 ghost use Rattle.sg_names.specs.Grants.{is_grantee};
 ghost use Rattle.sync_values.specs.Found.{Gives};
-ghost use Rattle.sync_meaning.specs.Arguments as names;
-ghost use Rattle.sync_meaning.specs.Arguments.{texts, AreSame, AreSorted, GivesTexts, GivesNames};
+ghost use Rattle.sync_meaning.specs.inner.Arguments as names;
+ghost use Rattle.sync_meaning.specs.inner.Arguments.{texts, AreSame, AreSorted, GivesTexts, GivesNames};
 ghost use Rattle.sync_meaning.specs.Builtins as spec;
 
 use crate::Memory;

@@ -4,8 +4,8 @@ ghost use Rattle.std.specs.Prelude.{◌≡◌, codes};
 ghost use Rattle.sync_values.specs.Found.{Gives};
 ghost use Rattle.sync_values.specs.Values.{found_then};
 ghost use Rattle.sync_meaning.specs.Acts.{Does};
-ghost use Rattle.sync_meaning.specs.Arguments as names;
-ghost use Rattle.sync_meaning.specs.Arguments.{texts, AreSorted};
+ghost use Rattle.sync_meaning.specs.inner.Arguments as names;
+ghost use Rattle.sync_meaning.specs.inner.Arguments.{texts, AreSorted};
 ghost use Rattle.sync_meaning.specs.Builtins as spec;
 
 use crate::arguments::{Kind, all_channels, has_name, names_in};

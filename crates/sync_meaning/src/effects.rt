@@ -5,9 +5,9 @@ ghost use Rattle.std.specs.Cmp.{IsTotalOrder};
 ghost use Rattle.std.specs.declared.cmp.Ordering as ordering;
 ghost use Rattle.sg_names.specs.ItemList.{rises};
 ghost use Rattle.sync_values.specs.Found.{Gives};
-ghost use Rattle.sync_meaning.specs.Arguments as names;
-ghost use Rattle.sync_meaning.specs.Arguments.{texts};
-ghost use Rattle.sync_meaning.specs.Leaves.{Leaves};
+ghost use Rattle.sync_meaning.specs.inner.Arguments as names;
+ghost use Rattle.sync_meaning.specs.inner.Arguments.{texts};
+ghost use Rattle.sync_meaning.specs.inner.Leaves.{Leaves};
 ghost use Rattle.sync_meaning.specs.Builtins as spec;
 
 use crate::arguments::{channel_of, grantee_of, name_of};
@@ -197,7 +197,7 @@ impl Gathered {
     }
 
     /// The channel of this name more.
-    #[tactic(auto, unfolding(crate::specs::Arguments::add_channel_named, crate::specs::Builtins::add_channel))]
+    #[tactic(auto, unfolding(crate::specs::inner::Arguments::add_channel_named, crate::specs::Builtins::add_channel))]
     fn add_channel(&mut self, alloc: Global, place: Place, channel: &str) -> Result<(), Stop>
         ensures { Leaves (names.add_channel_named place channel.now self.old) result self.new }
     {
@@ -207,7 +207,7 @@ impl Gathered {
     }
 
     /// The channel of this name for a user or role more.
-    #[tactic(auto, unfolding(crate::specs::Arguments::add_grant_named, crate::specs::Builtins::add_grant))]
+    #[tactic(auto, unfolding(crate::specs::inner::Arguments::add_grant_named, crate::specs::Builtins::add_grant))]
     fn add_grant(
         &mut self,
         alloc: Global,
@@ -224,7 +224,7 @@ impl Gathered {
     }
 
     /// The role of this name for a user more.
-    #[tactic(auto, unfolding(crate::specs::Arguments::add_role_named, crate::specs::Builtins::add_role))]
+    #[tactic(auto, unfolding(crate::specs::inner::Arguments::add_role_named, crate::specs::Builtins::add_role))]
     fn add_role(&mut self, alloc: Global, place: Place, user: &str, role: &str) -> Result<(), Stop>
         ensures { Leaves (names.add_role_named place user.now role.now self.old) result
             self.new }
@@ -252,7 +252,7 @@ impl Gathered {
         Ok(())
     }
 
-    #[tactic(auto, unfolding(crate::specs::Arguments::add_grants_named_to))]
+    #[tactic(auto, unfolding(crate::specs::inner::Arguments::add_grants_named_to))]
     fn add_grants_to(
         &mut self,
         alloc: Global,
@@ -290,7 +290,7 @@ impl Gathered {
         Ok(())
     }
 
-    #[tactic(auto, unfolding(crate::specs::Arguments::add_roles_named_to))]
+    #[tactic(auto, unfolding(crate::specs::inner::Arguments::add_roles_named_to))]
     fn add_roles_to(
         &mut self,
         alloc: Global,

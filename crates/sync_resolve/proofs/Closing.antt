@@ -4,7 +4,7 @@ use Rattle.std.proofs.Math.Seq.{take-append_seam}
 use Rattle.std.proofs.Math.Nat.{add-sub_cancel}
 use Rattle.std.proofs.lemmas.List.{append-nil}
 use Rattle.sync_resolve.specs.declared.scope.Scope.{Scope}
-use Rattle.sync_resolve.specs.Closing.{left}
+use Rattle.sync_resolve.specs.inner.Closing.{left}
 use Rattle.sync_resolve.specs.Names.{Variable, more, inside}
 
 pub more_none : (s : Scope) → more s [] ≡ s

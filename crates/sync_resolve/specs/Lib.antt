@@ -1,7 +1,6 @@
 pub mod Faults
 pub mod Names
-pub mod Closing
 pub mod Expressions
 pub mod Statements
 pub mod Resolving
-pub mod Rules
+pub mod inner

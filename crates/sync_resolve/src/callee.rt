@@ -2,7 +2,7 @@
 
 ghost use Rattle.std.specs.Prelude.{◌≡◌};
 ghost use Rattle.sync_resolve.specs.Names as spec;
-ghost use Rattle.sync_resolve.specs.Rules.{rules};
+ghost use Rattle.sync_resolve.specs.inner.Rules.{rules};
 ghost use Rattle.sync_resolve.specs.Expressions as expressions;
 
 /// How many arguments a call takes.

@@ -4,7 +4,7 @@ ghost use Rattle.std.specs.Prelude.{◌≡◌, [], ◌∷◌, None, OnErr, OnOk}
 ghost use Rattle.std.specs.List.{list_any};
 ghost use Rattle.std.specs.Str.{bytes_eq};
 ghost use Rattle.sync_resolve.specs.Faults.{earliest};
-ghost use Rattle.sync_resolve.specs.Closing as closing;
+ghost use Rattle.sync_resolve.specs.inner.Closing as closing;
 ghost use Rattle.sync_resolve.specs.Names as spec;
 
 use crate::Memory;
@@ -178,7 +178,7 @@ impl Scope {
     }
 
     /// A block ends: so many variables stay.
-    #[tactic(auto, unfolding(crate::specs::Closing::left))]
+    #[tactic(auto, unfolding(crate::specs::inner::Closing::left))]
     pub(crate) fn leave(&mut self, count: usize)
         ensures { self.new ≡ closing.left count self.old }
     {

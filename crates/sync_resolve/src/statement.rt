@@ -1,7 +1,7 @@
 //! Names in statements.
 
 ghost use Rattle.std.specs.Prelude.{◌≡◌, [], OnOk};
-ghost use Rattle.sync_resolve.specs.Closing.{left};
+ghost use Rattle.sync_resolve.specs.inner.Closing.{left};
 ghost use Rattle.sync_resolve.specs.Faults.{earliest};
 ghost use Rattle.sync_resolve.specs.Names.{more};
 ghost use Rattle.sync_resolve.specs.Statements as spec;

@@ -1,12 +1,11 @@
 pub mod Reading
 pub mod Operators
 pub mod Expressions
-pub mod Nests
 pub mod Statements
-pub mod Tails
 pub mod Grammar
 pub mod Texts
 pub mod Moved
 pub mod Depth
 pub mod Laws
 pub mod Faults
+pub mod inner

@@ -1,7 +1,7 @@
 //! What was found, kept while what stands behind it is read.
 
 ghost use Rattle.sync_syntax.specs.Reading.{Reads};
-ghost use Rattle.sync_syntax.specs.Tails as tails;
+ghost use Rattle.sync_syntax.specs.inner.Tails as tails;
 
 use crate::cursor::Tokens;
 use crate::fault::ParseFault;

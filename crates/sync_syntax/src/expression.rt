@@ -4,7 +4,7 @@
 ghost use Rattle.std.specs.Prelude.{◌≡◌, ◌∷◌, ◌≤◌, IfOk};
 ghost use Rattle.sync_syntax.specs.Reading.{Reads};
 ghost use Rattle.sync_syntax.specs.Expressions as spec;
-ghost use Rattle.sync_syntax.specs.Nests.{Nests};
+ghost use Rattle.sync_syntax.specs.inner.Nests.{Nests};
 
 use crate::Memory;
 use crate::behind::closed;

@@ -4,8 +4,8 @@
 ghost use Rattle.std.specs.Prelude.{◌≡◌};
 ghost use Rattle.sync_syntax.specs.Reading.{Reads};
 ghost use Rattle.sync_syntax.specs.Statements as spec;
-ghost use Rattle.sync_syntax.specs.Nests.{NestsStatement};
-ghost use Rattle.sync_syntax.specs.Tails.{chosen};
+ghost use Rattle.sync_syntax.specs.inner.Nests.{NestsStatement};
+ghost use Rattle.sync_syntax.specs.inner.Tails.{chosen};
 
 use crate::cursor::Tokens;
 use crate::fault::ParseFault;

@@ -1,8 +1,8 @@
 pub mod Found
-pub mod Orders
 pub mod Units
 pub mod Values
 pub mod Rising
 pub mod Texts
 pub mod Kept
 pub mod formers
+pub mod inner

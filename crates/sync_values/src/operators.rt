@@ -3,7 +3,7 @@
 ghost use Rattle.std.specs.Prelude.{◌≡◌, ◌≤ℤ◌, ◌+ℤ◌, ◌-ℤ◌, ◌*ℤ◌, pos, negsuc, IfOk};
 ghost use Rattle.std.specs.Fmt.{signed_decimal};
 ghost use Rattle.sync_values.specs.Found.{Gives};
-ghost use Rattle.sync_values.specs.Orders.{wanted};
+ghost use Rattle.sync_values.specs.inner.Orders.{wanted};
 ghost use Rattle.sync_values.specs.Values as spec;
 
 use crate::Memory;

@@ -32,7 +32,7 @@ use Rattle.board_steps.specs.declared.retry.Ready.{Ready}
 use Rattle.board_steps.specs.declared.retry.Retried.{Retried}
 use Rattle.board_steps.specs.declared.retry.Retried.TheVariants.{Answered, Overtaken}
 use Rattle.board_steps.specs.Retry.{FitsReady, IsHeldReady, IsTriedAgain}
-use Rattle.tests_of_boards.specs.Again.{IsReadyAfter, Leaves}
+use Rattle.tests_of_boards.specs.inner.Again.{IsReadyAfter, Leaves}
 
 -- a body `{}` has two bytes
 pub small_document : (body : List ℕ) → body ≡ 123 ∷ 125 ∷ [] → length (body_or_empty body) ≤ 2

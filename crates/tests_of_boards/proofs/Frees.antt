@@ -9,7 +9,7 @@ use Rattle.pending_front.specs.Storing.{MayStore}
 use Rattle.sg_history.specs.Rooms.{same_doc, same_room, without_room}
 use Rattle.doc_board.specs.State.{State, book_on}
 use Rattle.doc_board.specs.Steps.{with_entry}
-use Rattle.tests_of_boards.specs.Frees.{AreAlike, Stays, StaysBelow}
+use Rattle.tests_of_boards.specs.inner.Frees.{AreAlike, Stays, StaysBelow}
 
 -- at a new board each number is free
 pub none_yet : (log : List Entry) (pending : List Waiting) → log ≡ [] → pending ≡ [] → (number : ℕ) → 1 ≤ number → MayStore log pending number

@@ -5,7 +5,7 @@ ghost use Rattle.sg_names.specs.RevId as names;
 ghost use Rattle.pending_front.specs.Storing.{MayStore};
 ghost use Rattle.doc_board.specs.Rooms.{is_outstanding};
 ghost use Rattle.board_steps.specs.Retry.{FitsReady, IsHeldReady};
-ghost use Rattle.tests_of_boards.specs.Again.{IsReadyAfter, Leaves};
+ghost use Rattle.tests_of_boards.specs.inner.Again.{IsReadyAfter, Leaves};
 
 use crate::programs::open;
 use board_steps::{Ready, Retried, propose_again, store_at_fresh};

@@ -3,7 +3,7 @@
 ghost use Rattle.std.specs.Prelude.{◌≡◌, ◌≤◌, ◌<◌, ◌+◌, [], None};
 ghost use Rattle.pending_front.specs.Storing.{MayStore};
 ghost use Rattle.doc_board.specs.Rooms as rooms;
-ghost use Rattle.tests_of_boards.specs.Frees.{AreAlike, AreFree, Stays, StaysBelow};
+ghost use Rattle.tests_of_boards.specs.inner.Frees.{AreAlike, AreFree, Stays, StaysBelow};
 
 use doc_board::{Board, Candidate, Commit, NoRoom};
 use sg_history::{Entry, Name, Number, TextFault};

@@ -11,7 +11,7 @@ use Rattle.sg_history.specs.Book.{Book, IsAbove, same_written}
 use Rattle.seq_gate.specs.Counts.{times}
 use Rattle.seq_gate.specs.Passes.{IsAboveBook, Finds}
 use Rattle.seq_gate.specs.declared.known.Known.{Known}
-use Rattle.tests_of_history.specs.Boards.{CanStore}
+use Rattle.tests_of_history.specs.inner.Boards.{CanStore}
 
 -- an entry is above all to which it is tied, where its number is above all of the book
 book_above : (book : Book) (n : ℕ) (e : Entry) → IsAboveBook n book → IsAbove book n e

@@ -10,7 +10,7 @@ use Rattle.sg_history.specs.History.{Extends}
 use Rattle.sg_history.specs.Book.{Book, Later, book_of, book_with, entry_or, waiting_at}
 use Rattle.sg_history.specs.World.{put_waiting, release, rises_from}
 use Rattle.pending_front.specs.Pending.{AreBeyond}
-use Rattle.tests_of_history.specs.Boards.{board_with, CanStore, Stores}
+use Rattle.tests_of_history.specs.inner.Boards.{board_with, CanStore, Stores}
 use Rattle.tests_of_history.proofs.Releases.{put_length, rises_lower, rises_free, put_rises, released_log, released_count, released_rises}
 
 get_none : {X : Type 0} (xs : List X) (k : ℕ) → slice_get xs k ≡ None → length xs ≤ k

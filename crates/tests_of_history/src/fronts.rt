@@ -2,7 +2,7 @@
 
 ghost use Rattle.std.specs.Prelude.{◌≡◌, ◌<◌, ◌^◌, ◌∷◌, [], length, IfOk};
 ghost use Rattle.seq_gate.specs.Passes.{share};
-ghost use Rattle.tests_of_history.specs.Passes.{HoldsNothing};
+ghost use Rattle.tests_of_history.specs.inner.Passes.{HoldsNothing};
 
 use crate::feeds::write_feed_of;
 use crate::plain::{Plain, board_of};

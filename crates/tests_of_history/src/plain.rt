@@ -1,7 +1,7 @@
 //! A plain board: a log, and entries that wait for their places in it.
 
 ghost use Rattle.std.specs.Prelude.{◌≡◌, ◌<◌, [], length, IfOk, OnOk};
-ghost use Rattle.tests_of_history.specs.Boards.{board_with, CanStore, Stores};
+ghost use Rattle.tests_of_history.specs.inner.Boards.{board_with, CanStore, Stores};
 
 use pending_front::Pending;
 use pending_front::laws::storing;

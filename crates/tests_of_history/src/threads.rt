@@ -4,8 +4,8 @@ ghost use Rattle.std.specs.Prelude.{◌≡◌, ◌<◌, ◌≤◌, ◌+◌, ◌^
 ghost use Rattle.std.specs.Thread.{IsSync};
 ghost use Rattle.sg_history.specs.History.{as_sync, as_write};
 ghost use Rattle.seq_gate.specs.Passes.{share};
-ghost use Rattle.tests_of_history.specs.Boards.{board_with};
-ghost use Rattle.tests_of_history.specs.Passes.{HoldsNothing};
+ghost use Rattle.tests_of_history.specs.inner.Boards.{board_with};
+ghost use Rattle.tests_of_history.specs.inner.Passes.{HoldsNothing};
 
 use crate::plain::{Plain, board_of};
 use crate::turns::{close_both, draw_and_store};

@@ -5,8 +5,8 @@ ghost use Rattle.sg_history.specs.Board.{board_book};
 ghost use Rattle.sg_history.specs.History.{as_sync, as_write};
 ghost use Rattle.seq_gate.specs.Counts.{times};
 ghost use Rattle.seq_gate.specs.Passes.{share, MayLeave};
-ghost use Rattle.tests_of_history.specs.Boards.{board_with, CanStore};
-ghost use Rattle.tests_of_history.specs.Passes.{HoldsNothing};
+ghost use Rattle.tests_of_history.specs.inner.Boards.{board_with, CanStore};
+ghost use Rattle.tests_of_history.specs.inner.Passes.{HoldsNothing};
 
 use crate::plain::Plain;
 use seq_gate::{Gate, Pass, Turn, close};

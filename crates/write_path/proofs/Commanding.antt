@@ -15,7 +15,7 @@ use Rattle.doc_board.specs.State.{State}
 use Rattle.write_path.specs.Commands.{Commands, IsCommanded}
 use Rattle.board_steps.specs.Shape.{no_room_outcome}
 use Rattle.write_path.specs.Shared.{IsLookTurn}
-use Rattle.write_path.specs.Turns.{IsRoomTurn, IsStoreTurn}
+use Rattle.write_path.specs.inner.Turns.{IsRoomTurn, IsStoreTurn}
 use Rattle.write_path.proofs.Proposed.{Again, no_shorter}
 use Rattle.write_path.proofs.ProposalTurns.{ReadOn, refused_for}
 use Rattle.write_path.proofs.Sharing.{turn_reads}

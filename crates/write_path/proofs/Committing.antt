@@ -40,7 +40,7 @@ use Rattle.board_steps.specs.declared.retry.Retried.TheVariants as retried
 use Rattle.write_path.specs.Reads.{IsOneOf}
 use Rattle.board_steps.specs.Retry.{FitsReady, IsHandedBack, IsHeldReady, IsReady, IsSpent, IsStoredAgain, IsTurnedDownAgain}
 use Rattle.write_path.specs.Shared.{IsOvertaken, Rests}
-use Rattle.write_path.specs.Turns.{IsAcceptedFor, IsCommitted, IsOvertakenAt, IsStoredBy}
+use Rattle.write_path.specs.inner.Turns.{IsAcceptedFor, IsCommitted, IsOvertakenAt, IsStoredBy}
 use Rattle.board_steps.specs.Tried.{IsStoredFirst, IsTried, WasAccepted}
 use Rattle.board_steps.proofs.Again.{fits_ready, held_still, may_still, past_log}
 use Rattle.board_steps.proofs.Alone.{fresh_on}

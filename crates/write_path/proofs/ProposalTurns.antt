@@ -26,7 +26,7 @@ use Rattle.write_path.specs.Reads.{IsOneOf, Reads, WasRead}
 use Rattle.board_steps.specs.Retry.{IsTurnedDown}
 use Rattle.board_steps.specs.Shape.{no_room_outcome}
 use Rattle.write_path.specs.Shared.{IsLookTurn, IsTurn, MayDrawInTurn}
-use Rattle.write_path.specs.Turns.{IsAcceptedFor, IsCommitTurn, IsCommitted, IsDownBy, IsProposedInTurns, IsRoomTurn, IsStoredBy}
+use Rattle.write_path.specs.inner.Turns.{IsAcceptedFor, IsCommitTurn, IsCommitted, IsDownBy, IsProposedInTurns, IsRoomTurn, IsStoredBy}
 use Rattle.board_steps.specs.Tried.{IsDecidedAt, IsJudgedAt}
 use Rattle.board_steps.specs.Verdicts.{IsDeniedOn, IsSaidOn}
 use Rattle.write_path.proofs.Committing.{last_below}

@@ -19,7 +19,7 @@ use Rattle.doc_board.specs.Rooms.{is_outstanding}
 use Rattle.doc_board.specs.State.{State, book_on}
 use Rattle.doc_board.specs.Steps.{history_on, stored_at, with_entry}
 use Rattle.write_path.specs.Shared.{IsTurn, Rests}
-use Rattle.write_path.specs.Turns.{IsRoomTurn, IsStoreTurn}
+use Rattle.write_path.specs.inner.Turns.{IsRoomTurn, IsStoreTurn}
 use Rattle.write_path.proofs.RoomTimes.{all_gone, outstanding_times, put_back, same_room_itself, times_append, times_less, times_outstanding}
 
 -- what the laws of storing say

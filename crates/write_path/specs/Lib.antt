@@ -7,5 +7,4 @@ pub mod Reads
 pub mod Shared
 pub mod Shelf
 pub mod Solo
-pub mod Trail
-pub mod Turns
+pub mod inner

@@ -11,7 +11,7 @@ ghost use Rattle.doc_board.specs.Boards.{board_of};
 ghost use Rattle.doc_board.specs.Outcomes.{IsWellFormed, bytes_of};
 ghost use Rattle.doc_board.specs.State.{State};
 ghost use Rattle.write_path.specs.Shared.{IsLookTurn, Rests};
-ghost use Rattle.write_path.specs.Turns.{IsAcceptedFor, IsCommitted, IsOvertakenAt, IsProposedInTurns};
+ghost use Rattle.write_path.specs.inner.Turns.{IsAcceptedFor, IsCommitted, IsOvertakenAt, IsProposedInTurns};
 ghost use Rattle.board_steps.specs.Tried.{IsDecidedAt, IsJudgedAt};
 
 use crate::shelf::Shelf;

@@ -13,7 +13,7 @@ ghost use Rattle.doc_board.specs.State.{State};
 ghost use Rattle.write_path.specs.Checkpoints.{IsSetTurn};
 ghost use Rattle.write_path.specs.Commands.{Commands};
 ghost use Rattle.write_path.specs.Shared.{Rests};
-ghost use Rattle.write_path.specs.Turns.{IsRoomedTurn, IsStoreTurn};
+ghost use Rattle.write_path.specs.inner.Turns.{IsRoomedTurn, IsStoreTurn};
 
 use crate::shelf::Shelf;
 use crate::turns::{draw, enter, leave, leave_as_found};

@@ -24,7 +24,7 @@ pub struct Trail {
 impl Model for Trail {
     ghost use Rattle.std.specs.Prelude.{List};
     ghost use Rattle.sg_history.specs.Board.{BoardState};
-    ghost use Rattle.write_path.specs.Trail.{boards_in};
+    ghost use Rattle.write_path.specs.inner.Trail.{boards_in};
 
     ghost Value = { List BoardState };
 
@@ -65,7 +65,7 @@ pub struct OwnEntries {
 impl Model for OwnEntries {
     ghost use Rattle.std.specs.Prelude.{List};
     ghost use Rattle.sg_history.specs.declared.book.Waiting.{Waiting};
-    ghost use Rattle.write_path.specs.Trail.{entries_in};
+    ghost use Rattle.write_path.specs.inner.Trail.{entries_in};
 
     ghost Value = { List Waiting };
 

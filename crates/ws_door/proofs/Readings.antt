@@ -12,7 +12,7 @@ use Rattle.ws_door.specs.declared.heads.HeadFault.{HeadFault}
 use Rattle.ws_door.specs.declared.heads.HeadFault.TheVariants as fault
 use Rattle.ws_door.specs.declared.head_reader.HeadReader.{HeadReader}
 use Rattle.ws_door.specs.Heads.{is_whole, bytes_of, is_idle, is_single, bytes_in, idle_in, ending, last_ending, head_behind, head_in, EndsWith, ReadsHeadIfRecorded}
-use Rattle.ws_door.specs.HeadReader.{HasRoom, answer_of, Continues, ReadsOn, Follows}
+use Rattle.ws_door.specs.inner.HeadReader.{HasRoom, answer_of, Continues, ReadsOn, Follows}
 
 read_none : (mid to : Option LinkRecord) (read : LineRead) → mid ≡ None → ReadsIfRecorded mid read to → to ≡ None
 read_none None to read e h = h

@@ -1,9 +1,8 @@
 pub mod Heads
-pub mod HeadReader
 pub mod Items
 pub mod Cookies
 pub mod Accept
 pub mod Requests
-pub mod Shown
 pub mod Upgrades
 pub mod Greetings
+pub mod inner

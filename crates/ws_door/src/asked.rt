@@ -2,7 +2,7 @@
 
 ghost use Rattle.std.specs.Prelude.{◌≡◌, ◌≢◌, ◌++◌, ℕ, List, codes, option_map, MatchOption, MatchResult};
 ghost use Rattle.std.specs.Str.{bytes_eq, str_eq_ignore_ascii_case};
-ghost use Rattle.ws_door.specs.Shown.{shown};
+ghost use Rattle.ws_door.specs.inner.Shown.{shown};
 ghost use Rattle.ws_door.specs.Upgrades as spec;
 ghost use Rattle.ws_door.specs.Upgrades.{target_of, passes, if_of_24};
 

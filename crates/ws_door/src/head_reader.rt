@@ -3,7 +3,7 @@
 ghost use Rattle.std.specs.Prelude.{◌≡◌, ◌<◌, ◌≤◌, IfOk, IfErr, IsTrue};
 ghost use Rattle.sg_lines.specs.Link.{ReadsIfRecorded};
 ghost use Rattle.ws_door.specs.Heads.{ends_empty_line, is_whole, is_single};
-ghost use Rattle.ws_door.specs.HeadReader.{line_read, ReadsOn, Adds, HasRoom, IsAtFirst};
+ghost use Rattle.ws_door.specs.inner.HeadReader.{line_read, ReadsOn, Adds, HasRoom, IsAtFirst};
 
 use crate::heads::HeadFault;
 use sg_lines::{Link, Took};

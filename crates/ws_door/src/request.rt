@@ -5,7 +5,7 @@ ghost use Rattle.std.specs.Str.{str_eq_ignore_ascii_case};
 ghost use Rattle.httparse.specs.Spans.{IsHeaderWithin, header_bytes, span_bytes, IsWithin};
 ghost use Rattle.ws_door.specs.Requests as spec;
 ghost use Rattle.ws_door.specs.Requests.{request_with, Makes, HasNoHead};
-ghost use Rattle.ws_door.specs.Shown.{shown};
+ghost use Rattle.ws_door.specs.inner.Shown.{shown};
 
 use httparse::Status;
 use httparse::spans::{EMPTY_HEADER_SPAN, HeaderSpan, RequestSpans, parse_request};

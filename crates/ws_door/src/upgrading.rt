@@ -1,7 +1,7 @@
 //! The upgrade to a WebSocket.
 
 ghost use Rattle.std.specs.Prelude.{◌≡◌, ◌≢◌, MatchResult};
-ghost use Rattle.ws_door.specs.Shown.{shown};
+ghost use Rattle.ws_door.specs.inner.Shown.{shown};
 ghost use Rattle.ws_door.specs.Upgrades.{answer_to, IsAnswer, switching_text};
 
 use crate::answer::{Refused, Upgrade};

@@ -1,5 +1,5 @@
 use Rattle.std.proofs.Common.{◌∙◌}
-use Rattle.blip_mux.specs.Entries.{look}
+use Rattle.blip_mux.specs.inner.Entries.{look}
 use Rattle.blip_mux.proofs.Moved.{some_there, is_there, place_gone, still_there, place_there, put_in_place}
 use Rattle.blip_mux.proofs.stamped.write_and_move.Goals as goal
 

@@ -1,5 +1,5 @@
 use Rattle.std.proofs.Common.{◌≡◌, ◌++◌, drop, map}
-use Rattle.board_steps.specs.ByLook.{looked}
+use Rattle.board_steps.specs.inner.ByLook.{looked}
 use Rattle.board_steps.proofs.bodies.answers_of.Given as goal
 
 -- the answers so far and those to what is left are those to all

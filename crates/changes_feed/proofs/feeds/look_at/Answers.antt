@@ -2,7 +2,7 @@ use Rattle.std.proofs.Common.{◌∙◌, ℕ, List, sym, ap, subst}
 use Rattle.sg_history.specs.Feed.{feed}
 use Rattle.sg_history.specs.History.{past}
 use Rattle.feed_rows.specs.KnownDocuments.{AreKnown, HaveAll, names_in}
-use Rattle.changes_feed.specs.Segment.{SegmentAt}
+use Rattle.changes_feed.specs.inner.Segment.{SegmentAt}
 use Rattle.changes_feed.specs.Switches.{AreSwitches, first_of}
 use Rattle.changes_feed.proofs.Complete.{have_all}
 use Rattle.changes_feed.proofs.Outcomes.{if_ok}

@@ -6,8 +6,8 @@ use Rattle.sg_history.specs.declared.entries.Entry.{Entry}
 use Rattle.sg_history.specs.History.{past}
 use Rattle.log_index.specs.Places.{document_at}
 use Rattle.channel_cache.specs.Stands.{IndexesTo}
-use Rattle.changes_feed.specs.Amid.{HasLast}
-use Rattle.changes_feed.specs.Segment.{SegmentAt}
+use Rattle.changes_feed.specs.inner.Amid.{HasLast}
+use Rattle.changes_feed.specs.inner.Segment.{SegmentAt}
 use Rattle.changes_feed.proofs.Adding.{all_have, last_listed, whole_have}
 use Rattle.changes_feed.proofs.listed.add_listed.Goals as goal
 

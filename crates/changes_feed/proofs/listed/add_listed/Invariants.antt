@@ -4,7 +4,7 @@ use Rattle.log_index.specs.declared.documents.Document.{Document}
 use Rattle.log_index.specs.Places.{document_at}
 use Rattle.channel_cache.specs.Stands.{has}
 use Rattle.feed_rows.specs.KnownDocuments.{names_in}
-use Rattle.changes_feed.specs.Segment.{SegmentAt}
+use Rattle.changes_feed.specs.inner.Segment.{SegmentAt}
 use Rattle.changes_feed.proofs.listed.add_listed.Given as goal
 
 -- the documents of the first sequences are there

@@ -6,7 +6,7 @@ use Rattle.channel_cache.specs.Stands.{IndexesTo}
 use Rattle.channel_cache.proofs.Passed.{marks_none, passed_then}
 use Rattle.channel_cache.proofs.Past.{index_lower}
 use Rattle.feed_rows.specs.PassAt.{IsViewer}
-use Rattle.changes_feed.specs.Segment.{SegmentAt}
+use Rattle.changes_feed.specs.inner.Segment.{SegmentAt}
 use Rattle.changes_feed.proofs.Keeping.{empty_known}
 use Rattle.changes_feed.proofs.Viewing.{viewer_at}
 use Rattle.changes_feed.proofs.segment.pass.Goals as goal

@@ -1,6 +1,6 @@
 use Rattle.std.proofs.Common.{◌≡◌, ◌≤◌, ◌+◌, ◌-◌, ◌*◌}
 use Rattle.channel_cache.specs.Reads.{passed}
-use Rattle.changes_feed.specs.Segment.{SegmentAt}
+use Rattle.changes_feed.specs.inner.Segment.{SegmentAt}
 use Rattle.changes_feed.proofs.segment.pass.Given as goal
 
 -- the segment knows what holds up to here

@@ -5,7 +5,7 @@ use Rattle.sg_history.specs.History.{past}
 use Rattle.log_index.specs.Places.{document_at}
 use Rattle.channel_cache.proofs.Past.{index_high}
 use Rattle.feed_rows.specs.Known.{known_from, known_in}
-use Rattle.changes_feed.specs.Amid.{PartAt, Renewing}
+use Rattle.changes_feed.specs.inner.Amid.{PartAt, Renewing}
 use Rattle.changes_feed.proofs.Keeping.{brought_up, is_renewed, since_at, there_before, within_names}
 use Rattle.changes_feed.proofs.Viewing.{next}
 use Rattle.changes_feed.proofs.segment.renew.Goals as goal

@@ -2,11 +2,11 @@ use Rattle.std.proofs.Common.{◌<◌, ◌+◌, ◌-◌, ◌∙◌, sym, ap, ref
 use Rattle.std.specs.Prelude.{option_map}
 use Rattle.sg_history.specs.declared.entries.Entry.{Entry}
 use Rattle.sg_history.specs.History.{SyncEntry, past}
-use Rattle.channel_cache.specs.Forward.{replaced_at}
+use Rattle.channel_cache.specs.inner.Forward.{replaced_at}
 use Rattle.channel_cache.specs.Stands.{IndexesTo}
 use Rattle.channel_cache.proofs.Past.{index_high}
 use Rattle.feed_rows.specs.PassAt.{IsViewer}
-use Rattle.changes_feed.specs.Amid.{PartAt, taken}
+use Rattle.changes_feed.specs.inner.Amid.{PartAt, taken}
 use Rattle.changes_feed.proofs.Keeping.{begun, ended, part_same}
 use Rattle.changes_feed.proofs.Taking.{all_taken, none_taken}
 use Rattle.changes_feed.proofs.segment.take_marks.Goals as goal

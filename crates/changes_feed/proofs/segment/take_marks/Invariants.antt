@@ -1,6 +1,6 @@
 use Rattle.std.proofs.Common.{◌≡◌, ◌≤◌, ◌+◌, ◌-◌, ◌*◌, length}
 use Rattle.sg_history.specs.History.{past}
-use Rattle.changes_feed.specs.Amid.{PartAt, taken}
+use Rattle.changes_feed.specs.inner.Amid.{PartAt, taken}
 use Rattle.changes_feed.proofs.segment.take_marks.Given as goal
 
 -- the first marks are taken

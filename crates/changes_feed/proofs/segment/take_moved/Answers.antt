@@ -2,7 +2,7 @@ use Rattle.std.proofs.Common.{◌<◌, ◌-◌, ◌∙◌, sym, arith}
 use Rattle.sg_history.specs.History.{past}
 use Rattle.channel_cache.proofs.Changing.{on_ok}
 use Rattle.channel_cache.proofs.Past.{index_high, index_same_mark}
-use Rattle.changes_feed.specs.Amid.{taken}
+use Rattle.changes_feed.specs.inner.Amid.{taken}
 use Rattle.changes_feed.proofs.Keeping.{part_same}
 use Rattle.changes_feed.proofs.Reading.{winning_high}
 use Rattle.changes_feed.proofs.Taking.{next_taken, other_mark, renewing}

@@ -1,7 +1,7 @@
 use Rattle.std.proofs.Common.{◌∙◌, ◌<◌, ◌≤◌, ◌||◌, Bool, List, sym, ap, take, length, arith}
 use Rattle.std.specs.List.{list_any}
 use Rattle.grant_history.specs.declared.periods.Period.{Period}
-use Rattle.changes_feed.specs.Bounds.{is_bound_of}
+use Rattle.changes_feed.specs.inner.Bounds.{is_bound_of}
 use Rattle.changes_feed.proofs.Loops.{any_more, take_all}
 use Rattle.changes_feed.proofs.switched.bounds.Goals as goal
 

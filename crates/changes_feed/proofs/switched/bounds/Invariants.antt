@@ -1,7 +1,7 @@
 use Rattle.std.proofs.Common.{◌≡◌, ℕ, List, take}
 use Rattle.std.specs.List.{list_any}
 use Rattle.sg_history.specs.History.{among}
-use Rattle.changes_feed.specs.Bounds.{is_bound_of}
+use Rattle.changes_feed.specs.inner.Bounds.{is_bound_of}
 use Rattle.changes_feed.proofs.switched.bounds.Given as goal
 
 abbrev pub invariant-loop-period : goal.invariant-loop-period

@@ -1,6 +1,6 @@
 use Rattle.std.proofs.Common.{◌≡◌, ◌∙◌, ap, refl, sym, Bool, true, false, ◌||◌, Option}
 use Rattle.std.specs.Option.{option_copied_mut}
-use Rattle.channel_cache.specs.Counting.{counts_at}
+use Rattle.channel_cache.specs.inner.Counting.{counts_at}
 use Rattle.channel_cache.specs.Sequences.{holds_in}
 use Rattle.channel_cache.specs.Stands.{has}
 use Rattle.channel_cache.specs.declared.sequences.Sequences.{Sequences}

@@ -3,7 +3,7 @@ use Rattle.std.specs.Prelude.{String}
 use Rattle.std.specs.Global.{Global}
 use Rattle.lru.specs.LruCache.{LruCache}
 use Rattle.sg_history.specs.History.{past}
-use Rattle.channel_cache.specs.Asking.{Asks}
+use Rattle.channel_cache.specs.inner.Asking.{Asks}
 use Rattle.channel_cache.specs.Sequences.{Lists, holds_of}
 use Rattle.channel_cache.specs.declared.sequences.Sequences.{Sequences}
 use Rattle.channel_cache.proofs.AskedFor.{asks_done, asks_none, asks_same}

@@ -3,7 +3,7 @@ use Rattle.std.specs.Prelude.{String}
 use Rattle.std.specs.Global.{Global}
 use Rattle.std.proofs.lemmas.Bool.{false≢true}
 use Rattle.lru.specs.LruCache.{LruCache}
-use Rattle.channel_cache.specs.Asking.{names_of}
+use Rattle.channel_cache.specs.inner.Asking.{names_of}
 use Rattle.channel_cache.specs.Sequences.{is_kept}
 use Rattle.channel_cache.specs.declared.sequences.Sequences.{Sequences}
 use Rattle.channel_cache.proofs.Filled.{filling_most}

@@ -2,7 +2,7 @@ use Rattle.std.proofs.Common.{◌≡◌, ◌∙◌, ◌+◌, ◌∷◌, ap, sym,
 use Rattle.std.proofs.lemmas.List.{drop_all, take_all}
 use Rattle.sg_history.specs.History.{past}
 use Rattle.channel_cache.specs.Asked.{asked_after, asked_after_all, refills_of}
-use Rattle.channel_cache.specs.Asking.{Asks, names_of}
+use Rattle.channel_cache.specs.inner.Asking.{Asks, names_of}
 use Rattle.channel_cache.proofs.Changing.{split, taken_more}
 use Rattle.channel_cache.proofs.asking.ask_each.Goals as goal
 

@@ -2,7 +2,7 @@ use Rattle.std.proofs.Common.{◌≡◌, ◌≤◌, ◌+◌, List, [], drop, tak
 use Rattle.sg_history.specs.declared.entries.Entry.{Entry}
 use Rattle.sg_history.specs.History.{past}
 use Rattle.channel_cache.specs.Asked.{asked_after_all, refills_of}
-use Rattle.channel_cache.specs.Asking.{Asks, HasNothing, names_of}
+use Rattle.channel_cache.specs.inner.Asking.{Asks, HasNothing, names_of}
 use Rattle.channel_cache.specs.Stands.{IndexesTo}
 use Rattle.channel_cache.proofs.asking.ask_each.Given as goal
 

@@ -5,8 +5,8 @@ use Rattle.std.proofs.lemmas.Result.{IfOk-weaker}
 use Rattle.sg_history.specs.declared.entries.Entry.{Entry}
 use Rattle.sg_history.specs.History.{past}
 use Rattle.channel_cache.specs.Asked.{asked_after_all, refills_of}
-use Rattle.channel_cache.specs.Asking.{names_of}
-use Rattle.channel_cache.specs.Counting.{AreLists}
+use Rattle.channel_cache.specs.inner.Asking.{names_of}
+use Rattle.channel_cache.specs.inner.Counting.{AreLists}
 use Rattle.channel_cache.specs.Listed.{listed_in, sequences_of}
 use Rattle.channel_cache.specs.Reads.{filling}
 use Rattle.channel_cache.specs.Stands.{IndexesTo}

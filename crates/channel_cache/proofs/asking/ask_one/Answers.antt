@@ -5,8 +5,8 @@ use Rattle.lru.specs.LruCache.{LruCache}
 use Rattle.std.specs.Str.{bytes_eq}
 use Rattle.sg_history.specs.History.{among, past}
 use Rattle.channel_cache.specs.Asked.{asked_after}
-use Rattle.channel_cache.specs.Asking.{names_of}
-use Rattle.channel_cache.specs.Counting.{counts_at}
+use Rattle.channel_cache.specs.inner.Asking.{names_of}
+use Rattle.channel_cache.specs.inner.Counting.{counts_at}
 use Rattle.channel_cache.specs.Sequences.{holds_in, holds_of, is_kept}
 use Rattle.channel_cache.specs.Stands.{has}
 use Rattle.channel_cache.specs.declared.sequences.Sequences.{Sequences}

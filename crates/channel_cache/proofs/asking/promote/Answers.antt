@@ -2,7 +2,7 @@ use Rattle.std.proofs.Common.{◌∙◌, ap, sym}
 use Rattle.std.specs.Prelude.{String}
 use Rattle.std.specs.Global.{Global}
 use Rattle.lru.specs.LruCache.{LruCache, lru_cache}
-use Rattle.channel_cache.specs.Asking.{names_of}
+use Rattle.channel_cache.specs.inner.Asking.{names_of}
 use Rattle.channel_cache.specs.Sequences.{Lists, list_of}
 use Rattle.channel_cache.specs.declared.sequences.Sequences.{Sequences}
 use Rattle.channel_cache.proofs.Names.{promoted_lists, promoted_names, promoted_none}

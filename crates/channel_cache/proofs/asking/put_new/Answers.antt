@@ -3,7 +3,7 @@ use Rattle.std.specs.Prelude.{String}
 use Rattle.std.specs.Global.{Global}
 use Rattle.lru.specs.LruCache.{LruCache}
 use Rattle.channel_cache.specs.Asked.{asked_after}
-use Rattle.channel_cache.specs.Asking.{names_of}
+use Rattle.channel_cache.specs.inner.Asking.{names_of}
 use Rattle.channel_cache.specs.Stands.{has}
 use Rattle.channel_cache.specs.declared.sequences.Sequences.{Sequences}
 use Rattle.channel_cache.proofs.Names.{put_holds, put_kept, put_names, put_kept_room}

@@ -1,7 +1,7 @@
 use Rattle.std.proofs.Common.{◌≡◌, ◌&&◌, not, ℕ, List, take}
 use Rattle.sg_history.specs.declared.entries.Entry.{Entry}
 use Rattle.sg_history.specs.History.{among}
-use Rattle.channel_cache.specs.Asking.{AreFull, Asks, names_of}
+use Rattle.channel_cache.specs.inner.Asking.{AreFull, Asks, names_of}
 use Rattle.channel_cache.specs.Sequences.{is_kept}
 use Rattle.channel_cache.proofs.asking.take_each.Given as goal
 

@@ -4,7 +4,7 @@ use Rattle.std.specs.Option.{option_copied}
 use Rattle.std.proofs.lemmas.List.{append-nil}
 use Rattle.sg_history.specs.declared.entries.Entry.{Entry}
 use Rattle.sg_history.specs.declared.entries.Write.{Write}
-use Rattle.channel_cache.specs.DocumentsRead.{document_by, document_read}
+use Rattle.channel_cache.specs.inner.DocumentsRead.{document_by, document_read}
 use Rattle.channel_cache.specs.declared.found.DocSeq.{DocSeq}
 use Rattle.channel_cache.proofs.caches.add_document.Goals as goal
 

@@ -4,7 +4,7 @@ use Rattle.std.proofs.lemmas.Bool.{eq-eqb}
 use Rattle.std.proofs.lemmas.List.{append-nil, drop_all, drop_more}
 use Rattle.std.proofs.lemmas.List.Folds.{list_any_at}
 use Rattle.sg_history.specs.declared.entries.Entry.{Entry}
-use Rattle.channel_cache.specs.DocumentsRead.{document_read, documents_read}
+use Rattle.channel_cache.specs.inner.DocumentsRead.{document_read, documents_read}
 use Rattle.channel_cache.specs.declared.found.DocSeq.{DocSeq}
 use Rattle.channel_cache.proofs.caches.documents_at.Goals as goal
 

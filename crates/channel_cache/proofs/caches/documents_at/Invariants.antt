@@ -1,5 +1,5 @@
 use Rattle.std.proofs.Common.{◌≡◌, ◌≤◌, ◌+◌, ◌++◌, drop}
-use Rattle.channel_cache.specs.DocumentsRead.{documents_read}
+use Rattle.channel_cache.specs.inner.DocumentsRead.{documents_read}
 use Rattle.channel_cache.proofs.caches.documents_at.Given as goal
 
 -- those so far, and those of the rest

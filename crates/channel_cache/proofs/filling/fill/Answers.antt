@@ -1,7 +1,7 @@
 use Rattle.std.proofs.Common.{◌≡◌, ◌+◌, ◌-◌, ◌∙◌, sym, refl, subst, arith, ℕ, List}
 use Rattle.sg_history.specs.declared.entries.Entry.{Entry}
 use Rattle.sg_history.specs.History.{past}
-use Rattle.channel_cache.specs.Asking.{IsFilledFrom}
+use Rattle.channel_cache.specs.inner.Asking.{IsFilledFrom}
 use Rattle.channel_cache.specs.Stands.{IndexesTo}
 use Rattle.channel_cache.proofs.Filled.{fill_end, fill_then}
 use Rattle.channel_cache.proofs.filling.fill.Goals as goal

@@ -1,6 +1,6 @@
 use Rattle.std.proofs.Common.{◌≡◌, ◌≤◌, ◌+◌}
 use Rattle.sg_history.specs.History.{past}
-use Rattle.channel_cache.specs.Asking.{IsFilledFrom}
+use Rattle.channel_cache.specs.inner.Asking.{IsFilledFrom}
 use Rattle.channel_cache.proofs.filling.fill.Given as goal
 
 -- the entries up to here are filled in

@@ -1,6 +1,6 @@
 use Rattle.std.proofs.Common.{◌≡◌, ◌≤◌, ◌+◌, ◌-◌, ◌∙◌, ap, sym, refl, subst, arith, ℕ, List}
 use Rattle.sg_history.specs.declared.entries.Entry.{Entry}
-use Rattle.channel_cache.specs.Forward.{IsForward}
+use Rattle.channel_cache.specs.inner.Forward.{IsForward}
 use Rattle.channel_cache.specs.Reads.{passed}
 use Rattle.channel_cache.specs.Stands.{IndexesTo}
 use Rattle.channel_cache.proofs.Brought.{forward_same, forward_then}

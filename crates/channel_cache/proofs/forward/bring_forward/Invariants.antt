@@ -1,5 +1,5 @@
 use Rattle.std.proofs.Common.{◌≡◌, ◌≤◌, ◌+◌}
-use Rattle.channel_cache.specs.Forward.{IsForward}
+use Rattle.channel_cache.specs.inner.Forward.{IsForward}
 use Rattle.channel_cache.specs.Reads.{passed}
 use Rattle.channel_cache.proofs.forward.bring_forward.Given as goal
 

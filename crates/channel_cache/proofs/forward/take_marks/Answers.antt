@@ -1,6 +1,6 @@
 use Rattle.std.proofs.Common.{subst, map}
-use Rattle.channel_cache.specs.Counting.{counts_at}
-use Rattle.channel_cache.specs.Moves.{entered_by, left_by, move_in}
+use Rattle.channel_cache.specs.inner.Counting.{counts_at}
+use Rattle.channel_cache.specs.inner.Moves.{entered_by, left_by, move_in}
 use Rattle.channel_cache.specs.Sequences.{Changed, Counted}
 use Rattle.channel_cache.proofs.Changing.{on_ok}
 use Rattle.channel_cache.proofs.Replacing.{forward_marks, no_write_there}

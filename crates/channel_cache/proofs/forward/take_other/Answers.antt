@@ -4,7 +4,7 @@ use Rattle.sg_history.specs.declared.entries.Entry.{Entry}
 use Rattle.sg_history.specs.History.{SyncEntry}
 use Rattle.sg_history.specs.CountedLog.{count_marks, marks_between}
 use Rattle.sg_history.specs.Puts.{replacement_in}
-use Rattle.channel_cache.specs.Forward.{replaced_at, replaced_by}
+use Rattle.channel_cache.specs.inner.Forward.{replaced_at, replaced_by}
 use Rattle.channel_cache.proofs.Brought.{forward_other}
 use Rattle.channel_cache.proofs.Passed.{marks_one}
 use Rattle.channel_cache.proofs.Past.{index_high}

@@ -1,5 +1,5 @@
 use Rattle.std.proofs.Common.{◌∙◌, refl, arith, map}
-use Rattle.channel_cache.specs.Moves.{move_in}
+use Rattle.channel_cache.specs.inner.Moves.{move_in}
 use Rattle.channel_cache.proofs.Changing.{all_leave_end, all_leave_next, mapped_count, mapped_is}
 use Rattle.channel_cache.proofs.kept.leave_moved.Goals as goal
 

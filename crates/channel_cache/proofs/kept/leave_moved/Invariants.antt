@@ -1,5 +1,5 @@
 use Rattle.std.proofs.Common.{◌≡◌, drop, map}
-use Rattle.channel_cache.specs.Moves.{left_by, move_in}
+use Rattle.channel_cache.specs.inner.Moves.{left_by, move_in}
 use Rattle.channel_cache.specs.Sequences.{Changed, Lists}
 use Rattle.channel_cache.proofs.kept.leave_moved.Given as goal
 

@@ -1,6 +1,6 @@
 use Rattle.std.proofs.Common.{◌∙◌, ◌++◌, ◌∷◌, [], ap, sym, List, map, Option}
 use Rattle.std.proofs.lemmas.List.{append-nil}
-use Rattle.channel_cache.specs.Moves.{Move, move_in, optional}
+use Rattle.channel_cache.specs.inner.Moves.{Move, move_in, optional}
 use Rattle.channel_cache.specs.declared.moved.Moved.{Moved}
 use Rattle.channel_cache.proofs.Changing.{mapped_append}
 use Rattle.channel_cache.proofs.moved.add_moved.Goals as goal

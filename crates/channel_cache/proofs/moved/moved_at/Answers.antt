@@ -2,7 +2,7 @@ use Rattle.std.proofs.Common.{◌≡◌, ◌-◌, ◌∙◌, ap, sym, arith, Boo
 use Rattle.sg_history.specs.History.{past}
 use Rattle.log_index.specs.declared.marks.Marked.{Marked}
 use Rattle.log_index.specs.Marks.{is_mark, marked_up_to}
-use Rattle.channel_cache.specs.Moves.{channels_at}
+use Rattle.channel_cache.specs.inner.Moves.{channels_at}
 use Rattle.channel_cache.proofs.Past.{index_high, index_lower, index_same_mark, past_count}
 use Rattle.channel_cache.proofs.moved.moved_at.Goals as goal
 

@@ -3,7 +3,7 @@ use Rattle.sg_history.specs.declared.entries.Entry.{Entry}
 use Rattle.sg_history.specs.History.{past}
 use Rattle.log_index.specs.declared.documents.Document.{Document}
 use Rattle.log_index.specs.Places.{document_at}
-use Rattle.channel_cache.specs.Moves.{move_by}
+use Rattle.channel_cache.specs.inner.Moves.{move_by}
 use Rattle.channel_cache.proofs.Brought.{document_within}
 use Rattle.channel_cache.proofs.Past.{index_up_to}
 use Rattle.channel_cache.proofs.moved.moved_by.Goals as goal

@@ -3,7 +3,7 @@ use Rattle.std.proofs.lemmas.List.{append-nil, drop_all}
 use Rattle.sg_history.specs.declared.entries.Entry.{Entry}
 use Rattle.sg_history.specs.declared.entries.Mark.{Mark}
 use Rattle.sg_history.specs.History.{past}
-use Rattle.channel_cache.specs.Moves.{Move, move_in, move_of, moves_of}
+use Rattle.channel_cache.specs.inner.Moves.{Move, move_in, move_of, moves_of}
 use Rattle.channel_cache.specs.Stands.{IndexesTo}
 use Rattle.channel_cache.specs.declared.moved.Moved.{Moved}
 use Rattle.channel_cache.proofs.Changing.{split}

@@ -1,6 +1,6 @@
 use Rattle.std.proofs.Common.{◌≡◌, ◌≤◌, ◌+◌, ◌-◌, ◌++◌, drop, map}
 use Rattle.sg_history.specs.History.{past}
-use Rattle.channel_cache.specs.Moves.{move_in, moves_of}
+use Rattle.channel_cache.specs.inner.Moves.{move_in, moves_of}
 use Rattle.channel_cache.proofs.moved.moved_by_all.Given as goal
 
 -- those so far, and those of the rest

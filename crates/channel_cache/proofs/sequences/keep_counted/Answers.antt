@@ -1,7 +1,7 @@
 use Rattle.std.proofs.Common.{◌≡◌, ◌∙◌, ap, rules, ℕ, List}
 use Rattle.std.specs.Prelude.{filter}
 use Rattle.std.proofs.lemmas.Fn.{filter_same}
-use Rattle.channel_cache.specs.Counting.{counts_at}
+use Rattle.channel_cache.specs.inner.Counting.{counts_at}
 use Rattle.channel_cache.specs.Stands.{has}
 use Rattle.channel_cache.proofs.Having.{has_filter}
 use Rattle.channel_cache.proofs.sequences.keep_counted.Goals as goal

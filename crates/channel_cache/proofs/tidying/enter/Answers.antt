@@ -1,6 +1,6 @@
 use Rattle.std.proofs.Common.{◌∙◌, ap, refl, sym}
 use Rattle.std.specs.Option.{option_copied_mut}
-use Rattle.channel_cache.specs.Counting.{counts_at}
+use Rattle.channel_cache.specs.inner.Counting.{counts_at}
 use Rattle.channel_cache.proofs.Changing.{counted_none, counted_one, on_ok}
 use Rattle.channel_cache.proofs.tidying.enter.Goals as goal
 

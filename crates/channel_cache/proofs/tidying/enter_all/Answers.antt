@@ -1,7 +1,7 @@
 use Rattle.std.specs.Str.{bytes_eq}
 use Rattle.sg_history.specs.History.{among}
 use Rattle.sg_history.specs.View.{every}
-use Rattle.channel_cache.specs.Counting.{counts_at}
+use Rattle.channel_cache.specs.inner.Counting.{counts_at}
 use Rattle.channel_cache.proofs.Changing.{counted_more, on_ok}
 use Rattle.channel_cache.proofs.tidying.enter_all.Goals as goal
 

@@ -1,6 +1,6 @@
 use Rattle.std.proofs.Common.{◌∙◌, refl, subst, arith, ℕ, List}
 use Rattle.std.specs.Str.{bytes_eq}
-use Rattle.channel_cache.specs.Counting.{counts_at}
+use Rattle.channel_cache.specs.inner.Counting.{counts_at}
 use Rattle.channel_cache.specs.Sequences.{Counted, entered}
 use Rattle.channel_cache.proofs.Changing.{counted_end, counted_next}
 use Rattle.channel_cache.proofs.tidying.enter_each.Goals as goal

@@ -1,6 +1,6 @@
 use Rattle.std.proofs.Common.{◌≡◌, drop}
 use Rattle.sg_history.specs.History.{among}
-use Rattle.channel_cache.specs.Counting.{counts_at}
+use Rattle.channel_cache.specs.inner.Counting.{counts_at}
 use Rattle.channel_cache.specs.Sequences.{Counted, Lists, entered}
 use Rattle.channel_cache.proofs.tidying.enter_each.Given as goal
 

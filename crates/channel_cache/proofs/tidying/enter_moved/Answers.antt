@@ -1,6 +1,6 @@
 use Rattle.std.proofs.Common.{◌∙◌, refl, arith, map}
-use Rattle.channel_cache.specs.Counting.{counts_at}
-use Rattle.channel_cache.specs.Moves.{move_in}
+use Rattle.channel_cache.specs.inner.Counting.{counts_at}
+use Rattle.channel_cache.specs.inner.Moves.{move_in}
 use Rattle.channel_cache.proofs.Changing.{all_counted_end, all_counted_next, mapped_count, mapped_is}
 use Rattle.channel_cache.proofs.tidying.enter_moved.Goals as goal
 

@@ -1,6 +1,6 @@
 use Rattle.std.proofs.Common.{◌≡◌, drop, map}
-use Rattle.channel_cache.specs.Counting.{counts_at}
-use Rattle.channel_cache.specs.Moves.{entered_by, move_in}
+use Rattle.channel_cache.specs.inner.Counting.{counts_at}
+use Rattle.channel_cache.specs.inner.Moves.{entered_by, move_in}
 use Rattle.channel_cache.specs.Sequences.{Counted, Lists}
 use Rattle.channel_cache.proofs.tidying.enter_moved.Given as goal
 

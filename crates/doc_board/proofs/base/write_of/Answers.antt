@@ -4,7 +4,7 @@ use Rattle.std.specs.Option.{option_copied}
 use Rattle.sg_history.specs.declared.entries.Entry.{Entry}
 use Rattle.sg_history.specs.declared.entries.Write.{Write}
 use Rattle.sg_history.specs.Current.{Sequenced, write_alone, write_of_rev}
-use Rattle.doc_board.specs.Based.{IsFound}
+use Rattle.doc_board.specs.inner.Based.{IsFound}
 use Rattle.doc_board.proofs.OnBoards.{whole}
 use Rattle.doc_board.proofs.base.write_of.Goals as goal
 

@@ -4,7 +4,7 @@ use Rattle.sg_history.specs.Feed.{bits_of, keeps}
 use Rattle.feed_rows.specs.declared.document.Change.{Change}
 use Rattle.feed_rows.specs.Known.{row_in, view_when}
 use Rattle.feed_rows.specs.Latest.{changed_in}
-use Rattle.feed_rows.specs.Ordered.{insert_asked, under_key}
+use Rattle.feed_rows.specs.inner.Ordered.{insert_asked, under_key}
 use Rattle.feed_rows.proofs.Ordered.{not_asked}
 use Rattle.feed_rows.proofs.Settled.{shown_some}
 use Rattle.feed_rows.proofs.asked.add_row.Goals as goal

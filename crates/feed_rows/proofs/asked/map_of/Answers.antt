@@ -5,7 +5,7 @@ use Rattle.sg_history.specs.Feed.{row_of}
 use Rattle.feed_rows.specs.declared.document.Document.{Document}
 use Rattle.feed_rows.specs.Known.{Known, from_on, known_from, known_in}
 use Rattle.feed_rows.specs.PassAt.{IsKnown}
-use Rattle.feed_rows.specs.Ordered.{asked_rows, insert_asked, under_key}
+use Rattle.feed_rows.specs.inner.Ordered.{asked_rows, insert_asked, under_key}
 use Rattle.feed_rows.proofs.Loops.{known_each, mapped_more, taken_all}
 use Rattle.feed_rows.proofs.asked.map_of.Goals as goal
 

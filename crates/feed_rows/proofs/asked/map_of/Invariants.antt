@@ -4,8 +4,8 @@ use Rattle.sg_history.specs.declared.entries.Entry.{Entry}
 use Rattle.sg_history.specs.Feed.{row_of}
 use Rattle.feed_rows.specs.Known.{from_on}
 use Rattle.feed_rows.specs.KnownDocuments.{AreKnown}
-use Rattle.feed_rows.specs.Ordered.{asked_rows, under_key}
-use Rattle.feed_rows.specs.Shown.{AreSwitches}
+use Rattle.feed_rows.specs.inner.Ordered.{asked_rows, under_key}
+use Rattle.feed_rows.specs.inner.Shown.{AreSwitches}
 use Rattle.feed_rows.proofs.asked.map_of.Given as goal
 
 abbrev pub invariant-loop-document : goal.invariant-loop-document

@@ -5,7 +5,7 @@ use Rattle.sg_history.specs.Feed.{row_of}
 use Rattle.feed_rows.specs.declared.document.Document.{Document}
 use Rattle.feed_rows.specs.Known.{from_on}
 use Rattle.feed_rows.specs.KnownDocuments.{names_in}
-use Rattle.feed_rows.specs.Ordered.{asked_rows}
+use Rattle.feed_rows.specs.inner.Ordered.{asked_rows}
 use Rattle.feed_rows.proofs.FromPlaces.{all_asked}
 use Rattle.feed_rows.proofs.Loops.{reverse_mapped}
 use Rattle.feed_rows.proofs.Ordered.{is_feed, values_under}

@@ -4,7 +4,7 @@ use Rattle.feed_rows.specs.declared.document.Latest.{Latest}
 use Rattle.feed_rows.specs.Known.{from_on}
 use Rattle.feed_rows.specs.Latest.{current_in}
 use Rattle.feed_rows.specs.PassAt.{IsKnown}
-use Rattle.feed_rows.specs.Shown.{IsLastSwitch, is_shown}
+use Rattle.feed_rows.specs.inner.Shown.{IsLastSwitch, is_shown}
 use Rattle.feed_rows.proofs.Settled.{settled_never}
 use Rattle.feed_rows.proofs.document.change_at.Goals as goal
 

@@ -4,7 +4,7 @@ use Rattle.sg_history.specs.Feed.{row_with}
 use Rattle.grant_history.specs.Periods.{periods_have}
 use Rattle.feed_rows.specs.Known.{from_on, since_renewed, view_when}
 use Rattle.feed_rows.specs.Latest.{winner_in}
-use Rattle.feed_rows.specs.Shown.{IsLastSwitch, is_shown}
+use Rattle.feed_rows.specs.inner.Shown.{IsLastSwitch, is_shown}
 use Rattle.feed_rows.specs.declared.shown.Switch.{Switch}
 use Rattle.feed_rows.proofs.FromPlaces.{from_with, settled_from}
 use Rattle.feed_rows.proofs.Settled.{settled_some}

@@ -1,6 +1,6 @@
 use Rattle.std.proofs.Common.{◌∙◌, ap, ℕ, List, Some, if◌then◌else◌}
 use Rattle.std.specs.Str.{bytes_eq}
-use Rattle.feed_rows.specs.Index.{place_in}
+use Rattle.feed_rows.specs.inner.Index.{place_in}
 use Rattle.feed_rows.proofs.Indexes.{place_added}
 use Rattle.feed_rows.proofs.index.add_place.Goals as goal
 

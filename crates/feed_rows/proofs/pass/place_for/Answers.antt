@@ -2,7 +2,7 @@ use Rattle.std.proofs.Common.{◌∙◌, ◌∷◌, [], ap, sym, subst, map, ℕ
 use Rattle.std.proofs.lemmas.List.{map-append}
 use Rattle.std.specs.Prelude.{slice_get}
 use Rattle.feed_rows.specs.declared.document.Document.{Document}
-use Rattle.feed_rows.specs.Index.{IsIndex}
+use Rattle.feed_rows.specs.inner.Index.{IsIndex}
 use Rattle.feed_rows.specs.Known.{PlacedBy, known_in}
 use Rattle.feed_rows.proofs.Indexes.{index_grown, place_grown}
 use Rattle.feed_rows.proofs.Passes.{blank_there, blank_new}

@@ -4,7 +4,7 @@ use Rattle.std.proofs.lemmas.List.{length-reverse}
 use Rattle.sg_history.specs.declared.entries.Mark.{Mark}
 use Rattle.sg_history.specs.History.{as_sync}
 use Rattle.sg_history.specs.Puts.{replacement_in}
-use Rattle.feed_rows.specs.Index.{IsIndex}
+use Rattle.feed_rows.specs.inner.Index.{IsIndex}
 use Rattle.feed_rows.specs.PassAt.{AmidAt, HasMarks}
 use Rattle.feed_rows.proofs.Amid.{all_marks, begun, ended, names_amid, no_marks, replaced_by}
 use Rattle.feed_rows.proofs.Loops.{parted, taken_all, taken_more}

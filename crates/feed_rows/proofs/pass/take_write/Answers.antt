@@ -2,7 +2,7 @@ use Rattle.std.proofs.Common.{◌≡◌, ◌+◌, ◌∙◌, arith, refl, sym, a
 use Rattle.std.proofs.lemmas.List.{length-reverse}
 use Rattle.sg_history.specs.declared.entries.Entry.TheVariants as entry
 use Rattle.feed_rows.specs.declared.document.Latest.{Latest}
-use Rattle.feed_rows.specs.Index.{IsIndex}
+use Rattle.feed_rows.specs.inner.Index.{IsIndex}
 use Rattle.feed_rows.specs.Known.{known_at}
 use Rattle.feed_rows.specs.Latest.{current_in, since_in}
 use Rattle.feed_rows.specs.PassAt.{IsRenewed}

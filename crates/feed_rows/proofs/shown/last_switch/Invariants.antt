@@ -1,5 +1,5 @@
 use Rattle.std.proofs.Common.{◌≡◌, ◌≤◌, ℕ}
-use Rattle.feed_rows.specs.Shown.{is_shown}
+use Rattle.feed_rows.specs.inner.Shown.{is_shown}
 use Rattle.feed_rows.proofs.shown.last_switch.Given as goal
 
 -- since this place it is as at the end

@@ -1,7 +1,7 @@
 use Rattle.std.proofs.Common.{[], ◌∷◌, rules}
 use Rattle.gateway_config.proofs.Firsts.{both_parts, first_part, one_named, one_none, second_part}
 use Rattle.gateway_config.specs.Faults.{sync_fault}
-use Rattle.gateway_config.specs.Objects.{members_of, setting_tests}
+use Rattle.gateway_config.specs.inner.Objects.{members_of, setting_tests}
 use Rattle.gateway_config.proofs.read.read_first.Goals as goal
 
 pub returns-in_err-settings : goal.returns-in_err-settings

@@ -1,6 +1,6 @@
 use Rattle.std.proofs.Common.{rules}
 use Rattle.gateway_config.proofs.Firsts.{both_parts, first_part, second_part}
-use Rattle.gateway_config.specs.Objects.{first_tests, members_of, principal_tests}
+use Rattle.gateway_config.specs.inner.Objects.{first_tests, members_of, principal_tests}
 use Rattle.gateway_config.proofs.read.read_known.Goals as goal
 
 pub returns-in_err-first : goal.returns-in_err-first

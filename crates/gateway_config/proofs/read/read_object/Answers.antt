@@ -1,7 +1,7 @@
 use Rattle.std.proofs.Common.{[], ◌∷◌, rules}
 use Rattle.gateway_config.proofs.Firsts.{both_parts, first_part, one_named, one_none, second_part}
 use Rattle.gateway_config.specs.Faults.{config_members, unknown}
-use Rattle.gateway_config.specs.Objects.{known_tests, members_of}
+use Rattle.gateway_config.specs.inner.Objects.{known_tests, members_of}
 use Rattle.gateway_config.proofs.read.read_object.Goals as goal
 
 pub returns-in_err-config : goal.returns-in_err-config

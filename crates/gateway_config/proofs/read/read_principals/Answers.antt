@@ -1,6 +1,6 @@
 use Rattle.std.proofs.Common.{[], ◌∷◌, rules}
 use Rattle.gateway_config.proofs.Firsts.{both_parts, first_part, one_named, one_none, second_part}
-use Rattle.gateway_config.specs.Objects.{members_of, roles_test, users_test}
+use Rattle.gateway_config.specs.inner.Objects.{members_of, roles_test, users_test}
 use Rattle.gateway_config.proofs.read.read_principals.Goals as goal
 
 pub returns-in_err-roles : goal.returns-in_err-roles

@@ -2,7 +2,7 @@ use Rattle.std.proofs.Common.{Some, ap, ◌∙◌, String, Global}
 use Rattle.std.specs.BTreeMap.{BTreeMap}
 use Rattle.serde_json.specs.View.{view, members_view}
 use Rattle.serde_json.specs.declared.value.Value.{Value}
-use Rattle.gateway_config.specs.Objects.{members_of}
+use Rattle.gateway_config.specs.inner.Objects.{members_of}
 use Rattle.gateway_config.proofs.Objects.{whole_read}
 use Rattle.gateway_config.proofs.read.read_value.Goals as goal
 

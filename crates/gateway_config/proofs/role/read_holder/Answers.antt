@@ -1,8 +1,8 @@
 use Rattle.std.proofs.Common.{[], ◌∷◌, rules}
 use Rattle.gateway_config.proofs.Firsts.{both_parts, first_part, one_named, one_none, second_part}
 use Rattle.gateway_config.specs.Faults.{channels_fault, name_fault}
-use Rattle.gateway_config.specs.Objects.{members_of}
-use Rattle.gateway_config.specs.Seen.{has}
+use Rattle.gateway_config.specs.inner.Objects.{members_of}
+use Rattle.gateway_config.specs.inner.Seen.{has}
 use Rattle.gateway_config.proofs.role.read_holder.Goals as goal
 
 pub returns-in_err-name-clause-read : goal.returns-in_err-name-clause-read

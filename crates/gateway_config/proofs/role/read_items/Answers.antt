@@ -1,7 +1,7 @@
 use Rattle.std.proofs.Common.{rules, length, ap}
 use Rattle.serde_json.specs.View.{view}
 use Rattle.gateway_config.specs.declared.config.ConfigRole.{ConfigRole}
-use Rattle.gateway_config.specs.Seen.{has}
+use Rattle.gateway_config.specs.inner.Seen.{has}
 use Rattle.gateway_config.specs.Values.{role_in}
 use Rattle.gateway_config.proofs.Items.{roles_end, roles_faultless, roles_kept, roles_named, roles_seen}
 use Rattle.gateway_config.proofs.role.read_items.Goals as goal

@@ -2,8 +2,8 @@ use Rattle.std.proofs.Common.{rules, Some, ap, ◌∙◌, String, Global}
 use Rattle.std.specs.BTreeMap.{BTreeMap}
 use Rattle.serde_json.specs.View.{view, members_view}
 use Rattle.serde_json.specs.declared.value.Value.{Value}
-use Rattle.gateway_config.specs.Objects.{members_of}
-use Rattle.gateway_config.specs.Seen.{has}
+use Rattle.gateway_config.specs.inner.Objects.{members_of}
+use Rattle.gateway_config.specs.inner.Seen.{has}
 use Rattle.gateway_config.proofs.Objects.{role_read}
 use Rattle.gateway_config.proofs.role.read_role.Goals as goal
 

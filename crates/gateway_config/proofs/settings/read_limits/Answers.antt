@@ -1,7 +1,7 @@
 use Rattle.std.proofs.Common.{[], ◌∷◌, rules}
 use Rattle.gateway_config.proofs.Firsts.{both_parts, first_part, one_named, one_none, second_part}
 use Rattle.gateway_config.specs.Faults.{accepts_fault, conflicts_fault}
-use Rattle.gateway_config.specs.Objects.{members_of}
+use Rattle.gateway_config.specs.inner.Objects.{members_of}
 use Rattle.gateway_config.proofs.settings.read_limits.Goals as goal
 
 pub returns-in_err-accepts : goal.returns-in_err-accepts

@@ -1,6 +1,6 @@
 use Rattle.std.proofs.Common.{rules}
 use Rattle.gateway_config.proofs.Firsts.{both_parts, first_part, second_part}
-use Rattle.gateway_config.specs.Objects.{limit_tests, members_of, text_tests}
+use Rattle.gateway_config.specs.inner.Objects.{limit_tests, members_of, text_tests}
 use Rattle.gateway_config.proofs.settings.read_settings.Goals as goal
 
 pub returns-in_err-database : goal.returns-in_err-database

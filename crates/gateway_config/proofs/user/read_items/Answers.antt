@@ -1,7 +1,7 @@
 use Rattle.std.proofs.Common.{rules, length, ap}
 use Rattle.serde_json.specs.View.{view}
 use Rattle.gateway_config.specs.declared.config.ConfigUser.{ConfigUser}
-use Rattle.gateway_config.specs.Seen.{has}
+use Rattle.gateway_config.specs.inner.Seen.{has}
 use Rattle.gateway_config.specs.Values.{user_in}
 use Rattle.gateway_config.proofs.Items.{sessions_seen, users_end, users_faultless, users_kept, users_named, users_seen}
 use Rattle.gateway_config.proofs.user.read_items.Goals as goal

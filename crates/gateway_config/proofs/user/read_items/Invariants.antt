@@ -1,7 +1,7 @@
 use Rattle.std.proofs.Common.{◌≡◌, ℕ, List, [], ◌++◌, drop}
 use Rattle.serde_json.specs.View.{items_view}
 use Rattle.gateway_config.specs.Faults.{is_session_of, is_user_of, users_fault}
-use Rattle.gateway_config.specs.Seen.{has}
+use Rattle.gateway_config.specs.inner.Seen.{has}
 use Rattle.gateway_config.specs.Values.{users_of}
 use Rattle.gateway_config.proofs.user.read_items.Given as goal
 

@@ -1,7 +1,7 @@
 use Rattle.std.proofs.Common.{rules}
 use Rattle.gateway_config.proofs.Firsts.{both_parts, first_part, second_part}
-use Rattle.gateway_config.specs.Objects.{further_tests, holder_tests, members_of}
-use Rattle.gateway_config.specs.Seen.{has}
+use Rattle.gateway_config.specs.inner.Objects.{further_tests, holder_tests, members_of}
+use Rattle.gateway_config.specs.inner.Seen.{has}
 use Rattle.gateway_config.proofs.user.read_members.Goals as goal
 
 pub returns-in_err-holder-clause-read : goal.returns-in_err-holder-clause-read

@@ -2,7 +2,7 @@ use Rattle.std.proofs.Common.{◌≡◌, ◌∙◌, sym, ap, ◌++◌, Option, N
 use Rattle.std.proofs.lemmas.List.{append-nil}
 use Rattle.std.specs.Option.{option_copied}
 use Rattle.sg_history.specs.declared.entries.Mark.{Mark}
-use Rattle.grant_history.specs.Changes.{change_by, facts_in_changes, mark_among, others}
+use Rattle.grant_history.specs.inner.Changes.{change_by, facts_in_changes, mark_among, others}
 use Rattle.grant_history.specs.Ledger.{kept_of}
 use Rattle.grant_tracks.proofs.Tracked.{on_ok}
 use Rattle.grant_history.proofs.changes.add_change.Goals as goal

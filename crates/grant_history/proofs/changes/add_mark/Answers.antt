@@ -1,7 +1,7 @@
 use Rattle.std.proofs.Common.{◌≡◌, ◌∙◌, sym, ap, Bool, List, [], ◌∷◌, ◌++◌, if◌then◌else◌}
 use Rattle.std.proofs.lemmas.List.{append-nil, map-append}
 use Rattle.grant_history.specs.declared.facts.Fact.{Fact}
-use Rattle.grant_history.specs.Changes.{DocumentFacts, facts_in_change, facts_in_changes, others}
+use Rattle.grant_history.specs.inner.Changes.{DocumentFacts, facts_in_change, facts_in_changes, others}
 use Rattle.grant_history.specs.Facts.{mark_facts, same_facts}
 use Rattle.grant_history.specs.Ledger.{kept_of}
 use Rattle.grant_history.proofs.Changing.{made_same}

@@ -1,7 +1,7 @@
 use Rattle.std.proofs.Common.{◌∙◌, ◌+◌, ◌++◌, sym, ap, arith, drop, get_or, List, None, append_assoc}
 use Rattle.std.proofs.lemmas.List.{append-nil, drop_all, get_or_default}
 use Rattle.grant_history.specs.declared.states.NewState.{NewState}
-use Rattle.grant_history.specs.Changes.{DocumentFacts, change_by, changes_by, facts_in_changes, mark_among, others}
+use Rattle.grant_history.specs.inner.Changes.{DocumentFacts, change_by, changes_by, facts_in_changes, mark_among, others}
 use Rattle.grant_history.specs.Ledger.{kept_of}
 use Rattle.grant_history.proofs.Others.{others_append}
 use Rattle.grant_tracks.proofs.Gathered.{split}

@@ -1,5 +1,5 @@
 use Rattle.std.proofs.Common.{◌≡◌, ◌++◌, drop}
-use Rattle.grant_history.specs.Changes.{changes_by, facts_in_changes, others}
+use Rattle.grant_history.specs.inner.Changes.{changes_by, facts_in_changes, others}
 use Rattle.grant_history.specs.Ledger.{kept_of}
 use Rattle.grant_history.proofs.changes.changes_of.Given as goal
 

@@ -1,5 +1,5 @@
 use Rattle.std.proofs.Common.{◌≡◌, ◌∙◌, ap, arith, List}
-use Rattle.grant_history.specs.Changes.{DocumentFacts, all_times, facts_in_changes, given_before}
+use Rattle.grant_history.specs.inner.Changes.{DocumentFacts, all_times, facts_in_changes, given_before}
 use Rattle.grant_history.specs.Ledger.{facts_in}
 use Rattle.grant_history.proofs.Storing.{chained, recounted_at}
 use Rattle.grant_history.proofs.Summing.{before_same}

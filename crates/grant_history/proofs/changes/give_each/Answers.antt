@@ -1,5 +1,5 @@
 use Rattle.std.proofs.Common.{◌≡◌, ◌∙◌, ◌<◌, ap, refl, arith, take, List, length}
-use Rattle.grant_history.specs.Changes.{DocumentFacts, all_times, facts_in_change, facts_in_changes}
+use Rattle.grant_history.specs.inner.Changes.{DocumentFacts, all_times, facts_in_change, facts_in_changes}
 use Rattle.grant_history.proofs.Changing.{count_same, first_changes, next_change, set_same, times_next}
 use Rattle.grant_history.proofs.Storing.{chained, recounted_at, same_store}
 use Rattle.grant_history.proofs.changes.give_each.Goals as goal

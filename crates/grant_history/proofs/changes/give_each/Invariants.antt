@@ -1,6 +1,6 @@
 use Rattle.std.proofs.Common.{◌≡◌, ◌+◌, take}
 use Rattle.grant_tracks.specs.Dated.{Dated}
-use Rattle.grant_history.specs.Changes.{all_times, facts_in_changes}
+use Rattle.grant_history.specs.inner.Changes.{all_times, facts_in_changes}
 use Rattle.grant_history.specs.Store.{count_at, has_at, IsStore}
 use Rattle.grant_history.proofs.changes.give_each.Given as goal
 

@@ -1,7 +1,7 @@
 use Rattle.std.proofs.Common.{◌≡◌, ◌∙◌, sym, ap, subst, refl, arith, List, ℕ, take, true}
 use Rattle.std.specs.Prelude.{is_some}
 use Rattle.std.specs.BTreeMap.{get_by_text}
-use Rattle.grant_history.specs.Changes.{AreKept, DocumentFacts, facts_in_change, facts_in_changes}
+use Rattle.grant_history.specs.inner.Changes.{AreKept, DocumentFacts, facts_in_change, facts_in_changes}
 use Rattle.grant_history.proofs.Changing.{all_taken, count_same, kept_more, next_change, take_next}
 use Rattle.grant_history.proofs.changes.make_lists.Goals as goal
 

@@ -1,5 +1,5 @@
 use Rattle.std.proofs.Common.{◌≡◌, ℕ, List, take}
-use Rattle.grant_history.specs.Changes.{AreKept, facts_in_changes}
+use Rattle.grant_history.specs.inner.Changes.{AreKept, facts_in_changes}
 use Rattle.grant_history.specs.Ledger.{facts_in}
 use Rattle.grant_history.proofs.changes.make_lists.Given as goal
 

@@ -5,7 +5,7 @@ use Rattle.std.specs.Str.{bytes_eq}
 use Rattle.std.proofs.lemmas.List.{length-set, map-set, take_all}
 use Rattle.std.proofs.lemmas.Option.{same_Some, slice_get-get_or}
 use Rattle.grant_history.specs.declared.facts.Fact.{Fact}
-use Rattle.grant_history.specs.Changes.{DocumentFacts, facts_in_change, facts_in_changes, given_after}
+use Rattle.grant_history.specs.inner.Changes.{DocumentFacts, facts_in_change, facts_in_changes, given_after}
 use Rattle.grant_history.specs.Ledger.{facts_in}
 use Rattle.grant_history.proofs.Changing.{all_swapped, count_same, kept_at, list_swapped, made_same, next_change, one_swapped, still_there}
 use Rattle.grant_history.proofs.changes.swap_each.Goals as goal

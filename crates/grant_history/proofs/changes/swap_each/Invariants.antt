@@ -1,7 +1,7 @@
 use Rattle.std.proofs.Common.{◌≡◌, ◌++◌, ℕ, List, drop, length, take}
 use Rattle.std.specs.Prelude.{is_some}
 use Rattle.std.specs.BTreeMap.{get_by_text}
-use Rattle.grant_history.specs.Changes.{facts_in_changes, given_after, given_before}
+use Rattle.grant_history.specs.inner.Changes.{facts_in_changes, given_after, given_before}
 use Rattle.grant_history.specs.Ledger.{facts_in}
 use Rattle.grant_history.proofs.changes.swap_each.Given as goal
 

@@ -1,7 +1,7 @@
 use Rattle.std.proofs.Common.{◌≡◌, ◌+◌, drop}
 use Rattle.grant_history.specs.declared.facts.Fact.{Fact}
 use Rattle.grant_tracks.specs.Dated.{Dated}
-use Rattle.grant_history.specs.Changes.{all_times, facts_in_changes}
+use Rattle.grant_history.specs.inner.Changes.{all_times, facts_in_changes}
 use Rattle.grant_history.specs.Store.{count_at, has_at, IsStore}
 use Rattle.grant_history.proofs.changes.take_back.Given as goal
 

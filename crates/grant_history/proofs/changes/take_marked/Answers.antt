@@ -1,5 +1,5 @@
 use Rattle.std.proofs.Common.{◌∙◌, sym, subst, List}
-use Rattle.grant_history.specs.Changes.{DocumentFacts, AreChanges}
+use Rattle.grant_history.specs.inner.Changes.{DocumentFacts, AreChanges}
 use Rattle.grant_tracks.proofs.Tracked.{on_ok}
 use Rattle.grant_history.proofs.Marking.{marking_none, marking_others}
 use Rattle.grant_history.proofs.Standing.{MarkLaws}

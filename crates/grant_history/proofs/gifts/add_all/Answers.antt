@@ -1,5 +1,5 @@
 use Rattle.std.proofs.Common.{◌∙◌, arith}
-use Rattle.grant_history.specs.Gifts.{held_gives}
+use Rattle.grant_history.specs.inner.Gifts.{held_gives}
 use Rattle.grant_tracks.proofs.Gathered.{any_over, any_left}
 use Rattle.grant_history.proofs.gifts.add_all.Goals as goal
 

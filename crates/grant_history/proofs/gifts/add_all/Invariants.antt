@@ -1,6 +1,6 @@
 use Rattle.std.proofs.Common.{◌≡◌, ◌||◌, ℕ, List, drop}
 use Rattle.std.specs.List.{list_any}
-use Rattle.grant_history.specs.Gifts.{gifts_have, held_gives}
+use Rattle.grant_history.specs.inner.Gifts.{gifts_have, held_gives}
 use Rattle.grant_history.proofs.gifts.add_all.Given as goal
 
 -- what is there so far with what is left is all

@@ -1,7 +1,7 @@
 use Rattle.std.proofs.Common.{◌∙◌, ◌||◌, ◌&&◌, ap, Bool, List}
 use Rattle.grant_tracks.specs.declared.things.What.TheVariants as what
 use Rattle.grant_tracks.specs.declared.held.Held.{Held}
-use Rattle.grant_history.specs.Gifts.{gifts_have}
+use Rattle.grant_history.specs.inner.Gifts.{gifts_have}
 use Rattle.grant_tracks.specs.Holdings.{held_in}
 use Rattle.grant_tracks.specs.Reads.{channel_among}
 use Rattle.grant_tracks.specs.Tracks.{held_at}

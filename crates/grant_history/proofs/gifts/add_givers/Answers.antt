@@ -1,5 +1,5 @@
 use Rattle.std.proofs.Common.{◌∙◌, arith}
-use Rattle.grant_history.specs.Givers.{giver_has}
+use Rattle.grant_history.specs.inner.Givers.{giver_has}
 use Rattle.grant_tracks.proofs.Gathered.{any_over, any_left}
 use Rattle.grant_history.proofs.gifts.add_givers.Goals as goal
 

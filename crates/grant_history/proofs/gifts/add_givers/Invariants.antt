@@ -1,7 +1,7 @@
 use Rattle.std.proofs.Common.{◌≡◌, ◌||◌, ℕ, List, drop}
 use Rattle.std.specs.List.{list_any}
-use Rattle.grant_history.specs.Gifts.{gifts_have}
-use Rattle.grant_history.specs.Givers.{giver_has}
+use Rattle.grant_history.specs.inner.Gifts.{gifts_have}
+use Rattle.grant_history.specs.inner.Givers.{giver_has}
 use Rattle.grant_history.proofs.gifts.add_givers.Given as goal
 
 -- what is there so far with what is left is all

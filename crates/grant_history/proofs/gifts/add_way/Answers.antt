@@ -1,7 +1,7 @@
 use Rattle.std.proofs.Common.{◌∙◌, ap, Bool, List, ◌&&◌, ◌||◌}
 use Rattle.std.specs.Str.{bytes_eq}
 use Rattle.grant_tracks.specs.declared.spells.Spell.{Spell}
-use Rattle.grant_history.specs.Gifts.{gifts_have}
+use Rattle.grant_history.specs.inner.Gifts.{gifts_have}
 use Rattle.grant_tracks.specs.Spells.{spells_have}
 use Rattle.grant_tracks.proofs.Tracked.{on_ok}
 use Rattle.grant_history.proofs.gifts.add_way.Goals as goal

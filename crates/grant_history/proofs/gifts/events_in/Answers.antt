@@ -1,6 +1,6 @@
 use Rattle.std.proofs.Common.{◌≡◌, ◌∙◌, rules, false, ℕ}
 use Rattle.std.proofs.lemmas.Result.{IfOk-weaker}
-use Rattle.grant_history.specs.Gifts.{gifts_have}
+use Rattle.grant_history.specs.inner.Gifts.{gifts_have}
 use Rattle.grant_history.proofs.gifts.events_in.Goals as goal
 
 pub returns-in-None : goal.returns-in-None

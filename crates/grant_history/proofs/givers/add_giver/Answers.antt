@@ -1,6 +1,6 @@
 use Rattle.std.proofs.Common.{refl, Bool, ◌&&◌, ap}
 use Rattle.grant_history.specs.declared.givers.Giver.{Giver}
-use Rattle.grant_history.specs.Givers.{giver_has}
+use Rattle.grant_history.specs.inner.Givers.{giver_has}
 use Rattle.grant_tracks.specs.Reads.{gives_channel}
 use Rattle.grant_tracks.specs.Tracks.{held_at}
 use Rattle.grant_history.proofs.Gifting.{given_more, given_same}

@@ -1,6 +1,6 @@
 use Rattle.std.proofs.Common.{◌∙◌, ◌&&◌, arith}
 use Rattle.grant_tracks.specs.declared.held.Held.{Held}
-use Rattle.grant_history.specs.Givers.{giver_has}
+use Rattle.grant_history.specs.inner.Givers.{giver_has}
 use Rattle.grant_tracks.specs.Reads.{gives_channel}
 use Rattle.grant_tracks.specs.Tracks.{held_at}
 use Rattle.grant_tracks.proofs.Cutting.{moves_over, none_over}

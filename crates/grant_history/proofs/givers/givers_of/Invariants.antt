@@ -1,6 +1,6 @@
 use Rattle.std.proofs.Common.{◌≡◌, ◌||◌, ℕ, List, drop}
 use Rattle.std.specs.List.{list_any}
-use Rattle.grant_history.specs.Givers.{giver_has}
+use Rattle.grant_history.specs.inner.Givers.{giver_has}
 use Rattle.grant_tracks.specs.Reads.{by_roles}
 use Rattle.grant_history.proofs.givers.givers_of.Given as goal
 

@@ -5,7 +5,7 @@ use Rattle.sg_history.specs.History.{past, as_write}
 use Rattle.sg_history.specs.Current.{current}
 use Rattle.sg_history.specs.Principals.{as_put}
 use Rattle.grant_history.specs.declared.facts.Fact.{Fact}
-use Rattle.grant_history.specs.Changes.{IsMarking}
+use Rattle.grant_history.specs.inner.Changes.{IsMarking}
 use Rattle.grant_history.specs.Facts.{document_facts}
 use Rattle.grant_history.specs.Ledger.{document, IsStep}
 use Rattle.grant_history.specs.NewStates.{by_marks}

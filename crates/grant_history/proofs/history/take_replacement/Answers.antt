@@ -1,6 +1,6 @@
 use Rattle.std.proofs.Common.{◌≡◌, ◌∙◌, sym, subst, List}
 use Rattle.grant_history.specs.declared.states.NewState.{NewState}
-use Rattle.grant_history.specs.Changes.{IsMarking}
+use Rattle.grant_history.specs.inner.Changes.{IsMarking}
 use Rattle.grant_history.specs.NewStates.{by_marks}
 use Rattle.grant_tracks.proofs.Tracked.{on_ok}
 use Rattle.grant_history.proofs.history.take_replacement.Goals as goal

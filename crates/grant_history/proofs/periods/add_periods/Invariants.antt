@@ -1,5 +1,5 @@
 use Rattle.std.proofs.Common.{take}
-use Rattle.grant_history.specs.Gifts.{has_at_by}
+use Rattle.grant_history.specs.inner.Gifts.{has_at_by}
 use Rattle.grant_history.specs.Periods.{AreSoFar, names_of}
 use Rattle.grant_history.proofs.periods.add_periods.Given as goal
 

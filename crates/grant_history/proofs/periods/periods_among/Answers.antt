@@ -6,7 +6,7 @@ use Rattle.sg_history.specs.Principals.{everyone}
 use Rattle.grant_tracks.specs.declared.things.What.TheVariants as what
 use Rattle.grant_history.specs.declared.givers.Giver.{Giver}
 use Rattle.grant_tracks.specs.declared.held.Held.{Held}
-use Rattle.grant_history.specs.Givers.{giver_has}
+use Rattle.grant_history.specs.inner.Givers.{giver_has}
 use Rattle.grant_tracks.specs.Holdings.{held_in}
 use Rattle.grant_history.specs.Periods.{names_of}
 use Rattle.grant_tracks.specs.Reads.{by_roles, channel_among}

@@ -3,7 +3,7 @@ use Rattle.std.specs.Prelude.{slice_get}
 use Rattle.std.proofs.lemmas.Option.{slice_get-get_or}
 use Rattle.sg_history.specs.declared.entries.Entry.{Entry}
 use Rattle.sg_history.specs.History.{as_sync, as_write, past}
-use Rattle.grant_history.specs.MoreStates.{IsOneMore}
+use Rattle.grant_history.specs.inner.MoreStates.{IsOneMore}
 use Rattle.grant_history.specs.NewStates.{AreNewStates, state_written, states_marked}
 use Rattle.grant_history.proofs.Applied.{past_next}
 use Rattle.grant_history.proofs.Winning.{more_states}

@@ -1,6 +1,6 @@
 use Rattle.std.proofs.Common.{◌≡◌}
 use Rattle.sg_history.specs.History.{past}
-use Rattle.grant_history.specs.MoreStates.{HasNoneAbove}
+use Rattle.grant_history.specs.inner.MoreStates.{HasNoneAbove}
 use Rattle.grant_history.specs.NewStates.{AreNewStates}
 use Rattle.grant_history.proofs.states.add_all_states.Given as goal
 

@@ -4,7 +4,7 @@ use Rattle.std.proofs.lemmas.Option.{slice_get-get_or}
 use Rattle.sg_history.specs.declared.entries.Entry.{Entry}
 use Rattle.sg_history.specs.declared.entries.Mark.{Mark}
 use Rattle.sg_history.specs.History.{as_write, past}
-use Rattle.grant_history.specs.Changes.{IsMarking}
+use Rattle.grant_history.specs.inner.Changes.{IsMarking}
 use Rattle.grant_tracks.proofs.Tracked.{on_ok}
 use Rattle.grant_history.proofs.Applied.{no_sync, no_write}
 use Rattle.grant_history.proofs.Winning.{state_of_write, marking_at, place_at, write_step_at, kept_after}

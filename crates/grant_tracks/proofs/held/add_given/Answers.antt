@@ -1,7 +1,7 @@
 use Rattle.std.proofs.Common.{◌∙◌, sym}
 use Rattle.std.specs.Prelude.{nat_eq}
 use Rattle.grant_tracks.specs.Listed.{is_in}
-use Rattle.grant_tracks.specs.Passing.{is_given_at}
+use Rattle.grant_tracks.specs.inner.Passing.{is_given_at}
 use Rattle.grant_tracks.proofs.Gathered.{one_put, none_put}
 use Rattle.grant_tracks.proofs.held.add_given.Goals as goal
 

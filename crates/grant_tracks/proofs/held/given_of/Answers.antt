@@ -1,7 +1,7 @@
 use Rattle.std.proofs.Common.{◌∙◌, ◌&&◌, arith, ℕ, get_or}
 use Rattle.std.specs.Prelude.{nat_eq}
 use Rattle.std.proofs.lemmas.List.{get_or_default}
-use Rattle.grant_tracks.specs.Passing.{is_given_at}
+use Rattle.grant_tracks.specs.inner.Passing.{is_given_at}
 use Rattle.grant_tracks.proofs.Cutting.{moves_over, none_over}
 use Rattle.grant_tracks.proofs.held.given_of.Goals as goal
 

@@ -1,6 +1,6 @@
 use Rattle.std.proofs.Common.{◌≡◌, ◌||◌, ℕ, drop}
 use Rattle.grant_tracks.specs.Listed.{is_in}
-use Rattle.grant_tracks.specs.Passing.{given_in}
+use Rattle.grant_tracks.specs.inner.Passing.{given_in}
 use Rattle.grant_tracks.proofs.held.given_of.Given as goal
 
 -- what is there so far with what is left is all

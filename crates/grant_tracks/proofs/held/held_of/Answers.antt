@@ -2,7 +2,7 @@ use Rattle.std.proofs.Common.{◌∙◌, arith, get_or}
 use Rattle.std.specs.Borrow.{Bor}
 use Rattle.std.proofs.lemmas.List.{get_or_default}
 use Rattle.grant_tracks.specs.declared.held.Held.{Held}
-use Rattle.grant_tracks.specs.Passing.{passes_at}
+use Rattle.grant_tracks.specs.inner.Passing.{passes_at}
 use Rattle.grant_tracks.proofs.Cutting.{moves_over, none_over}
 use Rattle.grant_tracks.proofs.held.held_of.Goals as goal
 

@@ -1,7 +1,7 @@
 use Rattle.std.proofs.Common.{◌≡◌, ◌||◌, Bool, drop}
 use Rattle.std.specs.List.{list_any}
 use Rattle.grant_tracks.specs.declared.held.Held.{Held}
-use Rattle.grant_tracks.specs.Passing.{passes_at}
+use Rattle.grant_tracks.specs.inner.Passing.{passes_at}
 use Rattle.grant_tracks.proofs.held.held_of.Given as goal
 
 -- what is there so far with what is left is all

@@ -2,7 +2,7 @@ use Rattle.std.proofs.Common.{◌∙◌, sym, ap, Bool, ◌&&◌, Option}
 use Rattle.std.specs.Borrow.{Bor}
 use Rattle.std.specs.Option.{option_copied}
 use Rattle.grant_tracks.specs.declared.held.Held.{Held}
-use Rattle.grant_tracks.specs.Passing.{passes}
+use Rattle.grant_tracks.specs.inner.Passing.{passes}
 use Rattle.grant_tracks.proofs.Picking.{got}
 use Rattle.grant_tracks.proofs.held.held_one.Goals as goal
 

@@ -2,7 +2,7 @@ use Rattle.std.proofs.Common.{◌∙◌, sym, ap, Option}
 use Rattle.std.specs.Borrow.{Bor}
 use Rattle.std.specs.Option.{option_copied}
 use Rattle.grant_tracks.specs.declared.held.Held.{Held}
-use Rattle.grant_tracks.specs.Passing.{is_given}
+use Rattle.grant_tracks.specs.inner.Passing.{is_given}
 use Rattle.grant_tracks.proofs.Picking.{got}
 use Rattle.grant_tracks.proofs.held.is_given.Goals as goal
 

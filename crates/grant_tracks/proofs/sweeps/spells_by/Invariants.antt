@@ -1,5 +1,5 @@
 use Rattle.std.proofs.Common.{◌≡◌, ◌≤◌, ◌+◌, ℕ, drop, false}
-use Rattle.grant_tracks.specs.Cuts.{is_cut}
+use Rattle.grant_tracks.specs.inner.Cuts.{is_cut}
 use Rattle.grant_tracks.specs.Spells.{Swept}
 use Rattle.grant_tracks.specs.Ways.{ways_have}
 use Rattle.grant_tracks.proofs.sweeps.spells_by.Given as goal

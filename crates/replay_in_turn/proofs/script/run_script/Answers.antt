@@ -2,7 +2,7 @@ use Rattle.std.proofs.Common.{◌≡◌, ◌++◌, ◌∷◌, [], ◌∙◌, Lis
 use Rattle.std.proofs.lemmas.List.{append_assoc, length-append, nil_from_length}
 use Rattle.principals.specs.declared.admin_line.AdminLine.{AdminLine}
 use Rattle.principals.specs.Script.{AreLines}
-use Rattle.replay_in_turn.specs.Shape.{IsScriptRun}
+use Rattle.replay_in_turn.specs.inner.Shape.{IsScriptRun}
 use Rattle.replay_in_turn.proofs.Lines.{script_more}
 use Rattle.replay_in_turn.proofs.script.run_script.Goals as goal
 

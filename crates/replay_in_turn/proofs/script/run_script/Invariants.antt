@@ -1,7 +1,7 @@
 use Rattle.std.proofs.Common.{◌≡◌, ◌+◌, ◌++◌, length}
 use Rattle.principals.specs.Script.{AreLines}
 use Rattle.session_threads.specs.Opened.{HasOwnLog}
-use Rattle.replay_in_turn.specs.Shape.{IsScriptRun}
+use Rattle.replay_in_turn.specs.inner.Shape.{IsScriptRun}
 use Rattle.replay_in_turn.proofs.script.run_script.Given as goal
 
 abbrev pub invariant-loop-line : goal.invariant-loop-line

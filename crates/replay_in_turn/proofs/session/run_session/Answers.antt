@@ -2,7 +2,7 @@ use Rattle.std.specs.Arc.{arc_value}
 use Rattle.std.proofs.lemmas.Result.{IfOk-weaker}
 use Rattle.write_path.specs.Solo.{Solo}
 use Rattle.replay_in_turn.specs.Sessions.{moment_of}
-use Rattle.replay_in_turn.specs.Shape.{IsServedTo, IsSessionRun}
+use Rattle.replay_in_turn.specs.inner.Shape.{IsServedTo, IsSessionRun}
 use Rattle.replay_in_turn.proofs.Served.{session_is}
 use Rattle.replay_in_turn.proofs.session.run_session.Goals as goal
 

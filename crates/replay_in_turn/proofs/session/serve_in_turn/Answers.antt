@@ -3,7 +3,7 @@ use Rattle.std.proofs.lemmas.List.{append_assoc, length-append, nil_from_length}
 use Rattle.std.specs.Arc.{arc_value}
 use Rattle.record_file.specs.declared.record.Recorded.{Recorded}
 use Rattle.replay_in_turn.specs.Sessions.{moment_of}
-use Rattle.replay_in_turn.specs.Shape.{AreSessionsRun}
+use Rattle.replay_in_turn.specs.inner.Shape.{AreSessionsRun}
 use Rattle.replay_in_turn.proofs.Runs.{no_sessions, sessions_more}
 use Rattle.replay_in_turn.proofs.session.serve_in_turn.Goals as goal
 

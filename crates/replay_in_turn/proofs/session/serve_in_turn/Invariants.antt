@@ -1,7 +1,7 @@
 use Rattle.std.proofs.Common.{◌≡◌, ◌+◌, ◌++◌, length}
 use Rattle.std.specs.Arc.{arc_value}
 use Rattle.replay_in_turn.specs.Sessions.{moment_of}
-use Rattle.replay_in_turn.specs.Shape.{AreSessionsRun}
+use Rattle.replay_in_turn.specs.inner.Shape.{AreSessionsRun}
 use Rattle.replay_in_turn.proofs.session.serve_in_turn.Given as goal
 
 abbrev pub invariant-loop-recorded : goal.invariant-loop-recorded

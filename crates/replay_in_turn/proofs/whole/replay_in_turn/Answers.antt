@@ -1,7 +1,7 @@
 use Rattle.std.proofs.Common.{List, ℕ, subst}
 use Rattle.std.specs.Prelude.{not}
 use Rattle.std.specs.Arc.{arc_value}
-use Rattle.replay_in_turn.specs.Shape.{IsReplayBy}
+use Rattle.replay_in_turn.specs.inner.Shape.{IsReplayBy}
 use Rattle.replay_in_turn.proofs.FinalLog.{is_replay}
 use Rattle.replay_in_turn.proofs.whole.replay_in_turn.Goals as goal
 

@@ -8,7 +8,7 @@ use Rattle.sg_history.specs.Journal.{journal_text}
 use Rattle.doc_board.specs.State.{State}
 use Rattle.write_path.specs.Own.{EndsWith}
 use Rattle.write_path.specs.Reads.{IsLaterThanAll}
-use Rattle.replay_in_turn.specs.Shape.{AreServed}
+use Rattle.replay_in_turn.specs.inner.Shape.{AreServed}
 use Rattle.replay_in_turn.proofs.whole.serve_all.Goals as goal
 
 pub returns : goal.returns

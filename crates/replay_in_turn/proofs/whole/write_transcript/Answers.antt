@@ -2,7 +2,7 @@ use Rattle.std.proofs.Common.{subst}
 use Rattle.std.specs.Arc.{arc_value}
 use Rattle.std.proofs.lemmas.Result.{on_ok_weaker}
 use Rattle.sync_syntax.specs.declared.tree.Program.{Program}
-use Rattle.replay_in_turn.specs.Shape.{AreServed, IsReplayBy, IsScripted}
+use Rattle.replay_in_turn.specs.inner.Shape.{AreServed, IsReplayBy, IsScripted}
 use Rattle.replay_in_turn.proofs.whole.write_transcript.Goals as goal
 
 pub returns-in-Ok : goal.returns-in-Ok

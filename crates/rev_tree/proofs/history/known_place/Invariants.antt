@@ -1,5 +1,5 @@
 use Rattle.std.proofs.Common.{◌≡◌, ◌+◌, drop}
-use Rattle.rev_tree.specs.Search.{known_place}
+use Rattle.rev_tree.specs.inner.Search.{known_place}
 use Rattle.rev_tree.proofs.history.known_place.Given as goal
 
 abbrev pub invariant-loop-i : goal.invariant-loop-i

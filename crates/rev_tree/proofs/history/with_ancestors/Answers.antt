@@ -1,6 +1,6 @@
 use Rattle.std.proofs.Common.{◌≡◌, ◌+◌, ◌-◌, ◌<◌, ◌∷◌, [], true, false, arith, take, drop, length, length-drop, sym, ◌∙◌}
 use Rattle.rev_tree.specs.Tree.{knows}
-use Rattle.rev_tree.specs.Search.{known_place}
+use Rattle.rev_tree.specs.inner.Search.{known_place}
 use Rattle.rev_tree.specs.Extension.{falls, added, with_nodes}
 use Rattle.rev_tree.proofs.Joins.{whole}
 use Rattle.rev_tree.proofs.Places.{unknown_at, none_added, falls_drop}

@@ -1,7 +1,7 @@
 use Rattle.std.proofs.Common.{◌≡◌, ◌+◌, ◌-◌, not, ◌&&◌, sym, arith, None}
 use Rattle.rev_tree.specs.declared.tree.Node.{Node}
 use Rattle.rev_tree.specs.Rising.{last_alive}
-use Rattle.rev_tree.specs.Parts.{joined}
+use Rattle.rev_tree.specs.inner.Parts.{joined}
 use Rattle.rev_tree.proofs.RowSteps.{last_some, last_none}
 use Rattle.rev_tree.proofs.row.last_alive_in.Goals as goal
 use Rattle.std.proofs.Common.{drop}

@@ -1,6 +1,6 @@
 use Rattle.std.proofs.Common.{◌≡◌, ◌-◌, ◌+◌, ◌∙◌, sym, arith}
 use Rattle.rev_tree.specs.Rising.{is_within}
-use Rattle.rev_tree.specs.Parts.{joined}
+use Rattle.rev_tree.specs.inner.Parts.{joined}
 use Rattle.rev_tree.proofs.RevOrder.{within_closed}
 use Rattle.rev_tree.proofs.Rises.{none_pass}
 use Rattle.rev_tree.proofs.Joins.{sound_at}

@@ -1,6 +1,6 @@
 use Rattle.std.proofs.Common.{◌≡◌, ◌≤◌, ◌+◌, ◌-◌, ℕ, true, false, length, drop}
 use Rattle.rev_tree.specs.Rising.{is_within, starts}
-use Rattle.rev_tree.specs.Parts.{joined}
+use Rattle.rev_tree.specs.inner.Parts.{joined}
 use Rattle.rev_tree.proofs.row.place_of.Given as goal
 
 abbrev pub invariant-loop-low : goal.invariant-loop-low

@@ -1,5 +1,5 @@
 use Rattle.std.proofs.Common.{length-append, append-nil, arith, refl}
-use Rattle.rev_tree.specs.Parts.{joined, are_sound}
+use Rattle.rev_tree.specs.inner.Parts.{joined, are_sound}
 use Rattle.rev_tree.proofs.Joins.{push_nodes, push_sound, and_true}
 use Rattle.rev_tree.proofs.row.push_all.Goals as goal
 

@@ -1,5 +1,5 @@
 use Rattle.std.proofs.Common.{◌≡◌, ◌++◌, ◌+◌, ◌&&◌, take, length}
-use Rattle.rev_tree.specs.Parts.{joined, are_sound}
+use Rattle.rev_tree.specs.inner.Parts.{joined, are_sound}
 use Rattle.rev_tree.proofs.row.push_all.Given as goal
 
 abbrev pub invariant-loop-part : goal.invariant-loop-part

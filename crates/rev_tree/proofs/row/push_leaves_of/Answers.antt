@@ -1,6 +1,6 @@
 use Rattle.std.proofs.Common.{◌≡◌, ◌++◌, ◌+◌, ◌-◌, arith, drop}
 use Rattle.rev_tree.specs.Rising.{falling}
-use Rattle.rev_tree.specs.Parts.{joined}
+use Rattle.rev_tree.specs.inner.Parts.{joined}
 use Rattle.rev_tree.proofs.RowSteps.{leaves_step}
 use Rattle.rev_tree.proofs.row.push_leaves_of.Goals as goal
 

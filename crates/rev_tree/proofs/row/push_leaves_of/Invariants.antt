@@ -1,6 +1,6 @@
 use Rattle.std.proofs.Common.{◌≡◌, ◌++◌, drop}
 use Rattle.rev_tree.specs.Rising.{falling}
-use Rattle.rev_tree.specs.Parts.{joined}
+use Rattle.rev_tree.specs.inner.Parts.{joined}
 use Rattle.rev_tree.proofs.row.push_leaves_of.Given as goal
 
 abbrev pub invariant-loop-i : goal.invariant-loop-i

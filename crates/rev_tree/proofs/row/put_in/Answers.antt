@@ -2,7 +2,7 @@ use Rattle.std.proofs.Common.{◌≡◌, ◌∙◌, ◌+◌, ◌<◌, ◌++◌, 
 use Rattle.std.specs.Arc.{arc_value}
 use Rattle.rev_tree.specs.declared.tree.Node.{Node}
 use Rattle.rev_tree.specs.Rising.{insert_node}
-use Rattle.rev_tree.specs.Parts.{joined, AreParts}
+use Rattle.rev_tree.specs.inner.Parts.{joined, AreParts}
 use Rattle.rev_tree.proofs.Joins.{sound_at}
 use Rattle.rev_tree.proofs.RowSteps.{unknown_in, put_part}
 use Rattle.rev_tree.proofs.row.put_in.Goals as goal

@@ -1,6 +1,6 @@
 use Rattle.std.proofs.Common.{◌≡◌, ◌-◌, ◌/◌, length, length-drop, take, drop, arith}
 use Rattle.rev_tree.specs.declared.row.Row.{Row}
-use Rattle.rev_tree.specs.Parts.{joined, is_row}
+use Rattle.rev_tree.specs.inner.Parts.{joined, is_row}
 use Rattle.rev_tree.proofs.Rises.{rises_left, rises_right}
 use Rattle.rev_tree.proofs.Joins.{sound_parts, halves, whole, two_hold}
 use Rattle.rev_tree.proofs.row.rows_of.Goals as goal

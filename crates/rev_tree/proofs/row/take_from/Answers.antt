@@ -1,7 +1,7 @@
 use Rattle.std.proofs.Common.{◌≡◌, ◌+◌, ◌-◌, ◌++◌, sym, subst, arith, take, drop, List, IfOk}
 use Rattle.rev_tree.specs.declared.tree.Node.{Node}
 use Rattle.rev_tree.specs.Rising.{without}
-use Rattle.rev_tree.specs.Parts.{joined, AreParts}
+use Rattle.rev_tree.specs.inner.Parts.{joined, AreParts}
 use Rattle.rev_tree.proofs.Joins.{sound_at}
 use Rattle.rev_tree.proofs.Rises.{none_taken}
 use Rattle.rev_tree.proofs.RowSteps.{take_part}

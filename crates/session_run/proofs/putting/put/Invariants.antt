@@ -1,7 +1,7 @@
 use Rattle.std.proofs.Common.{◌≡◌, ◌+◌, length}
 use Rattle.std.specs.Vec.Iter.{into_iter_items, into_iter_len}
 use Rattle.session_core.specs.Conduct.{requests_among}
-use Rattle.session_run.specs.Putting.{MayPutAll, put_all}
+use Rattle.session_run.specs.inner.Putting.{MayPutAll, put_all}
 use Rattle.session_run.proofs.putting.put.Given as goal
 
 abbrev pub invariant-loop-act : goal.invariant-loop-act

@@ -3,7 +3,7 @@ use Rattle.session_core.specs.Conduct.{feed_front}
 use Rattle.session_core.specs.State.{Machine}
 use Rattle.session_run.specs.declared.ended.End.TheVariants as end
 use Rattle.session_run.specs.declared.session.Session.{Session}
-use Rattle.session_run.specs.Held.{Runs, RunsOn}
+use Rattle.session_run.specs.inner.Held.{Runs, RunsOn}
 use Rattle.session_run.specs.Served.{IsServed}
 use Rattle.session_run.specs.Spent.{Draws}
 use Rattle.session_run.proofs.Ending.{run_ends, runs_new}

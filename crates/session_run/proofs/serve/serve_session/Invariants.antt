@@ -1,7 +1,7 @@
 use Rattle.std.proofs.Common.{◌≤◌, ◌*◌}
 use Rattle.session_core.specs.Conduct.{feed_front}
 use Rattle.session_core.specs.State.{most_puts}
-use Rattle.session_run.specs.Held.{IsAtRest, Runs}
+use Rattle.session_run.specs.inner.Held.{IsAtRest, Runs}
 use Rattle.session_run.specs.Spent.{Draws}
 use Rattle.session_run.proofs.serve.serve_session.Given as goal
 

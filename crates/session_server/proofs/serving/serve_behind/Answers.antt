@@ -5,8 +5,8 @@ use Rattle.sg_history.specs.Board.{BoardState}
 use Rattle.write_path.proofs.Crossing.{shelf_send}
 use Rattle.write_path.specs.Shelf.{shelf_state}
 use Rattle.session_threads.specs.Opening.{IsOpening}
-use Rattle.session_server.specs.Lines.{AreFresh, lines_in}
-use Rattle.session_server.specs.Runs.{Holds}
+use Rattle.session_server.specs.inner.Lines.{AreFresh, lines_in}
+use Rattle.session_server.specs.inner.Runs.{Holds}
 use Rattle.session_server.proofs.Crossing.{caller_send, left_send}
 use Rattle.session_server.proofs.Holding.{one_at_first}
 use Rattle.session_server.proofs.ServedCallers.{handed_on, served_all, serves, spent_is}

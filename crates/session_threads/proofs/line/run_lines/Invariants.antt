@@ -1,7 +1,7 @@
 use Rattle.std.proofs.Common.{◌≡◌, ◌≤◌, ◌+◌, ◌*◌, ◌++◌, length, vec_capacity}
 use Rattle.principals.specs.Script.{AreLines}
 use Rattle.session_run.specs.Answered.{moment}
-use Rattle.session_threads.specs.Runs.{AreLinesRun}
+use Rattle.session_threads.specs.inner.Runs.{AreLinesRun}
 use Rattle.session_threads.proofs.line.run_lines.Given as goal
 
 abbrev pub invariant-loop-line : goal.invariant-loop-line

@@ -1,7 +1,7 @@
 use Rattle.std.proofs.Common.{◌≡◌, ◌≤◌, ◌+◌, ◌++◌, length, vec_capacity}
 use Rattle.seq_gate.specs.Passes.{split_off}
 use Rattle.session_threads.specs.Pairs.{AllPairs}
-use Rattle.session_threads.specs.Runs.{IsLessBy}
+use Rattle.session_threads.specs.inner.Runs.{IsLessBy}
 use Rattle.session_threads.proofs.ready.jobs_of.Given as goal
 
 abbrev pub invariant-loop-one : goal.invariant-loop-one

@@ -1,7 +1,7 @@
 use Rattle.std.proofs.Common.{◌≡◌, ◌≤◌, ◌+◌, ◌++◌, length, vec_capacity}
 use Rattle.std.specs.Arc.{arc_value}
 use Rattle.session_threads.specs.Pairs.{AllPairs}
-use Rattle.session_threads.specs.Runs.{IsReadyFor}
+use Rattle.session_threads.specs.inner.Runs.{IsReadyFor}
 use Rattle.session_threads.proofs.ready.ready_all.Given as goal
 
 abbrev pub invariant-loop-session : goal.invariant-loop-session

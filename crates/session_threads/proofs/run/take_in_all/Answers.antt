@@ -3,7 +3,7 @@ use Rattle.std.proofs.lemmas.List.{append_assoc}
 use Rattle.seq_gate.specs.Passes.{joined}
 use Rattle.seq_gate.specs.declared.known.Known.{Known}
 use Rattle.session_threads.specs.Pairs.{AllOf}
-use Rattle.session_threads.specs.Runs.{joined_all}
+use Rattle.session_threads.specs.inner.Runs.{joined_all}
 use Rattle.session_threads.proofs.Pairs.{map_more, pairs_more}
 use Rattle.session_threads.proofs.Threading.{joined_more}
 use Rattle.session_threads.proofs.run.take_in_all.Goals as goal

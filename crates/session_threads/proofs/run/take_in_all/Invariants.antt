@@ -1,7 +1,7 @@
 use Rattle.std.proofs.Common.{◌≡◌, ◌≤◌, ◌+◌, ◌++◌, length, map, vec_capacity}
 use Rattle.write_path.specs.Shared.{Rests}
 use Rattle.session_threads.specs.Pairs.{AllOf, AllPairs}
-use Rattle.session_threads.specs.Runs.{joined_all}
+use Rattle.session_threads.specs.inner.Runs.{joined_all}
 use Rattle.session_threads.proofs.run.take_in_all.Given as goal
 
 abbrev pub invariant-loop-one : goal.invariant-loop-one

@@ -1,5 +1,5 @@
 use Rattle.std.proofs.Common.{◌≡◌, [], false, Some, None}
-use Rattle.sg_history.specs.Reading.{ran_out}
+use Rattle.sg_history.specs.inner.Reading.{ran_out}
 use Rattle.sg_history.specs.Rules.{first_broken}
 use Rattle.sg_history.proofs.BadLines.{found_line, stopped_line, said_lines}
 use Rattle.sg_history.proofs.journal.log_of.Goals as goal

@@ -1,5 +1,5 @@
 use Rattle.std.proofs.Common.{◌≤◌, ◌-◌, drop, length}
-use Rattle.sg_history.specs.Reading.{Reaches}
+use Rattle.sg_history.specs.inner.Reading.{Reaches}
 use Rattle.sg_history.proofs.line_reader.read_part.Given as goal
 
 abbrev pub invariant-lines : goal.invariant-lines

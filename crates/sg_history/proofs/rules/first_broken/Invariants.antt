@@ -1,6 +1,6 @@
 use Rattle.std.proofs.Common.{◌≡◌, ◌+◌, [], drop, reverse, take}
 use Rattle.sg_history.specs.Rules.{first_broken}
-use Rattle.sg_history.specs.Written.{Knows}
+use Rattle.sg_history.specs.inner.Written.{Knows}
 use Rattle.sg_history.proofs.rules.first_broken.Given as goal
 
 abbrev pub invariant-loop-i : goal.invariant-loop-i

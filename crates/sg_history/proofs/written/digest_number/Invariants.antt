@@ -1,5 +1,5 @@
 use Rattle.std.proofs.Common.{◌≡◌, drop}
-use Rattle.sg_history.specs.Written.{digest_number}
+use Rattle.sg_history.specs.inner.Written.{digest_number}
 use Rattle.sg_history.proofs.written.digest_number.Given as goal
 
 abbrev pub invariant-loop-byte : goal.invariant-loop-byte

@@ -1,5 +1,5 @@
 use Rattle.std.proofs.Common.{◌≡◌, [], length}
-use Rattle.sync_meaning.specs.Arguments.{texts, part, admits}
+use Rattle.sync_meaning.specs.inner.Arguments.{texts, part, admits}
 use Rattle.sync_meaning.specs.Builtins.{named_from}
 use Rattle.sync_meaning.proofs.arguments.named.Given as goal
 

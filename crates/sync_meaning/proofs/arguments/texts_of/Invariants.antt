@@ -1,5 +1,5 @@
 use Rattle.std.proofs.Common.{◌≡◌, [], length}
-use Rattle.sync_meaning.specs.Arguments.{texts}
+use Rattle.sync_meaning.specs.inner.Arguments.{texts}
 use Rattle.sync_meaning.specs.Builtins.{texts_from}
 use Rattle.sync_meaning.proofs.arguments.texts_of.Given as goal
 

@@ -1,4 +1,4 @@
-use Rattle.sync_meaning.specs.Arguments.{texts}
+use Rattle.sync_meaning.specs.inner.Arguments.{texts}
 use Rattle.sync_meaning.proofs.Calls.{found_in, grantees_failed, granted_failed, grants_done}
 use Rattle.sync_meaning.proofs.builtin.access.Goals as goal
 

@@ -1,4 +1,4 @@
-use Rattle.sync_meaning.specs.Arguments.{texts}
+use Rattle.sync_meaning.specs.inner.Arguments.{texts}
 use Rattle.sync_meaning.specs.Builtins.{all_channels}
 use Rattle.std.proofs.Common.{[]}
 use Rattle.sync_meaning.proofs.Calls.{found_in, channels_failed, channels_done}

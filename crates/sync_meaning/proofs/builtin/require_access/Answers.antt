@@ -1,5 +1,5 @@
 use Rattle.std.proofs.Common.{◌∙◌, ap}
-use Rattle.sync_meaning.specs.Arguments.{texts}
+use Rattle.sync_meaning.specs.inner.Arguments.{texts}
 use Rattle.sync_meaning.specs.Builtins.{passes_access}
 use Rattle.sync_meaning.proofs.Calls.{access_failed, access_done}
 use Rattle.sync_meaning.proofs.builtin.require_access.Goals as goal

@@ -1,5 +1,5 @@
 use Rattle.std.proofs.Common.{◌∙◌, ap}
-use Rattle.sync_meaning.specs.Arguments.{texts}
+use Rattle.sync_meaning.specs.inner.Arguments.{texts}
 use Rattle.sync_meaning.specs.Builtins.{passes_user}
 use Rattle.sync_meaning.proofs.Calls.{user_failed, user_done}
 use Rattle.sync_meaning.proofs.builtin.require_user.Goals as goal

@@ -1,4 +1,4 @@
-use Rattle.sync_meaning.specs.Arguments.{texts}
+use Rattle.sync_meaning.specs.inner.Arguments.{texts}
 use Rattle.sync_meaning.proofs.Calls.{found_in, role_users_failed, given_failed, roles_done}
 use Rattle.sync_meaning.proofs.builtin.role.Goals as goal
 

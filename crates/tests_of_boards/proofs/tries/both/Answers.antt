@@ -2,7 +2,7 @@ use Rattle.std.proofs.Common.{arith, subst}
 use Rattle.doc_board.specs.State.{State}
 use Rattle.board_steps.specs.declared.retry.Retried.{Retried}
 use Rattle.board_steps.specs.declared.retry.Retried.TheVariants.{Answered}
-use Rattle.tests_of_boards.specs.Again.{Leaves}
+use Rattle.tests_of_boards.specs.inner.Again.{Leaves}
 use Rattle.tests_of_boards.proofs.Again.{others_free}
 use Rattle.tests_of_boards.proofs.tries.both.Goals as goal
 

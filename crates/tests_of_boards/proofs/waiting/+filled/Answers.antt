@@ -2,7 +2,7 @@ use Rattle.std.proofs.Common.{◌∙◌, None, List, refl, sym, subst, arith}
 use Rattle.sg_history.specs.declared.entries.Entry.TheVariants.{Unused}
 use Rattle.sg_history.specs.declared.room.RoomFor.{RoomFor}
 use Rattle.doc_board.specs.Rooms.{room_for}
-use Rattle.tests_of_boards.specs.Frees.{AreAlike}
+use Rattle.tests_of_boards.specs.inner.Frees.{AreAlike}
 use Rattle.tests_of_boards.proofs.Frees.{as_free, left_again, one_more_alike, stays_by}
 use Rattle.tests_of_boards.proofs.waiting.+filled.Goals as goal
 

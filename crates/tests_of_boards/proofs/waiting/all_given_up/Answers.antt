@@ -1,7 +1,7 @@
 use Rattle.std.proofs.Common.{◌+◌, ◌∙◌, None, List, sym, subst, arith}
 use Rattle.sg_history.specs.declared.room.RoomFor.{RoomFor}
 use Rattle.doc_board.specs.Rooms.{room_for}
-use Rattle.tests_of_boards.specs.Frees.{AreAlike}
+use Rattle.tests_of_boards.specs.inner.Frees.{AreAlike}
 use Rattle.tests_of_boards.proofs.waiting.all_given_up.Goals as goal
 
 pub loop-i-init : goal.loop-i-init

@@ -1,5 +1,5 @@
 use Rattle.std.proofs.Common.{◌≡◌, ◌+◌}
-use Rattle.tests_of_boards.specs.Frees.{AreFree, StaysBelow}
+use Rattle.tests_of_boards.specs.inner.Frees.{AreFree, StaysBelow}
 use Rattle.tests_of_boards.proofs.waiting.all_given_up.Given as goal
 
 abbrev pub invariant-loop-i : goal.invariant-loop-i

@@ -1,6 +1,6 @@
 use Rattle.std.proofs.Common.{◌≡◌, ◌≤◌, ◌+◌}
 use Rattle.seq_gate.specs.Passes.{share}
-use Rattle.tests_of_history.specs.Passes.{HoldsNothing}
+use Rattle.tests_of_history.specs.inner.Passes.{HoldsNothing}
 use Rattle.tests_of_history.proofs.threads.store_all.Given as goal
 
 abbrev pub invariant-loop-number : goal.invariant-loop-number

@@ -1,7 +1,7 @@
 use Rattle.std.proofs.Common.{◌<◌, ℕ, sym, subst}
 use Rattle.sg_history.specs.Board.{BoardState, board_book}
 use Rattle.seq_gate.specs.Passes.{IsAboveBook}
-use Rattle.tests_of_history.specs.Boards.{CanStore}
+use Rattle.tests_of_history.specs.inner.Boards.{CanStore}
 use Rattle.tests_of_history.proofs.Drawn.{drawn_can}
 use Rattle.tests_of_history.proofs.turns.store_new.Goals as goal
 

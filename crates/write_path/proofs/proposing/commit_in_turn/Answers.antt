@@ -7,7 +7,7 @@ use Rattle.seq_gate.specs.declared.known.Known.{Known}
 use Rattle.doc_board.specs.Boards.{board_of}
 use Rattle.doc_board.specs.State.{State}
 use Rattle.write_path.specs.Shelf.{Shelved, shelf_state}
-use Rattle.write_path.specs.Turns.{IsCommitted, IsOvertakenAt}
+use Rattle.write_path.specs.inner.Turns.{IsCommitted, IsOvertakenAt}
 use Rattle.write_path.proofs.Committing.{accepted_here, committed, may_leave_tried, overtaken_at}
 use Rattle.write_path.proofs.Sharing.{knows_in, may_in}
 use Rattle.write_path.proofs.Turning.{may_store, room_out, times_one}

@@ -15,7 +15,7 @@ use Rattle.doc_board.specs.State.{State}
 use Rattle.board_steps.specs.declared.accepted.Accepted.{Accepted}
 use Rattle.board_steps.specs.Accepted.{IsAcceptedBy}
 use Rattle.board_steps.specs.Retry.{IsTurnedDown}
-use Rattle.write_path.specs.Turns.{IsAcceptedFor, IsCommitted, IsProposedInTurns, IsRoomLeft, IsRoomedTurn}
+use Rattle.write_path.specs.inner.Turns.{IsAcceptedFor, IsCommitted, IsProposedInTurns, IsRoomLeft, IsRoomedTurn}
 use Rattle.write_path.proofs.ProposalTurns.{accepted_for, all_turns, down_first, room_refused, room_there}
 use Rattle.write_path.proofs.proposing.propose_in_turns.Goals as goal
 

@@ -4,7 +4,7 @@ use Rattle.seq_gate.specs.declared.known.Known.{Known}
 use Rattle.doc_board.specs.Boards.{board_of}
 use Rattle.doc_board.specs.State.{State}
 use Rattle.write_path.specs.Shelf.{Shelved}
-use Rattle.write_path.specs.Turns.{IsCommitted, IsOvertakenAt}
+use Rattle.write_path.specs.inner.Turns.{IsCommitted, IsOvertakenAt}
 use Rattle.write_path.proofs.Committing.{apart_at, base_at, committed_at, fits_at, fresh_at, may_leave_at, out_at, ready_at, spent_at}
 use Rattle.write_path.proofs.Sharing.{knows_in, may_in}
 use Rattle.write_path.proofs.proposing.swap_in_turn.Goals as goal

@@ -12,7 +12,7 @@ use Rattle.doc_board.specs.Boards.{board_of}
 use Rattle.doc_board.specs.Limits.{IsRefusedBy, refusal}
 use Rattle.doc_board.specs.Rooms.{room_for}
 use Rattle.write_path.specs.Commands.{Commands}
-use Rattle.write_path.specs.Turns.{IsRoomLeft, IsRoomedTurn, IsStoreTurn}
+use Rattle.write_path.specs.inner.Turns.{IsRoomLeft, IsRoomedTurn, IsStoreTurn}
 use Rattle.write_path.proofs.Commanding.{command_refused, command_stored}
 use Rattle.write_path.proofs.ProposalTurns.{room_there}
 use Rattle.write_path.proofs.storing.command_in_turns.Goals as goal

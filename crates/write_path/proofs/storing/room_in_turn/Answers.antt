@@ -12,7 +12,7 @@ use Rattle.doc_board.specs.Limits.{IsRefusedBy, refusal}
 use Rattle.doc_board.specs.Rooms.{room_for}
 use Rattle.doc_board.specs.State.{State}
 use Rattle.write_path.specs.Shelf.{Shelved, shelf_state}
-use Rattle.write_path.specs.Turns.{IsRoomTurn}
+use Rattle.write_path.specs.inner.Turns.{IsRoomTurn}
 use Rattle.write_path.proofs.Sharing.{knows_in, may_in}
 use Rattle.write_path.proofs.Turning.{made_room, may_leave_room}
 use Rattle.write_path.proofs.storing.room_in_turn.Goals as goal

@@ -8,7 +8,7 @@ use Rattle.doc_board.specs.Boards.{board_of}
 use Rattle.doc_board.specs.declared.candidate.Candidate.TheVariants as candidate
 use Rattle.doc_board.specs.State.{State}
 use Rattle.write_path.specs.Shelf.{Shelved, shelf_state}
-use Rattle.write_path.specs.Turns.{IsStoreTurn}
+use Rattle.write_path.specs.inner.Turns.{IsStoreTurn}
 use Rattle.write_path.proofs.Sharing.{knows_in, may_in}
 use Rattle.write_path.proofs.Turning.{may_leave_stored, may_store, room_out, store_turn, times_one}
 use Rattle.write_path.proofs.storing.store_in_turn.Goals as goal

@@ -1,5 +1,5 @@
 use Rattle.std.proofs.Common.{◌+◌, ◌-◌, ◌≤◌, length}
-use Rattle.ws_door.specs.HeadReader.{HasRoom, Follows}
+use Rattle.ws_door.specs.inner.HeadReader.{HasRoom, Follows}
 use Rattle.ws_door.proofs.heads.read_head.Given as goal
 
 abbrev pub invariant-reads : goal.invariant-reads

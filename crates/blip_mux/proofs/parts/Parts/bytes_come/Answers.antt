@@ -1,5 +1,5 @@
 use Rattle.std.proofs.Common.{Some, ap, ◌∙◌}
-use Rattle.blip_mux.specs.Room.{bytes_come}
+use Rattle.blip_mux.specs.inner.Room.{bytes_come}
 use Rattle.blip_mux.proofs.Maps.{read}
 use Rattle.blip_mux.proofs.parts.Parts.bytes_come.Goals as goal
 

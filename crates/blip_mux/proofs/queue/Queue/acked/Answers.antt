@@ -1,7 +1,7 @@
 use Rattle.std.proofs.Common.{◌≤◌, List, ap, sym, subst, refl, ◌∙◌}
 use Rattle.std.specs.Prelude.{IfSome}
 use Rattle.blip_mux.specs.Sending.{Waiting, acked_of, acked_in}
-use Rattle.blip_mux.specs.Class.{class_of, stamp_at}
+use Rattle.blip_mux.specs.inner.Class.{class_of, stamp_at}
 use Rattle.blip_mux.proofs.Acked.{acked_is, within_sent}
 use Rattle.blip_mux.proofs.queue.Queue.acked.Goals as goal
 

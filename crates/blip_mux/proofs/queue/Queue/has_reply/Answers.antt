@@ -4,7 +4,7 @@ use Rattle.std.specs.List.{list_any}
 use Rattle.blip_frame.specs.declared.frame.Kind.TheVariants as kinds
 use Rattle.blip_mux.specs.declared.class.Class.TheVariants as classes
 use Rattle.blip_mux.specs.Sending.{Waiting, is_reply_to}
-use Rattle.blip_mux.specs.Class.{stamp_at}
+use Rattle.blip_mux.specs.inner.Class.{stamp_at}
 use Rattle.blip_mux.proofs.Acked.{any_is}
 use Rattle.blip_mux.proofs.queue.Queue.has_reply.Goals as goal
 

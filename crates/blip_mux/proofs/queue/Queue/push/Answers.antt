@@ -1,7 +1,7 @@
 use Rattle.std.proofs.Common.{List, ap, refl, ◌∙◌}
 use Rattle.std.specs.List.{list_any}
 use Rattle.blip_mux.specs.Sending.{Waiting, is_of}
-use Rattle.blip_mux.specs.Class.{class_of, stamp_at}
+use Rattle.blip_mux.specs.inner.Class.{class_of, stamp_at}
 use Rattle.blip_mux.proofs.Acked.{stands_nowhere}
 use Rattle.blip_mux.proofs.queue.Queue.push.Goals as goal
 

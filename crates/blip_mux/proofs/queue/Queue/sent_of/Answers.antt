@@ -1,7 +1,7 @@
 use Rattle.std.proofs.Common.{List, ap, refl, ◌∙◌}
 use Rattle.std.specs.Prelude.{option_map}
 use Rattle.blip_mux.specs.Sending.{Waiting, acked_of}
-use Rattle.blip_mux.specs.Class.{class_of, stamp_at}
+use Rattle.blip_mux.specs.inner.Class.{class_of, stamp_at}
 use Rattle.blip_mux.proofs.Acked.{sent_is}
 use Rattle.blip_mux.proofs.queue.Queue.sent_of.Goals as goal
 

@@ -1,7 +1,7 @@
 use Rattle.std.proofs.Common.{◌<◌, ◌&&◌, not, sym, subst}
 use Rattle.blip_mux.specs.Sending.{may_send, acked}
 use Rattle.blip_mux.specs.declared.ready.ReadyMessage.{ReadyMessage}
-use Rattle.blip_mux.specs.Ready.{count_in, room_in}
+use Rattle.blip_mux.specs.inner.Ready.{count_in, room_in}
 use Rattle.blip_mux.proofs.Moved.{room_for, acked_kept_on, acked_kept_off, turn_on, turn_off}
 use Rattle.blip_mux.proofs.stamped.Stamped.acked.Goals as goal
 

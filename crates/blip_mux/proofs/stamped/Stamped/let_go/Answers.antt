@@ -1,7 +1,7 @@
 use Rattle.std.proofs.Common.{◌≡◌, true, ap, sym, subst, ◌∙◌}
 use Rattle.blip_frame.specs.Frame.{has_checksum}
 use Rattle.blip_mux.specs.Sending.{Waiting}
-use Rattle.blip_mux.specs.Class.{class_of}
+use Rattle.blip_mux.specs.inner.Class.{class_of}
 use Rattle.blip_mux.proofs.Cuts.{some_same}
 use Rattle.blip_mux.proofs.Moved.{turn_kept, removes}
 use Rattle.blip_mux.proofs.stamped.Stamped.let_go.Goals as goal

@@ -1,6 +1,6 @@
 use Rattle.std.proofs.Common.{ap, ◌∙◌, arith}
 use Rattle.std.specs.Map.{values_of}
-use Rattle.blip_mux.specs.Entries.{Entries}
+use Rattle.blip_mux.specs.inner.Entries.{Entries}
 use Rattle.blip_mux.proofs.Kept.{put_next, same_kept, turns_within}
 use Rattle.blip_mux.proofs.Listed.{values_last}
 use Rattle.blip_mux.proofs.stamped.Stamped.put_last.Goals as goal

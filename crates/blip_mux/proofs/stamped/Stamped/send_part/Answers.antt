@@ -1,7 +1,7 @@
 use Rattle.std.proofs.Common.{refl, ap, ◌∙◌}
 use Rattle.std.specs.Map.{values_of}
 use Rattle.blip_mux.specs.Sending.{without_piece}
-use Rattle.blip_mux.specs.Entries.{Entries, without}
+use Rattle.blip_mux.specs.inner.Entries.{Entries, without}
 use Rattle.blip_mux.proofs.Kept.{same_kept}
 use Rattle.blip_mux.proofs.Listed.{values_last}
 use Rattle.blip_mux.proofs.stamped.Stamped.send_part.Goals as goal

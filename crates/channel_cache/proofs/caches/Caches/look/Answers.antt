@@ -1,7 +1,7 @@
 use Rattle.std.proofs.Common.{not, nat_eq, ◌∙◌, ap, sym, arith, ℕ, List, [], ◌∷◌, length}
 use Rattle.sg_history.specs.declared.entries.Entry.{Entry}
 use Rattle.sg_history.specs.History.{past}
-use Rattle.channel_cache.specs.DocumentsRead.{documents_read}
+use Rattle.channel_cache.specs.inner.DocumentsRead.{documents_read}
 use Rattle.channel_cache.specs.Listed.{listed, sequences_of}
 use Rattle.channel_cache.specs.Stands.{has}
 use Rattle.channel_cache.specs.Kept.{Cached, is_filled}

@@ -1,5 +1,5 @@
 use Rattle.std.proofs.Common.{◌∙◌, ap, Bool, ◌&&◌}
-use Rattle.channel_cache.specs.Counting.{counts_at}
+use Rattle.channel_cache.specs.inner.Counting.{counts_at}
 use Rattle.channel_cache.proofs.Changing.{on_ok}
 use Rattle.channel_cache.proofs.sequences.Sequences.enter_and_tidy.Goals as goal
 

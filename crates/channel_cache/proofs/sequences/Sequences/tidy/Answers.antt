@@ -1,5 +1,5 @@
 use Rattle.std.proofs.Common.{◌∙◌, ap, sym, Bool, ◌&&◌}
-use Rattle.channel_cache.specs.Counting.{counts_at}
+use Rattle.channel_cache.specs.inner.Counting.{counts_at}
 use Rattle.channel_cache.proofs.Having.{held_alone}
 use Rattle.channel_cache.proofs.sequences.Sequences.tidy.Goals as goal
 

@@ -1,5 +1,5 @@
 use Rattle.std.proofs.Common.{sym, subst, List, ℕ}
-use Rattle.feed_rows.specs.Shown.{IsLastSwitch, is_shown}
+use Rattle.feed_rows.specs.inner.Shown.{IsLastSwitch, is_shown}
 use Rattle.feed_rows.proofs.by_channels.Switches.last.Goals as goal
 
 pub returns-clause-kept : goal.returns-clause-kept

@@ -1,7 +1,7 @@
 use Rattle.std.proofs.Common.{rules, ◌≡◌, ◌<◌, ◌∙◌, ℕ, refl, sym, ap, subst, arith, List, [], length}
 use Rattle.grant_history.specs.declared.facts.Fact.{Fact}
 use Rattle.grant_history.specs.Store.{has_at}
-use Rattle.grant_history.specs.Changes.{AreChanges, DocumentFacts, facts_in_change, facts_in_changes}
+use Rattle.grant_history.specs.inner.Changes.{AreChanges, DocumentFacts, facts_in_change, facts_in_changes}
 use Rattle.grant_tracks.proofs.Tracked.{on_both, on_both_err, on_ok, on_err, either}
 use Rattle.grant_history.proofs.Keeping.{each_up_to, each_given, took_each, each_kept_on}
 use Rattle.std.proofs.lemmas.List.{length-map}

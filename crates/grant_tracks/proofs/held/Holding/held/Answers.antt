@@ -2,7 +2,7 @@ use Rattle.std.proofs.Common.{◌∙◌, ap, ◌&&◌}
 use Rattle.std.specs.List.{list_any}
 use Rattle.std.proofs.lemmas.Result.{IfOk-weaker}
 use Rattle.grant_tracks.specs.Blocks.{near}
-use Rattle.grant_tracks.specs.Passing.{passes_at}
+use Rattle.grant_tracks.specs.inner.Passing.{passes_at}
 use Rattle.grant_tracks.specs.Things.{Things}
 use Rattle.grant_tracks.specs.Tracks.{held_at}
 use Rattle.grant_tracks.proofs.Picking.{picks}

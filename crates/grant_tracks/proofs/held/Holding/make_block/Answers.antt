@@ -1,7 +1,7 @@
 use Rattle.std.proofs.Common.{◌≤◌, ◌∙◌, sym, ap, subst, arith}
 use Rattle.grant_tracks.specs.Things.{Things}
 use Rattle.grant_tracks.specs.HeldLists.{AreUpTo}
-use Rattle.grant_tracks.specs.Passing.{given_in}
+use Rattle.grant_tracks.specs.inner.Passing.{given_in}
 use Rattle.grant_tracks.proofs.Picking.{begun_miss}
 use Rattle.grant_tracks.proofs.held.Holding.make_block.Goals as goal
 

@@ -1,5 +1,5 @@
 use Rattle.std.specs.Arc.{arc_value}
-use Rattle.rev_tree.specs.Parts.{joined}
+use Rattle.rev_tree.specs.inner.Parts.{joined}
 use Rattle.rev_tree.proofs.Joins.{row_is}
 use Rattle.rev_tree.proofs.Rises.{rises_insert}
 use Rattle.rev_tree.proofs.row.RowPart.put.Goals as goal

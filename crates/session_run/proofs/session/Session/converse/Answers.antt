@@ -1,7 +1,7 @@
 use Rattle.std.proofs.Common.{[], ◌∷◌, Some, ap, sym, subst, ◌∙◌, arith}
 use Rattle.session_core.specs.Conduct.{feed_front, most_answers}
 use Rattle.session_core.specs.State.{Machine}
-use Rattle.session_run.specs.Held.{Conversing}
+use Rattle.session_run.specs.inner.Held.{Conversing}
 use Rattle.session_run.specs.Spent.{Draws}
 use Rattle.session_run.proofs.Answering.{laws_of, event_within}
 use Rattle.session_run.proofs.Conversing.{at_most_two, begun, went_on, halted_at, halted_first, halted_read}

@@ -3,8 +3,8 @@ use Rattle.session_core.specs.Conduct.{due_with, feed_front, most_answers, Wants
 use Rattle.session_core.specs.State.{most_puts}
 use Rattle.session_core.specs.Steps.{Step}
 use Rattle.session_run.specs.Answered.{Moment, IsAnswered}
-use Rattle.session_run.specs.Held.{IsReady, Conversing}
-use Rattle.session_run.specs.Putting.{MayReply}
+use Rattle.session_run.specs.inner.Held.{IsReady, Conversing}
+use Rattle.session_run.specs.inner.Putting.{MayReply}
 use Rattle.session_run.specs.Spent.{Draws}
 use Rattle.session_run.proofs.session.Session.converse.Given as goal
 

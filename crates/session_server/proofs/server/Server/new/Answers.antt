@@ -1,6 +1,6 @@
 use Rattle.std.proofs.Common.{ap, length, subst, sym}
 use Rattle.write_path.specs.Shelf.{shelf_state}
-use Rattle.session_server.specs.Lines.{AreFresh}
+use Rattle.session_server.specs.inner.Lines.{AreFresh}
 use Rattle.session_server.proofs.Holding.{holds_first}
 use Rattle.session_server.proofs.LineLists.{no_lines}
 use Rattle.session_server.proofs.server.Server.new.Goals as goal

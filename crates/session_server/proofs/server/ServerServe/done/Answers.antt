@@ -4,7 +4,7 @@ use Rattle.seq_gate.specs.Passes.{share}
 use Rattle.write_path.proofs.Crossing.{shelf_send}
 use Rattle.write_path.specs.Origins.{Origin}
 use Rattle.write_path.specs.Shelf.{shelf_state}
-use Rattle.session_server.specs.Lines.{lines_in}
+use Rattle.session_server.specs.inner.Lines.{lines_in}
 use Rattle.session_server.proofs.Holding.{holds_join, kept_join, same_gate}
 use Rattle.session_server.proofs.server.ServerServe.done.Goals as goal
 

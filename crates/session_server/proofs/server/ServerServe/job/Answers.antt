@@ -3,8 +3,8 @@ use Rattle.std.proofs.Common.{rules, arith, length, subst, sym}
 use Rattle.seq_gate.specs.declared.known.Known.{Known}
 use Rattle.write_path.proofs.Crossing.{shelf_send}
 use Rattle.write_path.specs.Shelf.{shelf_state}
-use Rattle.session_server.specs.Lines.{lines_in}
-use Rattle.session_server.specs.Runs.{IsSplit}
+use Rattle.session_server.specs.inner.Lines.{lines_in}
+use Rattle.session_server.specs.inner.Runs.{IsSplit}
 use Rattle.session_server.specs.declared.server.Lines.{the_lemmas}
 use Rattle.session_server.proofs.Holding.{split_is}
 use Rattle.session_server.proofs.server.ServerServe.job.Goals as goal

@@ -1,5 +1,5 @@
 use Rattle.std.proofs.Common.{ap, ◌∙◌}
-use Rattle.sg_history.specs.Written.{has}
+use Rattle.sg_history.specs.inner.Written.{has}
 use Rattle.sg_history.proofs.Revisions.{found_rev}
 use Rattle.sg_history.proofs.written.Written.has.Goals as goal
 

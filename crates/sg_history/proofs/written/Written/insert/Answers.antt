@@ -1,5 +1,5 @@
 use Rattle.std.proofs.Common.{◌||◌, ap, not, ◌∙◌}
-use Rattle.sg_history.specs.Written.{has, is_rev_of}
+use Rattle.sg_history.specs.inner.Written.{has, is_rev_of}
 use Rattle.sg_history.proofs.Revisions.{found_rev, inserted_rev, numbered_with}
 use Rattle.sg_history.proofs.written.Written.insert.Goals as goal
 

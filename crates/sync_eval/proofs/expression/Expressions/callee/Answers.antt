@@ -2,7 +2,7 @@ use Rattle.std.proofs.Common.{◌∙◌, ◌&&◌, true, Ok, IsTrue, ap, sym, su
 use Rattle.sync_meaning.specs.Expressions as spec
 use Rattle.sync_meaning.specs.Expressions.{evaluated}
 use Rattle.sync_code.specs.Code.{source, tail_sources, fits, tails_fit}
-use Rattle.sync_eval.specs.Nested.{DoesWhere}
+use Rattle.sync_eval.specs.inner.Nested.{DoesWhere}
 use Rattle.sync_eval.proofs.Nodes.{does_as, callee_Name, callee_Postfix, fits_Postfix}
 use Rattle.sync_eval.proofs.expression.Expressions.callee.Goals as goal
 

@@ -6,7 +6,7 @@ use Rattle.sync_meaning.specs.Acts.{Does}
 use Rattle.sync_meaning.specs.Expressions as spec
 use Rattle.sync_meaning.specs.Expressions.{evaluated}
 use Rattle.sync_code.specs.Code.{source, sources, member_sources, operand_sources, tail_sources, fits, all_fit, members_fit, operands_fit, tails_fit}
-use Rattle.sync_eval.specs.Nested.{DoesWhere}
+use Rattle.sync_eval.specs.inner.Nested.{DoesWhere}
 use Rattle.sync_eval.proofs.Nodes.{does_as, node_Undefined, node_Null, node_Bool, node_Integer, node_Text, node_Name, node_List, node_Object, node_Prefix, node_Postfix, node_Chain, node_Choice, fits_Name, fits_List, fits_Object, fits_Prefix, fits_Postfix, fits_Chain, fits_Choice}
 use Rattle.sync_eval.proofs.expression.Expressions.node.Goals as goal
 

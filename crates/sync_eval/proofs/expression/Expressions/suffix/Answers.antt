@@ -4,7 +4,7 @@ use Rattle.sync_meaning.specs.Acts.{Does}
 use Rattle.sync_meaning.specs.Expressions as spec
 use Rattle.sync_meaning.specs.Expressions.{evaluated}
 use Rattle.sync_code.specs.Code.{sources, tail_source, all_fit, tail_fits}
-use Rattle.sync_eval.specs.Nested.{DoesWhere}
+use Rattle.sync_eval.specs.inner.Nested.{DoesWhere}
 use Rattle.sync_eval.proofs.Nodes.{does_as, suffix_Member, suffix_Index, suffix_Call, fits_Index, fits_Call}
 use Rattle.sync_eval.proofs.expression.Expressions.suffix.Goals as goal
 

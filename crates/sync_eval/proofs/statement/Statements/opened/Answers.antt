@@ -5,7 +5,7 @@ use Rattle.sync_meaning.specs.Statements.{run}
 use Rattle.sync_meaning.specs.Variables.{declared, started}
 use Rattle.sync_code.specs.Code.{source, source_or_none, fits, fits_or_none}
 use Rattle.sync_code.specs.Steps.{begin_or_none, begin_or_none_fits, held_source, new_fits, opening_fits, opening_source, other_of, other_said, other_source, plain_fits, plain_or_none, plain_source, rounds_fit, step_fits, step_source, step_sources, steps_fit}
-use Rattle.sync_eval.specs.Nested.{DoesWhere}
+use Rattle.sync_eval.specs.inner.Nested.{DoesWhere}
 use Rattle.sync_eval.proofs.Nodes.{does_as}
 use Rattle.sync_eval.proofs.Opened.{open_Block, open_Empty, open_Declare, open_If, open_For, open_ForOf, open_Return, open_Throw, open_Break, open_Continue, open_Simple, fits_Block, fits_Declare, fits_If, fits_For, fits_ForOf, fits_Return, fits_Throw, fits_Simple}
 use Rattle.sync_eval.proofs.statement.Statements.opened.Goals as goal

@@ -1,5 +1,5 @@
 use Rattle.std.proofs.Common.{◌≡◌, length}
-use Rattle.sync_meaning.specs.Arguments.{texts, add_channel_named}
+use Rattle.sync_meaning.specs.inner.Arguments.{texts, add_channel_named}
 use Rattle.sync_meaning.specs.Builtins.{for_each}
 use Rattle.sync_meaning.proofs.effects.Gathered.add_channels.Given as goal
 

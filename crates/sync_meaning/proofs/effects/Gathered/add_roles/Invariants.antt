@@ -1,5 +1,5 @@
 use Rattle.std.proofs.Common.{◌≡◌, length}
-use Rattle.sync_meaning.specs.Arguments.{texts, add_roles_named_to}
+use Rattle.sync_meaning.specs.inner.Arguments.{texts, add_roles_named_to}
 use Rattle.sync_meaning.specs.Builtins.{for_each}
 use Rattle.sync_meaning.proofs.effects.Gathered.add_roles.Given as goal
 

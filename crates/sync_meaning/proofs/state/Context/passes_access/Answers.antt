@@ -1,5 +1,5 @@
 use Rattle.std.proofs.Common.{◌∙◌, codes, sym, ap}
-use Rattle.sync_meaning.specs.Arguments.{texts}
+use Rattle.sync_meaning.specs.inner.Arguments.{texts}
 use Rattle.sync_meaning.specs.Builtins.{is_in, share_one}
 use Rattle.sync_meaning.proofs.Calls.{access_passes}
 use Rattle.sync_meaning.proofs.state.Context.passes_access.Goals as goal

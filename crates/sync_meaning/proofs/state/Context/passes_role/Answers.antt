@@ -1,5 +1,5 @@
 use Rattle.std.proofs.Common.{◌∙◌, ap}
-use Rattle.sync_meaning.specs.Arguments.{texts}
+use Rattle.sync_meaning.specs.inner.Arguments.{texts}
 use Rattle.sync_meaning.specs.Builtins.{share_one}
 use Rattle.sync_meaning.proofs.Calls.{role_passes}
 use Rattle.sync_meaning.proofs.state.Context.passes_role.Goals as goal

@@ -15,7 +15,7 @@ use Rattle.log_index.specs.Index.{Indexes}
 use Rattle.log_views.specs.States.{winning, view_by}
 use Rattle.grant_history.specs.declared.periods.Period.{Period}
 use Rattle.grant_history.specs.Periods.{AreInOrder, ArePeriods}
-use Rattle.grant_history.specs.Sorted.{AreSorted}
+use Rattle.grant_history.specs.inner.Sorted.{AreSorted}
 use Rattle.feed_rows.specs.LastChange.{place_in}
 use Rattle.feed_rows.specs.PassAt.{IsViewer}
 use Rattle.board_steps.specs.declared.bodies.Look.{Look}

@@ -8,11 +8,11 @@ use Rattle.std.specs.Ordering.{nat_cmp}
 use Rattle.blip_frame.specs.Checksum.{checksum}
 use Rattle.blip_frame.specs.Frame.{spelling, sent_after, value_after, WritesAfter}
 use Rattle.blip_mux.specs.Sending.{Waiting, may_send, chosen, first_piece, without_piece}
-use Rattle.blip_mux.specs.Entries.{Entries, look, without}
+use Rattle.blip_mux.specs.inner.Entries.{Entries, look, without}
 use Rattle.blip_mux.specs.declared.class.Class.{Class}
-use Rattle.blip_mux.specs.Class.{is_in, stamp_at}
-use Rattle.blip_mux.specs.Stamps.{times, IsLowest, same_flag}
-use Rattle.blip_mux.specs.Ready.{stamps_in, count_in, room_in}
+use Rattle.blip_mux.specs.inner.Class.{is_in, stamp_at}
+use Rattle.blip_mux.specs.inner.Stamps.{times, IsLowest, same_flag}
+use Rattle.blip_mux.specs.inner.Ready.{stamps_in, count_in, room_in}
 use Rattle.blip_mux.specs.declared.index.Index.{Index}
 use Rattle.blip_mux.specs.declared.ready.Ready.{Ready}
 use Rattle.blip_mux.specs.declared.ready.ReadyMessage.{ReadyMessage}

@@ -4,7 +4,7 @@ use Rattle.std.specs.BinaryHeap.{heap_items, heap_len, heap_capacity}
 use Rattle.std.specs.declared.cmp.Reverse.{Reverse}
 use Rattle.blip_mux.specs.declared.ready.Ready.{Ready}
 use Rattle.blip_mux.specs.declared.ready.ReadyMessage.{ReadyMessage}
-use Rattle.blip_mux.specs.Stamps.{times, IsLowest}
+use Rattle.blip_mux.specs.inner.Stamps.{times, IsLowest}
 
 -- the stamps of the urgent messages, or of the others
 abbrev pub stamps_in : Bool → Ready → List (Reverse ℕ)

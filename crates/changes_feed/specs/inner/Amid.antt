@@ -12,7 +12,7 @@ use Rattle.feed_rows.specs.declared.shown.Viewer.{Viewer}
 use Rattle.feed_rows.specs.Known.{Known, known_from, known_in}
 use Rattle.feed_rows.specs.KnownDocuments.{names_in}
 use Rattle.changes_feed.specs.declared.segment.Segment.{Segment}
-use Rattle.changes_feed.specs.Segment.{ArePlaced, renewed_last}
+use Rattle.changes_feed.specs.inner.Segment.{ArePlaced, renewed_last}
 
 -- the entry at a place renews a document, which stood so before it and stands so after it
 pub record Renews (entries : List Entry) (at : ℕ) (doc : List ℕ) (before : Option Document) (after : Document) : Type 0 where

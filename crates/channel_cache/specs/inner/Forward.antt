@@ -3,7 +3,7 @@ use Rattle.std.specs.Prelude.{◌≡◌, ◌-◌, ℕ, List, Option, Some, None,
 use Rattle.std.specs.Map.{keys_of}
 use Rattle.sg_history.specs.declared.entries.Entry.{Entry}
 use Rattle.sg_history.specs.History.{SyncEntry, as_sync, past}
-use Rattle.channel_cache.specs.Counting.{AreLists}
+use Rattle.channel_cache.specs.inner.Counting.{AreLists}
 use Rattle.channel_cache.specs.Sequences.{Lists}
 
 -- the same channels have lists, and where these were those of one place, they are those of another

@@ -4,7 +4,7 @@ use Rattle.std.specs.Map.{keys_of}
 use Rattle.sg_history.specs.declared.entries.Entry.{Entry}
 use Rattle.sg_history.specs.History.{among}
 use Rattle.log_index.specs.Places.{next_at}
-use Rattle.channel_cache.specs.Counting.{is_in_list}
+use Rattle.channel_cache.specs.inner.Counting.{is_in_list}
 use Rattle.channel_cache.specs.Sequences.{Lists, holds_of, is_kept}
 use Rattle.channel_cache.specs.Stands.{has, is_last}
 

@@ -20,7 +20,7 @@ use Rattle.session_run.specs.declared.ended.Ended.{Ended}
 use Rattle.session_run.specs.declared.serve.Setup.{Setup}
 use Rattle.session_run.specs.Served.{IsServed}
 use Rattle.session_threads.specs.Pairs.{AllPairs}
-use Rattle.session_threads.specs.Runs.{moment_at}
+use Rattle.session_threads.specs.inner.Runs.{moment_at}
 use Rattle.gateway_server.specs.declared.serve.NoJob.{NoJob}
 use Rattle.gateway_server.specs.declared.serve.NoJob.TheVariants.{Spent}
 use Rattle.session_server.specs.Callers.{HasNoSession, IsUpgraded}

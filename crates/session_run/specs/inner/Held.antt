@@ -32,7 +32,7 @@ use Rattle.session_run.specs.declared.ended.End.TheVariants as end
 use Rattle.session_run.specs.declared.serve.Setup.{Setup}
 use Rattle.session_run.specs.declared.session.Session.{Session}
 use Rattle.session_run.specs.Answered.{Moment, HasRead, AreAnswered}
-use Rattle.session_run.specs.Putting.{put_as, MayReply}
+use Rattle.session_run.specs.inner.Putting.{put_as, MayReply}
 use Rattle.session_run.specs.Spent.{most_looks, spent_of, NeedsMore}
 use Rattle.session_run.specs.Served.{are_frames, bytes_of, IsServed}
 use Rattle.session_run.specs.Turns.{SessionTurn, undone, steps_of, frames_of, framed, framed_by, events_of, IsExchange, IsFor, AreLed, AreJoined, AreSent, puts_all, done_in}

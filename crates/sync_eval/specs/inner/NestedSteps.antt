@@ -8,7 +8,7 @@ use Rattle.sync_meaning.specs.declared.state.State.{State}
 use Rattle.sync_meaning.specs.Statements.{run}
 use Rattle.sync_code.specs.declared.code.Step.{Step}
 use Rattle.sync_code.specs.Steps.{step_fits, step_source}
-use Rattle.sync_eval.specs.Nested.{DoesWhere}
+use Rattle.sync_eval.specs.inner.Nested.{DoesWhere}
 
 -- a function value that runs a statement inside, to this depth
 pub record NestsStep (depth : ℕ) (pre : Global → ℕ → MutBor State → Bor Step → Type 0)

@@ -1,0 +1,2 @@
+-- Definitions that only proofs and the crate's own functions need.
+pub mod ByLook
